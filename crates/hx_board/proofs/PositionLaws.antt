@@ -1,0 +1,73 @@
+-- The laws of positions.
+use Rattle.std.proofs.Common.{◌≡◌, ◌≢◌, ℕ, Bool, true, false, refl, sym, ap, ◌∙◌, subst, ⊎_elim, ◌↔◌}
+use Rattle.std.proofs.lemmas.Bool.{false≢true}
+use Rattle.hx_board.specs.Sets.{has, insert, remove, union, intersection, difference, IsSubset}
+use Rattle.hx_board.specs.Cells.{Extent, OnBoard}
+use Rattle.hx_board.specs.Positions.{Board, IsPosition, IsEmpty}
+use Rattle.hx_board.proofs.SetLaws.{has-empty, has-insert_cases, has-remove_before, has-intersection_both, has-union_left, has-union_right, has-union_cases, has-difference_left, has-difference_right, has-difference_both, has-intersection_left, has-intersection_right, same_set, is_false}
+
+pub empty-is_position : (size : Extent) → IsPosition size 0 0
+empty-is_position size = record {
+  apart = λ n _. has-empty n;
+  black_inside = λ n h. absurd (false≢true (sym (has-empty n) ∙ h));
+  white_inside = λ n h. absurd (false≢true (sym (has-empty n) ∙ h));
+}
+
+not_both : (a b : Bool) → (a ≡ true → b ≡ false) → b ≡ true → a ≡ false
+not_both true b h k = absurd (false≢true (sym (h refl) ∙ k))
+not_both false b h k = refl
+
+inserted_inside : (size : Extent) (set cell : ℕ) → OnBoard size cell → ((n : ℕ) → has set n ≡ true → OnBoard size n) → (n : ℕ) → has (insert set cell) n ≡ true → OnBoard size n
+inserted_inside size set cell here before n h =
+    ⊎_elim (λ e. let P : ℕ → Type 0 = λ x. OnBoard size x in subst P (sym e) here) (λ k. before n k) (has-insert_cases set cell n h)
+
+lacks_inserted : (set cell n : ℕ) → has set n ≡ false → n ≢ cell → has (insert set cell) n ≡ false
+lacks_inserted set cell n lacks other = neither (has (insert set cell) n) (λ h. ⊎_elim other (λ k. false≢true (sym lacks ∙ k)) (has-insert_cases set cell n h))
+  where
+    neither : (b : Bool) → (b ≡ true → ⊥) → b ≡ false
+    neither true h = absurd (h refl)
+    neither false h = refl
+
+pub black-is_position : (board : Board) (cell : ℕ) → IsPosition board.size board.black board.white → IsEmpty board cell → IsPosition board.size (insert board.black cell) board.white
+black-is_position board cell p e = record {
+  apart = λ n h. ⊎_elim (λ same. ap (has board.white) same ∙ e.no_white) (p.apart n) (has-insert_cases board.black cell n h);
+  black_inside = inserted_inside board.size board.black cell e.on_board p.black_inside;
+  white_inside = p.white_inside;
+}
+
+pub white-is_position : (board : Board) (cell : ℕ) → IsPosition board.size board.black board.white → IsEmpty board cell → IsPosition board.size board.black (insert board.white cell)
+white-is_position board cell p e = record {
+  apart = λ n h. lacks_inserted board.white cell n (p.apart n h) (λ same. false≢true (sym (ap (has board.black) same ∙ e.no_black) ∙ h));
+  black_inside = p.black_inside;
+  white_inside = inserted_inside board.size board.white cell e.on_board p.white_inside;
+}
+
+-- what is on the board and in neither set
+pub has-empties : (board : Board) (all : ℕ) → ((n : ℕ) → (has all n ≡ true) ↔ OnBoard board.size n)
+    → (n : ℕ) → (has (difference all (union board.black board.white)) n ≡ true) ↔ IsEmpty board n
+has-empties board all is_all n =
+    let held : ℕ = union board.black board.white in (
+      (λ h. record {
+        on_board = (is_all n).0 (has-difference_left all held n h);
+        no_black = is_false _ (λ k. false≢true (sym (has-difference_right all held n h) ∙ has-union_left board.black board.white n k));
+        no_white = is_false _ (λ k. false≢true (sym (has-difference_right all held n h) ∙ has-union_right board.black board.white n k));
+      }),
+      (λ e. has-difference_both all held n ((is_all n).1 e.on_board)
+          (is_false _ (λ k. ⊎_elim (λ b. false≢true (sym e.no_black ∙ b)) (λ w. false≢true (sym e.no_white ∙ w)) (has-union_cases board.black board.white n k)))),
+    )
+
+pub tested-is_position : (size : Extent) (black white all : ℕ) → ((n : ℕ) → (has all n ≡ true) ↔ OnBoard size n)
+    → intersection black white ≡ 0 → IsSubset (union black white) all → IsPosition size black white
+tested-is_position size black white all is_all apart inside = record {
+  apart = λ n h. is_false _ (λ k. false≢true (sym (has-empty n) ∙ ap (λ (x : ℕ). has x n) (sym apart) ∙ has-intersection_both black white n h k));
+  black_inside = λ n h. (is_all n).0 (inside n (has-union_left black white n h));
+  white_inside = λ n h. (is_all n).0 (inside n (has-union_right black white n h));
+}
+
+pub position-apart : (size : Extent) (black white : ℕ) → IsPosition size black white → intersection black white ≡ 0
+position-apart size black white p =
+    same_set _ _ (λ n. is_false _ (λ h. false≢true (sym (p.apart n (has-intersection_left black white n h)) ∙ has-intersection_right black white n h)) ∙ sym (has-empty n))
+
+pub position-inside : (size : Extent) (black white all : ℕ) → ((n : ℕ) → (has all n ≡ true) ↔ OnBoard size n) → IsPosition size black white → IsSubset (union black white) all
+position-inside size black white all is_all p n h =
+    (is_all n).1 (⊎_elim (p.black_inside n) (p.white_inside n) (has-union_cases black white n h))

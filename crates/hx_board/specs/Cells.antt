@@ -1,0 +1,62 @@
+-- Boards and their cells. A cell stands by its index, eleven times its row and its column.
+use Rattle.std.specs.Prelude.{◌≡◌, ℕ, ◌+◌, ◌-◌, ◌*◌, ◌/◌, ◌%◌, ◌<◌, ◌≤◌, Bool, true, false, ◌&&◌, nat_lt, List, [], ◌∷◌, ◌++◌}
+use Rattle.hx_board.specs.Sets.{has}
+
+pub record Extent : Type 0 where
+  pub rows : ℕ
+  pub cols : ℕ
+
+abbrev pub IsExtent : ℕ → ℕ → Type 0
+IsExtent rows cols = (1 ≤ rows) × (rows ≤ 11) × (1 ≤ cols) × (cols ≤ 11)
+
+abbrev pub row_of : ℕ → ℕ
+row_of cell = cell / 11
+
+abbrev pub col_of : ℕ → ℕ
+col_of cell = cell % 11
+
+pub record OnBoard (size : Extent) (cell : ℕ) : Type 0 where
+  pub row : row_of cell < size.rows
+  pub col : col_of cell < size.cols
+
+abbrev pub index_of : ℕ → ℕ → ℕ
+index_of row col = 11 * row + col
+
+-- the six ways in which two cells touch, seen from the first
+pub data CellsTouch (cell other : ℕ) : Type 0 where
+  Left : row_of other ≡ row_of cell → col_of other + 1 ≡ col_of cell → CellsTouch cell other
+  Right : row_of other ≡ row_of cell → col_of other ≡ col_of cell + 1 → CellsTouch cell other
+  Above : row_of other + 1 ≡ row_of cell → col_of other ≡ col_of cell → CellsTouch cell other
+  Below : row_of other ≡ row_of cell + 1 → col_of other ≡ col_of cell → CellsTouch cell other
+  Above_right : row_of other + 1 ≡ row_of cell → col_of other ≡ col_of cell + 1 → CellsTouch cell other
+  Below_left : row_of other ≡ row_of cell + 1 → col_of other + 1 ≡ col_of cell → CellsTouch cell other
+
+abbrev pub kept : Bool → ℕ → List ℕ
+kept true cell = cell ∷ []
+kept false cell = []
+
+-- the cells that touch a cell, in this order, where these exist
+abbrev pub neighbours_of : Extent → ℕ → List ℕ
+neighbours_of size cell =
+    let row : ℕ = row_of cell in
+    let col : ℕ = col_of cell in
+    kept (nat_lt 0 col) (index_of row (col - 1))
+    ++ kept (nat_lt (col + 1) size.cols) (index_of row (col + 1))
+    ++ kept (nat_lt 0 row) (index_of (row - 1) col)
+    ++ kept (nat_lt (row + 1) size.rows) (index_of (row + 1) col)
+    ++ kept (nat_lt 0 row && nat_lt (col + 1) size.cols) (index_of (row - 1) (col + 1))
+    ++ kept (nat_lt (row + 1) size.rows && nat_lt 0 col) (index_of (row + 1) (col - 1))
+
+-- the first cell of the board in a set
+pub record IsLeastOn (size : Extent) (set cell : ℕ) : Type 0 where
+  pub on_board : OnBoard size cell
+  pub member : has set cell ≡ true
+  pub first : (other : ℕ) → other < cell → OnBoard size other → has set other ≡ false
+
+-- a cell of the board that touches a cell of the board in a set
+pub record TouchesCellOf (size : Extent) (set cell : ℕ) : Type 0 where
+  pub on_board : OnBoard size cell
+  pub by : ℕ
+  pub by_on_board : OnBoard size by
+  pub by_member : has set by ≡ true
+  pub touch : CellsTouch by cell

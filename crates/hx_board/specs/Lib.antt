@@ -1,0 +1,7 @@
+pub mod Sets
+pub mod Colours
+pub mod Cells
+pub mod Positions
+pub mod Graph
+pub mod Floods
+pub mod Game

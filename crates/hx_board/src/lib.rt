@@ -1,0 +1,27 @@
+//! Positions of Hex: boards, sets of cells, stones, and what is joined in a player's graph.
+#![tactic(auto)]
+
+mod cells;
+mod colours;
+mod groups;
+mod masks;
+mod positions;
+mod sizes;
+mod touching;
+mod vertices;
+
+pub use cells::Cell;
+pub use colours::Colour;
+pub use groups::{Groups, chain};
+pub use masks::Mask;
+pub use positions::Position;
+pub use sizes::Size;
+pub use touching::neighbours;
+pub use vertices::Vertex;
+
+/// The answer of a call that wanted memory and did not get it.
+#[derive(Clone, Copy, PartialEq, Eq, Debug)]
+pub struct Memory;
+
+#[cfg(test)]
+mod tests;

@@ -1,0 +1,108 @@
+//! Positions: a board and the stones on it.
+
+ghost use Rattle.std.specs.Prelude.{◌≡◌, ℕ, ◌↔◌, SomeIff, true};
+ghost use Rattle.hx_board.specs.Sets.{has};
+ghost use Rattle.hx_board.specs.Positions.{IsPosition, IsBoard, IsEmpty, stones_of, stone_at, put};
+
+use crate::cells::Cell;
+use crate::colours::Colour;
+use crate::masks::Mask;
+use crate::sizes::Size;
+use std::marker::Model;
+
+/// A board of some size, and which of its cells hold a black or a white stone. No cell holds two.
+#[derive(Clone, Copy, PartialEq, Eq, Debug)]
+pub struct Position {
+    size: Size,
+    black: Mask,
+    white: Mask,
+}
+
+impl Model for Position {
+    ghost use Rattle.hx_board.specs.Positions.{Board, IsPosition};
+
+    ghost Value = { Board };
+
+    ghost view = { λ p. record { size = p.size; black = p.black; white = p.white } };
+
+    ghost invariant = { λ p. IsPosition p.size p.black p.white };
+
+    ghost inverse = { λ b. record { size = b.size; black = b.black; white = b.white } };
+}
+
+impl Position {
+    /// The board of this size without a stone.
+    pub fn empty(size: Size) -> Position
+        ensures { result ≡ record { size = size; black = 0; white = 0 } }
+    {
+        Position {
+            size,
+            black: Mask::empty(),
+            white: Mask::empty(),
+        }
+    }
+
+    /// The position with these stones. None exactly where a cell would hold two stones or a stone would stand off the
+    /// board.
+    pub fn from_masks(size: Size, black: Mask, white: Mask) -> Option<Position>
+        ensures { SomeIff result (IsPosition size black white) (record { size = size; black = black; white = white }) }
+    {
+        if black.meet(white) == Mask::empty() && black.union(white).inside(size.all()) {
+            Some(Position { size, black, white })
+        } else {
+            None
+        }
+    }
+
+    pub fn size(&self) -> Size
+        ensures value { result ≡ self.now.size }
+        ensures valid { IsBoard self.now }
+    {
+        let size = self.size;
+        let _rows = size.rows();
+        size
+    }
+
+    /// The cells that hold this player's stones.
+    pub fn stones(&self, colour: Colour) -> Mask
+        ensures value { result ≡ stones_of self.now colour }
+        ensures valid { IsPosition self.now.size self.now.black self.now.white }
+    {
+        match colour {
+            Colour::Black => self.black,
+            Colour::White => self.white,
+        }
+    }
+
+    /// The cells without a stone.
+    pub fn empties(&self) -> Mask
+        ensures { (cell : ℕ) → (has result cell ≡ true) ↔ IsEmpty self.now cell }
+    {
+        let held = self.black.union(self.white);
+        self.size.all().minus(held)
+    }
+
+    /// The stone on a cell, if there is one.
+    pub fn at(&self, cell: Cell) -> Option<Colour>
+        ensures { result ≡ stone_at self.now cell }
+    {
+        if self.black.has(cell) {
+            Some(Colour::Black)
+        } else if self.white.has(cell) {
+            Some(Colour::White)
+        } else {
+            None
+        }
+    }
+
+    /// Puts a stone on an empty cell. Nothing else changes.
+    pub fn play(&mut self, colour: Colour, cell: Cell)
+        requires { IsEmpty self.old cell }
+        ensures { self.new ≡ put self.old colour cell }
+    {
+        match colour {
+            Colour::Black => self.black = self.black.with(cell),
+            Colour::White => self.white = self.white.with(cell),
+        }
+    }
+}

@@ -1,0 +1,85 @@
+//! The sizes of boards: one to eleven rows and columns.
+
+ghost use Rattle.std.specs.Prelude.{◌≡◌, ℕ, ◌+◌, ◌*◌, ◌<◌, ◌≤◌, ◌↔◌, ◌&&◌, nat_lt, SomeIff, true};
+ghost use Rattle.hx_board.specs.Sets.{has};
+ghost use Rattle.hx_board.specs.Cells.{OnBoard, IsExtent, row_of, col_of};
+
+use crate::cells::Cell;
+use crate::masks::Mask;
+use std::marker::Model;
+
+/// A board of 1 to 11 rows and columns.
+#[derive(Clone, Copy, PartialEq, Eq, Debug)]
+pub struct Size {
+    rows: u8,
+    cols: u8,
+}
+
+impl Model for Size {
+    ghost use Rattle.hx_board.specs.Cells.{Extent, IsExtent};
+
+    ghost Value = { Extent };
+
+    ghost view = { λ s. record { rows = s.rows; cols = s.cols } };
+
+    ghost invariant = { λ s. IsExtent s.rows s.cols };
+
+    ghost inverse = { λ e. record { rows = e.rows; cols = e.cols } };
+}
+
+impl Size {
+    pub fn new(rows: u8, cols: u8) -> Option<Size>
+        ensures { SomeIff result (IsExtent rows cols) (record { rows = rows; cols = cols }) }
+    {
+        if 1 <= rows && rows <= 11 && 1 <= cols && cols <= 11 {
+            Some(Size { rows, cols })
+        } else {
+            None
+        }
+    }
+
+    pub fn rows(self) -> u8
+        ensures value { result ≡ self.rows }
+        ensures valid { IsExtent self.rows self.cols }
+    {
+        self.rows
+    }
+
+    pub fn cols(self) -> u8
+        ensures value { result ≡ self.cols }
+        ensures valid { IsExtent self.rows self.cols }
+    {
+        self.cols
+    }
+
+    /// All cells of the board.
+    pub fn all(self) -> Mask
+        ensures cells { (cell : ℕ) → (has result cell ≡ true) ↔ OnBoard self cell }
+        ensures valid { IsExtent self.rows self.cols }
+    {
+        block(self.rows, self.cols)
+    }
+
+    pub fn cell(self, row: u8, col: u8) -> Option<Cell>
+        ensures { SomeIff result ((row < self.rows) × (col < self.cols)) (11 * row + col) }
+    {
+        if row < self.rows && col < self.cols {
+            Some(Cell::at_index(11 * row + col))
+        } else {
+            None
+        }
+    }
+}
+
+/// The cells of the first rows and columns.
+pub(crate) fn block(rows: u8, cols: u8) -> Mask
+    requires rows { rows ≤ 11 }
+    requires cols { cols ≤ 11 }
+    ensures { (n : ℕ) → has result n ≡ (nat_lt (row_of n) rows && nat_lt (col_of n) cols) }
+{
+    let mut all = Mask::empty();
+    for row in 0..rows {
+        all = all.union(Mask::range(11 * row, 11 * row + cols));
+    }
+    all
+}

@@ -1,0 +1,49 @@
+//! Which cells touch one another.
+
+ghost use Rattle.std.specs.Prelude.{◌≡◌, ◌+◌, ◌*◌, ◌<◌, ◌≤◌, ◌++◌, IsTrue};
+ghost use Rattle.arrayvec.specs.ArrayVec.{array_vec_len};
+ghost use Rattle.hx_board.specs.Cells.{OnBoard, kept, index_of, neighbours_of};
+
+use crate::cells::Cell;
+use crate::sizes::Size;
+use arrayvec::ArrayVec;
+
+/// The cells that touch a cell.
+pub fn neighbours(size: Size, cell: Cell) -> ArrayVec<Cell, 6>
+    requires { OnBoard size cell }
+    ensures { result.items ≡ neighbours_of size cell }
+{
+    let rows = size.rows();
+    let cols = size.cols();
+    let row = cell.row();
+    let col = cell.col();
+    let mut found = ArrayVec::new();
+    push_if(&mut found, 0 < col, row, col.saturating_sub(1));
+    push_if(&mut found, col + 1 < cols, row, col + 1);
+    push_if(&mut found, 0 < row, row.saturating_sub(1), col);
+    push_if(&mut found, row + 1 < rows, row + 1, col);
+    push_if(
+        &mut found,
+        0 < row && col + 1 < cols,
+        row.saturating_sub(1),
+        col + 1,
+    );
+    push_if(
+        &mut found,
+        row + 1 < rows && 0 < col,
+        row + 1,
+        col.saturating_sub(1),
+    );
+    found
+}
+
+fn push_if(found: &mut ArrayVec<Cell, 6>, is_there: bool, row: u8, col: u8)
+    requires room { array_vec_len found.old < 6 }
+    requires small { IsTrue is_there → 11 * row + col < 121 }
+    ensures items { found.new.items ≡ found.old.items ++ kept is_there (index_of row col) }
+    ensures len { array_vec_len found.new ≤ array_vec_len found.old + 1 }
+{
+    if is_there {
+        found.push(Cell::at_index(11 * row + col));
+    }
+}
