@@ -1,0 +1,3 @@
+pub mod Headings
+pub mod Rules
+pub mod Trees

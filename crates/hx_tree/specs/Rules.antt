@@ -1,0 +1,26 @@
+-- When a node is right.
+use Rattle.std.specs.Prelude.{◌≡◌, ℕ, List, slice_get, IsSomeAnd}
+use Rattle.hx_board.specs.Colours.{other_of}
+use Rattle.hx_board.specs.Positions.{IsBoard, IsEmpty, put}
+use Rattle.hx_board.specs.Graph.{HasChain}
+use Rattle.hx_tree.specs.declared.nodes.Heading.{Heading}
+use Rattle.hx_tree.specs.declared.nodes.Node.{Node}
+use Rattle.hx_tree.specs.declared.nodes.Rule.{Rule}
+use Rattle.hx_tree.specs.declared.nodes.Rule.TheVariants.{Chain, Move}
+use Rattle.hx_tree.specs.Headings.{IsHeading}
+
+-- the winner moves to an empty cell, and an earlier heading says that it wins the position after that
+pub record IsRightMove (before : List Heading) (heading : Heading) (cell child : ℕ) : Type 0 where
+  pub mover : heading.to_move ≡ heading.winner
+  pub empty : IsEmpty heading.position cell
+  pub leads : IsSomeAnd (slice_get before child) (IsHeading (put heading.position heading.winner cell) (other_of heading.winner) heading.winner)
+
+-- the rule shows that the heading's winner wins, where the winners of the headings before it do
+abbrev pub IsRightRule : List Heading → Heading → Rule → Type 0
+IsRightRule before heading Chain = HasChain heading.position heading.winner
+IsRightRule before heading (Move cell child) = IsRightMove before heading cell child
+
+-- a node is right after these headings: its board has a position on it, and its rule is right
+pub record IsRightNode (before : List Heading) (node : Node) : Type 0 where
+  pub board : IsBoard node.heading.position
+  pub rule : IsRightRule before node.heading node.rule

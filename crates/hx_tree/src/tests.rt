@@ -1,0 +1,160 @@
+//! The checker on small trees, beside the plain rules, and callers of the laws.
+
+ghost use Rattle.std.specs.Prelude.{◌<◌, ◌^◌, length, IsTrue, IfOk};
+ghost use Rattle.hx_tree.specs.Headings.{HeadingWins};
+ghost use Rattle.hx_tree.specs.Trees.{AllWin};
+
+use super::plain::plain_verdict;
+use super::*;
+use hx_board::Colour::{Black, White};
+use hx_board::{Cell, Colour, Mask, Memory, Position, Size};
+use std::alloc::Global;
+use std::process::Abort;
+use std::test::Fail;
+
+/// A board of one column.
+fn column(rows: u8, black: u128, white: u128) -> Result<Position, Fail> {
+    let size = Size::new(rows, 1).ok_or("size")?;
+    let stones = Position::from_masks(size, Mask::of(black), Mask::of(white));
+    Ok(stones.ok_or("stones")?)
+}
+
+fn cell(row: u8, col: u8) -> Result<Cell, Fail> {
+    let size = Size::new(11, 11).ok_or("size")?;
+    Ok(size.cell(row, col).ok_or("cell")?)
+}
+
+fn heading(position: Position, to_move: Colour, winner: Colour) -> Heading {
+    Heading {
+        position,
+        to_move,
+        winner,
+    }
+}
+
+fn by_chain(heading: Heading) -> Node {
+    let rule = Rule::Chain;
+    Node { heading, rule }
+}
+
+fn by_move(heading: Heading, cell: Cell, child: u32) -> Node {
+    let rule = Rule::Move { cell, child };
+    Node { heading, rule }
+}
+
+/// The checker and the plain rules both say this of the nodes.
+fn both_say(rt: &impl Abort, alloc: Global, nodes: &[Node], expected: Verdict) -> Result<(), Fail> {
+    assert!(rt; nodes.len() < 100);
+    assert_eq!(rt; check_tree(alloc, nodes)?, expected, "{nodes:?}");
+    assert_eq!(rt; plain_verdict(nodes), expected, "{nodes:?}");
+    Ok(())
+}
+
+#[test]
+fn judges_chains(rt: HostRuntime) -> Result<(), Fail> {
+    let empty = column(1, 0, 0)?;
+    let white = column(1, 0, 1)?;
+    both_say(&rt, rt.alloc(), &[], Verdict::Empty)?;
+    let chain = by_chain(heading(white, Black, White));
+    both_say(&rt, rt.alloc(), &[chain], Verdict::Yes)?;
+    let no_chain = by_chain(heading(empty, White, Black));
+    both_say(&rt, rt.alloc(), &[no_chain], Verdict::Node(0))?;
+    let chain_of_the_other = by_chain(heading(white, White, Black));
+    both_say(&rt, rt.alloc(), &[chain_of_the_other], Verdict::Node(0))?;
+    Ok(())
+}
+
+#[test]
+fn judges_moves(rt: HostRuntime) -> Result<(), Fail> {
+    let a1 = cell(0, 0)?;
+    let b1 = cell(0, 1)?;
+    let won = heading(column(1, 1, 0)?, White, Black);
+    let start = heading(column(1, 0, 0)?, Black, Black);
+    let held = heading(column(1, 1, 0)?, Black, Black);
+    let others_turn = heading(column(1, 0, 0)?, White, Black);
+    let right = [by_chain(won), by_move(start, a1, 0)];
+    both_say(&rt, rt.alloc(), &right, Verdict::Yes)?;
+    let held_cell = [by_chain(won), by_move(held, a1, 0)];
+    both_say(&rt, rt.alloc(), &held_cell, Verdict::Node(1))?;
+    let off_the_board = [by_chain(won), by_move(held, b1, 0)];
+    both_say(&rt, rt.alloc(), &off_the_board, Verdict::Node(1))?;
+    let of_the_other = [by_chain(won), by_move(others_turn, a1, 0)];
+    both_say(&rt, rt.alloc(), &of_the_other, Verdict::Node(1))?;
+    Ok(())
+}
+
+#[test]
+fn judges_children(rt: HostRuntime) -> Result<(), Fail> {
+    let a1 = cell(0, 0)?;
+    let a2 = cell(1, 0)?;
+    let won = heading(column(1, 1, 0)?, White, Black);
+    let won_to_move = heading(column(1, 1, 0)?, Black, Black);
+    let start = heading(column(1, 0, 0)?, Black, Black);
+    let own_place = [by_chain(won), by_move(start, a1, 1)];
+    both_say(&rt, rt.alloc(), &own_place, Verdict::Node(1))?;
+    let after = [by_move(start, a1, 1), by_chain(won)];
+    both_say(&rt, rt.alloc(), &after, Verdict::Node(0))?;
+    let other_mover = [by_chain(won_to_move), by_move(start, a1, 0)];
+    both_say(&rt, rt.alloc(), &other_mover, Verdict::Node(1))?;
+    let claim = heading(column(2, 0, 0)?, Black, Black);
+    let other_position = [by_chain(won), by_move(claim, a1, 0)];
+    both_say(&rt, rt.alloc(), &other_position, Verdict::Node(1))?;
+    let full = heading(column(2, 1, 1 << 11)?, Black, White);
+    let reply = heading(column(2, 1, 0)?, White, White);
+    let other_winner = [by_chain(full), by_move(reply, a2, 0), by_move(claim, a1, 1)];
+    both_say(&rt, rt.alloc(), &other_winner, Verdict::Node(2))?;
+    Ok(())
+}
+
+#[test]
+fn names_the_first_wrong_node(rt: HostRuntime) -> Result<(), Fail> {
+    let right = heading(column(1, 1, 0)?, White, Black);
+    let wrong = heading(column(1, 0, 0)?, White, Black);
+    let before = [by_chain(wrong), by_chain(right)];
+    both_say(&rt, rt.alloc(), &before, Verdict::Node(0))?;
+    let after = [by_chain(right), by_chain(wrong)];
+    both_say(&rt, rt.alloc(), &after, Verdict::Node(1))?;
+    let between = [
+        by_chain(right),
+        by_chain(wrong),
+        by_chain(right),
+        by_chain(wrong),
+    ];
+    both_say(&rt, rt.alloc(), &between, Verdict::Node(1))?;
+    Ok(())
+}
+
+/// Whether the nodes are a valid tree, and so each winner that they name wins.
+fn is_proof(alloc: Global, nodes: &[Node]) -> Result<bool, Memory>
+    requires { length nodes.now < 2 ^ 32 }
+    ensures { IfOk result (λ answer. IsTrue answer → AllWin nodes.now) }
+{
+    match check_tree(alloc, nodes)? {
+        Verdict::Yes => {
+            tree_sound(nodes);
+            Ok(true)
+        }
+        Verdict::Node(_) | Verdict::Empty => Ok(false),
+    }
+}
+
+/// Whether the node is right with no node before it, and so its winner wins.
+fn is_leaf(node: &Node) -> Result<bool, Memory>
+    ensures { IfOk result (λ answer. IsTrue answer → HeadingWins node.now.heading) }
+{
+    let is_right = check_node(&[], node)?;
+    if is_right {
+        node_sound(&[], node);
+    }
+    Ok(is_right)
+}
+
+#[test]
+fn winners_win(rt: HostRuntime) -> Result<(), Fail> {
+    let a1 = cell(0, 0)?;
+    let won = by_chain(heading(column(1, 1, 0)?, White, Black));
+    let start = by_move(heading(column(1, 0, 0)?, Black, Black), a1, 0);
+    assert!(rt; is_leaf(&won)?);
+    assert!(rt; is_proof(rt.alloc(), &[won, start])?);
+    Ok(())
+}
