@@ -1,0 +1,4 @@
+pub mod Causes
+pub mod Sources
+pub mod Sinks
+pub mod Standard
