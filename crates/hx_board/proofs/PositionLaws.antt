@@ -1,10 +1,11 @@
 -- The laws of positions.
-use Rattle.std.proofs.Common.{◌≡◌, ◌≢◌, ℕ, Bool, true, false, refl, sym, ap, ◌∙◌, subst, ⊎_elim, ◌↔◌}
+use Rattle.std.proofs.Common.{◌≡◌, ◌≢◌, ℕ, ◌^◌, ◌<◌, Bool, true, false, refl, sym, ap, ◌∙◌, subst, ⊎_elim, arith, ◌↔◌}
 use Rattle.std.proofs.lemmas.Bool.{false≢true}
 use Rattle.hx_board.specs.Sets.{has, insert, remove, union, intersection, difference, IsSubset}
 use Rattle.hx_board.specs.Cells.{Extent, OnBoard}
-use Rattle.hx_board.specs.Positions.{Board, IsPosition, IsEmpty}
-use Rattle.hx_board.proofs.SetLaws.{has-empty, has-insert_cases, has-remove_before, has-intersection_both, has-union_left, has-union_right, has-union_cases, has-difference_left, has-difference_right, has-difference_both, has-intersection_left, has-intersection_right, same_set, is_false}
+use Rattle.hx_board.specs.Positions.{Board, IsBoard, IsPosition, IsEmpty}
+use Rattle.hx_board.proofs.SetLaws.{has-empty, has-insert_cases, has-remove_before, has-intersection_both, has-union_left, has-union_right, has-union_cases, has-difference_left, has-difference_right, has-difference_both, has-intersection_left, has-intersection_right, same_set, is_false, set-small}
+use Rattle.hx_board.proofs.CellLaws.{on_board-small}
 
 pub empty-is_position : (size : Extent) → IsPosition size 0 0
 empty-is_position size = record {
@@ -71,3 +72,13 @@ position-apart size black white p =
 pub position-inside : (size : Extent) (black white all : ℕ) → ((n : ℕ) → (has all n ≡ true) ↔ OnBoard size n) → IsPosition size black white → IsSubset (union black white) all
 position-inside size black white all is_all p n h =
     (is_all n).1 (⊎_elim (p.black_inside n) (p.white_inside n) (has-union_cases black white n h))
+
+-- the sets of a position have only cells of a board, whose indexes are below 121
+pub board-small : (board : Board) → IsBoard board → (board.black < 2 ^ 128) × (board.white < 2 ^ 128)
+board-small board is = (
+  set-small board.black (λ n h. within n (is.1.black_inside n h)),
+  set-small board.white (λ n h. within n (is.1.white_inside n h)),
+)
+  where
+    within : (n : ℕ) → OnBoard board.size n → n < 128
+    within n on = let small : n < 121 = on_board-small board.size n is.0 on in omega arith

@@ -1,8 +1,8 @@
 //! Sets of cells.
 
-ghost use Rattle.std.specs.Prelude.{◌≡◌, ℕ, ◌+◌, ◌-◌, ◌<◌, ◌≤◌, ◌↔◌, ◌&&◌, IsTrue, nat_le, nat_lt, count_ones, false, MatchOption};
+ghost use Rattle.std.specs.Prelude.{◌≡◌, ℕ, ◌+◌, ◌-◌, ◌<◌, ◌≤◌, ◌↔◌, ◌&&◌, IsTrue, nat_le, nat_lt, false, MatchOption};
 ghost use Rattle.hx_board.specs.Cells.{OnBoard, IsLeastOn};
-ghost use Rattle.hx_board.specs.Sets.{has, insert, remove, union, intersection, difference, IsSubset, ShareOne};
+ghost use Rattle.hx_board.specs.Sets.{has, insert, remove, union, intersection, difference, IsSubset, ShareOne, count_below};
 
 use crate::cells::Cell;
 use crate::sizes::Size;
@@ -177,8 +177,8 @@ impl Mask {
     }
 
     pub fn count(self) -> u32
-        ensures { result ≡ count_ones self }
+        ensures { result ≡ count_below 128 self }
     {
-        self.bits.count_ones()
+        self.bits().count_ones()
     }
 }

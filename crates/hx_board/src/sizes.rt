@@ -71,15 +71,36 @@ impl Size {
     }
 }
 
+/// The cells of the first column, one in each of eleven rows.
+const FIRST_COLUMN: u128 = 1
+    | 1 << 11
+    | 1 << 22
+    | 1 << 33
+    | 1 << 44
+    | 1 << 55
+    | 1 << 66
+    | 1 << 77
+    | 1 << 88
+    | 1 << 99
+    | 1 << 110;
+
+/// The cells of the first columns, in all eleven rows.
+//
+// A set has eleven binary digits for each row of the board. In each row the first column has the digit 1, and 2 ^ cols - 1 is
+// `cols` digits 1. At most eleven of them fit into the row, so no row borrows from the next one.
+fn first_columns(cols: u8) -> Mask
+    requires { cols ≤ 11 }
+    ensures { (n : ℕ) → n < 121 → has result n ≡ nat_lt (col_of n) cols }
+{
+    Mask::of((FIRST_COLUMN << cols) - FIRST_COLUMN)
+}
+
 /// The cells of the first rows and columns.
 pub(crate) fn block(rows: u8, cols: u8) -> Mask
     requires rows { rows ≤ 11 }
     requires cols { cols ≤ 11 }
     ensures { (n : ℕ) → has result n ≡ (nat_lt (row_of n) rows && nat_lt (col_of n) cols) }
 {
-    let mut all = Mask::empty();
-    for row in 0..rows {
-        all = all.union(Mask::range(11 * row, 11 * row + cols));
-    }
-    all
+    let first_rows = Mask::range(0, 11 * rows);
+    first_rows.meet(first_columns(cols))
 }

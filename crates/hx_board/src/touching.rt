@@ -1,8 +1,8 @@
 //! Which cells touch one another.
 
-ghost use Rattle.std.specs.Prelude.{◌≡◌, ◌+◌, ◌*◌, ◌<◌, ◌≤◌, ◌++◌, IsTrue};
+ghost use Rattle.std.specs.Prelude.{◌≡◌, ℕ, ◌+◌, ◌*◌, ◌<◌, ◌≤◌, ◌++◌, ◌↔◌, IsTrue, Contains};
 ghost use Rattle.arrayvec.specs.ArrayVec.{array_vec_len};
-ghost use Rattle.hx_board.specs.Cells.{OnBoard, kept, index_of, neighbours_of};
+ghost use Rattle.hx_board.specs.Cells.{OnBoard, CellsTouch, kept, index_of, neighbours_of};
 
 use crate::cells::Cell;
 use crate::sizes::Size;
@@ -11,7 +11,8 @@ use arrayvec::ArrayVec;
 /// The cells that touch a cell.
 pub fn neighbours(size: Size, cell: Cell) -> ArrayVec<Cell, 6>
     requires { OnBoard size cell }
-    ensures { result.items ≡ neighbours_of size cell }
+    ensures ordered { result.items ≡ neighbours_of size cell }
+    ensures complete { (other : ℕ) → Contains result.items other ↔ (OnBoard size other × CellsTouch cell other) }
 {
     let rows = size.rows();
     let cols = size.cols();
