@@ -164,5 +164,5 @@ module _ (size : Extent) (cell : ℕ) (extent : IsExtent size.rows size.cols) (h
       Contains-append_right five below_left other
       (has-kept _ _ other (and_both (ltb (cell / 11 + 1) size.rows) _ (lt_ltb _ _ (omega arith)) (lt_ltb _ _ (omega arith))) (omega arith))
 
-  pub neighbours-complete : (other : ℕ) → Contains (neighbours_of size cell) other ↔ (OnBoard size other × CellsTouch cell other)
-  neighbours-complete other = (listed other, (λ w. to_list other w.0 w.1))
+  pub neighbours-touch : (other : ℕ) → Contains (neighbours_of size cell) other ↔ (OnBoard size other × CellsTouch cell other)
+  neighbours-touch other = (listed other, (λ w. to_list other w.0 w.1))

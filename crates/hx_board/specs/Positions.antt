@@ -7,6 +7,7 @@ use Rattle.hx_board.specs.declared.colours.Colour.TheVariants.{Black, White}
 use Rattle.hx_board.specs.Sets.{has, insert}
 use Rattle.hx_board.specs.Cells.{Extent, IsExtent, OnBoard}
 
+-- a board of some size with the sets of cells that hold a black and a white stone
 pub record Board : Type 0 where
   pub size : Extent
   pub black : ℕ
@@ -18,10 +19,11 @@ pub record IsPosition (size : Extent) (black white : ℕ) : Type 0 where
   pub black_inside : (cell : ℕ) → has black cell ≡ true → OnBoard size cell
   pub white_inside : (cell : ℕ) → has white cell ≡ true → OnBoard size cell
 
--- a board of one to eleven rows and columns with a position on it
+-- a position on a board of one to eleven rows and columns
 abbrev pub IsBoard : Board → Type 0
 IsBoard board = IsExtent board.size.rows board.size.cols × IsPosition board.size board.black board.white
 
+-- the cells that hold a player's stones
 abbrev pub stones_of : Board → Colour → ℕ
 stones_of board Black = board.black
 stones_of board White = board.white
@@ -32,11 +34,11 @@ pub record IsEmpty (board : Board) (cell : ℕ) : Type 0 where
   pub no_black : has board.black cell ≡ false
   pub no_white : has board.white cell ≡ false
 
--- the stone on a cell
+-- the colour of the stone on a cell
 abbrev pub stone_at : Board → ℕ → Option Colour
 stone_at board cell = if has board.black cell then Some Black else (if has board.white cell then Some White else None)
 
--- the board with one stone more
+-- the board with one stone more, and nothing else changed
 abbrev pub put : Board → Colour → ℕ → Board
 put board Black cell = record board { black = insert board.black cell }
 put board White cell = record board { white = insert board.white cell }

@@ -1,11 +1,15 @@
 //! The cells of a board.
+//!
+//! A cell goes by one number, its index, which is eleven times its row plus its column on a board of every size. So
+//! the same cell has the same index on two boards, and its neighbours' indexes lie fixed steps away.
 
 ghost use Rattle.std.specs.Prelude.{◌≡◌, ◌<◌};
 ghost use Rattle.hx_board.specs.Cells.{row_of, col_of};
 
 use std::marker::Model;
 
-/// A cell, seen as its index.
+/// A cell, by its row and its column, which both count from 0 at the top left corner. Contracts see it as its
+/// index. It may lie on a board of one size and off a smaller one: `Size::cell` makes a cell of its board.
 #[derive(Clone, Copy, PartialEq, Eq, Debug, Default)]
 pub struct Cell {
     index: u8,
@@ -24,6 +28,7 @@ impl Model for Cell {
 }
 
 impl Cell {
+    /// The cell with this index.
     pub(crate) fn at_index(index: u8) -> Cell
         requires { index < 121 }
         ensures { result ≡ index }
@@ -31,6 +36,7 @@ impl Cell {
         Cell { index }
     }
 
+    /// The row, from 0 at the top to 10.
     pub fn row(self) -> u8
         ensures value { result ≡ row_of self }
         ensures small { self < 121 }
@@ -38,6 +44,7 @@ impl Cell {
         self.index / 11
     }
 
+    /// The column, from 0 at the left to 10.
     pub fn col(self) -> u8
         ensures value { result ≡ col_of self }
         ensures small { self < 121 }
@@ -45,6 +52,7 @@ impl Cell {
         self.index % 11
     }
 
+    /// Eleven times the row plus the column, from 0 to 120. The cells of a board in cell order have rising indexes.
     pub fn index(self) -> u8
         ensures value { result ≡ self }
         ensures small { self < 121 }

@@ -24,4 +24,6 @@ pub use vertices::Vertex;
 pub struct Memory;
 
 #[cfg(test)]
+mod plain;
+#[cfg(test)]
 mod tests;

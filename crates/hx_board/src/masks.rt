@@ -1,4 +1,8 @@
 //! Sets of cells.
+//!
+//! A set is one number of 128 binary digits, with the digit 1 at the index of each cell in it. So to unite two
+//! sets, to find what they share, or to move all cells of a set by a step takes a few machine instructions and no
+//! memory. The numbers from 121 to 127 are no cell's, and can stand for something else, as the sides of the board.
 
 ghost use Rattle.std.specs.Prelude.{◌≡◌, ℕ, ◌+◌, ◌-◌, ◌<◌, ◌≤◌, ◌↔◌, ◌&&◌, IsTrue, nat_le, nat_lt, false, MatchOption};
 ghost use Rattle.hx_board.specs.Cells.{OnBoard, IsLeastOn};
@@ -8,7 +12,8 @@ use crate::cells::Cell;
 use crate::sizes::Size;
 use std::marker::Model;
 
-/// A set of numbers below 128, in which a cell stands by its index.
+/// A set of numbers from 0 to 127, in which a cell stands by its index. Contracts see it as the number of its
+/// binary digits.
 #[derive(Clone, Copy, PartialEq, Eq, Debug)]
 pub struct Mask {
     bits: u128,
@@ -25,31 +30,35 @@ impl Model for Mask {
 }
 
 impl Mask {
+    /// The set without a member.
     pub fn empty() -> Mask
         ensures { result ≡ 0 }
     {
         Mask { bits: 0 }
     }
 
+    /// The set of the places, counted from the lowest, at which `bits` has the binary digit 1.
     pub fn of(bits: u128) -> Mask
         ensures { result ≡ bits }
     {
         Mask { bits }
     }
 
+    /// The number that has the binary digit 1 at each member's place, so that `Mask::of(set.bits())` is `set`.
     pub fn bits(self) -> u128
         ensures { result ≡ self }
     {
         self.bits
     }
 
+    /// Whether a cell is in the set.
     pub fn has(self, cell: Cell) -> bool
         ensures { result ≡ has self cell }
     {
-        let place = cell.index();
-        (self.bits >> place) & 1 == 1
+        self.holds(cell.index())
     }
 
+    /// The set and a cell, which may be in the set already.
     pub fn with(self, cell: Cell) -> Mask
         ensures { result ≡ insert self cell }
     {
@@ -59,6 +68,7 @@ impl Mask {
         }
     }
 
+    /// The set without a cell, which need not be in the set.
     pub fn without(self, cell: Cell) -> Mask
         ensures { result ≡ remove self cell }
     {
@@ -68,6 +78,7 @@ impl Mask {
         }
     }
 
+    /// What is in one of the two sets, or in both.
     #[tactic(auto, unfolding(crate::specs::Sets::union))]
     pub fn union(self, other: Mask) -> Mask
         ensures { result ≡ union self other }
@@ -77,6 +88,7 @@ impl Mask {
         }
     }
 
+    /// What is in both sets.
     #[tactic(auto, unfolding(crate::specs::Sets::intersection))]
     pub fn meet(self, other: Mask) -> Mask
         ensures { result ≡ intersection self other }
@@ -96,7 +108,34 @@ impl Mask {
         }
     }
 
-    /// Whether some number is in both.
+    /// Whether each member of this set is in the other.
+    pub fn inside(self, other: Mask) -> bool
+        ensures { IsTrue result ↔ IsSubset self other }
+    {
+        self.bits & other.bits == self.bits
+    }
+
+    /// How many members the set has.
+    pub fn count(self) -> u32
+        ensures { result ≡ count_below 128 self }
+    {
+        self.bits().count_ones()
+    }
+
+    /// The first cell of a board of this size that is in the set, row by row from the top and from the left in each
+    /// row. None exactly where no cell of the board is in the set.
+    pub fn least(self, size: Size) -> Option<Cell>
+        ensures { MatchOption result ((n : ℕ) → OnBoard size n → has self n ≡ false) (IsLeastOn size self) }
+    {
+        let here = self.meet(size.all()).bits();
+        if here == 0 {
+            None
+        } else {
+            Some(Cell::at_index(here.trailing_zeros() as u8))
+        }
+    }
+
+    /// Whether the two sets share a member.
     pub(crate) fn meets(self, other: Mask) -> bool
         ensures { IsTrue result ↔ ShareOne self other }
     {
@@ -104,7 +143,7 @@ impl Mask {
         both != 0
     }
 
-    /// The set, or none.
+    /// The set where it is wanted, and else the empty set.
     pub(crate) fn when(self, is_wanted: bool) -> Mask
         ensures { (n : ℕ) → has result n ≡ (is_wanted && has self n) }
     {
@@ -127,40 +166,8 @@ impl Mask {
         Mask { bits: 1 << place }
     }
 
-    /// Each number moved up, as far as it stays below 128.
-    pub(crate) fn later(self, by: u8) -> Mask
-        requires { by < 128 }
-        ensures { (n : ℕ) → n < 128 → has result n ≡ (nat_le by n && has self (n - by)) }
-    {
-        Mask {
-            bits: self.bits << by,
-        }
-    }
-
-    /// Each number moved down, as far as it stays above 0.
-    pub(crate) fn earlier(self, by: u8) -> Mask
-        requires { by < 128 }
-        ensures { (n : ℕ) → has result n ≡ has self (n + by) }
-    {
-        Mask {
-            bits: self.bits >> by,
-        }
-    }
-
-    /// The least cell of a board of this size that is in the set.
-    pub fn least(self, size: Size) -> Option<Cell>
-        ensures { MatchOption result ((n : ℕ) → OnBoard size n → has self n ≡ false) (IsLeastOn size self) }
-    {
-        let here = self.meet(size.all()).bits();
-        if here == 0 {
-            None
-        } else {
-            Some(Cell::at_index(here.trailing_zeros() as u8))
-        }
-    }
-
-    /// The numbers from `low` up to `high`.
-    pub fn range(low: u8, high: u8) -> Mask
+    /// The numbers from `low` on and below `high`.
+    pub(crate) fn range(low: u8, high: u8) -> Mask
         requires ordered { low ≤ high }
         requires fits { high < 128 }
         ensures { (n : ℕ) → has result n ≡ (nat_le low n && nat_lt n high) }
@@ -170,15 +177,23 @@ impl Mask {
         }
     }
 
-    pub fn inside(self, other: Mask) -> bool
-        ensures { IsTrue result ↔ IsSubset self other }
+    /// Each member moved up by so many places. What would come to 128 or more is lost.
+    pub(crate) fn later(self, by: u8) -> Mask
+        requires { by < 128 }
+        ensures { (n : ℕ) → n < 128 → has result n ≡ (nat_le by n && has self (n - by)) }
     {
-        self.bits & other.bits == self.bits
+        Mask {
+            bits: self.bits << by,
+        }
     }
 
-    pub fn count(self) -> u32
-        ensures { result ≡ count_below 128 self }
+    /// Each member moved down by so many places. What would come below 0 is lost.
+    pub(crate) fn earlier(self, by: u8) -> Mask
+        requires { by < 128 }
+        ensures { (n : ℕ) → has result n ≡ has self (n + by) }
     {
-        self.bits().count_ones()
+        Mask {
+            bits: self.bits >> by,
+        }
     }
 }

@@ -1,4 +1,6 @@
-//! Positions: a board and the stones on it.
+//! Positions: a board of some size and the stones on it.
+//!
+//! A position does not say whose turn it is, nor how its stones came: it may have any number of each colour.
 
 ghost use Rattle.std.specs.Prelude.{◌≡◌, ℕ, ◌↔◌, SomeIff, true};
 ghost use Rattle.hx_board.specs.Sets.{has};
@@ -10,7 +12,8 @@ use crate::masks::Mask;
 use crate::sizes::Size;
 use std::marker::Model;
 
-/// A board of some size, and which of its cells hold a black or a white stone. No cell holds two.
+/// A board of some size, and which of its cells hold a black or a white stone. No cell holds two. Contracts see it
+/// as its size and two sets of cells.
 #[derive(Clone, Copy, PartialEq, Eq, Debug)]
 pub struct Position {
     size: Size,
@@ -42,8 +45,8 @@ impl Position {
         }
     }
 
-    /// The position with these stones. None exactly where a cell would hold two stones or a stone would stand off the
-    /// board.
+    /// The position with these stones. None exactly where a cell would hold two stones or a stone would stand off
+    /// the board.
     pub fn from_masks(size: Size, black: Mask, white: Mask) -> Option<Position>
         ensures { SomeIff result (IsPosition size black white) (record { size = size; black = black; white = white }) }
     {
@@ -54,6 +57,7 @@ impl Position {
         }
     }
 
+    /// The size of the board.
     pub fn size(&self) -> Size
         ensures value { result ≡ self.now.size }
         ensures valid { IsBoard self.now }
@@ -63,7 +67,7 @@ impl Position {
         size
     }
 
-    /// The cells that hold this player's stones.
+    /// The cells that hold a stone of this colour.
     pub fn stones(&self, colour: Colour) -> Mask
         ensures value { result ≡ stones_of self.now colour }
         ensures valid { IsPosition self.now.size self.now.black self.now.white }
@@ -82,7 +86,7 @@ impl Position {
         self.size.all().minus(held)
     }
 
-    /// The stone on a cell, if there is one.
+    /// The colour of the stone on a cell. None where the cell is empty, and where it lies off the board.
     pub fn at(&self, cell: Cell) -> Option<Colour>
         ensures { result ≡ stone_at self.now cell }
     {
@@ -95,7 +99,7 @@ impl Position {
         }
     }
 
-    /// Puts a stone on an empty cell. Nothing else changes.
+    /// Puts a stone of this colour on an empty cell. Nothing else changes.
     pub fn play(&mut self, colour: Colour, cell: Cell)
         requires { IsEmpty self.old cell }
         ensures { self.new ≡ put self.old colour cell }

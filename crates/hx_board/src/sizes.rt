@@ -1,14 +1,16 @@
-//! The sizes of boards: one to eleven rows and columns.
+//! The sizes of boards, from one to eleven rows and columns, and the sets of cells that a size fixes.
+//!
+//! These sets are wanted at each step of a search, so they come from one constant by shifts and without a loop.
 
 ghost use Rattle.std.specs.Prelude.{◌≡◌, ℕ, ◌+◌, ◌*◌, ◌<◌, ◌≤◌, ◌↔◌, ◌&&◌, nat_lt, SomeIff, true};
 ghost use Rattle.hx_board.specs.Sets.{has};
-ghost use Rattle.hx_board.specs.Cells.{OnBoard, IsExtent, row_of, col_of};
+ghost use Rattle.hx_board.specs.Cells.{OnBoard, IsExtent, index_of, row_of, col_of};
 
 use crate::cells::Cell;
 use crate::masks::Mask;
 use std::marker::Model;
 
-/// A board of 1 to 11 rows and columns.
+/// The size of a board: how many rows it has, from 1 to 11, and how many columns, from 1 to 11.
 #[derive(Clone, Copy, PartialEq, Eq, Debug)]
 pub struct Size {
     rows: u8,
@@ -28,6 +30,7 @@ impl Model for Size {
 }
 
 impl Size {
+    /// The size with so many rows and columns. None exactly where one of the two numbers is outside 1 to 11.
     pub fn new(rows: u8, cols: u8) -> Option<Size>
         ensures { SomeIff result (IsExtent rows cols) (record { rows = rows; cols = cols }) }
     {
@@ -38,6 +41,7 @@ impl Size {
         }
     }
 
+    /// The number of rows, from 1 to 11.
     pub fn rows(self) -> u8
         ensures value { result ≡ self.rows }
         ensures valid { IsExtent self.rows self.cols }
@@ -45,6 +49,7 @@ impl Size {
         self.rows
     }
 
+    /// The number of columns, from 1 to 11.
     pub fn cols(self) -> u8
         ensures value { result ≡ self.cols }
         ensures valid { IsExtent self.rows self.cols }
@@ -60,8 +65,9 @@ impl Size {
         block(self.rows, self.cols)
     }
 
+    /// The cell in this row and column, which both count from 0. None exactly where it would lie off the board.
     pub fn cell(self, row: u8, col: u8) -> Option<Cell>
-        ensures { SomeIff result ((row < self.rows) × (col < self.cols)) (11 * row + col) }
+        ensures { SomeIff result ((row < self.rows) × (col < self.cols)) (index_of row col) }
     {
         if row < self.rows && col < self.cols {
             Some(Cell::at_index(11 * row + col))
@@ -85,9 +91,10 @@ const FIRST_COLUMN: u128 = 1
     | 1 << 110;
 
 /// The cells of the first columns, in all eleven rows.
-//
-// A set has eleven binary digits for each row of the board. In each row the first column has the digit 1, and 2 ^ cols - 1 is
-// `cols` digits 1. At most eleven of them fit into the row, so no row borrows from the next one.
+///
+/// Each row of a board has eleven binary digits of a set. The first column alone has a 1 at the row's lowest digit.
+/// Moved up by `cols` digits and less what it was, that 1 becomes 2 ^ `cols` - 1, which is `cols` digits 1. As
+/// there are at most eleven of these, each row keeps to its own digits.
 fn first_columns(cols: u8) -> Mask
     requires { cols ≤ 11 }
     ensures { (n : ℕ) → n < 121 → has result n ≡ nat_lt (col_of n) cols }
@@ -95,7 +102,7 @@ fn first_columns(cols: u8) -> Mask
     Mask::of((FIRST_COLUMN << cols) - FIRST_COLUMN)
 }
 
-/// The cells of the first rows and columns.
+/// The cells of the first rows and columns. The cells of the first rows are the numbers below the index of the next row.
 pub(crate) fn block(rows: u8, cols: u8) -> Mask
     requires rows { rows ≤ 11 }
     requires cols { cols ≤ 11 }

@@ -1,4 +1,7 @@
 //! Which cells touch one another.
+//!
+//! The cells are hexagons, and each row is shifted half a cell to the right of the one above. So a cell touches the
+//! two beside it, the one above and the one after that, the one below and the one before that.
 
 ghost use Rattle.std.specs.Prelude.{◌≡◌, ℕ, ◌+◌, ◌*◌, ◌<◌, ◌≤◌, ◌++◌, ◌↔◌, IsTrue, Contains};
 ghost use Rattle.arrayvec.specs.ArrayVec.{array_vec_len};
@@ -8,11 +11,12 @@ use crate::cells::Cell;
 use crate::sizes::Size;
 use arrayvec::ArrayVec;
 
-/// The cells that touch a cell.
+/// The cells of the board that touch a cell, each once, in this order: left, right, above, below, above to the
+/// right, below to the left. A cell inside the board has six, a cell on its border fewer.
 pub fn neighbours(size: Size, cell: Cell) -> ArrayVec<Cell, 6>
     requires { OnBoard size cell }
     ensures ordered { result.items ≡ neighbours_of size cell }
-    ensures complete { (other : ℕ) → Contains result.items other ↔ (OnBoard size other × CellsTouch cell other) }
+    ensures touching { (other : ℕ) → Contains result.items other ↔ (OnBoard size other × CellsTouch cell other) }
 {
     let rows = size.rows();
     let cols = size.cols();
@@ -38,6 +42,7 @@ pub fn neighbours(size: Size, cell: Cell) -> ArrayVec<Cell, 6>
     found
 }
 
+/// Adds the cell in this row and column where it is there.
 fn push_if(found: &mut ArrayVec<Cell, 6>, is_there: bool, row: u8, col: u8)
     requires room { array_vec_len found.old < 6 }
     requires small { IsTrue is_there → 11 * row + col < 121 }
