@@ -1,10 +1,10 @@
 -- The laws of positions.
 use Rattle.std.proofs.Common.{◌≡◌, ◌≢◌, ℕ, ◌^◌, ◌<◌, Bool, true, false, refl, sym, ap, ◌∙◌, subst, ⊎_elim, arith, ◌↔◌}
 use Rattle.std.proofs.lemmas.Bool.{false≢true}
-use Rattle.hx_board.specs.Sets.{has, insert, remove, union, intersection, difference, IsSubset}
+use Rattle.hx_board.specs.Sets.{has, insert, union, intersection, difference, IsSubset}
 use Rattle.hx_board.specs.Cells.{Extent, OnBoard}
 use Rattle.hx_board.specs.Positions.{Board, IsBoard, IsPosition, IsEmpty}
-use Rattle.hx_board.proofs.SetLaws.{has-empty, has-insert_cases, has-remove_before, has-intersection_both, has-union_left, has-union_right, has-union_cases, has-difference_left, has-difference_right, has-difference_both, has-intersection_left, has-intersection_right, same_set, is_false, set-small}
+use Rattle.hx_board.proofs.SetLaws.{has-empty, has-insert_cases, has-intersection_both, has-union_left, has-union_right, has-union_cases, has-difference_left, has-difference_right, has-difference_both, has-intersection_left, has-intersection_right, same_set, is_false, set-small}
 use Rattle.hx_board.proofs.CellLaws.{on_board-small}
 
 pub empty-is_position : (size : Extent) → IsPosition size 0 0
@@ -13,10 +13,6 @@ empty-is_position size = record {
   black_inside = λ n h. absurd (false≢true (sym (has-empty n) ∙ h));
   white_inside = λ n h. absurd (false≢true (sym (has-empty n) ∙ h));
 }
-
-not_both : (a b : Bool) → (a ≡ true → b ≡ false) → b ≡ true → a ≡ false
-not_both true b h k = absurd (false≢true (sym (h refl) ∙ k))
-not_both false b h k = refl
 
 inserted_inside : (size : Extent) (set cell : ℕ) → OnBoard size cell → ((n : ℕ) → has set n ≡ true → OnBoard size n) → (n : ℕ) → has (insert set cell) n ≡ true → OnBoard size n
 inserted_inside size set cell here before n h =

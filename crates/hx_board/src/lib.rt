@@ -19,7 +19,7 @@ pub use sizes::Size;
 pub use touching::neighbours;
 pub use vertices::Vertex;
 
-/// The answer of a call that wanted memory and did not get it.
+/// Want of memory: the answer of a call, in this crate or in one above it, that asked for memory and did not get it.
 #[derive(Clone, Copy, PartialEq, Eq, Debug)]
 pub struct Memory;
 

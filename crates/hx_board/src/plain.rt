@@ -1,6 +1,6 @@
-//! Plain programs for the definitions that the contracts cite. Each follows the words of the rules and shares no
-//! method with the fast code, so that the tests show on small boards that the definitions and the calls mean what
-//! the rules mean.
+//! Plain programs for the definitions that the contracts cite, in the words of the rules: touching by rows and
+//! columns and not by sets, joining by a walk from vertex to vertex and not by a flood, winning by every game to its
+//! end. The tests hold the calls against them.
 
 ghost use Rattle.std.specs.Prelude.{◌↔◌, IsTrue};
 ghost use Rattle.hx_board.specs.Graph.{IsVertex};
@@ -92,6 +92,7 @@ pub fn joined_to(
     joined.push(*start)?;
     let mut to_visit = Vec::new(alloc);
     to_visit.push(*start)?;
+    // A walk goes on from each vertex at most once.
     for _ in 0..all.len() {
         let Some(here) = to_visit.pop() else {
             break;

@@ -18,27 +18,21 @@ pub fn neighbours(size: Size, cell: Cell) -> ArrayVec<Cell, 6>
     ensures ordered { result.items ≡ neighbours_of size cell }
     ensures touching { (other : ℕ) → Contains result.items other ↔ (OnBoard size other × CellsTouch cell other) }
 {
-    let rows = size.rows();
-    let cols = size.cols();
     let row = cell.row();
     let col = cell.col();
+    let has_left = 0 < col;
+    let has_right = col + 1 < size.cols();
+    let has_above = 0 < row;
+    let has_below = row + 1 < size.rows();
+    let left = col.saturating_sub(1);
+    let above = row.saturating_sub(1);
     let mut found = ArrayVec::new();
-    push_if(&mut found, 0 < col, row, col.saturating_sub(1));
-    push_if(&mut found, col + 1 < cols, row, col + 1);
-    push_if(&mut found, 0 < row, row.saturating_sub(1), col);
-    push_if(&mut found, row + 1 < rows, row + 1, col);
-    push_if(
-        &mut found,
-        0 < row && col + 1 < cols,
-        row.saturating_sub(1),
-        col + 1,
-    );
-    push_if(
-        &mut found,
-        row + 1 < rows && 0 < col,
-        row + 1,
-        col.saturating_sub(1),
-    );
+    push_if(&mut found, has_left, row, left);
+    push_if(&mut found, has_right, row, col + 1);
+    push_if(&mut found, has_above, above, col);
+    push_if(&mut found, has_below, row + 1, col);
+    push_if(&mut found, has_above && has_right, above, col + 1);
+    push_if(&mut found, has_below && has_left, row + 1, left);
     found
 }
 

@@ -6,4 +6,4 @@ pub returns-clause-ordered : goal.returns-clause-ordered
 returns-clause-ordered c = search rules
 
 pub returns-clause-touching : goal.returns-clause-touching
-returns-clause-touching c = rw (returns-clause-ordered c) (neighbours-touch c.args.size c.args.cell c.rows-rows.ensures.valid c.requires)
+returns-clause-touching c = rw (returns-clause-ordered c) (neighbours-touch c.args.size c.args.cell c.rows.ensures.valid c.requires)
