@@ -3,8 +3,11 @@
 
 mod cells;
 mod colours;
+mod floods;
+mod graphs;
 mod groups;
 mod masks;
+mod places;
 mod positions;
 mod sizes;
 mod touching;
@@ -12,7 +15,7 @@ mod vertices;
 
 pub use cells::Cell;
 pub use colours::Colour;
-pub use groups::{Groups, chain};
+pub use groups::{Groups, Reach, chain};
 pub use masks::Mask;
 pub use positions::Position;
 pub use sizes::Size;

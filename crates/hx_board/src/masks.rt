@@ -2,7 +2,7 @@
 
 ghost use Rattle.std.specs.Prelude.{◌≡◌, ℕ, ◌+◌, ◌-◌, ◌<◌, ◌≤◌, ◌↔◌, ◌&&◌, IsTrue, nat_le, nat_lt, count_ones, false, MatchOption};
 ghost use Rattle.hx_board.specs.Cells.{OnBoard, IsLeastOn};
-ghost use Rattle.hx_board.specs.Sets.{has, insert, remove, union, intersection, difference, IsSubset, ShareOne};
+ghost use Rattle.hx_board.specs.Sets.{has, insert, remove, union, intersection, difference, IsSubset, ShareOne, IsLowest};
 
 use crate::cells::Cell;
 use crate::sizes::Size;
@@ -156,6 +156,18 @@ impl Mask {
             None
         } else {
             Some(Cell::at_index(here.trailing_zeros() as u8))
+        }
+    }
+
+    /// The lowest number in the set.
+    pub(crate) fn lowest(self) -> Option<u8>
+        ensures { MatchOption result (self ≡ 0) (IsLowest self) }
+    {
+        let bits = self.bits();
+        if bits == 0 {
+            None
+        } else {
+            Some(bits.trailing_zeros() as u8)
         }
     }
 
