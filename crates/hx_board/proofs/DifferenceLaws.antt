@@ -22,13 +22,3 @@ pub difference-lt : (s t n : ℕ) → has s n ≡ true → has t n ≡ true → 
 difference-lt s t n in_s in_t =
     lt_of_le-ne (difference-le s t)
     (λ e. false≢true (sym (has-difference_right s t n (ap (λ (x : ℕ). has x n) e ∙ in_s)) ∙ in_t))
-
-or_false : (a : Bool) → (a || false) ≡ a
-or_false true = refl
-or_false false = refl
-
-pub has-single_is : (k n : ℕ) → has (insert 0 k) n ≡ eqb n k
-has-single_is k n = has-insert 0 k n ∙ rw (has-empty n) (or_false (eqb n k))
-
-pub difference-single : (s k n : ℕ) → has (difference s (insert 0 k)) n ≡ (has s n && not (eqb n k))
-difference-single s k n = has-difference s (insert 0 k) n ∙ ap (λ b. has s n && not b) (has-single_is k n)

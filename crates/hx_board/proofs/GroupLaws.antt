@@ -11,14 +11,14 @@ use Rattle.std.specs.Prelude.{if◌then◌else◌}
 use Rattle.hx_board.specs.declared.colours.Colour.{Colour}
 use Rattle.hx_board.specs.declared.vertices.Vertex.{Vertex}
 use Rattle.hx_board.specs.declared.vertices.Vertex.TheVariants.{Of, First, Last}
-use Rattle.hx_board.specs.Sets.{has, insert, union, intersection, difference, IsSubset}
+use Rattle.hx_board.specs.Sets.{has, remove, union, intersection, difference, IsSubset}
 use Rattle.hx_board.specs.Cells.{Extent, IsExtent, OnBoard, CellsTouch}
 use Rattle.hx_board.specs.Positions.{Board, IsBoard}
 use Rattle.hx_board.specs.Graph.{IsVertex, IsOwn, Touches, Walk, Joined, IsReach}
 use Rattle.hx_board.specs.Floods.{code_of, IsVertexCode, IsSetOf, AreNear, AreJoined}
-use Rattle.hx_board.proofs.SetLaws.{has-empty, has-union_left, has-union_right, has-union_cases, has-difference_left, has-difference_both, has-intersection_left, has-intersection_right, has-intersection_both, is_false}
+use Rattle.hx_board.proofs.SetLaws.{has-empty, has-remove, has-remove_before, has-union_left, has-union_right, has-union_cases, has-difference_left, has-difference_both, has-intersection_left, has-intersection_right, has-intersection_both, is_false}
 use Rattle.hx_board.proofs.CellLaws.{on_board-small}
-use Rattle.hx_board.proofs.DifferenceLaws.{difference-single, difference-lt}
+use Rattle.hx_board.proofs.DifferenceLaws.{difference-lt}
 use Rattle.hx_board.proofs.FloodLaws.{code-small, vertex_code-small}
 use Rattle.hx_board.proofs.Joins.{touches-sym, touches-vertex, joined-sym, joined-over_own, joined-touches}
 
@@ -76,10 +76,10 @@ joined_none before group count = record {
     none false = refl
 
 pub joined_more : (before after : List ℕ) (group left place row : ℕ) → place < 123 → has left place ≡ true → row ≡ slice_index after place
-    → AreJoinedBut before after group left → AreJoinedBut before (set after place (union row group)) group (difference left (insert 0 place))
+    → AreJoinedBut before after group left → AreJoinedBut before (set after place (union row group)) group (remove left place)
 joined_more before after group left place row small member is k = record {
   count = length-set after place (union row group) ∙ k.count;
-  inside = λ n h. k.inside n (has-difference_left left (insert 0 place) n h);
+  inside = λ n h. k.inside n (has-remove_before left place n h);
   sets = λ n low. ⊎_elim (λ t. here n t.1) (λ t. there n low t.0 t.1) (eqb_tells n place);
 }
   where
@@ -90,18 +90,18 @@ joined_more before after group left place row small member is k = record {
     was = k.sets place small ∙ rw (k.inside place member, member) refl
 
     here : (n : ℕ) → n ≡ place → slice_index (set after place (union row group)) n
-        ≡ (if has group n && not (has (difference left (insert 0 place)) n) then union (slice_index before n) group else slice_index before n)
+        ≡ (if has group n && not (has (remove left place) n) then union (slice_index before n) group else slice_index before n)
     here n same =
         let P : ℕ → Type 0 = λ x. slice_index (set after place (union row group)) x
-            ≡ (if has group x && not (has (difference left (insert 0 place)) x) then union (slice_index before x) group else slice_index before x) in
+            ≡ (if has group x && not (has (remove left place) x) then union (slice_index before x) group else slice_index before x) in
         subst P (sym same)
-        (rw (get_or-set_same after place (union row group) 0 within, difference-single left place place, eq-eqb place place refl, member, k.inside place member)
+        (rw (get_or-set_same after place (union row group) 0 within, has-remove left place place, eq-eqb place place refl, member, k.inside place member)
         (ap (λ (x : ℕ). union x group) (is ∙ was)))
 
     there : (n : ℕ) → n < 123 → eqb n place ≡ false → n ≢ place → slice_index (set after place (union row group)) n
-        ≡ (if has group n && not (has (difference left (insert 0 place)) n) then union (slice_index before n) group else slice_index before n)
+        ≡ (if has group n && not (has (remove left place) n) then union (slice_index before n) group else slice_index before n)
     there n low fails apart =
-        rw (get_or-set_other after place n (union row group) 0 apart, difference-single left place n, fails, and_true (has left n)) (k.sets n low)
+        rw (get_or-set_other after place n (union row group) 0 apart, has-remove left place n, fails, and_true (has left n)) (k.sets n low)
       where
         and_true : (a : Bool) → (a && true) ≡ a
         and_true true = refl

@@ -124,6 +124,6 @@ fn join_all(joined: &mut [Mask; 123], set: Mask)
     while let Some(place) = left.lowest() {
         let index = place as usize;
         joined[index] = joined[index].union(set);
-        left = left.minus(Mask::single(place));
+        left = left.without_lowest();
     }
 }

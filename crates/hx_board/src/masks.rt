@@ -1,6 +1,6 @@
 //! Sets of cells.
 
-ghost use Rattle.std.specs.Prelude.{◌≡◌, ℕ, ◌+◌, ◌-◌, ◌<◌, ◌≤◌, ◌↔◌, ◌&&◌, IsTrue, nat_le, nat_lt, count_ones, false, MatchOption};
+ghost use Rattle.std.specs.Prelude.{◌≡◌, ◌≢◌, ℕ, ◌+◌, ◌-◌, ◌<◌, ◌≤◌, ◌↔◌, ◌&&◌, IsTrue, nat_le, nat_lt, count_ones, false, MatchOption};
 ghost use Rattle.hx_board.specs.Cells.{OnBoard, IsLeastOn};
 ghost use Rattle.hx_board.specs.Sets.{has, insert, remove, union, intersection, difference, IsSubset, ShareOne, IsLowest};
 
@@ -168,6 +168,16 @@ impl Mask {
             None
         } else {
             Some(bits.trailing_zeros() as u8)
+        }
+    }
+
+    /// The set without its lowest number.
+    pub(crate) fn without_lowest(self) -> Mask
+        requires { self ≢ 0 }
+        ensures { (n : ℕ) → IsLowest self n → result ≡ remove self n }
+    {
+        Mask {
+            bits: (self.bits - 1) & self.bits,
         }
     }
 

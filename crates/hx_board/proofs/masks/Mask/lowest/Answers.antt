@@ -1,4 +1,4 @@
-use Rattle.hx_board.proofs.CellLaws.{lowest-is}
+use Rattle.hx_board.proofs.Lowest.{lowest-is}
 use Rattle.hx_board.proofs.masks.Mask.lowest.Goals as goal
 
 pub returns-else-bits-eq0 : goal.returns-else-bits-eq0
