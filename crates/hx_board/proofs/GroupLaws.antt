@@ -22,39 +22,6 @@ use Rattle.hx_board.proofs.DifferenceLaws.{difference-lt}
 use Rattle.hx_board.proofs.FloodLaws.{code-small, vertex_code-small}
 use Rattle.hx_board.proofs.Joins.{touches-sym, touches-vertex, joined-sym, joined-over_own, joined-touches}
 
--- ---- each cell with what touches it
-
-pub near_none : (size : Extent) (empty : ℕ) → empty ≡ 0 → AreNear size 0 (replicate 123 empty)
-near_none size empty e = record {
-  count = refl;
-  cells = λ cell low. absurd (omega arith);
-  first = e;
-  last = e;
-}
-
-pub near_more : (size : Extent) (sets : List ℕ) (index near : ℕ) → index < 121 → AreNear size index sets
-    → (OnBoard size index → (other : ℕ) → (has near other ≡ true) ↔ (OnBoard size other × ((other ≡ index) ⊎ CellsTouch index other)))
-    → AreNear size (index + 1) (set sets index near)
-near_more size sets index near small before is = record {
-  count = length-set sets index near ∙ before.count;
-  cells = λ cell low on other. ⊎_elim (λ t. here cell t.1 on other) (λ t. there cell low t.1 on other) (eqb_tells cell index);
-  first = get_or-set_other sets index 121 near 0 (λ e. absurd (omega arith)) ∙ before.first;
-  last = get_or-set_other sets index 122 near 0 (λ e. absurd (omega arith)) ∙ before.last;
-}
-  where
-    within : index < length sets
-    within = rw before.count (omega arith)
-
-    here : (cell : ℕ) → cell ≡ index → OnBoard size cell → (other : ℕ)
-        → (has (slice_index (set sets index near) cell) other ≡ true) ↔ (OnBoard size other × ((other ≡ cell) ⊎ CellsTouch cell other))
-    here cell same on other =
-        let P : ℕ → Type 0 = λ x. OnBoard size x → (has (slice_index (set sets index near) x) other ≡ true) ↔ (OnBoard size other × ((other ≡ x) ⊎ CellsTouch x other)) in
-        subst P (sym same) (λ stands. rw (get_or-set_same sets index near 0 within) (is stands other)) on
-
-    there : (cell : ℕ) → cell < index + 1 → cell ≢ index → OnBoard size cell → (other : ℕ)
-        → (has (slice_index (set sets index near) cell) other ≡ true) ↔ (OnBoard size other × ((other ≡ cell) ⊎ CellsTouch cell other))
-    there cell low apart on other = rw (get_or-set_other sets index cell near 0 apart) (before.cells cell (omega arith) on other)
-
 -- ---- a set joined
 
 -- the set of each vertex of a group has grown, but for those that are left

@@ -1,9 +1,9 @@
 //! A player's graph on a board, kept as the masks that a flood needs. They are made once for a position, since a flood
 //! that made them at each step would take longer over them than over the step.
 
-ghost use Rattle.std.specs.Prelude.{◌≡◌, ℕ, ◌⊎◌, ◌↔◌, true};
+ghost use Rattle.std.specs.Prelude.{◌≡◌, ℕ, ◌+◌, ◌-◌, ◌<◌, ◌≤◌, ◌⊎◌, ◌↔◌, true};
 ghost use Rattle.hx_board.specs.Sets.{has};
-ghost use Rattle.hx_board.specs.Cells.{OnBoard, CellsTouch, TouchesCellOf};
+ghost use Rattle.hx_board.specs.Cells.{OnBoard, CellsTouch, TouchesCellOf, col_of};
 ghost use Rattle.hx_board.specs.Positions.{IsBoard};
 ghost use Rattle.hx_board.specs.Graph.{IsFirstLine, IsLastLine, IsOwn};
 ghost use Rattle.hx_board.specs.Floods.{IsSetOf, TouchesOneOf};
@@ -45,7 +45,7 @@ impl Graph {
     {
         let size = position.size();
         let all = size.all();
-        let left = block(size.rows(), size.cols() - 1);
+        let left = left_cells(size);
         let first = first_line(size, player);
         let last = last_line(size, player);
         let own = own_vertices(position, player);
@@ -91,6 +91,13 @@ impl Graph {
         single.union(self.around(single))
     }
 
+    /// The cells that lie below a cell of a set.
+    pub(crate) fn below(&self, set: Mask) -> Mask
+        ensures { (cell : ℕ) → (has result cell ≡ true) ↔ (OnBoard self.now.board.size cell × (11 ≤ cell) × (has set (cell - 11) ≡ true)) }
+    {
+        set.later(11).meet(self.all)
+    }
+
     /// The vertices that touch one in a set.
     pub(crate) fn spread(&self, set: Mask) -> Mask
         ensures { IsSetOf self.now.board.size (TouchesOneOf self.now.board.size self.now.player set) result }
@@ -106,24 +113,34 @@ impl Graph {
     }
 }
 
-/// The cells along a player's first side.
+/// The cells that have a cell to their right.
+fn left_cells(size: Size) -> Mask
+    ensures { (cell : ℕ) → (has result cell ≡ true) ↔ (OnBoard size cell × (col_of cell + 1 < size.cols)) }
+{
+    block(size.rows(), size.cols() - 1)
+}
+
+/// The cells along a player's first side: for Black those with no cell above them, for White those with none to their
+/// left.
 fn first_line(size: Size, player: Colour) -> Mask
     ensures { (cell : ℕ) → (has result cell ≡ true) ↔ (OnBoard size cell × IsFirstLine player cell) }
 {
+    let all = size.all();
     match player {
-        Colour::Black => block(1, size.cols()),
-        Colour::White => block(size.rows(), 1),
+        Colour::Black => all.minus(all.later(11)),
+        Colour::White => all.minus(left_cells(size).later(1)),
     }
 }
 
-/// The cells along a player's last side.
+/// The cells along a player's last side: for Black those with no cell below them, for White those with none to their
+/// right.
 fn last_line(size: Size, player: Colour) -> Mask
     ensures { (cell : ℕ) → (has result cell ≡ true) ↔ (OnBoard size cell × IsLastLine size player cell) }
 {
     let all = size.all();
     match player {
-        Colour::Black => all.minus(block(size.rows() - 1, size.cols())),
-        Colour::White => all.minus(block(size.rows(), size.cols() - 1)),
+        Colour::Black => all.minus(all.earlier(11)),
+        Colour::White => all.minus(left_cells(size)),
     }
 }
 

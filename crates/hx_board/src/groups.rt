@@ -7,13 +7,13 @@ ghost use Rattle.hx_board.specs.Cells.{OnBoard, CellsTouch};
 ghost use Rattle.hx_board.specs.Graph.{IsVertex, Joined, HasChain, IsReach};
 ghost use Rattle.hx_board.specs.Floods.{AreNear, AreJoined};
 
-use crate::cells::Cell;
 use crate::colours::Colour;
 use crate::floods::flood;
 use crate::graphs::Graph;
 use crate::masks::Mask;
 use crate::places::{FIRST_CODE, LAST_CODE, code};
 use crate::positions::Position;
+use crate::tables::joined_sets;
 use crate::vertices::Vertex;
 use std::marker::Model;
 
@@ -49,8 +49,7 @@ impl Groups {
         ensures { result ≡ record { board = position.now; player = colour } }
     {
         let graph = Graph::of(position, colour);
-        let mut joined = near_sets(&graph);
-        join_groups(&graph, &mut joined);
+        let joined = joined_sets(&graph);
         Groups { graph, joined }
     }
 
@@ -88,42 +87,4 @@ pub fn chain(position: &Position, colour: Colour) -> bool
     let graph = Graph::of(position, colour);
     let reach = flood(&graph, FIRST_CODE);
     reach.holds(LAST_CODE)
-}
-
-/// Each cell with the cells that touch it, and nothing with the sides.
-fn near_sets(graph: &Graph) -> [Mask; 123]
-    ensures { AreNear graph.now.board.size 121 result }
-{
-    let mut joined = [Mask::empty(); 123];
-    for index in 0..121u8 {
-        joined[index as usize] = graph.near(Cell::at_index(index));
-    }
-    joined
-}
-
-/// Joins the vertices that some own vertex is joined with, a group at a time.
-fn join_groups(graph: &Graph, joined: &mut [Mask; 123])
-    requires { AreNear graph.now.board.size 121 joined.old }
-    ensures { AreJoined graph.now.board graph.now.player joined.new }
-{
-    let mut left = graph.own();
-    while let Some(start) = left.lowest() {
-        let reach = flood(graph, start);
-        join_all(joined, reach);
-        left = left.minus(reach);
-    }
-}
-
-/// Joins each vertex of a set with all of them.
-fn join_all(joined: &mut [Mask; 123], set: Mask)
-    requires { (n : ℕ) → has set n ≡ true → n < 123 }
-    ensures len { length joined.new ≡ 123 }
-    ensures sets { (n : ℕ) → n < 123 → slice_index joined.new n ≡ (if has set n then union (slice_index joined.old n) set else slice_index joined.old n) }
-{
-    let mut left = set;
-    while let Some(place) = left.lowest() {
-        let index = place as usize;
-        joined[index] = joined[index].union(set);
-        left = left.without_lowest();
-    }
 }

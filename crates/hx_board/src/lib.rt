@@ -10,6 +10,7 @@ mod masks;
 mod places;
 mod positions;
 mod sizes;
+mod tables;
 mod touching;
 mod vertices;
 

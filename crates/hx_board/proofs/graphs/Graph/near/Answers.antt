@@ -1,4 +1,4 @@
-use Rattle.hx_board.proofs.Near.{near-is}
+use Rattle.hx_board.proofs.NearLaws.{near-is}
 use Rattle.hx_board.proofs.graphs.Graph.near.Goals as goal
 
 pub returns : goal.returns

@@ -1,5 +1,5 @@
 use Rattle.hx_board.proofs.GroupLaws.{over_none, start-small, reach-small, left-falls, over_next, over_all}
-use Rattle.hx_board.proofs.groups.join_groups.Goals as goal
+use Rattle.hx_board.proofs.tables.join_groups.Goals as goal
 
 pub flood-reach-requires : goal.flood-reach-requires
 flood-reach-requires c = start-small _ _ c.own-left.ensures.valid.0 _ c.own-left.ensures.own _ _ _ c.loop-start.invariant c.in-Some.ensures.member
