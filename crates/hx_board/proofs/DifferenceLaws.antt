@@ -1,9 +1,9 @@
 -- What is left of a set when another is taken out of it.
-use Rattle.std.proofs.Common.{◌≡◌, ℕ, ◌<◌, ◌≤◌, Bool, true, false, ◌||◌, ◌&&◌, not, eqb, refl, sym, ap, ◌∙◌}
+use Rattle.std.proofs.Common.{◌≡◌, ℕ, ◌<◌, ◌≤◌, Bool, true, false, ◌||◌, ◌&&◌, not, refl, sym, ap, ◌∙◌}
 use Rattle.std.proofs.lemmas.Bool.{false≢true}
 use Rattle.std.proofs.Math.Arith.{lt_of_le-ne}
-use Rattle.hx_board.specs.Sets.{has, insert, remove, union, intersection, difference}
-use Rattle.hx_board.proofs.SetLaws.{has-union, has-intersection, has-difference, has-difference_right, has-insert, has-remove, has-empty, same_set}
+use Rattle.hx_board.specs.Sets.{has, union, intersection, difference}
+use Rattle.hx_board.proofs.SetLaws.{has-union, has-intersection, has-difference, has-difference_right, same_set}
 use Rattle.hx_board.proofs.FloodLaws.{le-union}
 
 parts : (a b : Bool) → ((a && not b) || (a && b)) ≡ a

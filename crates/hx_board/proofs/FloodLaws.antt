@@ -114,8 +114,8 @@ module _ (board : Board) (player : Colour) where
       vertices = λ n h. ⊎_elim (f.vertices n) (λ w. is_near.vertices n (has-intersection_left near own n w)) (has-union_cases set (intersection near own) n h);
       sound = λ v is_v h. ⊎_elim (f.sound v is_v)
           (λ w.
-              let t : TouchesOneOf board.size player set v = (is_near.members v is_v).0 (has-intersection_left near own (code_of v) w) in
-              inr (leads_more start t.by v (f.sound t.by t.by_vertex t.by_member) ((is_own.members v is_v).0 (has-intersection_right near own (code_of v) w)) t.touch))
+          let t : TouchesOneOf board.size player set v = (is_near.members v is_v).0 (has-intersection_left near own (code_of v) w) in
+          inr (leads_more start t.by v (f.sound t.by t.by_vertex t.by_member) ((is_own.members v is_v).0 (has-intersection_right near own (code_of v) w)) t.touch))
           (has-union_cases set (intersection near own) (code_of v) h);
     }
 

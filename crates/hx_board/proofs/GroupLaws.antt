@@ -2,7 +2,7 @@
 -- all that it reaches to the set of each vertex that it reaches. Nothing is added that is not joined, since a group's
 -- vertices are own and what is joined is joined over them. And nothing is missing in the end, since a walk that is more
 -- than a touch has an own inner vertex, with which both its ends are joined.
-use Rattle.std.proofs.Common.{◌≡◌, ◌≢◌, ℕ, ◌+◌, ◌<◌, ◌≤◌, Bool, true, false, not, ◌&&◌, ◌||◌, List, [], ◌∷◌, length, slice_index, get_or, replicate, eqb, leb, ltb, eq-eqb, refl, sym, ap, ◌∙◌, subst, arith, ◌⊎◌, inl, inr, ⊎_elim, ◌↔◌}
+use Rattle.std.proofs.Common.{◌≡◌, ◌≢◌, ℕ, ◌<◌, Bool, true, false, not, ◌&&◌, List, [], ◌∷◌, length, slice_index, get_or, eqb, leb, ltb, eq-eqb, refl, sym, ap, ◌∙◌, subst, arith, ◌⊎◌, inl, inr, ⊎_elim, ◌↔◌}
 use Rattle.std.proofs.Math.ListN.{set}
 use Rattle.std.proofs.lemmas.Bool.{false≢true}
 use Rattle.std.proofs.lemmas.Bool.Decides.{eqb_tells, nat_tests}
@@ -14,7 +14,7 @@ use Rattle.hx_board.specs.declared.vertices.Vertex.TheVariants.{Of, First, Last}
 use Rattle.hx_board.specs.Sets.{has, remove, union, intersection, difference, IsSubset}
 use Rattle.hx_board.specs.Cells.{Extent, IsExtent, OnBoard, CellsTouch}
 use Rattle.hx_board.specs.Positions.{Board, IsBoard}
-use Rattle.hx_board.specs.Graph.{IsVertex, IsOwn, Touches, Walk, Joined, IsReach}
+use Rattle.hx_board.specs.Graph.{IsVertex, IsOwn, Touches, Joined, IsReach}
 use Rattle.hx_board.specs.Floods.{code_of, IsVertexCode, IsSetOf, AreNear, AreJoined}
 use Rattle.hx_board.proofs.SetLaws.{has-empty, has-remove, has-remove_before, has-union_left, has-union_right, has-union_cases, has-difference_left, has-difference_both, has-intersection_left, has-intersection_right, has-intersection_both, is_false}
 use Rattle.hx_board.proofs.CellLaws.{on_board-small}
@@ -60,7 +60,7 @@ joined_more before after group left place row small member is k = record {
         ≡ (if has group n && not (has (remove left place) n) then union (slice_index before n) group else slice_index before n)
     here n same =
         let P : ℕ → Type 0 = λ x. slice_index (set after place (union row group)) x
-            ≡ (if has group x && not (has (remove left place) x) then union (slice_index before x) group else slice_index before x) in
+        ≡ (if has group x && not (has (remove left place) x) then union (slice_index before x) group else slice_index before x) in
         subst P (sym same)
         (rw (get_or-set_same after place (union row group) 0 within, has-remove left place place, eq-eqb place place refl, member, k.inside place member)
         (ap (λ (x : ℕ). union x group) (is ∙ was)))

@@ -1,6 +1,6 @@
 -- The lines of cells along the sides: the cells that have no cell above them, below them, to their left or to their
 -- right.
-use Rattle.std.proofs.Common.{◌≡◌, ℕ, ◌+◌, ◌-◌, ◌/◌, ◌%◌, ◌<◌, ◌≤◌, true, false, ◌&&◌, sym, ◌∙◌, arith, ◌⊎◌, inl, inr, ⊎_elim, ◌↔◌, leb, ltb}
+use Rattle.std.proofs.Common.{◌≡◌, ℕ, ◌+◌, ◌-◌, ◌/◌, ◌%◌, ◌<◌, ◌≤◌, true, false, ◌&&◌, sym, ◌∙◌, arith, ⊎_elim, ◌↔◌, leb, ltb}
 use Rattle.std.proofs.lemmas.Bool.{false≢true, cases_lt}
 use Rattle.std.proofs.lemmas.Bool.Decides.{nat_tests}
 use Rattle.hx_board.specs.Sets.{has, difference}
@@ -53,12 +53,13 @@ module _ (size : Extent) (extent : IsExtent size.rows size.cols) where
           let low : n < 121 = small n on in
           let less : n < 128 = omega arith in
           let row : n / 11 < size.rows = on.row in
-          let col : n % 11 < size.cols = on.col in
-          (on,
+          let col : n % 11 < size.cols = on.col in (
+            on,
             ⊎_elim (λ k. omega arith)
-            (λ k. absurd (outside below n (has-difference_right all below n h)
+                (λ k. absurd (outside below n (has-difference_right all below n h)
                 (is n less ∙ and_both _ _ (le_leb 11 n k) ((is_all (n - 11)).1 (record { row = omega arith; col = omega arith })))))
-            (cases_lt n 11))),
+                (cases_lt n 11),
+          )),
       (λ w.
           let low : n < 121 = small n w.0 in
           let less : n < 128 = omega arith in
@@ -73,12 +74,13 @@ module _ (size : Extent) (extent : IsExtent size.rows size.cols) where
       (λ h.
           let on : OnBoard size n = (is_all n).0 (has-difference_left all above n h) in
           let row : n / 11 < size.rows = on.row in
-          let col : n % 11 < size.cols = on.col in
-          (on,
+          let col : n % 11 < size.cols = on.col in (
+            on,
             ⊎_elim
-            (λ k. absurd (outside above n (has-difference_right all above n h) (is n ∙ (is_all (n + 11)).1 (record { row = omega arith; col = omega arith }))))
-            (λ k. omega arith)
-            (cases_lt (n / 11 + 1) size.rows))),
+                (λ k. absurd (outside above n (has-difference_right all above n h) (is n ∙ (is_all (n + 11)).1 (record { row = omega arith; col = omega arith }))))
+                (λ k. omega arith)
+                (cases_lt (n / 11 + 1) size.rows),
+          )),
       (λ w.
           let row : n / 11 + 1 ≡ size.rows = w.1 in
           has-difference_both all above n ((is_all n).1 w.0)
@@ -90,9 +92,10 @@ module _ (size : Extent) (extent : IsExtent size.rows size.cols) where
       rightmost-is n = (
         (λ h.
             let on : OnBoard size n = (is_all n).0 (has-difference_left all left n h) in
-            let col : n % 11 < size.cols = on.col in
-            (on,
-              ⊎_elim (λ k. absurd (outside left n (has-difference_right all left n h) ((is_left n).1 (on, k)))) (λ k. omega arith) (cases_lt (n % 11 + 1) size.cols))),
+            let col : n % 11 < size.cols = on.col in (
+              on,
+              ⊎_elim (λ k. absurd (outside left n (has-difference_right all left n h) ((is_left n).1 (on, k)))) (λ k. omega arith) (cases_lt (n % 11 + 1) size.cols),
+            )),
         (λ w.
             let col : n % 11 + 1 ≡ size.cols = w.1 in
             has-difference_both all left n ((is_all n).1 w.0)
@@ -107,12 +110,13 @@ module _ (size : Extent) (extent : IsExtent size.rows size.cols) where
             let low : n < 121 = small n on in
             let less : n < 128 = omega arith in
             let row : n / 11 < size.rows = on.row in
-            let col : n % 11 < size.cols = on.col in
-            (on,
+            let col : n % 11 < size.cols = on.col in (
+              on,
               ⊎_elim (λ k. omega arith)
-              (λ k. absurd (outside right n (has-difference_right all right n h)
+                  (λ k. absurd (outside right n (has-difference_right all right n h)
                   (is n less ∙ and_both _ _ (le_leb 1 n (omega arith)) ((is_left (n - 1)).1 (record { row = omega arith; col = omega arith }, omega arith)))))
-              (cases_lt (n % 11) 1))),
+                  (cases_lt (n % 11) 1),
+            )),
         (λ w.
             let low : n < 121 = small n w.0 in
             let less : n < 128 = omega arith in
@@ -120,8 +124,8 @@ module _ (size : Extent) (extent : IsExtent size.rows size.cols) where
             let col : n % 11 ≡ 0 = w.1 in
             has-difference_both all right n ((is_all n).1 w.0)
             (is_false _ (λ k.
-                let t : (leb 1 n && has left (n - 1)) ≡ true = sym (is n less) ∙ k in
-                let high : 1 ≤ n = leb_le 1 n (and_left _ (has left (n - 1)) t) in
-                let before : (n - 1) % 11 + 1 < size.cols = ((is_left (n - 1)).0 (and_right (leb 1 n) _ t)).1 in
-                absurd (omega arith)))),
+            let t : (leb 1 n && has left (n - 1)) ≡ true = sym (is n less) ∙ k in
+            let high : 1 ≤ n = leb_le 1 n (and_left _ (has left (n - 1)) t) in
+            let before : (n - 1) % 11 + 1 < size.cols = ((is_left (n - 1)).0 (and_right (leb 1 n) _ t)).1 in
+            absurd (omega arith)))),
       )

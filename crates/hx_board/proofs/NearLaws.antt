@@ -17,13 +17,13 @@ near-is size cell around is_around on n = (
   (λ h. ⊎_elim
       (λ w. let e : n ≡ cell = has-single cell n w in (let P : ℕ → Type 0 = λ x. OnBoard size x in subst P (sym e) on, inl e))
       (λ w.
-          let t : TouchesCellOf size (insert 0 cell) n = (is_around n).0 w in
-          (t.on_board, inr (let P : ℕ → Type 0 = λ x. CellsTouch x n in subst P (has-single cell t.by t.by_member) t.touch)))
+      let t : TouchesCellOf size (insert 0 cell) n = (is_around n).0 w in
+      (t.on_board, inr (let P : ℕ → Type 0 = λ x. CellsTouch x n in subst P (has-single cell t.by t.by_member) t.touch)))
       (has-union_cases (insert 0 cell) around n h)),
   (λ w. ⊎_elim
       (λ e. has-union_left (insert 0 cell) around n (let P : ℕ → Type 0 = λ x. has (insert 0 x) n ≡ true in subst P e (has-insert_same 0 n)))
       (λ t. has-union_right (insert 0 cell) around n
-          ((is_around n).1 (record { on_board = w.0; by = cell; by_on_board = on; by_member = has-insert_same 0 cell; touch = t })))
+      ((is_around n).1 (record { on_board = w.0; by = cell; by_on_board = on; by_member = has-insert_same 0 cell; touch = t })))
       w.1),
 )
 
@@ -127,10 +127,12 @@ near_below size sets index above near high small before same is = near_more size
           (t.0, ⊎_elim (λ e. inl (back t.1 e)) (λ k. inr (touch_below index n (omega arith) t.1 k)) ((row_above on (n - 11)).0 t.2).1)),
       (λ w.
           let low : 11 ≤ n = ⊎_elim (λ e. again e) (touch_low index n high) w.1 in
-          (is n).1
-          (w.0, low,
+          (is n).1 (
+            w.0,
+            low,
             (row_above on (n - 11)).1
-            (on_board_above size n low w.0, ⊎_elim (λ e. inl (down e)) (λ k. inr (touch_above index n (omega arith) low k)) w.1))),
+                (on_board_above size n low w.0, ⊎_elim (λ e. inl (down e)) (λ k. inr (touch_above index n (omega arith) low k)) w.1),
+          )),
     )
       where
         back : 11 ≤ n → n - 11 ≡ index - 11 → n ≡ index

@@ -88,3 +88,65 @@ pub fn chain(position: &Position, colour: Colour) -> bool
     let reach = flood(&graph, FIRST_CODE);
     reach.holds(LAST_CODE)
 }
+
+#[cfg(test)]
+mod tests {
+    use super::*;
+    use crate::sizes::Size;
+    use std::test::Fail;
+
+    #[test]
+    fn column_joins_the_sides(rt: HostRuntime) -> Result<(), Fail> {
+        let size = Size::new(11, 11).ok_or("size")?;
+        let mut column = Mask::empty();
+        for row in 0..11u8 {
+            column = column.with(size.cell(row, 5).ok_or("cell")?);
+        }
+        let position = Position::from_masks(size, column, Mask::empty()).ok_or("position")?;
+        assert!(rt; chain(&position, Colour::Black));
+        assert!(rt; !chain(&position, Colour::White));
+        let groups = Groups::of(&position, Colour::Black);
+        assert!(rt; groups.joined(Vertex::Last, Vertex::First));
+        let reach = groups.joined_with(Vertex::First);
+        // Three columns, and eight cells more along each side.
+        assert_eq!(rt; reach.cells.count(), 49);
+        assert!(rt; reach.first && reach.last);
+        Ok(())
+    }
+
+    #[test]
+    fn stone_joins_a_cell_to_a_side(rt: HostRuntime) -> Result<(), Fail> {
+        let size = Size::new(3, 3).ok_or("size")?;
+        let b1 = size.cell(0, 1).ok_or("b1")?;
+        let a2 = size.cell(1, 0).ok_or("a2")?;
+        let a3 = size.cell(2, 0).ok_or("a3")?;
+        let black = Mask::empty().with(b1);
+        let position = Position::from_masks(size, black, Mask::empty()).ok_or("position")?;
+        let groups = Groups::of(&position, Colour::Black);
+        assert!(rt; groups.joined(Vertex::Of(a2), Vertex::First));
+        assert!(rt; !groups.joined(Vertex::Of(a3), Vertex::First));
+        assert!(rt; groups.joined(Vertex::Of(a3), Vertex::Last));
+        let reach = groups.joined_with(Vertex::Of(a2));
+        assert!(rt; reach.first && !reach.last);
+        Ok(())
+    }
+
+    #[test]
+    fn empty_cell_between_two_groups(rt: HostRuntime) -> Result<(), Fail> {
+        let size = Size::new(3, 3).ok_or("size")?;
+        let a2 = size.cell(1, 0).ok_or("a2")?;
+        let b2 = size.cell(1, 1).ok_or("b2")?;
+        let c2 = size.cell(1, 2).ok_or("c2")?;
+        let black = Mask::empty().with(a2).with(c2);
+        let position = Position::from_masks(size, black, Mask::empty()).ok_or("position")?;
+        let groups = Groups::of(&position, Colour::Black);
+        assert!(rt; groups.joined(Vertex::Of(b2), Vertex::Of(a2)));
+        assert!(rt; groups.joined(Vertex::Of(c2), Vertex::Of(b2)));
+        assert!(rt; !groups.joined(Vertex::Of(a2), Vertex::Of(c2)));
+        assert_eq!(rt; groups.joined_with(Vertex::Of(b2)).cells, size.all());
+        let others = Groups::of(&position, Colour::White);
+        // White has no stone, so for White the cell is joined with itself and its six neighbours.
+        assert_eq!(rt; others.joined_with(Vertex::Of(b2)).cells.count(), 7);
+        Ok(())
+    }
+}

@@ -1,4 +1,3 @@
-use Rattle.std.proofs.Common.{ℕ}
 use Rattle.hx_board.proofs.GroupLaws.{AreJoinedOver}
 use Rattle.hx_board.proofs.tables.join_groups.Given as goal
 

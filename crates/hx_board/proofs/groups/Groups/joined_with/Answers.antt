@@ -1,6 +1,4 @@
 use Rattle.std.proofs.Common.{◌<◌, length}
-use Rattle.hx_board.specs.Graph.{IsVertex, Joined}
-use Rattle.hx_board.specs.Floods.{IsSetOf}
 use Rattle.hx_board.proofs.GroupLaws.{read-is, reach-is}
 use Rattle.hx_board.proofs.groups.Groups.joined_with.Goals as goal
 

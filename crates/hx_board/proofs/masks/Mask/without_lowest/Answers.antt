@@ -1,4 +1,3 @@
-use Rattle.std.proofs.Common.{◌∙◌, arith}
 use Rattle.hx_board.proofs.Lowest.{remove-lowest, some_one}
 use Rattle.hx_board.proofs.masks.Mask.without_lowest.Goals as goal
 
