@@ -4,8 +4,9 @@
 -- than a touch has an own inner vertex, with which both its ends are joined.
 use Rattle.std.proofs.Common.{◌≡◌, ◌≢◌, ℕ, ◌<◌, Bool, true, false, not, ◌&&◌, List, [], ◌∷◌, length, slice_index, get_or, eqb, leb, ltb, eq-eqb, refl, sym, ap, ◌∙◌, subst, arith, ◌⊎◌, inl, inr, ⊎_elim, ◌↔◌}
 use Rattle.std.proofs.Math.ListN.{set}
-use Rattle.std.proofs.lemmas.Bool.{false≢true}
-use Rattle.std.proofs.lemmas.Bool.Decides.{eqb_tells, nat_tests}
+use Rattle.std.proofs.Math.Bool.{and-true}
+use Rattle.std.proofs.lemmas.Bool.{false≢true, le-leb, ltb-true, lt-ltb}
+use Rattle.std.proofs.lemmas.Bool.Decides.{eqb_tells}
 use Rattle.std.proofs.lemmas.List.{get_or-set_same, get_or-set_other, length-set, get_or_read}
 use Rattle.std.specs.Prelude.{if◌then◌else◌}
 use Rattle.hx_board.specs.declared.colours.Colour.{Colour}
@@ -16,7 +17,7 @@ use Rattle.hx_board.specs.Cells.{Extent, IsExtent, OnBoard, CellsTouch}
 use Rattle.hx_board.specs.Positions.{Board, IsBoard}
 use Rattle.hx_board.specs.Graph.{IsVertex, IsOwn, Touches, Joined, IsReach}
 use Rattle.hx_board.specs.Floods.{code_of, IsVertexCode, IsSetOf, AreNear, AreJoined}
-use Rattle.hx_board.proofs.SetLaws.{has-empty, has-remove, has-remove_before, has-union_left, has-union_right, has-union_cases, has-difference_left, has-difference_both, has-intersection_left, has-intersection_right, has-intersection_both, is_false}
+use Rattle.hx_board.proofs.SetLaws.{has-empty, has-remove, has-remove_before, has-union_left, has-union_right, has-union_cases, has-difference_left, has-difference_both, has-intersection_left, has-intersection_right, has-intersection_both, and_right, and_both, is_false}
 use Rattle.hx_board.proofs.CellLaws.{on_board-small}
 use Rattle.hx_board.proofs.DifferenceLaws.{difference-lt}
 use Rattle.hx_board.proofs.FloodLaws.{code-small, vertex_code-small}
@@ -24,12 +25,12 @@ use Rattle.hx_board.proofs.Joins.{touches-sym, touches-vertex, joined-sym, joine
 
 -- ---- a set joined
 
--- the set of each vertex of a group has grown, but for those that are left
-pub record AreJoinedBut (before after : List ℕ) (group left : ℕ) : Type 0 where
+-- the set of each vertex of a group has grown, but for those that still wait
+pub record AreJoinedBut (before after : List ℕ) (group waiting : ℕ) : Type 0 where
   pub count : length after ≡ 123
-  pub inside : IsSubset left group
+  pub inside : IsSubset waiting group
   pub sets : (n : ℕ) → n < 123
-      → slice_index after n ≡ (if has group n && not (has left n) then union (slice_index before n) group else slice_index before n)
+      → slice_index after n ≡ (if has group n && not (has waiting n) then union (slice_index before n) group else slice_index before n)
 
 pub joined_none : (before : List ℕ) (group : ℕ) → length before ≡ 123 → AreJoinedBut before before group group
 joined_none before group count = record {
@@ -42,11 +43,11 @@ joined_none before group count = record {
     none true = refl
     none false = refl
 
-pub joined_more : (before after : List ℕ) (group left place row : ℕ) → place < 123 → has left place ≡ true → row ≡ slice_index after place
-    → AreJoinedBut before after group left → AreJoinedBut before (set after place (union row group)) group (remove left place)
-joined_more before after group left place row small member is k = record {
+pub joined_more : (before after : List ℕ) (group waiting place row : ℕ) → place < 123 → has waiting place ≡ true → row ≡ slice_index after place
+    → AreJoinedBut before after group waiting → AreJoinedBut before (set after place (union row group)) group (remove waiting place)
+joined_more before after group waiting place row small member is k = record {
   count = length-set after place (union row group) ∙ k.count;
-  inside = λ n h. k.inside n (has-remove_before left place n h);
+  inside = λ n h. k.inside n (has-remove_before waiting place n h);
   sets = λ n low. ⊎_elim (λ t. here n t.1) (λ t. there n low t.0 t.1) (eqb_tells n place);
 }
   where
@@ -57,44 +58,36 @@ joined_more before after group left place row small member is k = record {
     was = k.sets place small ∙ rw (k.inside place member, member) refl
 
     here : (n : ℕ) → n ≡ place → slice_index (set after place (union row group)) n
-        ≡ (if has group n && not (has (remove left place) n) then union (slice_index before n) group else slice_index before n)
+        ≡ (if has group n && not (has (remove waiting place) n) then union (slice_index before n) group else slice_index before n)
     here n same =
         let P : ℕ → Type 0 = λ x. slice_index (set after place (union row group)) x
-        ≡ (if has group x && not (has (remove left place) x) then union (slice_index before x) group else slice_index before x) in
+        ≡ (if has group x && not (has (remove waiting place) x) then union (slice_index before x) group else slice_index before x) in
         subst P (sym same)
-        (rw (get_or-set_same after place (union row group) 0 within, has-remove left place place, eq-eqb place place refl, member, k.inside place member)
+        (rw (get_or-set_same after place (union row group) 0 within, has-remove waiting place place, eq-eqb place place refl, member, k.inside place member)
         (ap (λ (x : ℕ). union x group) (is ∙ was)))
 
     there : (n : ℕ) → n < 123 → eqb n place ≡ false → n ≢ place → slice_index (set after place (union row group)) n
-        ≡ (if has group n && not (has (remove left place) n) then union (slice_index before n) group else slice_index before n)
+        ≡ (if has group n && not (has (remove waiting place) n) then union (slice_index before n) group else slice_index before n)
     there n low fails apart =
-        rw (get_or-set_other after place n (union row group) 0 apart, has-remove left place n, fails, and_true (has left n)) (k.sets n low)
-      where
-        and_true : (a : Bool) → (a && true) ≡ a
-        and_true true = refl
-        and_true false = refl
+        rw (get_or-set_other after place n (union row group) 0 apart, has-remove waiting place n, fails, and-true (has waiting n)) (k.sets n low)
 
-pub joined_all : (before after : List ℕ) (group left : ℕ) → left ≡ 0 → AreJoinedBut before after group left → (n : ℕ) → n < 123
+pub joined_all : (before after : List ℕ) (group waiting : ℕ) → waiting ≡ 0 → AreJoinedBut before after group waiting → (n : ℕ) → n < 123
     → slice_index after n ≡ (if has group n then union (slice_index before n) group else slice_index before n)
-joined_all before after group left none k n low =
-    k.sets n low ∙ rw (none, has-empty n, and_true (has group n)) refl
-  where
-    and_true : (a : Bool) → (a && true) ≡ a
-    and_true true = refl
-    and_true false = refl
+joined_all before after group waiting none k n low =
+    k.sets n low ∙ rw (none, has-empty n, and-true (has group n)) refl
 
 -- ---- each group joined
 
 -- nothing is joined in these sets that is not in the graph, cells are joined with what touches them, and each vertex is
--- joined over all own vertices but those that are left
-pub record AreJoinedOver (board : Board) (player : Colour) (sets : List ℕ) (own left : ℕ) : Type 0 where
+-- joined over all own vertices but those that still wait
+pub record AreJoinedOver (board : Board) (player : Colour) (sets : List ℕ) (own waiting : ℕ) : Type 0 where
   pub count : length sets ≡ 123
-  pub inside : IsSubset left own
+  pub inside : IsSubset waiting own
   pub vertices : (v : Vertex) → IsVertex board.size v → (n : ℕ) → has (slice_index sets (code_of v)) n ≡ true → IsVertexCode board.size n
   pub sound : (v w : Vertex) → IsVertex board.size v → IsVertex board.size w → has (slice_index sets (code_of v)) (code_of w) ≡ true → Joined board player v w
   pub near : (cell other : ℕ) → OnBoard board.size cell → OnBoard board.size other → (other ≡ cell) ⊎ CellsTouch cell other
       → has (slice_index sets cell) other ≡ true
-  pub done : (u v w : Vertex) → IsVertex board.size u → IsVertex board.size v → IsVertex board.size w → IsOwn board player u → has left (code_of u) ≡ false
+  pub done : (u v w : Vertex) → IsVertex board.size u → IsVertex board.size v → IsVertex board.size w → IsOwn board player u → has waiting (code_of u) ≡ false
       → Joined board player u v → Joined board player u w → has (slice_index sets (code_of v)) (code_of w) ≡ true
 
 module _ (board : Board) (player : Colour) (extent : IsExtent board.size.rows board.size.cols) (own : ℕ) (is_own : IsSetOf board.size (IsOwn board player) own) where
@@ -135,8 +128,8 @@ module _ (board : Board) (player : Colour) (extent : IsExtent board.size.rows bo
     }
 
   -- one group more: all that the start is joined with is joined
-  module _ (before after : List ℕ) (left reach : ℕ) (start : Vertex) (is_start : IsVertex board.size start) (own_start : IsOwn board player start)
-      (is_reach : IsSetOf board.size (Joined board player start) reach) (k : AreJoinedOver board player before own left) (count : length after ≡ 123)
+  module _ (before after : List ℕ) (waiting reach : ℕ) (start : Vertex) (is_start : IsVertex board.size start) (own_start : IsOwn board player start)
+      (is_reach : IsSetOf board.size (Joined board player start) reach) (k : AreJoinedOver board player before own waiting) (count : length after ≡ 123)
       (grown : (n : ℕ) → n < 123 → slice_index after n ≡ (if has reach n then union (slice_index before n) reach else slice_index before n)) where
     row : (v : Vertex) → IsVertex board.size v → slice_index after (code_of v) ≡ (if has reach (code_of v) then union (slice_index before (code_of v)) reach else slice_index before (code_of v))
     row v is = grown (code_of v) (code-small board.size extent v is)
@@ -168,7 +161,7 @@ module _ (board : Board) (player : Colour) (extent : IsExtent board.size.rows bo
     over_group u v is_u is_v own_u in_u j =
         (is_reach.members v is_v).1 (joined-over_own board player start u v own_u ((is_reach.members u is_u).0 in_u) j)
 
-    done_more : (u v w : Vertex) → IsVertex board.size u → IsVertex board.size v → IsVertex board.size w → IsOwn board player u → has (difference left reach) (code_of u) ≡ false
+    done_more : (u v w : Vertex) → IsVertex board.size u → IsVertex board.size v → IsVertex board.size w → IsOwn board player u → has (difference waiting reach) (code_of u) ≡ false
         → Joined board player u v → Joined board player u w → has (slice_index after (code_of v)) (code_of w) ≡ true
     done_more u v w is_u is_v is_w own_u none j l = cases (has reach (code_of u)) refl
       where
@@ -176,20 +169,20 @@ module _ (board : Board) (player : Colour) (extent : IsExtent board.size.rows bo
         cases true e = adds v is_v (code_of w) (over_group u v is_u is_v own_u e j) (over_group u w is_u is_w own_u e l)
         cases false e =
             keeps v is_v (code_of w)
-            (k.done u v w is_u is_v is_w own_u (is_false _ (λ h. false≢true (sym none ∙ has-difference_both left reach (code_of u) h e))) j l)
+            (k.done u v w is_u is_v is_w own_u (is_false _ (λ h. false≢true (sym none ∙ has-difference_both waiting reach (code_of u) h e))) j l)
 
-    pub over_more : AreJoinedOver board player after own (difference left reach)
+    pub over_more : AreJoinedOver board player after own (difference waiting reach)
     over_more = record {
       count = count;
-      inside = λ n h. k.inside n (has-difference_left left reach n h);
+      inside = λ n h. k.inside n (has-difference_left waiting reach n h);
       vertices = λ v is n h. ⊎_elim (k.vertices v is n) (λ w. is_reach.vertices n w.1) (no_more v is n h);
       sound = λ v w is_v is_w h. ⊎_elim (k.sound v w is_v is_w) (λ t. both_joined v w is_v is_w t.0 t.1) (no_more v is_v (code_of w) h);
       near = λ cell other on there t. keeps (Of cell) on other (k.near cell other on there t);
       done = done_more;
     }
 
-  -- the lowest vertex that is left starts the next group
-  module _ (sets : List ℕ) (left start : ℕ) (k : AreJoinedOver board player sets own left) (member : has left start ≡ true) where
+  -- the lowest vertex that waits starts the next group
+  module _ (sets : List ℕ) (waiting start : ℕ) (k : AreJoinedOver board player sets own waiting) (member : has waiting start ≡ true) where
     start_vertex : IsVertexCode board.size start
     start_vertex = is_own.vertices start (k.inside start member)
 
@@ -203,20 +196,20 @@ module _ (board : Board) (player : Colour) (extent : IsExtent board.size.rows bo
       pub reach-small : (n : ℕ) → has reach n ≡ true → n < 123
       reach-small n h = vertex_code-small board.size extent n (reached.vertices n h)
 
-      pub left-falls : difference left reach < left
-      left-falls =
-          difference-lt left reach start member
+      pub waiting-falls : difference waiting reach < waiting
+      waiting-falls =
+          difference-lt waiting reach start member
           (rw start_vertex.is_code at ((reached.members start_vertex.vertex start_vertex.is_vertex).1 (inl refl)))
 
       pub over_next : (after : List ℕ) → length after ≡ 123
           → ((n : ℕ) → n < 123 → slice_index after n ≡ (if has reach n then union (slice_index sets n) reach else slice_index sets n))
-          → AreJoinedOver board player after own (difference left reach)
+          → AreJoinedOver board player after own (difference waiting reach)
       over_next after count grown =
-          over_more sets after left reach start_vertex.vertex start_vertex.is_vertex
+          over_more sets after waiting reach start_vertex.vertex start_vertex.is_vertex
           ((is_own.members start_vertex.vertex start_vertex.is_vertex).0 (rw start_vertex.is_code (k.inside start member))) reached k count grown
 
   -- the end
-  module _ (sets : List ℕ) (left : ℕ) (none : left ≡ 0) (k : AreJoinedOver board player sets own left) where
+  module _ (sets : List ℕ) (waiting : ℕ) (none : waiting ≡ 0) (k : AreJoinedOver board player sets own waiting) where
     over : (u v w : Vertex) → IsVertex board.size u → IsVertex board.size v → IsVertex board.size w → IsOwn board player u
         → Joined board player u v → Joined board player u w → has (slice_index sets (code_of v)) (code_of w) ≡ true
     over u v w is_u is_v is_w own_u = k.done u v w is_u is_v is_w own_u (rw none (has-empty (code_of u)))
@@ -268,17 +261,11 @@ cells-are : (board : Board) (player : Colour) (v : Vertex) (set range : ℕ) →
     → (n : ℕ) → (has (intersection set range) n ≡ true) ↔ (OnBoard board.size n × Joined board player v (Of n))
 cells-are board player v set range extent is is_range n = (
   (λ h.
-      let low : n < 121 = below n (sym (is_range n) ∙ has-intersection_right set range n h) in
+      let low : n < 121 = ltb-true n 121 (and_right (leb 0 n) _ (sym (is_range n) ∙ has-intersection_right set range n h)) in
       let on : OnBoard board.size n = cell_of_code board.size n low (is.vertices n (has-intersection_left set range n h)) in
       (on, (is.members (Of n) on).0 (has-intersection_left set range n h))),
-  (λ w. has-intersection_both set range n ((is.members (Of n) w.0).1 w.1) (is_range n ∙ above n (on_board-small board.size n extent w.0))),
+  (λ w. has-intersection_both set range n ((is.members (Of n) w.0).1 w.1) (is_range n ∙ and_both _ _ (le-leb 0 n (omega arith)) (lt-ltb n 121 (on_board-small board.size n extent w.0)))),
 )
-  where
-    below : (n : ℕ) → (leb 0 n && ltb n 121) ≡ true → n < 121
-    below n h = grind (arith, nat_tests)
-
-    above : (n : ℕ) → n < 121 → (leb 0 n && ltb n 121) ≡ true
-    above n h = grind (arith, nat_tests)
 
 pub reach-is : (board : Board) (player : Colour) (v : Vertex) (set range : ℕ) → IsExtent board.size.rows board.size.cols
     → IsSetOf board.size (Joined board player v) set → ((n : ℕ) → has range n ≡ (leb 0 n && ltb n 121))

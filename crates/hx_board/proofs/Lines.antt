@@ -1,27 +1,11 @@
 -- The lines of cells along the sides: the cells that have no cell above them, below them, to their left or to their
 -- right.
 use Rattle.std.proofs.Common.{◌≡◌, ℕ, ◌+◌, ◌-◌, ◌/◌, ◌%◌, ◌<◌, ◌≤◌, true, false, ◌&&◌, sym, ◌∙◌, arith, ⊎_elim, ◌↔◌, leb, ltb}
-use Rattle.std.proofs.lemmas.Bool.{false≢true, cases_lt}
-use Rattle.std.proofs.lemmas.Bool.Decides.{nat_tests}
+use Rattle.std.proofs.lemmas.Bool.{false≢true, cases_lt, leb-true, le-leb, ltb-true, lt-ltb}
 use Rattle.hx_board.specs.Sets.{has, difference}
 use Rattle.hx_board.specs.Cells.{Extent, IsExtent, OnBoard, row_of, col_of}
 use Rattle.hx_board.proofs.SetLaws.{has-difference_left, has-difference_right, has-difference_both, and_left, and_right, and_both, is_false}
 use Rattle.hx_board.proofs.CellLaws.{on_board-small}
-
-leb_le : (a b : ℕ) → leb a b ≡ true → a ≤ b
-leb_le a b h = grind (arith, nat_tests)
-
-le_leb : (a b : ℕ) → a ≤ b → leb a b ≡ true
-le_leb a b h = grind (arith, nat_tests)
-
-tests_row : (a b c d : ℕ) → (ltb a b && ltb c d) ≡ true → a < b
-tests_row a b c d h = grind (arith, nat_tests)
-
-tests_col : (a b c d : ℕ) → (ltb a b && ltb c d) ≡ true → c < d
-tests_col a b c d h = grind (arith, nat_tests)
-
-tests_both : (a b c d : ℕ) → a < b → c < d → (ltb a b && ltb c d) ≡ true
-tests_both a b c d h k = grind (arith, nat_tests)
 
 module _ (size : Extent) (extent : IsExtent size.rows size.cols) where
   -- all columns but the last
@@ -29,13 +13,13 @@ module _ (size : Extent) (extent : IsExtent size.rows size.cols) where
       → (n : ℕ) → (has left n ≡ true) ↔ (OnBoard size n × (col_of n + 1 < size.cols))
   left-is left is n = (
     (λ h.
-        let row : n / 11 < size.rows = tests_row _ _ _ _ (sym (is n) ∙ h) in
-        let col : n % 11 < size.cols - 1 = tests_col (n / 11) size.rows _ _ (sym (is n) ∙ h) in
+        let row : n / 11 < size.rows = ltb-true _ _ (and_left _ (ltb (n % 11) (size.cols - 1)) (sym (is n) ∙ h)) in
+        let col : n % 11 < size.cols - 1 = ltb-true _ _ (and_right (ltb (n / 11) size.rows) _ (sym (is n) ∙ h)) in
         (record { row = row; col = omega arith }, omega arith)),
     (λ w.
         let row : n / 11 < size.rows = w.0.row in
         let col : n % 11 + 1 < size.cols = w.1 in
-        is n ∙ tests_both _ _ _ _ row (omega arith)),
+        is n ∙ and_both _ _ (lt-ltb _ _ row) (lt-ltb _ _ (omega arith))),
   )
 
   module _ (all : ℕ) (is_all : (n : ℕ) → (has all n ≡ true) ↔ OnBoard size n) where
@@ -57,7 +41,7 @@ module _ (size : Extent) (extent : IsExtent size.rows size.cols) where
             on,
             ⊎_elim (λ k. omega arith)
                 (λ k. absurd (outside below n (has-difference_right all below n h)
-                (is n less ∙ and_both _ _ (le_leb 11 n k) ((is_all (n - 11)).1 (record { row = omega arith; col = omega arith })))))
+                (is n less ∙ and_both _ _ (le-leb 11 n k) ((is_all (n - 11)).1 (record { row = omega arith; col = omega arith })))))
                 (cases_lt n 11),
           )),
       (λ w.
@@ -65,7 +49,7 @@ module _ (size : Extent) (extent : IsExtent size.rows size.cols) where
           let less : n < 128 = omega arith in
           let row : n / 11 ≡ 0 = w.1 in
           has-difference_both all below n ((is_all n).1 w.0)
-          (is_false _ (λ k. let high : 11 ≤ n = leb_le 11 n (and_left _ (has all (n - 11)) (sym (is n less) ∙ k)) in absurd (omega arith)))),
+          (is_false _ (λ k. let high : 11 ≤ n = leb-true 11 n (and_left _ (has all (n - 11)) (sym (is n less) ∙ k)) in absurd (omega arith)))),
     )
 
     pub bottom-is : (above : ℕ) → ((n : ℕ) → has above n ≡ has all (n + 11))
@@ -114,7 +98,7 @@ module _ (size : Extent) (extent : IsExtent size.rows size.cols) where
               on,
               ⊎_elim (λ k. omega arith)
                   (λ k. absurd (outside right n (has-difference_right all right n h)
-                  (is n less ∙ and_both _ _ (le_leb 1 n (omega arith)) ((is_left (n - 1)).1 (record { row = omega arith; col = omega arith }, omega arith)))))
+                  (is n less ∙ and_both _ _ (le-leb 1 n (omega arith)) ((is_left (n - 1)).1 (record { row = omega arith; col = omega arith }, omega arith)))))
                   (cases_lt (n % 11) 1),
             )),
         (λ w.
@@ -125,7 +109,7 @@ module _ (size : Extent) (extent : IsExtent size.rows size.cols) where
             has-difference_both all right n ((is_all n).1 w.0)
             (is_false _ (λ k.
             let t : (leb 1 n && has left (n - 1)) ≡ true = sym (is n less) ∙ k in
-            let high : 1 ≤ n = leb_le 1 n (and_left _ (has left (n - 1)) t) in
+            let high : 1 ≤ n = leb-true 1 n (and_left _ (has left (n - 1)) t) in
             let before : (n - 1) % 11 + 1 < size.cols = ((is_left (n - 1)).0 (and_right (leb 1 n) _ t)).1 in
             absurd (omega arith)))),
       )

@@ -2,7 +2,8 @@
 -- two cells touch exactly where the two below them touch.
 use Rattle.std.proofs.Common.{◌≡◌, ◌≢◌, ℕ, ◌+◌, ◌-◌, ◌/◌, ◌%◌, ◌<◌, ◌≤◌, true, ◌&&◌, List, length, slice_index, replicate, refl, sym, ◌∙◌, subst, arith, ◌⊎◌, inl, inr, ⊎_elim, ◌↔◌, leb}
 use Rattle.std.proofs.Math.ListN.{set}
-use Rattle.std.proofs.lemmas.Bool.Decides.{eqb_tells, nat_tests}
+use Rattle.std.proofs.lemmas.Bool.{leb-true, le-leb}
+use Rattle.std.proofs.lemmas.Bool.Decides.{eqb_tells}
 use Rattle.std.proofs.lemmas.List.{get_or-set_same, get_or-set_other, length-set}
 use Rattle.hx_board.specs.Sets.{has, insert, union, intersection}
 use Rattle.hx_board.specs.Cells.{Extent, IsExtent, OnBoard, TouchesCellOf, CellsTouch, Left, Right, Above, Below, Above_right, Below_left}
@@ -62,12 +63,6 @@ near_more size sets index near small before is = record {
 
 -- ---- a row and the row below it
 
-leb_le : (a b : ℕ) → leb a b ≡ true → a ≤ b
-leb_le a b h = grind (arith, nat_tests)
-
-le_leb : (a b : ℕ) → a ≤ b → leb a b ≡ true
-le_leb a b h = grind (arith, nat_tests)
-
 pub below-is : (size : Extent) (set all moved : ℕ) → IsExtent size.rows size.cols → ((n : ℕ) → (has all n ≡ true) ↔ OnBoard size n)
     → ((n : ℕ) → n < 128 → has moved n ≡ (leb 11 n && has set (n - 11)))
     → (n : ℕ) → (has (intersection moved all) n ≡ true) ↔ (OnBoard size n × (11 ≤ n) × (has set (n - 11) ≡ true))
@@ -75,8 +70,8 @@ below-is size set all moved extent is_all is n = (
   (λ h.
       let on : OnBoard size n = (is_all n).0 (has-intersection_right moved all n h) in
       let t : (leb 11 n && has set (n - 11)) ≡ true = sym (is n (less on)) ∙ has-intersection_left moved all n h in
-      (on, leb_le 11 n (and_left (leb 11 n) _ t), and_right (leb 11 n) _ t)),
-  (λ w. has-intersection_both moved all n (is n (less w.0) ∙ and_both _ _ (le_leb 11 n w.1) w.2) ((is_all n).1 w.0)),
+      (on, leb-true 11 n (and_left (leb 11 n) _ t), and_right (leb 11 n) _ t)),
+  (λ w. has-intersection_both moved all n (is n (less w.0) ∙ and_both _ _ (le-leb 11 n w.1) w.2) ((is_all n).1 w.0)),
 )
   where
     less : OnBoard size n → n < 128

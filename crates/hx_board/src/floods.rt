@@ -1,6 +1,8 @@
-//! Floods: what a vertex is joined with, found a whole board at a time. A flood takes as many steps as the longest way
-//! through its group, and each is a few operations on whole masks; union-find would visit each stone, and lists each
-//! neighbour.
+//! Floods: what a vertex is joined with.
+//!
+//! A flood begins with one vertex and takes in, step by step, all own vertices that touch it. Each step is some twenty
+//! operations on whole masks, however many stones the board has, and there are no more steps than the way through the
+//! group is long. Union-find would look at the stones and their neighbours one by one.
 
 ghost use Rattle.std.specs.Prelude.{◌≡◌, ◌<◌};
 ghost use Rattle.hx_board.specs.declared.vertices.Vertex.{Vertex};
@@ -22,6 +24,7 @@ pub(crate) fn flood(graph: &Graph, start: u8) -> Mask
     loop {
         let near = graph.spread(group);
         let next = group.union(near.meet(own));
+        // A set is a number below 2 ^ 128 and grows at each step, so a flood ends.
         let _bits = next.bits();
         if next == group {
             return group.union(near);

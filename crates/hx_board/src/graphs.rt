@@ -1,5 +1,7 @@
-//! A player's graph on a board, kept as the masks that a flood needs. They are made once for a position, since a flood
-//! that made them at each step would take longer over them than over the step.
+//! A player's graph on a board, kept as the masks that a flood needs.
+//!
+//! They are made once for a position, since a flood that made them at each step would take longer over them than over
+//! the step.
 
 ghost use Rattle.std.specs.Prelude.{◌≡◌, ℕ, ◌+◌, ◌-◌, ◌<◌, ◌≤◌, ◌⊎◌, ◌↔◌, true};
 ghost use Rattle.hx_board.specs.Sets.{has};
@@ -16,7 +18,8 @@ use crate::positions::Position;
 use crate::sizes::{Size, block};
 use std::marker::Model;
 
-/// One player's graph on a board.
+/// One player's graph on a board: all cells, the cells that have one to their right, the cells along the player's first
+/// and last side, and the player's own vertices.
 #[derive(Drop)]
 pub(crate) struct Graph {
     position: Position,
@@ -68,8 +71,8 @@ impl Graph {
         self.own
     }
 
-    /// The cells that touch a cell of a set. A cell is right of one, or right above one, where the cell before it is in
-    /// the set or below the set's cells, and so the slanted neighbours take no shifts of their own.
+    /// The cells that touch a cell of a set. Of the six neighbours of a cell two lie to the right of it and of the cell
+    /// above it, and two to the left of it and of the cell below it, so two shifts sideways find these four.
     pub(crate) fn around(&self, set: Mask) -> Mask
         ensures { (cell : ℕ) → (has result cell ≡ true) ↔ TouchesCellOf self.now.board.size set cell }
     {

@@ -1,11 +1,10 @@
-//! The groups of one player's stones, and so what is joined. Each group is flooded once, and each vertex then keeps the
-//! set of what it is joined with, because that is asked far more often than it changes.
+//! The groups of one player's stones, and so what is joined.
+//!
+//! Each group is flooded once, and each vertex then keeps the set of what it is joined with, because that is asked far
+//! more often than it changes.
 
-ghost use Rattle.std.specs.Prelude.{◌≡◌, ℕ, ◌<◌, ◌↔◌, ◌⊎◌, IsTrue, true, length, slice_index, if◌then◌else◌};
-ghost use Rattle.hx_board.specs.Sets.{has, union};
-ghost use Rattle.hx_board.specs.Cells.{OnBoard, CellsTouch};
+ghost use Rattle.std.specs.Prelude.{◌≡◌, ◌↔◌, IsTrue};
 ghost use Rattle.hx_board.specs.Graph.{IsVertex, Joined, HasChain, IsReach};
-ghost use Rattle.hx_board.specs.Floods.{AreNear, AreJoined};
 
 use crate::colours::Colour;
 use crate::floods::flood;
@@ -17,15 +16,19 @@ use crate::tables::joined_sets;
 use crate::vertices::Vertex;
 use std::marker::Model;
 
-/// What a vertex is joined with: cells of the board, and whether each of the player's sides.
+/// What a vertex is joined with in a player's graph.
 #[derive(Clone, Copy, PartialEq, Eq, Debug)]
 pub struct Reach {
+    /// The cells of the board that it is joined with.
     pub cells: Mask,
+    /// Whether it is joined with the player's first side.
     pub first: bool,
+    /// Whether it is joined with the player's last side.
     pub last: bool,
 }
 
-/// The groups of one player's stones on a board. It keeps for each vertex what it is joined with, so to ask is to read.
+/// The groups of one player's stones on a board, seen as the board and the player. It keeps for each vertex what the
+/// vertex is joined with, so to ask takes as long as to read a number.
 #[derive(Drop)]
 pub struct Groups {
     graph: Graph,
@@ -44,7 +47,8 @@ impl Model for Groups {
 }
 
 impl Groups {
-    /// Finds the groups of one player.
+    /// Finds the groups of one player. The board is flooded anew at each call, so keep the answer for as long as the
+    /// stones stay.
     pub fn of(position: &Position, colour: Colour) -> Groups
         ensures { result ≡ record { board = position.now; player = colour } }
     {
@@ -53,7 +57,8 @@ impl Groups {
         Groups { graph, joined }
     }
 
-    /// Whether the two are joined in the player's graph.
+    /// Whether two vertices are joined in the player's graph: they are one, or some walk leads from one to the other on
+    /// which all between them are the player's own stones and sides.
     pub fn joined(&self, a: Vertex, b: Vertex) -> bool
         requires a { IsVertex self.now.board.size a }
         requires b { IsVertex self.now.board.size b }
@@ -65,7 +70,8 @@ impl Groups {
         set.holds(to)
     }
 
-    /// All that a vertex is joined with in the player's graph, the vertex too.
+    /// All that a vertex is joined with in the player's graph, and so the vertex too. For an own vertex that is its group
+    /// and what touches the group; for any other cell what touches it and what its touching groups reach.
     pub fn joined_with(&self, vertex: Vertex) -> Reach
         requires { IsVertex self.now.board.size vertex }
         ensures { IsReach self.now.board self.now.player vertex result }
@@ -80,7 +86,7 @@ impl Groups {
     }
 }
 
-/// Whether the player has a chain between the two sides.
+/// Whether the player has a chain: the player's two sides are joined.
 pub fn chain(position: &Position, colour: Colour) -> bool
     ensures { IsTrue result ↔ HasChain position.now colour }
 {

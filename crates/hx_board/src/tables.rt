@@ -1,5 +1,7 @@
-//! The table of what each vertex is joined with. A walk that is more than a touch has an own inner vertex, so the table
-//! is that of what touches, to which each group adds all that it reaches.
+//! The table of what each vertex is joined with.
+//!
+//! A walk that is more than a touch has an own inner vertex. So the table is that of what touches, to which each group
+//! adds all that it reaches.
 
 ghost use Rattle.std.specs.Prelude.{◌≡◌, ℕ, ◌<◌, true, length, slice_index, if◌then◌else◌};
 ghost use Rattle.hx_board.specs.Sets.{has, union};
@@ -42,16 +44,16 @@ fn join_rest(graph: &Graph, sets: &mut [Mask; 123])
     }
 }
 
-/// Joins the vertices that an own vertex joins, a group at a time.
+/// Joins the vertices that are joined over an own vertex, one group at a time.
 fn join_groups(graph: &Graph, sets: &mut [Mask; 123])
     requires { AreNear graph.now.board.size 121 sets.old }
     ensures { AreJoined graph.now.board graph.now.player sets.new }
 {
-    let mut left = graph.own();
-    while let Some(start) = left.lowest() {
+    let mut waiting = graph.own();
+    while let Some(start) = waiting.lowest() {
         let reach = flood(graph, start);
         join_all(sets, reach);
-        left = left.minus(reach);
+        waiting = waiting.minus(reach);
     }
 }
 
@@ -61,10 +63,10 @@ fn join_all(sets: &mut [Mask; 123], group: Mask)
     ensures len { length sets.new ≡ 123 }
     ensures sets { (n : ℕ) → n < 123 → slice_index sets.new n ≡ (if has group n then union (slice_index sets.old n) group else slice_index sets.old n) }
 {
-    let mut left = group;
-    while let Some(place) = left.lowest() {
+    let mut waiting = group;
+    while let Some(place) = waiting.lowest() {
         let index = place as usize;
         sets[index] = sets[index].union(group);
-        left = left.without_lowest();
+        waiting = waiting.without_lowest();
     }
 }
