@@ -1,5 +1,6 @@
--- Flooding finds exactly what is joined.
-use Rattle.std.proofs.Common.{◌≡◌, ℕ, ◌<◌, ◌≤◌, List, [], ◌∷◌, ◌++◌, true, ◌||◌, refl, sym, ap, ◌∙◌, subst, arith, ◌⊎◌, inl, inr, ⊎_elim, ◌↔◌, eqb, eqb-true, eq-eqb}
+-- Flooding finds exactly what is joined. A flood keeps that each vertex in it is the start or led to by a walk of own
+-- vertices, and where it grows no more, no walk of own vertices leads out of it.
+use Rattle.std.proofs.Common.{◌≡◌, ◌≢◌, ℕ, ◌-◌, ◌<◌, ◌≤◌, List, [], ◌∷◌, ◌++◌, true, refl, sym, ap, ◌∙◌, subst, arith, ◌⊎◌, inl, inr, ⊎_elim, ◌↔◌}
 use Rattle.std.proofs.lemmas.Bool.{false≢true}
 use Rattle.std.proofs.lemmas.Nat.{le_or_l}
 use Rattle.hx_board.specs.declared.colours.Colour.{Colour}
@@ -7,18 +8,19 @@ use Rattle.hx_board.specs.declared.vertices.Vertex.{Vertex}
 use Rattle.hx_board.specs.declared.vertices.Vertex.TheVariants.{Of, First, Last}
 use Rattle.hx_board.specs.Sets.{has, insert, union, intersection}
 use Rattle.hx_board.specs.Cells.{Extent, IsExtent, OnBoard}
-use Rattle.hx_board.specs.Positions.{Board, stones_of}
+use Rattle.hx_board.specs.Positions.{Board, IsBoard, stones_of}
 use Rattle.hx_board.specs.Graph.{IsVertex, IsOwn, Touches, Walk, Joined}
-use Rattle.hx_board.specs.Floods.{Leads, TouchesOneOf, IsFlood, IsClosed, code_of}
-use Rattle.hx_board.proofs.SetLaws.{has-union_left, has-union_right, has-union_cases, has-intersection_left, has-intersection_right, has-intersection_both, has-insert_cases, has-insert_same, has-empty, or_cases, or_left, or_right}
+use Rattle.hx_board.specs.Floods.{IsVertexCode, IsSetOf, TouchesOneOf, code_of}
+use Rattle.hx_board.proofs.SetLaws.{has-union_left, has-union_right, has-union_cases, has-intersection_left, has-intersection_right, has-intersection_both, has-insert_cases, has-insert_same, has-empty}
 use Rattle.hx_board.proofs.CellLaws.{on_board-small}
-
-only : (k n : ℕ) → has (insert 0 k) n ≡ true → n ≡ k
-only k n h = ⊎_elim (λ e. e) (λ w. absurd (false≢true (sym (has-empty n) ∙ w))) (has-insert_cases 0 k n h)
+use Rattle.hx_board.proofs.Joins.{touches-vertex, walk-append}
 
 pub le-union : (s t : ℕ) → s ≤ union s t
 unfolding union
 le-union s t = le_or_l s t
+
+pub has-single : (k n : ℕ) → has (insert 0 k) n ≡ true → n ≡ k
+has-single k n h = ⊎_elim (λ e. e) (λ w. absurd (false≢true (sym (has-empty n) ∙ w))) (has-insert_cases 0 k n h)
 
 module _ (size : Extent) (extent : IsExtent size.rows size.cols) where
   within : (n : ℕ) → OnBoard size n → n < 121
@@ -36,101 +38,118 @@ module _ (size : Extent) (extent : IsExtent size.rows size.cols) where
   same_vertex Last First is_v is_w e = absurd (omega arith)
   same_vertex Last Last is_v is_w e = refl
 
-  -- the player's stones with both sides
-  pub own-is : (board : Board) (player : Colour) (stones : ℕ) → stones ≡ stones_of board player → (v : Vertex) → IsVertex size v
-      → (has (union (union stones (insert 0 121)) (insert 0 122)) (code_of v) ≡ true) ↔ IsOwn board player v
-  own-is board player stones same (Of n) is =
-      let small : n < 121 = within n is in (
-        (λ h. ⊎_elim
-            (λ a. ⊎_elim (λ b. rw (← same) b) (λ b. let e : n ≡ 121 = only 121 n b in absurd (omega arith)) (has-union_cases stones (insert 0 121) n a))
-            (λ a. let e : n ≡ 122 = only 122 n a in absurd (omega arith))
-            (has-union_cases (union stones (insert 0 121)) (insert 0 122) n h)),
-        (λ h. has-union_left (union stones (insert 0 121)) _ n (has-union_left stones _ n (rw same h))),
-      )
-  own-is board player stones same First is =
-      ((λ _. tt), (λ _. has-union_left (union stones (insert 0 121)) _ 121 (has-union_right stones _ 121 (has-insert_same 0 121))))
-  own-is board player stones same Last is = ((λ _. tt), (λ _. has-union_right (union stones (insert 0 121)) _ 122 (has-insert_same 0 122)))
+  pub code-small : (v : Vertex) → IsVertex size v → code_of v < 123
+  code-small (Of n) is = let small : n < 121 = within n is in omega arith
+  code-small First is = omega arith
+  code-small Last is = omega arith
 
-pub grown-is : (size : Extent) (player : Colour) (own set spread : ℕ) → ((v : Vertex) → IsVertex size v → (has spread (code_of v) ≡ true) ↔ TouchesOneOf size player set v)
-    → (v : Vertex) → IsVertex size v
-    → (has (union set (intersection spread own)) (code_of v) ≡ true) ↔ ((has set (code_of v) ≡ true) ⊎ ((has own (code_of v) ≡ true) × TouchesOneOf size player set v))
-grown-is size player own set spread is_spread v is = (
-  (λ h. ⊎_elim inl
-      (λ w. inr (has-intersection_right spread own (code_of v) w, (is_spread v is).0 (has-intersection_left spread own (code_of v) w)))
-      (has-union_cases set (intersection spread own) (code_of v) h)),
-  (λ h. ⊎_elim (has-union_left set _ (code_of v)) (λ w. has-union_right set _ (code_of v) (has-intersection_both spread own (code_of v) ((is_spread v is).1 w.1) w.0)) h),
-)
+  pub vertex_code-small : (n : ℕ) → IsVertexCode size n → n < 123
+  vertex_code-small n w = let P : ℕ → Type 0 = λ x. x < 123 in subst P w.is_code (code-small w.vertex w.is_vertex)
 
-touches-vertex : (size : Extent) (player : Colour) (v w : Vertex) → Touches size player v w → IsVertex size w
-touches-vertex size player (Of n) (Of m) t = t.1
-touches-vertex size player (Of n) First t = tt
-touches-vertex size player (Of n) Last t = tt
-touches-vertex size player First (Of m) t = t.0
-touches-vertex size player First First t = tt
-touches-vertex size player First Last t = tt
-touches-vertex size player Last (Of m) t = t.0
-touches-vertex size player Last First t = tt
-touches-vertex size player Last Last t = tt
+-- the player's stones with both sides
+pub own-is : (board : Board) (player : Colour) (stones : ℕ) → IsBoard board → stones ≡ stones_of board player
+    → IsSetOf board.size (IsOwn board player) (union (union stones (insert 0 121)) (insert 0 122))
+own-is board player stones valid same = record { vertices = vertices; members = members }
+  where
+    inside : (player : Colour) (n : ℕ) → has (stones_of board player) n ≡ true → OnBoard board.size n
+    inside Colour.Black n h = valid.1.black_inside n h
+    inside Colour.White n h = valid.1.white_inside n h
+
+    cases : {P : Type 0} (n : ℕ) → has (union (union stones (insert 0 121)) (insert 0 122)) n ≡ true
+        → (has (stones_of board player) n ≡ true → P) → (n ≡ 121 → P) → (n ≡ 122 → P) → P
+    cases n h a b c =
+        ⊎_elim (λ w. ⊎_elim (λ v. a (rw (← same) v)) (λ v. b (has-single 121 n v)) (has-union_cases stones (insert 0 121) n w)) (λ w. c (has-single 122 n w))
+        (has-union_cases (union stones (insert 0 121)) (insert 0 122) n h)
+
+    vertices : (n : ℕ) → has (union (union stones (insert 0 121)) (insert 0 122)) n ≡ true → IsVertexCode board.size n
+    vertices n h =
+        cases n h (λ a. record { vertex = Of n; is_vertex = inside player n a; is_code = refl })
+        (λ e. record { vertex = First; is_vertex = tt; is_code = sym e })
+        (λ e. record { vertex = Last; is_vertex = tt; is_code = sym e })
+
+    members : (v : Vertex) → IsVertex board.size v → (has (union (union stones (insert 0 121)) (insert 0 122)) (code_of v) ≡ true) ↔ IsOwn board player v
+    members (Of n) is =
+        let small : n < 121 = on_board-small board.size n valid.0 is in (
+          (λ h. cases n h (λ a. a) (λ e. absurd (omega arith)) (λ e. absurd (omega arith))),
+          (λ h. has-union_left (union stones (insert 0 121)) _ n (has-union_left stones _ n (rw same h))),
+        )
+    members First is = ((λ _. tt), (λ _. has-union_left (union stones (insert 0 121)) _ 121 (has-union_right stones _ 121 (has-insert_same 0 121))))
+    members Last is = ((λ _. tt), (λ _. has-union_right (union stones (insert 0 121)) _ 122 (has-insert_same 0 122)))
+
+-- a set below 2 ^ 128 that grows at each step cannot grow for ever
+pub growth-ends : (limit before after : ℕ) → before ≤ after → after ≢ before → after < limit → limit - after < limit - before
+growth-ends limit before after grows apart small = omega arith
+
+-- some walk of own inner vertices leads to an own vertex
+abbrev pub Leads : Board → Colour → Vertex → Vertex → Type 0
+Leads board player from to = IsOwn board player to × ((inner : List Vertex) × Walk board player from inner to)
+
+-- a set of vertices that has the start, and beside it only own vertices that a walk leads to
+pub record IsFlood (board : Board) (player : Colour) (start : Vertex) (set : ℕ) : Type 0 where
+  pub started : has set (code_of start) ≡ true
+  pub vertices : (n : ℕ) → has set n ≡ true → IsVertexCode board.size n
+  pub sound : (vertex : Vertex) → IsVertex board.size vertex → has set (code_of vertex) ≡ true → (vertex ≡ start) ⊎ Leads board player start vertex
+
+-- no own vertex outside the set touches one in it
+abbrev pub IsClosed : Board → Colour → ℕ → Type 0
+IsClosed board player set =
+    (vertex : Vertex) → IsVertex board.size vertex → IsOwn board player vertex → TouchesOneOf board.size player set vertex → has set (code_of vertex) ≡ true
 
 module _ (board : Board) (player : Colour) where
-  -- one step more at a walk's end
-  pub walk_more : (inner : List Vertex) (from mid to : Vertex) → Walk board player from inner mid → IsOwn board player mid → Touches board.size player mid to
-      → Walk board player from (inner ++ mid ∷ []) to
-  walk_more [] from mid to w own t = (w, own, t)
-  walk_more (v ∷ vs) from mid to w own t = (w.0, w.1, walk_more vs v mid to w.2 own t)
-
-  pub start-is_flood : IsExtent board.size.rows board.size.cols → (start : Vertex) → IsVertex board.size start → IsFlood board player start (insert 0 (code_of start))
-  start-is_flood extent start is = record {
-    started = has-insert_same 0 (code_of start);
-    sound = λ v is_v h. inl (same_vertex board.size extent v start is_v is (only (code_of start) (code_of v) h));
+  pub single-is_flood : IsExtent board.size.rows board.size.cols → (start : Vertex) → IsVertex board.size start → (n : ℕ) → code_of start ≡ n → IsFlood board player start (insert 0 n)
+  single-is_flood extent start is n e = record {
+    started = rw e (has-insert_same 0 n);
+    vertices = λ k h. record { vertex = start; is_vertex = is; is_code = e ∙ sym (has-single n k h) };
+    sound = λ v is_v h. inl (same_vertex board.size extent v start is_v is (has-single n (code_of v) h ∙ sym e));
   }
 
   leads_more : (start by v : Vertex) → (by ≡ start) ⊎ Leads board player start by → IsOwn board player v → Touches board.size player by v → Leads board player start v
   leads_more start by v (inl e) own t = (own, ([], let P : Vertex → Type 0 = λ x. Touches board.size player x v in subst P e t))
-  leads_more start by v (inr w) own t = (own, (w.1.0 ++ by ∷ [], walk_more w.1.0 start by v w.1.1 w.0 t))
+  leads_more start by v (inr w) own t = (own, (w.1.0 ++ by ∷ [], walk-append board player w.1.0 [] start by v w.1.1 w.0 t))
 
-  pub grown-is_flood : (start : Vertex) (own set next : ℕ)
-      → ((v : Vertex) → IsVertex board.size v → (has own (code_of v) ≡ true) ↔ IsOwn board player v)
-      → ((v : Vertex) → IsVertex board.size v → (has next (code_of v) ≡ true) ↔ ((has set (code_of v) ≡ true) ⊎ ((has own (code_of v) ≡ true) × TouchesOneOf board.size player set v)))
-      → IsVertex board.size start → IsFlood board player start set → IsFlood board player start next
-  grown-is_flood start own set next is_own is_next is f = record {
-    started = (is_next start is).1 (inl f.started);
-    sound = λ v is_v h. ⊎_elim (f.sound v is_v)
-        (λ w. inr (leads_more start w.1.by v (f.sound w.1.by w.1.by_vertex w.1.by_member) ((is_own v is_v).0 w.0) w.1.touch))
-        ((is_next v is_v).0 h);
-  }
+  module _ (own set near : ℕ) (is_own : IsSetOf board.size (IsOwn board player) own) (is_near : IsSetOf board.size (TouchesOneOf board.size player set) near) where
+    pub grown-is_flood : (start : Vertex) → IsFlood board player start set → IsFlood board player start (union set (intersection near own))
+    grown-is_flood start f = record {
+      started = has-union_left set _ (code_of start) f.started;
+      vertices = λ n h. ⊎_elim (f.vertices n) (λ w. is_near.vertices n (has-intersection_left near own n w)) (has-union_cases set (intersection near own) n h);
+      sound = λ v is_v h. ⊎_elim (f.sound v is_v)
+          (λ w.
+          let t : TouchesOneOf board.size player set v = (is_near.members v is_v).0 (has-intersection_left near own (code_of v) w) in
+          inr (leads_more start t.by v (f.sound t.by t.by_vertex t.by_member) ((is_own.members v is_v).0 (has-intersection_right near own (code_of v) w)) t.touch))
+          (has-union_cases set (intersection near own) (code_of v) h);
+    }
 
-  pub grown-is_closed : (own set next : ℕ)
-      → ((v : Vertex) → IsVertex board.size v → (has own (code_of v) ≡ true) ↔ IsOwn board player v)
-      → ((v : Vertex) → IsVertex board.size v → (has next (code_of v) ≡ true) ↔ ((has set (code_of v) ≡ true) ⊎ ((has own (code_of v) ≡ true) × TouchesOneOf board.size player set v)))
-      → next ≡ set → IsClosed board player set
-  grown-is_closed own set next is_own is_next same v is_v own_v t =
-      rw (← same) ((is_next v is_v).1 (inr ((is_own v is_v).1 own_v, t)))
+    grown-is_closed : union set (intersection near own) ≡ set → IsClosed board player set
+    grown-is_closed same v is_v own_v t =
+        rw same at (has-union_right set _ (code_of v) (has-intersection_both near own (code_of v) ((is_near.members v is_v).1 t) ((is_own.members v is_v).1 own_v)))
 
-  walked : (set : ℕ) → IsClosed board player set → (inner : List Vertex) (from to : Vertex) → IsVertex board.size from → has set (code_of from) ≡ true
-      → Walk board player from inner to → TouchesOneOf board.size player set to
-  walked set closed [] from to is h w = record { by = from; by_vertex = is; by_member = h; touch = w }
-  walked set closed (v ∷ vs) from to is h w =
-      let is_v : IsVertex board.size v = touches-vertex board.size player from v w.0 in
-      walked set closed vs v to is_v (closed v is_v w.1 (record { by = from; by_vertex = is; by_member = h; touch = w.0 })) w.2
+    walked : IsClosed board player set → (inner : List Vertex) (from to : Vertex) → IsVertex board.size from → has set (code_of from) ≡ true
+        → Walk board player from inner to → TouchesOneOf board.size player set to
+    walked closed [] from to is h w = record { by = from; by_vertex = is; by_member = h; touch = w }
+    walked closed (v ∷ vs) from to is h w =
+        let is_v : IsVertex board.size v = touches-vertex board.size player from v w.0 in
+        walked closed vs v to is_v (closed v is_v w.1 (record { by = from; by_vertex = is; by_member = h; touch = w.0 })) w.2
 
-  pub flood-joined : (start to : Vertex) (set : ℕ) → IsFlood board player start set → TouchesOneOf board.size player set to → Joined board player start to
-  flood-joined start to set f t =
-      ⊎_elim (λ e. inr ([], let P : Vertex → Type 0 = λ x. Touches board.size player x to in subst P e t.touch))
-      (λ w. inr (w.1.0 ++ t.by ∷ [], walk_more w.1.0 start t.by to w.1.1 w.0 t.touch))
-      (f.sound t.by t.by_vertex t.by_member)
+    flood-joined : (start to : Vertex) → IsFlood board player start set → TouchesOneOf board.size player set to → Joined board player start to
+    flood-joined start to f t =
+        ⊎_elim (λ e. inr ([], let P : Vertex → Type 0 = λ x. Touches board.size player x to in subst P e t.touch))
+        (λ w. inr (w.1.0 ++ t.by ∷ [], walk-append board player w.1.0 [] start t.by to w.1.1 w.0 t.touch))
+        (f.sound t.by t.by_vertex t.by_member)
 
-  pub joined-flood : (start to : Vertex) (set : ℕ) → IsVertex board.size start → IsFlood board player start set → IsClosed board player set
-      → Joined board player start to → (start ≡ to) ⊎ TouchesOneOf board.size player set to
-  joined-flood start to set is f closed (inl e) = inl e
-  joined-flood start to set is f closed (inr w) = inr (walked set closed w.0 start to is f.started w.1)
+    joined-flood : IsClosed board player set → (start to : Vertex) → IsVertex board.size start → IsVertex board.size to → IsFlood board player start set
+        → Joined board player start to → has (union set near) (code_of to) ≡ true
+    joined-flood closed start to is is_to f (inl e) =
+        let P : Vertex → Type 0 = λ x. has (union set near) (code_of x) ≡ true in subst P e (has-union_left set near (code_of start) f.started)
+    joined-flood closed start to is is_to f (inr w) =
+        has-union_right set near (code_of to) ((is_near.members to is_to).1 (walked closed w.0 start to is f.started w.1))
 
-  -- what the code tests
-  pub joined-tested : IsExtent board.size.rows board.size.cols → (start to : Vertex) (set near : ℕ) → IsVertex board.size start → IsVertex board.size to
-      → IsFlood board player start set → IsClosed board player set
-      → ((v : Vertex) → IsVertex board.size v → (has near (code_of v) ≡ true) ↔ TouchesOneOf board.size player set v)
-      → ((eqb (code_of start) (code_of to) || has near (code_of to)) ≡ true) ↔ Joined board player start to
-  joined-tested extent start to set near is_start is_to f closed is_near = (
-    (λ h. ⊎_elim (λ e. inl (same_vertex board.size extent start to is_start is_to (eqb-true _ _ e))) (λ w. flood-joined start to set f ((is_near to is_to).0 w)) (or_cases _ _ h)),
-    (λ j. ⊎_elim (λ e. or_left _ _ (eq-eqb _ _ (ap code_of e))) (λ t. or_right _ _ ((is_near to is_to).1 t)) (joined-flood start to set is_start f closed j)),
-  )
+    -- where a flood grows no more, it and what touches it are what the start is joined with
+    pub flood-is : union set (intersection near own) ≡ set → (start : Vertex) → IsVertex board.size start → IsFlood board player start set
+        → IsSetOf board.size (Joined board player start) (union set near)
+    flood-is same start is f = record {
+      vertices = λ n h. ⊎_elim (f.vertices n) (is_near.vertices n) (has-union_cases set near n h);
+      members = λ v is_v. (
+        (λ h. ⊎_elim (λ w. ⊎_elim (λ e. inl (sym e)) (λ l. inr l.1) (f.sound v is_v w)) (λ w. flood-joined start v f ((is_near.members v is_v).0 w)) (has-union_cases set near (code_of v) h)),
+        (λ j. joined-flood (grown-is_closed same) start v is is_v f j),
+      );
+    }

@@ -1,15 +1,15 @@
 -- The vertices that touch a set of vertices.
-use Rattle.std.proofs.Common.{◌≡◌, ℕ, ◌<◌, Bool, true, ◌&&◌, sym, ◌∙◌, arith, ⊎_elim, ◌↔◌, IsTrue}
-use Rattle.std.proofs.lemmas.Bool.{false≢true}
+use Rattle.std.proofs.Common.{◌≡◌, ℕ, ◌<◌, Bool, true, ◌&&◌, refl, sym, ◌∙◌, arith, ⊎_elim, ◌↔◌, IsTrue}
 use Rattle.hx_board.specs.declared.colours.Colour.{Colour}
 use Rattle.hx_board.specs.declared.vertices.Vertex.{Vertex}
 use Rattle.hx_board.specs.declared.vertices.Vertex.TheVariants.{Of, First, Last}
 use Rattle.hx_board.specs.Sets.{has, insert, union, ShareOne}
 use Rattle.hx_board.specs.Cells.{Extent, IsExtent, OnBoard, TouchesCellOf}
 use Rattle.hx_board.specs.Graph.{IsFirstLine, IsLastLine, IsVertex, Touches}
-use Rattle.hx_board.specs.Floods.{TouchesOneOf, code_of}
-use Rattle.hx_board.proofs.SetLaws.{has-union_left, has-union_right, has-union_cases, has-insert_cases, has-insert_same, has-empty, and_left, and_right, and_both}
+use Rattle.hx_board.specs.Floods.{IsVertexCode, IsSetOf, TouchesOneOf, code_of}
+use Rattle.hx_board.proofs.SetLaws.{has-union_left, has-union_right, has-union_cases, has-insert_same, and_left, and_right, and_both}
 use Rattle.hx_board.proofs.CellLaws.{on_board-small}
+use Rattle.hx_board.proofs.FloodLaws.{has-single}
 
 -- what is known of the sets that the code computes
 pub record Parts (size : Extent) (player : Colour) (set first last cells from_first from_last to_first to_last : ℕ) (at_first at_last : Bool) : Type 0 where
@@ -23,9 +23,6 @@ pub record Parts (size : Extent) (player : Colour) (set first last cells from_fi
   pub is_at_last : IsTrue at_last ↔ ShareOne set last
   pub is_to_first : (n : ℕ) → has to_first n ≡ (at_first && has (insert 0 121) n)
   pub is_to_last : (n : ℕ) → has to_last n ≡ (at_last && has (insert 0 122) n)
-
-only : (k n : ℕ) → has (insert 0 k) n ≡ true → n ≡ k
-only k n h = ⊎_elim (λ e. e) (λ w. absurd (false≢true (sym (has-empty n) ∙ w))) (has-insert_cases 0 k n h)
 
 module _ (size : Extent) (player : Colour) (set first last cells from_first from_last to_first to_last : ℕ) (at_first at_last : Bool)
     (k : Parts size player set first last cells from_first from_last to_first to_last at_first at_last) where
@@ -42,15 +39,15 @@ module _ (size : Extent) (player : Colour) (set first last cells from_first from
       (λ w. ⊎_elim d e (has-union_cases to_first to_last n w))
       (has-union_cases (union (union cells from_first) from_last) (union to_first to_last) n h)
 
-  pub from_parts : (vertex : Vertex) → IsVertex size vertex → has all_parts (code_of vertex) ≡ true → TouchesOneOf size player set vertex
+  from_parts : (vertex : Vertex) → IsVertex size vertex → has all_parts (code_of vertex) ≡ true → TouchesOneOf size player set vertex
   from_parts (Of n) on h =
       let small : n < 121 = within n on in
       five n h
       (λ w. let t : TouchesCellOf size set n = (k.is_cells n).0 w in record { by = Of t.by; by_vertex = t.by_on_board; by_member = t.by_member; touch = (t.by_on_board, on, t.touch) })
       (λ w. record { by = First; by_vertex = tt; by_member = and_left (has set 121) _ (sym (k.is_from_first n) ∙ w); touch = (k.is_first n).0 (and_right (has set 121) _ (sym (k.is_from_first n) ∙ w)) })
       (λ w. record { by = Last; by_vertex = tt; by_member = and_left (has set 122) _ (sym (k.is_from_last n) ∙ w); touch = (k.is_last n).0 (and_right (has set 122) _ (sym (k.is_from_last n) ∙ w)) })
-      (λ w. let e : n ≡ 121 = only 121 n (and_right at_first _ (sym (k.is_to_first n) ∙ w)) in absurd (omega arith))
-      (λ w. let e : n ≡ 122 = only 122 n (and_right at_last _ (sym (k.is_to_last n) ∙ w)) in absurd (omega arith))
+      (λ w. let e : n ≡ 121 = has-single 121 n (and_right at_first _ (sym (k.is_to_first n) ∙ w)) in absurd (omega arith))
+      (λ w. let e : n ≡ 122 = has-single 122 n (and_right at_last _ (sym (k.is_to_last n) ∙ w)) in absurd (omega arith))
   from_parts First on h =
       five 121 h
       (λ w. let t : TouchesCellOf size set 121 = (k.is_cells 121).0 w in let small : 121 < 121 = within 121 t.on_board in absurd (omega arith))
@@ -58,13 +55,13 @@ module _ (size : Extent) (player : Colour) (set first last cells from_first from
       (λ w. let small : 121 < 121 = within 121 ((k.is_last 121).0 (and_right (has set 122) _ (sym (k.is_from_last 121) ∙ w))).0 in absurd (omega arith))
       (λ w. let s : ShareOne set first = k.is_at_first.0 (and_left at_first _ (sym (k.is_to_first 121) ∙ w)) in
       record { by = Of s.shared; by_vertex = ((k.is_first s.shared).0 s.in_other).0; by_member = s.in_set; touch = (k.is_first s.shared).0 s.in_other })
-      (λ w. let e : 121 ≡ 122 = only 122 121 (and_right at_last _ (sym (k.is_to_last 121) ∙ w)) in absurd (omega arith))
+      (λ w. let e : 121 ≡ 122 = has-single 122 121 (and_right at_last _ (sym (k.is_to_last 121) ∙ w)) in absurd (omega arith))
   from_parts Last on h =
       five 122 h
       (λ w. let t : TouchesCellOf size set 122 = (k.is_cells 122).0 w in let small : 122 < 121 = within 122 t.on_board in absurd (omega arith))
       (λ w. let small : 122 < 121 = within 122 ((k.is_first 122).0 (and_right (has set 121) _ (sym (k.is_from_first 122) ∙ w))).0 in absurd (omega arith))
       (λ w. let small : 122 < 121 = within 122 ((k.is_last 122).0 (and_right (has set 122) _ (sym (k.is_from_last 122) ∙ w))).0 in absurd (omega arith))
-      (λ w. let e : 122 ≡ 121 = only 121 122 (and_right at_first _ (sym (k.is_to_first 122) ∙ w)) in absurd (omega arith))
+      (λ w. let e : 122 ≡ 121 = has-single 121 122 (and_right at_first _ (sym (k.is_to_first 122) ∙ w)) in absurd (omega arith))
       (λ w. let s : ShareOne set last = k.is_at_last.0 (and_left at_last _ (sym (k.is_to_last 122) ∙ w)) in
       record { by = Of s.shared; by_vertex = ((k.is_last s.shared).0 s.in_other).0; by_member = s.in_set; touch = (k.is_last s.shared).0 s.in_other })
 
@@ -96,5 +93,16 @@ module _ (size : Extent) (player : Colour) (set first last cells from_first from
   reached Last First h t = absurd t
   reached Last Last h t = absurd t
 
-  pub to_parts : (vertex : Vertex) → TouchesOneOf size player set vertex → has all_parts (code_of vertex) ≡ true
-  to_parts vertex t = reached t.by vertex t.by_member t.touch
+  codes : (n : ℕ) → has all_parts n ≡ true → IsVertexCode size n
+  codes n h =
+      five n h (λ w. cell n ((k.is_cells n).0 w).on_board)
+      (λ w. cell n ((k.is_first n).0 (and_right (has set 121) _ (sym (k.is_from_first n) ∙ w))).0)
+      (λ w. cell n ((k.is_last n).0 (and_right (has set 122) _ (sym (k.is_from_last n) ∙ w))).0)
+      (λ w. record { vertex = First; is_vertex = tt; is_code = sym (has-single 121 n (and_right at_first _ (sym (k.is_to_first n) ∙ w))) })
+      (λ w. record { vertex = Last; is_vertex = tt; is_code = sym (has-single 122 n (and_right at_last _ (sym (k.is_to_last n) ∙ w))) })
+    where
+      cell : (n : ℕ) → OnBoard size n → IsVertexCode size n
+      cell n on = record { vertex = Of n; is_vertex = on; is_code = refl }
+
+  pub parts-are_set : IsSetOf size (TouchesOneOf size player set) all_parts
+  parts-are_set = record { vertices = codes; members = λ v is. (from_parts v is, λ t. reached t.by v t.by_member t.touch) }

@@ -1,18 +1,29 @@
--- Sets of vertices, and what flooding finds.
-use Rattle.std.specs.Prelude.{◌≡◌, ℕ, true, List, ◌⊎◌}
+-- Sets of vertices, and what floods find.
+use Rattle.std.specs.Prelude.{◌≡◌, ℕ, ◌+◌, ◌<◌, true, List, length, slice_index, ◌⊎◌, ◌↔◌}
 use Rattle.hx_board.specs.declared.colours.Colour.{Colour}
 use Rattle.hx_board.specs.declared.vertices.Vertex.{Vertex}
 use Rattle.hx_board.specs.declared.vertices.Vertex.TheVariants.{Of, First, Last}
 use Rattle.hx_board.specs.Sets.{has}
-use Rattle.hx_board.specs.Cells.{Extent}
-use Rattle.hx_board.specs.Positions.{Board}
-use Rattle.hx_board.specs.Graph.{IsVertex, Touches, IsOwn, Walk}
+use Rattle.hx_board.specs.Cells.{Extent, OnBoard, CellsTouch, col_of}
+use Rattle.hx_board.specs.Positions.{Board, IsBoard}
+use Rattle.hx_board.specs.Graph.{IsFirstLine, IsLastLine, IsVertex, Touches, IsOwn, Joined}
 
 -- the number of a vertex in a set of vertices: the sides come after the cells
 abbrev pub code_of : Vertex → ℕ
 code_of (Of cell) = cell
 code_of First = 121
 code_of Last = 122
+
+-- a number that stands for a vertex of the board
+pub record IsVertexCode (size : Extent) (n : ℕ) : Type 0 where
+  pub vertex : Vertex
+  pub is_vertex : IsVertex size vertex
+  pub is_code : code_of vertex ≡ n
+
+-- the set of the vertices of a board for which a fact holds
+pub record IsSetOf (size : Extent) (Fact : Vertex → Type 0) (set : ℕ) : Type 0 where
+  pub vertices : (n : ℕ) → has set n ≡ true → IsVertexCode size n
+  pub members : (vertex : Vertex) → IsVertex size vertex → (has set (code_of vertex) ≡ true) ↔ Fact vertex
 
 -- a vertex that touches one in a set
 pub record TouchesOneOf (size : Extent) (player : Colour) (set : ℕ) (vertex : Vertex) : Type 0 where
@@ -21,16 +32,27 @@ pub record TouchesOneOf (size : Extent) (player : Colour) (set : ℕ) (vertex : 
   pub by_member : has set (code_of by) ≡ true
   pub touch : Touches size player by vertex
 
--- some walk of own inner vertices leads to an own vertex
-abbrev pub Leads : Board → Colour → Vertex → Vertex → Type 0
-Leads board player from to = IsOwn board player to × ((inner : List Vertex) × Walk board player from inner to)
+-- the masks of a player's graph: all cells, the cells that have one to their right, the cells along the two sides, and
+-- the player's own vertices
+pub record AreMasks (board : Board) (player : Colour) (all left first last own : ℕ) : Type 0 where
+  pub valid : IsBoard board
+  pub is_all : (cell : ℕ) → (has all cell ≡ true) ↔ OnBoard board.size cell
+  pub is_left : (cell : ℕ) → (has left cell ≡ true) ↔ (OnBoard board.size cell × (col_of cell + 1 < board.size.cols))
+  pub is_first : (cell : ℕ) → (has first cell ≡ true) ↔ (OnBoard board.size cell × IsFirstLine player cell)
+  pub is_last : (cell : ℕ) → (has last cell ≡ true) ↔ (OnBoard board.size cell × IsLastLine board.size player cell)
+  pub is_own : IsSetOf board.size (IsOwn board player) own
 
--- a set of vertices that has the start, and beside it only own vertices that a walk leads to
-pub record IsFlood (board : Board) (player : Colour) (start : Vertex) (set : ℕ) : Type 0 where
-  pub started : has set (code_of start) ≡ true
-  pub sound : (vertex : Vertex) → IsVertex board.size vertex → has set (code_of vertex) ≡ true → (vertex ≡ start) ⊎ Leads board player start vertex
+-- for each cell of the board below a bound the set of itself and the cells that touch it, and for the sides nothing
+pub record AreNear (size : Extent) (bound : ℕ) (sets : List ℕ) : Type 0 where
+  pub count : length sets ≡ 123
+  pub cells : (cell : ℕ) → cell < bound → OnBoard size cell → (other : ℕ)
+      → (has (slice_index sets cell) other ≡ true) ↔ (OnBoard size other × ((other ≡ cell) ⊎ CellsTouch cell other))
+  pub first : slice_index sets 121 ≡ 0
+  pub last : slice_index sets 122 ≡ 0
 
--- no own vertex outside the set touches one in it
-abbrev pub IsClosed : Board → Colour → ℕ → Type 0
-IsClosed board player set =
-    (vertex : Vertex) → IsVertex board.size vertex → IsOwn board player vertex → TouchesOneOf board.size player set vertex → has set (code_of vertex) ≡ true
+-- for each vertex of the board the set of what it is joined with
+pub record AreJoined (board : Board) (player : Colour) (sets : List ℕ) : Type 0 where
+  pub valid : IsBoard board
+  pub count : length sets ≡ 123
+  pub joined : (vertex : Vertex) → IsVertex board.size vertex
+      → IsSetOf board.size (Joined board player vertex) (slice_index sets (code_of vertex))

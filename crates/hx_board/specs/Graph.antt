@@ -1,9 +1,10 @@
 -- A player's graph, and what is joined in it.
-use Rattle.std.specs.Prelude.{◌≡◌, ℕ, ◌+◌, true, List, [], ◌∷◌, ◌⊎◌}
+use Rattle.std.specs.Prelude.{◌≡◌, ℕ, ◌+◌, true, List, [], ◌∷◌, ◌⊎◌, ◌↔◌, IsTrue}
 use Rattle.hx_board.specs.declared.colours.Colour.{Colour}
 use Rattle.hx_board.specs.declared.colours.Colour.TheVariants.{Black, White}
 use Rattle.hx_board.specs.declared.vertices.Vertex.{Vertex}
 use Rattle.hx_board.specs.declared.vertices.Vertex.TheVariants.{Of, First, Last}
+use Rattle.hx_board.specs.declared.groups.Reach.{Reach}
 use Rattle.hx_board.specs.Sets.{has}
 use Rattle.hx_board.specs.Cells.{Extent, OnBoard, CellsTouch, row_of, col_of}
 use Rattle.hx_board.specs.Positions.{Board, stones_of}
@@ -53,7 +54,13 @@ Joined board player from to = (from ≡ to) ⊎ ((inner : List Vertex) × Walk b
 abbrev pub HasChain : Board → Colour → Type 0
 HasChain board player = Joined board player First Last
 
--- the groups of one player on a board
+-- one player's graph on a board
 pub record Grouped : Type 0 where
   pub board : Board
   pub player : Colour
+
+-- what a vertex is joined with: cells of the board, and the two sides
+pub record IsReach (board : Board) (player : Colour) (from : Vertex) (reach : Reach) : Type 0 where
+  pub cells : (cell : ℕ) → (has reach.cells cell ≡ true) ↔ (OnBoard board.size cell × Joined board player from (Of cell))
+  pub first : IsTrue reach.first ↔ Joined board player from First
+  pub last : IsTrue reach.last ↔ Joined board player from Last

@@ -1,188 +1,158 @@
-//! What is joined.
+//! The groups of one player's stones, and so what is joined.
+//!
+//! Each group is flooded once, and each vertex then keeps the set of what it is joined with, because that is asked far
+//! more often than it changes.
 
-ghost use Rattle.std.specs.Prelude.{◌≡◌, ℕ, ◌<◌, ◌≤◌, ◌^◌, ◌⊎◌, ◌↔◌, IsTrue, true};
-ghost use Rattle.hx_board.specs.declared.vertices.Vertex.{Vertex};
-ghost use Rattle.hx_board.specs.Sets.{has};
-ghost use Rattle.hx_board.specs.Cells.{OnBoard, TouchesCellOf};
-ghost use Rattle.hx_board.specs.Graph.{IsFirstLine, IsLastLine, IsVertex, IsOwn, Joined, HasChain};
-ghost use Rattle.hx_board.specs.Floods.{TouchesOneOf, code_of, IsFlood, IsClosed};
+ghost use Rattle.std.specs.Prelude.{◌≡◌, ◌↔◌, IsTrue};
+ghost use Rattle.hx_board.specs.Graph.{IsVertex, Joined, HasChain, IsReach};
 
 use crate::colours::Colour;
+use crate::floods::flood;
+use crate::graphs::Graph;
 use crate::masks::Mask;
+use crate::places::{FIRST_CODE, LAST_CODE, code};
 use crate::positions::Position;
-use crate::sizes::{Size, block};
+use crate::tables::joined_sets;
 use crate::vertices::Vertex;
 use std::marker::Model;
 
-/// The numbers of the sides in a set of vertices.
-const FIRST_CODE: u8 = 121;
-
-const LAST_CODE: u8 = 122;
-
-/// The cells that touch a cell of a set.
-fn around(size: Size, set: Mask) -> Mask
-    ensures { (cell : ℕ) → (has result cell ≡ true) ↔ TouchesCellOf size set cell }
-{
-    let all = size.all();
-    let left = block(size.rows(), size.cols() - 1);
-    let cells = set.meet(all);
-    let to_right = cells.meet(left).later(1);
-    let to_left = cells.earlier(1).meet(left);
-    let down = cells.later(11);
-    let up = cells.earlier(11);
-    let up_right = cells.meet(left).earlier(10);
-    let down_left = cells.later(10).meet(left);
-    let sideways = to_right.union(to_left);
-    let straight = down.union(up);
-    let slanted = up_right.union(down_left);
-    sideways.union(straight).union(slanted).meet(all)
+/// What a vertex is joined with in a player's graph.
+#[derive(Clone, Copy, PartialEq, Eq, Debug)]
+pub struct Reach {
+    /// The cells of the board that it is joined with.
+    pub cells: Mask,
+    /// Whether it is joined with the player's first side.
+    pub first: bool,
+    /// Whether it is joined with the player's last side.
+    pub last: bool,
 }
 
-/// The cells along a player's first side.
-fn first_line(size: Size, player: Colour) -> Mask
-    ensures { (cell : ℕ) → (has result cell ≡ true) ↔ (OnBoard size cell × IsFirstLine player cell) }
-{
-    match player {
-        Colour::Black => block(1, size.cols()),
-        Colour::White => block(size.rows(), 1),
-    }
-}
-
-/// The cells along a player's last side.
-fn last_line(size: Size, player: Colour) -> Mask
-    ensures { (cell : ℕ) → (has result cell ≡ true) ↔ (OnBoard size cell × IsLastLine size player cell) }
-{
-    let all = size.all();
-    match player {
-        Colour::Black => all.minus(block(size.rows() - 1, size.cols())),
-        Colour::White => all.minus(block(size.rows(), size.cols() - 1)),
-    }
-}
-
-/// The vertices that touch one in a set.
-fn spread(size: Size, player: Colour, set: Mask) -> Mask
-    ensures { (vertex : Vertex) → IsVertex size vertex → (has result (code_of vertex) ≡ true) ↔ TouchesOneOf size player set vertex }
-{
-    let _rows = size.rows();
-    let first = first_line(size, player);
-    let last = last_line(size, player);
-    let cells = around(size, set);
-    let from_first = first.when(set.holds(FIRST_CODE));
-    let from_last = last.when(set.holds(LAST_CODE));
-    let to_first = Mask::single(FIRST_CODE).when(set.meets(first));
-    let to_last = Mask::single(LAST_CODE).when(set.meets(last));
-    let to_cells = cells.union(from_first).union(from_last);
-    let to_sides = to_first.union(to_last);
-    to_cells.union(to_sides)
-}
-
-/// The number of a vertex in a set of vertices.
-fn code(vertex: &Vertex) -> u8
-    ensures value { result ≡ code_of vertex.now }
-    ensures small { result < 123 }
-{
-    match vertex {
-        Vertex::Of(cell) => cell.index(),
-        Vertex::First => FIRST_CODE,
-        Vertex::Last => LAST_CODE,
-    }
-}
-
-/// The player's stones and sides.
-fn own_vertices(position: &Position, player: Colour) -> Mask
-    ensures { (vertex : Vertex) → IsVertex position.now.size vertex → (has result (code_of vertex) ≡ true) ↔ IsOwn position.now player vertex }
-{
-    let _rows = position.size().rows();
-    position
-        .stones(player)
-        .union(Mask::single(FIRST_CODE))
-        .union(Mask::single(LAST_CODE))
-}
-
-/// The set and the own vertices that touch it.
-fn grown(size: Size, player: Colour, own: Mask, set: Mask) -> Mask
-    ensures vertices { (vertex : Vertex) → IsVertex size vertex
-        → (has result (code_of vertex) ≡ true) ↔ ((has set (code_of vertex) ≡ true) ⊎ ((has own (code_of vertex) ≡ true) × TouchesOneOf size player set vertex)) }
-    ensures grows { set ≤ result }
-    ensures small { result < 2 ^ 128 }
-{
-    let next = set.union(spread(size, player, set).meet(own));
-    let _bits = next.bits();
-    next
-}
-
-/// The start, and the own vertices that a walk of own vertices leads to.
-fn flood(position: &Position, player: Colour, start: &Vertex) -> Mask
-    requires { IsVertex position.now.size start.now }
-    ensures flood { IsFlood position.now player start.now result }
-    ensures closed { IsClosed position.now player result }
-{
-    let size = position.size();
-    let _rows = size.rows();
-    let own = own_vertices(position, player);
-    let mut set = Mask::single(code(start));
-    loop {
-        let next = grown(size, player, own, set);
-        if next == set {
-            return set;
-        }
-        set = next;
-    }
-}
-
-/// The groups of one player's stones.
+/// The groups of one player's stones on a board, seen as the board and the player. It keeps for each vertex what the
+/// vertex is joined with, so to ask takes as long as to read a number.
 #[derive(Drop)]
 pub struct Groups {
-    position: Position,
-    player: Colour,
+    graph: Graph,
+    joined: [Mask; 123],
 }
 
 impl Model for Groups {
     ghost use Rattle.hx_board.specs.Graph.{Grouped};
+    ghost use Rattle.hx_board.specs.Floods.{AreJoined};
 
     ghost Value = { Grouped };
 
-    ghost view = { λ g. record { board = g.position; player = g.player } };
+    ghost view = { λ g. g.graph };
+
+    ghost invariant = { λ g. AreJoined g.graph.board g.graph.player g.joined };
 }
 
 impl Groups {
+    /// Finds the groups of one player. The board is flooded anew at each call, so keep the answer for as long as the
+    /// stones stay.
     pub fn of(position: &Position, colour: Colour) -> Groups
         ensures { result ≡ record { board = position.now; player = colour } }
     {
-        Groups {
-            position: *position,
-            player: colour,
-        }
+        let graph = Graph::of(position, colour);
+        let joined = joined_sets(&graph);
+        Groups { graph, joined }
     }
 
-    /// Whether the two are joined in the player's graph.
+    /// Whether two vertices are joined in the player's graph: they are one, or some walk leads from one to the other on
+    /// which all between them are the player's own stones and sides.
     pub fn joined(&self, a: Vertex, b: Vertex) -> bool
         requires a { IsVertex self.now.board.size a }
         requires b { IsVertex self.now.board.size b }
         ensures { IsTrue result ↔ Joined self.now.board self.now.player a b }
     {
-        let position = self.position;
-        joined_in(&position, self.player, a, b)
+        let from = code(&a);
+        let to = code(&b);
+        let set = self.joined[from as usize];
+        set.holds(to)
+    }
+
+    /// All that a vertex is joined with in the player's graph, and so the vertex too. For an own vertex that is its group
+    /// and what touches the group; for any other cell what touches it and what its touching groups reach.
+    pub fn joined_with(&self, vertex: Vertex) -> Reach
+        requires { IsVertex self.now.board.size vertex }
+        ensures { IsReach self.now.board self.now.player vertex result }
+    {
+        let from = code(&vertex);
+        let set = self.joined[from as usize];
+        Reach {
+            cells: set.meet(Mask::range(0, FIRST_CODE)),
+            first: set.holds(FIRST_CODE),
+            last: set.holds(LAST_CODE),
+        }
     }
 }
 
-fn joined_in(position: &Position, player: Colour, a: Vertex, b: Vertex) -> bool
-    requires a { IsVertex position.now.size a }
-    requires b { IsVertex position.now.size b }
-    ensures { IsTrue result ↔ Joined position.now player a b }
-{
-    let size = position.size();
-    let _rows = size.rows();
-    let from = code(&a);
-    let to = code(&b);
-    let set = flood(position, player, &a);
-    let near = spread(size, player, set);
-    from == to || near.holds(to)
-}
-
-/// Whether the player has a chain between the two sides.
+/// Whether the player has a chain: the player's two sides are joined.
 pub fn chain(position: &Position, colour: Colour) -> bool
     ensures { IsTrue result ↔ HasChain position.now colour }
 {
-    joined_in(position, colour, Vertex::First, Vertex::Last)
+    let graph = Graph::of(position, colour);
+    let reach = flood(&graph, FIRST_CODE);
+    reach.holds(LAST_CODE)
+}
+
+#[cfg(test)]
+mod tests {
+    use super::*;
+    use crate::sizes::Size;
+    use std::test::Fail;
+
+    #[test]
+    fn column_joins_the_sides(rt: HostRuntime) -> Result<(), Fail> {
+        let size = Size::new(11, 11).ok_or("size")?;
+        let mut column = Mask::empty();
+        for row in 0..11u8 {
+            column = column.with(size.cell(row, 5).ok_or("cell")?);
+        }
+        let position = Position::from_masks(size, column, Mask::empty()).ok_or("position")?;
+        assert!(rt; chain(&position, Colour::Black));
+        assert!(rt; !chain(&position, Colour::White));
+        let groups = Groups::of(&position, Colour::Black);
+        assert!(rt; groups.joined(Vertex::Last, Vertex::First));
+        let reach = groups.joined_with(Vertex::First);
+        // Three columns, and eight cells more along each side.
+        assert_eq!(rt; reach.cells.count(), 49);
+        assert!(rt; reach.first && reach.last);
+        Ok(())
+    }
+
+    #[test]
+    fn stone_joins_a_cell_to_a_side(rt: HostRuntime) -> Result<(), Fail> {
+        let size = Size::new(3, 3).ok_or("size")?;
+        let b1 = size.cell(0, 1).ok_or("b1")?;
+        let a2 = size.cell(1, 0).ok_or("a2")?;
+        let a3 = size.cell(2, 0).ok_or("a3")?;
+        let black = Mask::empty().with(b1);
+        let position = Position::from_masks(size, black, Mask::empty()).ok_or("position")?;
+        let groups = Groups::of(&position, Colour::Black);
+        assert!(rt; groups.joined(Vertex::Of(a2), Vertex::First));
+        assert!(rt; !groups.joined(Vertex::Of(a3), Vertex::First));
+        assert!(rt; groups.joined(Vertex::Of(a3), Vertex::Last));
+        let reach = groups.joined_with(Vertex::Of(a2));
+        assert!(rt; reach.first && !reach.last);
+        Ok(())
+    }
+
+    #[test]
+    fn empty_cell_between_two_groups(rt: HostRuntime) -> Result<(), Fail> {
+        let size = Size::new(3, 3).ok_or("size")?;
+        let a2 = size.cell(1, 0).ok_or("a2")?;
+        let b2 = size.cell(1, 1).ok_or("b2")?;
+        let c2 = size.cell(1, 2).ok_or("c2")?;
+        let black = Mask::empty().with(a2).with(c2);
+        let position = Position::from_masks(size, black, Mask::empty()).ok_or("position")?;
+        let groups = Groups::of(&position, Colour::Black);
+        assert!(rt; groups.joined(Vertex::Of(b2), Vertex::Of(a2)));
+        assert!(rt; groups.joined(Vertex::Of(c2), Vertex::Of(b2)));
+        assert!(rt; !groups.joined(Vertex::Of(a2), Vertex::Of(c2)));
+        assert_eq!(rt; groups.joined_with(Vertex::Of(b2)).cells, size.all());
+        let others = Groups::of(&position, Colour::White);
+        // White has no stone, so for White the cell is joined with itself and its six neighbours.
+        assert_eq!(rt; others.joined_with(Vertex::Of(b2)).cells.count(), 7);
+        Ok(())
+    }
 }

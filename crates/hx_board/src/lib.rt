@@ -3,16 +3,20 @@
 
 mod cells;
 mod colours;
+mod floods;
+mod graphs;
 mod groups;
 mod masks;
+mod places;
 mod positions;
 mod sizes;
+mod tables;
 mod touching;
 mod vertices;
 
 pub use cells::Cell;
 pub use colours::Colour;
-pub use groups::{Groups, chain};
+pub use groups::{Groups, Reach, chain};
 pub use masks::Mask;
 pub use positions::Position;
 pub use sizes::Size;

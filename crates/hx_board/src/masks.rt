@@ -4,9 +4,9 @@
 //! sets, to find what they share, or to move all cells of a set by a step takes a few machine instructions and no
 //! memory. The numbers from 121 to 127 are no cell's, and can stand for something else, as the sides of the board.
 
-ghost use Rattle.std.specs.Prelude.{◌≡◌, ℕ, ◌+◌, ◌-◌, ◌<◌, ◌≤◌, ◌↔◌, ◌&&◌, IsTrue, nat_le, nat_lt, false, MatchOption};
+ghost use Rattle.std.specs.Prelude.{◌≡◌, ◌≢◌, ℕ, ◌+◌, ◌-◌, ◌<◌, ◌≤◌, ◌↔◌, ◌&&◌, IsTrue, nat_le, nat_lt, false, MatchOption};
 ghost use Rattle.hx_board.specs.Cells.{OnBoard, IsLeastOn};
-ghost use Rattle.hx_board.specs.Sets.{has, insert, remove, union, intersection, difference, IsSubset, ShareOne, count_below};
+ghost use Rattle.hx_board.specs.Sets.{has, insert, remove, union, intersection, difference, IsSubset, ShareOne, IsLowest, count_below};
 
 use crate::cells::Cell;
 use crate::sizes::Size;
@@ -164,6 +164,28 @@ impl Mask {
         ensures { result ≡ insert 0 place }
     {
         Mask { bits: 1 << place }
+    }
+
+    /// The lowest number in the set.
+    pub(crate) fn lowest(self) -> Option<u8>
+        ensures { MatchOption result (self ≡ 0) (IsLowest self) }
+    {
+        let bits = self.bits();
+        if bits == 0 {
+            None
+        } else {
+            Some(bits.trailing_zeros() as u8)
+        }
+    }
+
+    /// The set without its lowest number.
+    pub(crate) fn without_lowest(self) -> Mask
+        requires { self ≢ 0 }
+        ensures { (n : ℕ) → IsLowest self n → result ≡ remove self n }
+    {
+        Mask {
+            bits: (self.bits - 1) & self.bits,
+        }
     }
 
     /// The numbers from `low` on and below `high`.

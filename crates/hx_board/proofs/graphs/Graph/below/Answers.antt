@@ -1,0 +1,7 @@
+use Rattle.hx_board.proofs.NearLaws.{below-is}
+use Rattle.hx_board.proofs.graphs.Graph.below.Goals as goal
+
+pub returns : goal.returns
+returns c =
+    rw (c.meet.ensures, ← c.self.view_is)
+    (below-is _ _ _ _ c.self.invariant.valid.0 c.self.invariant.is_all c.later.ensures)
