@@ -4,7 +4,7 @@
 //! sets, to find what they share, or to move all cells of a set by a step takes a few machine instructions and no
 //! memory. The numbers from 121 to 127 are no cell's, and can stand for something else, as the sides of the board.
 
-ghost use Rattle.std.specs.Prelude.{◌≡◌, ◌≢◌, ℕ, ◌+◌, ◌-◌, ◌<◌, ◌≤◌, ◌↔◌, ◌&&◌, IsTrue, nat_le, nat_lt, false, MatchOption};
+ghost use Rattle.std.specs.Prelude.{◌≡◌, ◌≢◌, ℕ, ◌+◌, ◌-◌, ◌<◌, ◌≤◌, ◌↔◌, ◌&&◌, ◌||◌, ◌==◌, not, IsTrue, nat_le, nat_lt, false, MatchOption};
 ghost use Rattle.hx_board.specs.Cells.{OnBoard, IsLeastOn};
 ghost use Rattle.hx_board.specs.Sets.{has, insert, remove, union, intersection, difference, IsSubset, ShareOne, IsLowest, count_below};
 
@@ -60,7 +60,8 @@ impl Mask {
 
     /// The set and a cell, which may be in the set already.
     pub fn with(self, cell: Cell) -> Mask
-        ensures { result ≡ insert self cell }
+        ensures set { result ≡ insert self cell }
+        ensures members { (n : ℕ) → has result n ≡ ((n == cell) || has self n) }
     {
         let place = cell.index();
         Mask {
@@ -70,7 +71,8 @@ impl Mask {
 
     /// The set without a cell, which need not be in the set.
     pub fn without(self, cell: Cell) -> Mask
-        ensures { result ≡ remove self cell }
+        ensures set { result ≡ remove self cell }
+        ensures members { (n : ℕ) → has result n ≡ (has self n && not (n == cell)) }
     {
         let place = cell.index();
         Mask {
@@ -81,7 +83,8 @@ impl Mask {
     /// What is in one of the two sets, or in both.
     #[tactic(auto, unfolding(crate::specs::Sets::union))]
     pub fn union(self, other: Mask) -> Mask
-        ensures { result ≡ union self other }
+        ensures set { result ≡ union self other }
+        ensures members { (n : ℕ) → has result n ≡ (has self n || has other n) }
     {
         Mask {
             bits: self.bits | other.bits,
@@ -91,7 +94,8 @@ impl Mask {
     /// What is in both sets.
     #[tactic(auto, unfolding(crate::specs::Sets::intersection))]
     pub fn meet(self, other: Mask) -> Mask
-        ensures { result ≡ intersection self other }
+        ensures set { result ≡ intersection self other }
+        ensures members { (n : ℕ) → has result n ≡ (has self n && has other n) }
     {
         Mask {
             bits: self.bits & other.bits,
@@ -101,7 +105,8 @@ impl Mask {
     /// What is in this set and not in the other.
     #[tactic(auto, unfolding(crate::specs::Sets::difference))]
     pub fn minus(self, other: Mask) -> Mask
-        ensures { result ≡ difference self other }
+        ensures set { result ≡ difference self other }
+        ensures members { (n : ℕ) → has result n ≡ (has self n && not (has other n)) }
     {
         Mask {
             bits: self.bits ^ (self.bits & other.bits),

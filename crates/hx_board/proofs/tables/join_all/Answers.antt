@@ -14,7 +14,7 @@ pub loop-place-preserved : goal.loop-place-preserved
 loop-place-preserved c =
     let small : c.in-Some.place < 123 = c.requires _ (c.loop-place.invariant.inside _ c.in-Some.ensures.member) in
     let within : c.in-Some.place < length c.loop-place.sets = rw c.loop-place.invariant.count small in
-    rw (c.union.ensures, read-is c.loop-place.sets c.in-Some.place c.index-sets-index.result within c.index-sets-index.is, c.without_lowest-waiting.ensures _ c.in-Some.ensures)
+    rw (c.union.ensures.set, read-is c.loop-place.sets c.in-Some.place c.index-sets-index.result within c.index-sets-index.is, c.without_lowest-waiting.ensures _ c.in-Some.ensures)
     (joined_more _ _ _ _ _ _ small c.in-Some.ensures.member refl c.loop-place.invariant)
 
 pub loop-place-smaller : goal.loop-place-smaller

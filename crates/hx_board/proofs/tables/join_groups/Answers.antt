@@ -12,13 +12,13 @@ loop-start-init c = over_none _ _ c.own-waiting.ensures.valid.0 _ c.own-waiting.
 
 pub loop-start-preserved : goal.loop-start-preserved
 loop-start-preserved c =
-    rw c.minus-waiting.ensures
+    rw c.minus-waiting.ensures.set
     (over_next _ _ c.own-waiting.ensures.valid.0 _ c.own-waiting.ensures.own _ _ _ c.loop-start.invariant c.in-Some.ensures.member _ c.flood-reach.ensures _
     c.join_all.ensures.len c.join_all.ensures.sets)
 
 pub loop-start-smaller : goal.loop-start-smaller
 loop-start-smaller c =
-    rw c.minus-waiting.ensures
+    rw c.minus-waiting.ensures.set
     (waiting-falls _ _ c.own-waiting.ensures.valid.0 _ c.own-waiting.ensures.own _ _ _ c.loop-start.invariant c.in-Some.ensures.member _ c.flood-reach.ensures)
 
 pub returns : goal.returns

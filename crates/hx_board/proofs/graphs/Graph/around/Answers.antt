@@ -9,14 +9,14 @@ shifts c = record {
   extent = c.self.invariant.valid.0;
   is_all = c.self.invariant.is_all;
   is_left = c.self.invariant.is_left;
-  is_cells = c.meet-cells.ensures;
+  is_cells = c.meet-cells.ensures.set;
   is_above = c.earlier-above.ensures;
   is_below = c.later-below.ensures;
-  is_to_right = λ n h. rw (← c.union.ensures, ← c.meet.ensures) (c.later-to_right.ensures n h);
-  is_to_left = λ n. rw (c.meet-to_left.ensures, ← c.union-2.ensures) (has-intersection _ _ n ∙ ap (λ b. b && has c.self.inside.left n) (c.earlier.ensures n));
+  is_to_right = λ n h. rw (← c.union.ensures.set, ← c.meet.ensures.set) (c.later-to_right.ensures n h);
+  is_to_left = λ n. rw (c.meet-to_left.ensures.set, ← c.union-2.ensures.set) (has-intersection _ _ n ∙ ap (λ b. b && has c.self.inside.left n) (c.earlier.ensures n));
 }
 
 pub returns : goal.returns
 returns c =
-    rw (c.meet-2.ensures, c.union-3.ensures, c.union-straight.ensures, c.union-sideways.ensures, ← c.self.view_is)
+    rw (c.meet-2.ensures.set, c.union-3.ensures.set, c.union-straight.ensures.set, c.union-sideways.ensures.set, ← c.self.view_is)
     (λ n. (from_shifts _ _ _ _ _ _ _ _ _ (shifts c) n, to_shifts _ _ _ _ _ _ _ _ _ (shifts c) n))

@@ -17,5 +17,5 @@ parts c = record {
 
 pub returns : goal.returns
 returns c =
-    rw (c.union-2.ensures, c.union-to_cells.ensures, c.union-to_sides.ensures, c.union.ensures, ← c.self.view_is)
+    rw (c.union-2.ensures.set, c.union-to_cells.ensures.set, c.union-to_sides.ensures.set, c.union.ensures.set, ← c.self.view_is)
     (parts-are_set _ _ _ _ _ _ _ _ _ _ _ _ (parts c))
