@@ -68,7 +68,7 @@ slice_get-append (node ∷ nodes) more zero less = refl
 slice_get-append (node ∷ nodes) more (suc k) less = slice_get-append nodes more k (omega arith)
 
 -- whether a node is right does not depend on the nodes after it
-right_at-append : (nodes more : List Node) (k : ℕ) → k < length nodes → IsRightNodeAt (nodes ++ more) k ↔ IsRightNodeAt nodes k
+pub right_at-append : (nodes more : List Node) (k : ℕ) → k < length nodes → IsRightNodeAt (nodes ++ more) k ↔ IsRightNodeAt nodes k
 right_at-append nodes more k less = (
   (λ right. rw (slice_get-append nodes more k less, take-append-le k nodes more (omega arith)) at right),
   (λ right. rw (slice_get-append nodes more k less, take-append-le k nodes more (omega arith)) right),

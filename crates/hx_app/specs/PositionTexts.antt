@@ -1,0 +1,26 @@
+-- The text of a position and the player to move.
+use Rattle.std.specs.Prelude.{ℕ, List, [], ◌∷◌, codes}
+use Rattle.std.specs.Fmt.{decimal}
+use Rattle.hx_board.specs.declared.colours.Colour.{Colour}
+use Rattle.hx_board.specs.declared.colours.Colour.TheVariants.{Black, White}
+use Rattle.hx_board.specs.Cells.{Extent}
+use Rattle.hx_board.specs.Positions.{Board}
+use Rattle.hx_app.specs.Words.{spaced, mask_word, colour_word}
+use Rattle.hx_app.specs.Grammars.{text_of}
+
+abbrev pub size_line : Extent → List ℕ
+size_line size = spaced (codes "size" ∷ decimal size.rows ∷ decimal size.cols ∷ [])
+
+-- the line of a player's stones, which begins with the player's colour
+abbrev pub stones_line : Colour → ℕ → List ℕ
+stones_line colour stones = spaced (colour_word colour ∷ mask_word stones ∷ [])
+
+abbrev pub move_line : Colour → List ℕ
+move_line mover = spaced (codes "move" ∷ colour_word mover ∷ [])
+
+abbrev pub position_lines : Board → Colour → List (List ℕ)
+position_lines board mover =
+    spaced (codes "hexpos" ∷ codes "1" ∷ []) ∷ size_line board.size ∷ stones_line Black board.black ∷ stones_line White board.white ∷ move_line mover ∷ []
+
+abbrev pub position_text : Board → Colour → List ℕ
+position_text board mover = text_of (position_lines board mover)

@@ -1,0 +1,109 @@
+//! The top call over sources and sinks in memory.
+
+mod damage;
+mod faults;
+mod limits;
+mod spellings;
+mod trees;
+mod words;
+
+use crate::run;
+use hx_io::{MemorySink, MemorySource, RealGate};
+use std::alloc::{AllocError, Global};
+use std::process::Abort;
+use std::test::Fail;
+
+/// The tree of the empty board of one cell, on which Black moves and wins.
+const EXAMPLE: &str = "hextree 1
+size 1 1
+node 00000000000000000000000000000001 00000000000000000000000000000000 white black chain
+node 00000000000000000000000000000000 00000000000000000000000000000000 black black move a1 0
+end 2 black
+";
+
+/// What is answered to the example.
+const EXAMPLE_ANSWER: &str = "yes black
+hexpos 1
+size 1 1
+black 00000000000000000000000000000000
+white 00000000000000000000000000000000
+move black
+";
+
+/// A run to be tried.
+#[derive(Clone, Copy, Debug)]
+struct Trial<'a> {
+    words: &'a [&'a str],
+    input: &'a str,
+    /// The most bytes of a read and of a write.
+    piece: usize,
+    /// The read that fails, counted from 0.
+    failing_read: Option<u64>,
+    /// The write that fails, counted from 0.
+    failing_write: Option<u64>,
+}
+
+/// What came of a run.
+#[derive(Drop)]
+struct Outcome {
+    status: u8,
+    output: Vec<u8>,
+    reads: u64,
+    writes: u64,
+}
+
+/// The command `check` over this input, in pieces of this many bytes, where no call fails.
+fn check_of(input: &str, piece: usize) -> Trial<'_> {
+    Trial {
+        words: &["check"],
+        input,
+        piece,
+        failing_read: None,
+        failing_write: None,
+    }
+}
+
+/// The list of the one call, or of none.
+fn calls_of(alloc: Global, call: Option<u64>) -> Result<Vec<u64>, AllocError> {
+    let mut calls = Vec::new(alloc);
+    if let Some(number) = call {
+        calls.push(number)?;
+    }
+    Ok(calls)
+}
+
+/// Tries a run.
+fn outcome_of(rt: &impl Abort, alloc: Global, trial: Trial<'_>) -> Result<Outcome, Fail> {
+    assert!(rt; trial.piece > 0);
+    let mut words = Vec::new(alloc);
+    for word in trial.words {
+        words.push(String::from_str(alloc, word)?)?;
+    }
+    let input = trial.input.as_bytes().to_vec(alloc)?;
+    let failing_reads = calls_of(alloc, trial.failing_read)?;
+    let failing_writes = calls_of(alloc, trial.failing_write)?;
+    let mut source = MemorySource::new(input, trial.piece, failing_reads);
+    let mut sink = MemorySink::new(alloc, 4096, trial.piece, failing_writes)?;
+    let status = run(alloc, &words, &mut source, &mut sink, &RealGate);
+    Ok(Outcome {
+        status,
+        output: sink.bytes().to_vec(alloc)?,
+        reads: source.calls(),
+        writes: sink.calls(),
+    })
+}
+
+/// Tries a run that has to end with this status and to write this.
+fn assert_answer(
+    rt: &impl Abort,
+    alloc: Global,
+    trial: Trial<'_>,
+    status: u8,
+    answer: &str,
+) -> Result<Outcome, Fail> {
+    let outcome = outcome_of(rt, alloc, trial)?;
+    let output = str::from_utf8(outcome.output.as_slice())?;
+    assert_eq!(rt; output, answer, "{trial:?}");
+    assert_eq!(rt; outcome.status, status, "{trial:?}");
+    Ok(outcome)
+}

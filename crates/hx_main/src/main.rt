@@ -1,0 +1,44 @@
+//! The program `hx`: the words of the command line, standard input and standard output. Nothing goes to standard error.
+#![tactic(auto)]
+
+use hx_app::run;
+use hx_io::{RealGate, StdSink, StdSource};
+use std::alloc::AllocError;
+use std::env::{Env, FillError};
+use std::process::ExitCode;
+use std::str;
+
+/// The exit status where memory for the words was wanting.
+const OUT_OF_MEMORY: u8 = 7;
+
+/// No word of a command is longer, in bytes.
+const LONGEST_WORD: usize = 64;
+
+fn main(rt: HostRuntime) -> ExitCode {
+    let Ok(words) = words(&rt) else {
+        return ExitCode::from(OUT_OF_MEMORY);
+    };
+    let mut source = StdSource::new(rt.stdin());
+    let mut sink = StdSink::new(rt.stdout());
+    let status = run(rt.alloc(), &words, &mut source, &mut sink, &RealGate);
+    ExitCode::from(status)
+}
+
+/// The words behind the program's name, which is not looked at: it may be no text. A word that is no text, or a longer
+/// one, stands in no command, so then there are no words at all.
+fn words(rt: &(impl Env + AllocGlobal)) -> Result<Vec<String>, AllocError> {
+    let mut words = Vec::new(rt.alloc());
+    let mut buffer = [0u8; LONGEST_WORD];
+    for place in 1..usize::MAX {
+        let count = match rt.arg(place, &mut buffer) {
+            Ok(count) => count,
+            Err(FillError::NotPresent) => break,
+            Err(FillError::TooLong) => return Ok(Vec::new(rt.alloc())),
+        };
+        let Ok(word) = str::from_utf8(&buffer[..count]) else {
+            return Ok(Vec::new(rt.alloc()));
+        };
+        words.push(String::from_str(rt.alloc(), word)?)?;
+    }
+    Ok(words)
+}
