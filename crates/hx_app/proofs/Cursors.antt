@@ -7,7 +7,8 @@ use Rattle.std.proofs.lemmas.Bool.{false≢true}
 use Rattle.hx_app.specs.Words.{Reads, Takes, Lacks, IsCut, split_at_marks, words_left}
 use Rattle.hx_app.proofs.Splits.{split_at_marks-cut, split_at_marks-lacks, split_at_marks-some}
 
-pub words_left-cut : (more : Bool) (rest word later : List ℕ) → more ≡ true → IsCut 32 rest word later → words_left more rest ≡ word ∷ words_left more later
+pub words_left-cut : (more : Bool) (rest word later : List ℕ) → more ≡ true → IsCut 32 rest word later
+    → words_left more rest ≡ word ∷ words_left more later
 words_left-cut true rest word later some cut = ap (split_at_marks 32) cut.1 ∙ split_at_marks-cut 32 word later cut.0
 words_left-cut false rest word later some _ = absurd (false≢true some)
 
@@ -20,11 +21,13 @@ words_left-some true rest some e = split_at_marks-some 32 rest e
 words_left-some false rest some _ = absurd (false≢true some)
 
 -- the next word is taken, and a reader of words reads it
-pub takes_by_word : {V : Type 0} (spelling : V → List ℕ) (Fits : V → Type 0) (read : Option V) (word : List ℕ) (old new : List (List ℕ)) → old ≡ word ∷ new → Reads spelling Fits word read → Takes spelling Fits old read new
+pub takes_by_word : {V : Type 0} (spelling : V → List ℕ) (Fits : V → Type 0) (read : Option V) (word : List ℕ) (old new : List (List ℕ))
+    → old ≡ word ∷ new → Reads spelling Fits word read → Takes spelling Fits old read new
 takes_by_word spelling Fits (Some value) word old new e reads = (reads.0, e ∙ ap (λ (first : List ℕ). first ∷ new) reads.1)
 takes_by_word spelling Fits None word old new e reads = λ value rest fits f. reads value fits cc
 
-pub takes_at_end : {V : Type 0} (spelling : V → List ℕ) (Fits : V → Type 0) (old new : List (List ℕ)) → old ≡ [] → Takes spelling Fits old None new
+pub takes_at_end : {V : Type 0} (spelling : V → List ℕ) (Fits : V → Type 0) (old new : List (List ℕ)) → old ≡ []
+    → Takes spelling Fits old None new
 takes_at_end spelling Fits old new e = λ value rest fits f. cc
 
 -- the same words in two ways

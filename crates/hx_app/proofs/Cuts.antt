@@ -4,7 +4,8 @@ use Rattle.std.proofs.Common.{◌≡◌, ℕ, ◌≤◌, List, [], ◌∷◌, �
 use Rattle.hx_app.specs.Words.{Lacks}
 use Rattle.hx_app.specs.Grammars.{text_of}
 
-pub text_of-push : (before : List (List ℕ)) (line rest : List ℕ) → text_of (before ++ line ∷ []) ++ rest ≡ text_of before ++ (line ++ 10 ∷ rest)
+pub text_of-push : (before : List (List ℕ)) (line rest : List ℕ)
+    → text_of (before ++ line ∷ []) ++ rest ≡ text_of before ++ (line ++ 10 ∷ rest)
 unfolding text_of
 text_of-push [] line rest = append_assoc line (10 ∷ []) rest
 text_of-push (first ∷ before) line rest =
@@ -48,7 +49,8 @@ abbrev pub AllLack : List (List ℕ) → Type 0
 AllLack [] = Unit {0}
 AllLack (line ∷ lines) = Lacks 10 line × AllLack lines
 
-pub Lacks-middle : (before : List (List ℕ)) (line : List ℕ) (rest : List (List ℕ)) → AllLack ((before ++ line ∷ []) ++ rest) → Lacks 10 line
+pub Lacks-middle : (before : List (List ℕ)) (line : List ℕ) (rest : List (List ℕ)) → AllLack ((before ++ line ∷ []) ++ rest)
+    → Lacks 10 line
 Lacks-middle [] line rest all = all.0
 Lacks-middle (first ∷ before) line rest all = Lacks-middle before line rest all.1
 
@@ -74,7 +76,8 @@ unfolding text_of
 agree [] b x y la lb e = Second_goes_on b refl e
 agree (line ∷ a) [] x y la lb e = First_goes_on (line ∷ a) refl (sym e)
 agree (line ∷ a) (other ∷ b) x y la lb e =
-    let parts : line ++ 10 ∷ (text_of a ++ x) ≡ other ++ 10 ∷ (text_of b ++ y) = sym (append_assoc line (10 ∷ text_of a) x) ∙ e ∙ append_assoc other (10 ∷ text_of b) y in
+    let parts : line ++ 10 ∷ (text_of a ++ x) ≡ other ++ 10 ∷ (text_of b ++ y) = sym (append_assoc line (10 ∷ text_of a) x) ∙ e
+    ∙ append_assoc other (10 ∷ text_of b) y in
     let same : line ≡ other = cut_same 10 line other (text_of a ++ x) (text_of b ++ y) la.0 lb.0 parts in
     let rest : text_of a ++ x ≡ text_of b ++ y = cut_rest 10 line other (text_of a ++ x) (text_of b ++ y) la.0 lb.0 parts in
     subst (λ (l : List ℕ). Agree (line ∷ a) (l ∷ b) x y) same (Agree-cons line a b x y (agree a b x y la.1 lb.1 rest))

@@ -1,58 +1,58 @@
 -- The end of a judgement: the root after the last line of a text is the last heading that was kept, and nothing may
 -- follow that line.
-use Rattle.std.proofs.Common.{◌≡◌, ◌≢◌, ℕ, ◌+◌, ◌-◌, ◌<◌, ◌≤◌, ◌^◌, List, [], ◌∷◌, ◌++◌, length, refl, sym, ap, ◌∙◌, subst, arith, append_assoc, length-append, min, Option, Some, None}
+use Rattle.std.proofs.Common.{◌≡◌, ◌≢◌, ℕ, ◌+◌, ◌-◌, ◌<◌, ◌≤◌, ◌^◌, List, [], ◌∷◌, ◌++◌, length, refl, sym, ap, ◌∙◌, subst, arith, length-append, Some, None}
 use Rattle.std.proofs.lemmas.List.{append-nil, length-map}
-use Rattle.std.specs.Prelude.{flat_map, slice_get, MatchOption}
-use Rattle.hx_board.specs.Cells.{Extent}
-use Rattle.hx_board.specs.declared.colours.Colour.{Colour}
+use Rattle.std.specs.Prelude.{slice_get}
 use Rattle.hx_tree.specs.declared.nodes.Heading.{Heading}
 use Rattle.hx_tree.specs.declared.nodes.Node.{Node}
-use Rattle.hx_tree.specs.Rules.{IsRightNode}
-use Rattle.hx_tree.specs.Trees.{AreRight, headings_of, IsRoot}
-use Rattle.hx_tree.proofs.Soundness.{one_more_right, least_wrong-last, headings_of-append, valid_tree}
+use Rattle.hx_tree.specs.Trees.{headings_of, IsRoot}
+use Rattle.hx_tree.proofs.Soundness.{valid_tree}
 use Rattle.hx_app.specs.declared.answers.Answer.{Answer}
-use Rattle.hx_app.specs.declared.answers.Answer.TheVariants.{Yes, NoText, NoNode, BadWords, ReadFault, OutOfMemory, TooLong}
+use Rattle.hx_app.specs.declared.answers.Answer.TheVariants.{NoText}
 use Rattle.hx_app.specs.declared.places.Place.{Place}
-use Rattle.hx_app.specs.declared.places.Place.TheVariants.{Title, Size, Between, After, Failed}
+use Rattle.hx_app.specs.declared.places.Place.TheVariants.{After}
 use Rattle.hx_app.specs.declared.reader.TreeReader.{TreeReader}
-use Rattle.hx_app.specs.Words.{Lacks}
-use Rattle.hx_app.specs.Grammars.{text_of, Begins, IsFaultyLine}
-use Rattle.hx_app.specs.TreeTexts.{AreTreeLines, AreTreeLinesOf, front_lines, node_lines, end_line}
-use Rattle.hx_app.specs.Places.{Stands, StandsSoFar, most_nodes, IsNextNode}
-use Rattle.hx_app.specs.Reader.{HasRead, lines_fed, one_more}
+use Rattle.hx_app.specs.Grammars.{text_of}
+use Rattle.hx_app.specs.Places.{Stands}
+use Rattle.hx_app.specs.Reader.{HasRead, lines_fed}
 use Rattle.hx_app.specs.Answers.{limit}
-use Rattle.hx_app.specs.Judging.{EndedIn, Before_size, Among_nodes, After_end, IsYes, IsNoText, IsNoNode, IsTooManyNodes, IsJudged, JudgedUpTo, HasReadAll, AnswersNode}
-use Rattle.hx_app.proofs.Alignment.{aligned}
+use Rattle.hx_app.specs.Judging.{IsYes, IsNoText, IsJudged, JudgedUpTo, HasReadAll}
 use Rattle.hx_app.proofs.Ends.{push-some}
 use Rattle.hx_app.proofs.Steps.{end_wrong}
 use Rattle.hx_app.proofs.Standings.{ended_in}
 use Rattle.hx_app.proofs.Judgements.{fed_small}
 use Rattle.hx_app.proofs.Completions.{Begins-stands}
-use Rattle.hx_app.proofs.Cuts.{text_of-push, length-text_of}
-use Rattle.hx_app.proofs.Faults.{missing, wrong_line, surplus}
+use Rattle.hx_app.proofs.Faults.{surplus}
 
-heading_after : (front : List Node) (node : Node) → slice_get (headings_of (front ++ node ∷ [])) (length front) ≡ Some node.heading
+heading_after : (front : List Node) (node : Node)
+    → slice_get (headings_of (front ++ node ∷ [])) (length front) ≡ Some node.heading
 heading_after [] node = refl
 heading_after (first ∷ front) node = heading_after front node
 
-last_heading : (front : List Node) (node : Node) → slice_get (headings_of (front ++ node ∷ [])) (length (headings_of (front ++ node ∷ [])) - 1) ≡ Some node.heading
+last_heading : (front : List Node) (node : Node)
+    → slice_get (headings_of (front ++ node ∷ [])) (length (headings_of (front ++ node ∷ [])) - 1) ≡ Some node.heading
 last_heading front node =
-    let place : length (headings_of (front ++ node ∷ [])) - 1 ≡ length front = omega (arith, length-map (front ++ node ∷ []) (λ (n : Node). n.heading), length-append front (node ∷ [])) in
+    let place : length (headings_of (front ++ node ∷ [])) - 1 ≡ length front =
+    omega (arith, length-map (front ++ node ∷ []) (λ (n : Node). n.heading), length-append front (node ∷ [])) in
     ap (λ (k : ℕ). slice_get (headings_of (front ++ node ∷ [])) k) place ∙ heading_after front node
 
-root_heading : (headings : List Heading) (nodes : List Node) (node : Node) (root : Heading) → headings ≡ headings_of nodes → IsRoot nodes node → Some root ≡ slice_get headings (length headings - 1) → root ≡ node.heading
+root_heading : (headings : List Heading) (nodes : List Node) (node : Node) (root : Heading) → headings ≡ headings_of nodes
+    → IsRoot nodes node → Some root ≡ slice_get headings (length headings - 1) → root ≡ node.heading
 root_heading headings nodes node root same last is =
     let whole : headings ≡ headings_of (last.front ++ node ∷ []) = same ∙ ap headings_of last.same in
-    let found : Some root ≡ Some node.heading = is ∙ ap (λ (hs : List Heading). slice_get hs (length hs - 1)) whole ∙ last_heading last.front node in
+    let found : Some root ≡ Some node.heading = is ∙ ap (λ (hs : List Heading). slice_get hs (length hs - 1)) whole
+    ∙ last_heading last.front node in
     cc
 
 some_nodes : (nodes : List Node) (node : Node) → IsRoot nodes node → nodes ≢ []
 some_nodes nodes node last none = push-some last.front node (sym last.same ∙ none)
 
-ends : (reader : TreeReader) (nodes : List Node) (lines : List (List ℕ)) → HasRead reader nodes lines → HasReadAll reader → Stands After nodes lines
+ends : (reader : TreeReader) (nodes : List Node) (lines : List (List ℕ)) → HasRead reader nodes lines → HasReadAll reader
+    → Stands After nodes lines
 ends reader nodes lines read all = subst (λ (p : Place). Stands p nodes lines) all read
 
-module _ (input : List ℕ) (reader : TreeReader) (headings : List Heading) (later : List ℕ) (upto : JudgedUpTo input reader headings later) (all : HasReadAll reader) where
+module _ (input : List ℕ) (reader : TreeReader) (headings : List Heading) (later : List ℕ)
+    (upto : JudgedUpTo input reader headings later) (all : HasReadAll reader) where
   are : Stands After upto.nodes upto.lines
   are = ends reader upto.nodes upto.lines upto.read all
 
@@ -61,7 +61,14 @@ module _ (input : List ℕ) (reader : TreeReader) (headings : List Heading) (lat
   judged_yes root is none = record {
     nodes = upto.nodes;
     root = are.2.root.root;
-    text = record { size = are.0; winner = are.1; lines = upto.lines; are = are.2; same = upto.parts ∙ ap (λ (t : List ℕ). text_of upto.lines ++ t) none ∙ append-nil (text_of upto.lines) };
+    text = record {
+      size = are.0;
+      winner = are.1;
+      lines = upto.lines;
+      are = are.2;
+      same = upto.parts ∙ ap
+          (λ (t : List ℕ). text_of upto.lines ++ t) none ∙ append-nil (text_of upto.lines);
+    };
     few = upto.few;
     valid = valid_tree upto.nodes (some_nodes upto.nodes are.2.root.root are.2.root.last) upto.right;
     last = are.2.root.last;
@@ -71,7 +78,9 @@ module _ (input : List ℕ) (reader : TreeReader) (headings : List Heading) (lat
   pub judged_surplus : (line : ℕ) → later ≢ [] → line ≡ lines_fed reader + 1 → IsNoText input line
   unfolding are
   judged_surplus line some is = record {
-    fault = surplus input upto.lines later line upto.parts (is ∙ ap (λ (n : ℕ). n + 1) upto.counted) (Begins-stands reader.place upto.nodes upto.lines upto.read) some (λ next begins. end_wrong are.0 are.1 upto.nodes upto.lines next are.2 begins);
+    fault = surplus input upto.lines later line upto.parts (is ∙ ap (λ (n : ℕ). n + 1) upto.counted)
+        (Begins-stands reader.place upto.nodes upto.lines upto.read) some
+        (λ next begins. end_wrong are.0 are.1 upto.nodes upto.lines next are.2 begins);
     nodes = upto.nodes;
     ended = ended_in reader.place upto.nodes upto.lines upto.read;
     few = upto.few;
@@ -82,12 +91,15 @@ module _ (input : List ℕ) (reader : TreeReader) (headings : List Heading) (lat
   pub judged_some : None ≡ slice_get headings (length headings - 1) → ⊥
   unfolding are
   judged_some none =
-      let whole : headings ≡ headings_of (are.2.root.last.front ++ are.2.root.root ∷ []) = upto.same ∙ ap headings_of are.2.root.last.same in
-      let found : None ≡ Some are.2.root.root.heading = none ∙ ap (λ (hs : List Heading). slice_get hs (length hs - 1)) whole ∙ last_heading are.2.root.last.front are.2.root.root in
+      let whole : headings ≡ headings_of (are.2.root.last.front ++ are.2.root.root ∷ []) = upto.same
+      ∙ ap headings_of are.2.root.last.same in
+      let found : None ≡ Some are.2.root.root.heading = none ∙ ap (λ (hs : List Heading). slice_get hs (length hs - 1)) whole
+      ∙ last_heading are.2.root.last.front are.2.root.root in
       cc
 
 -- after the last line
-pub judged_end : (reader : TreeReader) (nodes : List Node) (lines : List (List ℕ)) → HasReadAll reader × Stands After nodes lines → HasRead reader nodes lines
+pub judged_end : (reader : TreeReader) (nodes : List Node) (lines : List (List ℕ)) → HasReadAll reader × Stands After nodes lines
+    → HasRead reader nodes lines
 judged_end reader nodes lines told = subst (λ (p : Place). Stands p nodes lines) (sym told.0) told.1
 
 pub nothing_whole : (reader : TreeReader) → HasRead reader [] [] → HasReadAll reader → ⊥
@@ -95,7 +107,9 @@ nothing_whole reader read all =
     let whole : Stands After [] [] = ends reader [] [] read all in
     push-some whole.2.root.last.front whole.2.root.root (sym whole.2.root.last.same)
 
-pub surplus_answer : (input : List ℕ) (reader : TreeReader) (headings : List Heading) (later : List ℕ) (answer : Answer) → length input ≤ limit → JudgedUpTo input reader headings later → HasReadAll reader → later ≢ []
+pub surplus_answer : (input : List ℕ) (reader : TreeReader) (headings : List Heading) (later : List ℕ) (answer : Answer)
+    → length input ≤ limit → JudgedUpTo input reader headings later → HasReadAll reader → later ≢ []
     → (lines_fed reader < 2 ^ 64 - 1 → answer ≡ NoText (lines_fed reader + 1)) → IsJudged input answer
 surplus_answer input reader headings later answer few upto all some says =
-    subst (IsJudged input) (sym (says (fed_small input reader headings later few upto))) (judged_surplus input reader headings later upto all (lines_fed reader + 1) some refl)
+    subst (IsJudged input) (sym (says (fed_small input reader headings later few upto)))
+    (judged_surplus input reader headings later upto all (lines_fed reader + 1) some refl)

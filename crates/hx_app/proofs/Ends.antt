@@ -1,12 +1,13 @@
 -- Lists with one more element at their end: they are not empty, and are the same only where the front and the last
 -- element are.
-use Rattle.std.proofs.Common.{◌≡◌, List, [], ◌∷◌, ◌++◌, refl, sym, ap, ◌∙◌}
+use Rattle.std.proofs.Common.{◌≡◌, List, [], ◌∷◌, ◌++◌, refl, ap, ◌∙◌}
 
 pub push-some : {A : Type 0} (xs : List A) (x : A) → xs ++ x ∷ [] ≡ [] → ⊥
 push-some [] x e = cc
 push-some (first ∷ xs) x e = cc
 
-push_injective_cons : {A : Type 0} (a b : A) (xs ys : List A) (x y : A) → a ≡ b → (xs ≡ ys) × (x ≡ y) → (a ∷ xs ≡ b ∷ ys) × (x ≡ y)
+push_injective_cons : {A : Type 0} (a b : A) (xs ys : List A) (x y : A) → a ≡ b → (xs ≡ ys) × (x ≡ y)
+    → (a ∷ xs ≡ b ∷ ys) × (x ≡ y)
 push_injective_cons {A} a b xs ys x y first rest = (ap (λ (h : A). h ∷ xs) first ∙ ap (λ (t : List A). b ∷ t) rest.0, rest.1)
 
 pub push_injective : {A : Type 0} (xs ys : List A) (x y : A) → xs ++ x ∷ [] ≡ ys ++ y ∷ [] → (xs ≡ ys) × (x ≡ y)

@@ -8,7 +8,9 @@ use Rattle.hx_app.proofs.Cuts.{cut_same, Lacks-append_mark, ended-some}
 use Rattle.hx_app.proofs.TreeLacks.{Lacks-begun}
 
 -- the next line is missing or is not ended
-abbrev pub missing : (input : List ℕ) (before : List (List ℕ)) (rest : List ℕ) (line : ℕ) → input ≡ text_of before ++ rest → line ≡ length before + 1 → Begins AreTreeLines before → (AreTreeLines before → ⊥) → Lacks 10 rest → IsFaultyLine AreTreeLines input line
+abbrev pub missing : (input : List ℕ) (before : List (List ℕ)) (rest : List ℕ) (line : ℕ) → input ≡ text_of before ++ rest
+    → line ≡ length before + 1 → Begins AreTreeLines before → (AreTreeLines before → ⊥) → Lacks 10 rest
+    → IsFaultyLine AreTreeLines input line
 missing input before rest line parts place begins partial lacks = record {
   before = before;
   rest = rest;
@@ -20,7 +22,9 @@ missing input before rest line parts place begins partial lacks = record {
 }
 
 -- the next line is not right
-abbrev pub wrong_line : (input : List ℕ) (before : List (List ℕ)) (text later : List ℕ) (line : ℕ) → input ≡ text_of before ++ (text ++ 10 ∷ later) → line ≡ length before + 1 → Begins AreTreeLines before → Lacks 10 text → (Begins AreTreeLines (before ++ text ∷ []) → ⊥) → IsFaultyLine AreTreeLines input line
+abbrev pub wrong_line : (input : List ℕ) (before : List (List ℕ)) (text later : List ℕ) (line : ℕ)
+    → input ≡ text_of before ++ (text ++ 10 ∷ later) → line ≡ length before + 1 → Begins AreTreeLines before → Lacks 10 text
+    → (Begins AreTreeLines (before ++ text ∷ []) → ⊥) → IsFaultyLine AreTreeLines input line
 wrong_line input before text later line parts place begins lacks other = record {
   before = before;
   rest = text ++ 10 ∷ later;
@@ -34,7 +38,9 @@ wrong_line input before text later line parts place begins lacks other = record 
 }
 
 -- no line may follow
-abbrev pub surplus : (input : List ℕ) (before : List (List ℕ)) (rest : List ℕ) (line : ℕ) → input ≡ text_of before ++ rest → line ≡ length before + 1 → Begins AreTreeLines before → rest ≢ [] → ((next : List ℕ) → Begins AreTreeLines (before ++ next ∷ []) → ⊥) → IsFaultyLine AreTreeLines input line
+abbrev pub surplus : (input : List ℕ) (before : List (List ℕ)) (rest : List ℕ) (line : ℕ) → input ≡ text_of before ++ rest
+    → line ≡ length before + 1 → Begins AreTreeLines before → rest ≢ []
+    → ((next : List ℕ) → Begins AreTreeLines (before ++ next ∷ []) → ⊥) → IsFaultyLine AreTreeLines input line
 surplus input before rest line parts place begins some none = record {
   before = before;
   rest = rest;

@@ -35,14 +35,16 @@ hex_digit-high n small = grind (arith, nat_tests)
 pub IsHigh-hex : (digits n : ℕ) → IsHigh (hex digits n)
 unfolding hex
 IsHigh-hex zero n = tt
-IsHigh-hex (suc digits) n = IsHigh-push (hex digits (n / 16)) (hex_digit (n % 16)) (IsHigh-hex digits (n / 16)) (hex_digit-high (n % 16) (omega arith))
+IsHigh-hex (suc digits) n =
+    IsHigh-push (hex digits (n / 16)) (hex_digit (n % 16)) (IsHigh-hex digits (n / 16)) (hex_digit-high (n % 16) (omega arith))
 
 -- a test, which computes at a text that is written out
 unfoldable pub is_high : List ℕ → Bool
 is_high [] = true
 is_high (byte ∷ bytes) = leb 48 byte && is_high bytes
 
-both_high : (byte : ℕ) (bytes : List ℕ) (test : Bool) → leb 48 byte ≡ test → (test && is_high bytes) ≡ true → (is_high bytes ≡ true → IsHigh bytes) → (48 ≤ byte) × IsHigh bytes
+both_high : (byte : ℕ) (bytes : List ℕ) (test : Bool) → leb 48 byte ≡ test → (test && is_high bytes) ≡ true
+    → (is_high bytes ≡ true → IsHigh bytes) → (48 ≤ byte) × IsHigh bytes
 both_high byte bytes true is both later = (grind (arith, nat_tests), later both)
 both_high byte bytes false is both later = absurd (false≢true both)
 
@@ -85,4 +87,5 @@ unfolding spaced
 Lacks-spaced [] high = tt
 Lacks-spaced (word ∷ []) high = Lacks-high 10 word (omega arith) high.0
 Lacks-spaced (word ∷ next ∷ words) high =
-    Lacks-append word (32 ∷ spaced (next ∷ words)) (Lacks-high 10 word (omega arith) high.0) (λ e. absurd (omega arith), Lacks-spaced (next ∷ words) high.1)
+    Lacks-append word (32 ∷ spaced (next ∷ words)) (Lacks-high 10 word (omega arith) high.0)
+    (λ e. absurd (omega arith), Lacks-spaced (next ∷ words) high.1)

@@ -1,35 +1,31 @@
 -- Judging a text line by line: what is known of the lines and nodes before a line holds again after it, or the answer is
 -- the right one.
-use Rattle.std.proofs.Common.{◌≡◌, ◌≢◌, ℕ, ◌+◌, ◌-◌, ◌<◌, ◌≤◌, ◌^◌, List, [], ◌∷◌, ◌++◌, length, refl, sym, ap, ◌∙◌, subst, arith, append_assoc, length-append, min, Option, Some, None}
-use Rattle.std.proofs.lemmas.List.{append-nil, length-map}
-use Rattle.std.specs.Prelude.{flat_map, slice_get, MatchOption}
-use Rattle.hx_board.specs.Cells.{Extent}
-use Rattle.hx_board.specs.declared.colours.Colour.{Colour}
+use Rattle.std.proofs.Common.{◌≡◌, ℕ, ◌+◌, ◌-◌, ◌<◌, ◌≤◌, ◌^◌, List, [], ◌∷◌, ◌++◌, length, refl, sym, ap, ◌∙◌, subst, arith, length-append, Option, Some, None}
+use Rattle.std.proofs.lemmas.List.{length-map}
+use Rattle.std.specs.Prelude.{flat_map, MatchOption}
 use Rattle.hx_tree.specs.declared.nodes.Heading.{Heading}
 use Rattle.hx_tree.specs.declared.nodes.Node.{Node}
 use Rattle.hx_tree.specs.Rules.{IsRightNode}
-use Rattle.hx_tree.specs.Trees.{AreRight, headings_of, IsRoot}
-use Rattle.hx_tree.proofs.Soundness.{one_more_right, least_wrong-last, headings_of-append, valid_tree}
+use Rattle.hx_tree.proofs.Soundness.{one_more_right, least_wrong-last, headings_of-append}
 use Rattle.hx_app.specs.declared.answers.Answer.{Answer}
 use Rattle.hx_app.specs.declared.answers.Answer.TheVariants.{Yes, NoText, NoNode, BadWords, ReadFault, OutOfMemory, TooLong}
 use Rattle.hx_app.specs.declared.places.Place.{Place}
-use Rattle.hx_app.specs.declared.places.Place.TheVariants.{Title, Size, Between, After, Failed}
 use Rattle.hx_app.specs.declared.reader.TreeReader.{TreeReader}
 use Rattle.hx_app.specs.Words.{Lacks}
-use Rattle.hx_app.specs.Grammars.{text_of, Begins, IsFaultyLine}
-use Rattle.hx_app.specs.TreeTexts.{AreTreeLines, AreTreeLinesOf, front_lines, node_lines, end_line}
+use Rattle.hx_app.specs.Grammars.{text_of, Begins}
+use Rattle.hx_app.specs.TreeTexts.{AreTreeLines, front_lines, node_lines}
 use Rattle.hx_app.specs.Places.{Stands, StandsSoFar, most_nodes, IsNextNode}
 use Rattle.hx_app.specs.Reader.{HasRead, lines_fed, one_more}
 use Rattle.hx_app.specs.Answers.{limit}
-use Rattle.hx_app.specs.Judging.{EndedIn, Before_size, Among_nodes, After_end, IsYes, IsNoText, IsNoNode, IsTooManyNodes, IsJudged, JudgedUpTo, HasReadAll, AnswersNode}
-use Rattle.hx_app.proofs.Alignment.{aligned}
+use Rattle.hx_app.specs.Judging.{IsNoText, IsNoNode, IsTooManyNodes, IsJudged, JudgedUpTo, HasReadAll, AnswersNode}
 use Rattle.hx_app.proofs.Standings.{ended_in, few_nodes, not_whole}
 use Rattle.hx_app.proofs.Completions.{Begins-stands}
 use Rattle.hx_app.proofs.Cuts.{text_of-push, length-text_of}
-use Rattle.hx_app.proofs.Faults.{missing, wrong_line, surplus}
+use Rattle.hx_app.proofs.Faults.{missing, wrong_line}
 
 -- before the first line
-pub judged_nothing : (input : List ℕ) (reader : TreeReader) (headings : List Heading) → HasRead reader [] [] → lines_fed reader ≡ 0 → headings ≡ [] → JudgedUpTo input reader headings input
+pub judged_nothing : (input : List ℕ) (reader : TreeReader) (headings : List Heading) → HasRead reader [] []
+    → lines_fed reader ≡ 0 → headings ≡ [] → JudgedUpTo input reader headings input
 unfolding text_of
 judged_nothing input reader headings read none empty = record {
   nodes = [];
@@ -47,12 +43,17 @@ module _ (input : List ℕ) (few : length input ≤ limit) where
   pub lines_few : (lines : List (List ℕ)) (rest : List ℕ) → input ≡ text_of lines ++ rest → length lines ≤ limit
   lines_few lines rest parts = omega (arith, few, ap length parts, length-append (text_of lines) rest, length-text_of lines)
 
-  counted_more : (fed now : ℕ) (lines : List (List ℕ)) (line rest : List ℕ) → input ≡ text_of lines ++ rest → fed ≡ length lines → now ≡ one_more fed → now ≡ length lines + 1
+  counted_more : (fed now : ℕ) (lines : List (List ℕ)) (line rest : List ℕ) → input ≡ text_of lines ++ rest → fed ≡ length lines
+      → now ≡ one_more fed → now ≡ length lines + 1
   counted_more fed now lines line rest parts counted is = omega (arith, lines_few lines rest parts, is)
 
-  pub judged_missing : (reader : TreeReader) (headings : List Heading) (rest : List ℕ) (line : ℕ) → JudgedUpTo input reader headings rest → (HasReadAll reader → ⊥) → Lacks 10 rest → line ≡ lines_fed reader + 1 → IsNoText input line
+  pub judged_missing : (reader : TreeReader) (headings : List Heading) (rest : List ℕ) (line : ℕ)
+      → JudgedUpTo input reader headings rest → (HasReadAll reader → ⊥) → Lacks 10 rest → line ≡ lines_fed reader + 1
+      → IsNoText input line
   judged_missing reader headings rest line upto unended lacks is = record {
-    fault = missing input upto.lines rest line upto.parts (is ∙ ap (λ (n : ℕ). n + 1) upto.counted) (Begins-stands reader.place upto.nodes upto.lines upto.read) (not_whole reader.place upto.nodes upto.lines unended upto.read) lacks;
+    fault = missing input upto.lines rest line upto.parts (is ∙ ap (λ (n : ℕ). n + 1) upto.counted)
+        (Begins-stands reader.place upto.nodes upto.lines upto.read)
+        (not_whole reader.place upto.nodes upto.lines unended upto.read) lacks;
     nodes = upto.nodes;
     ended = ended_in reader.place upto.nodes upto.lines upto.read;
     few = upto.few;
@@ -60,8 +61,10 @@ module _ (input : List ℕ) (few : length input ≤ limit) where
   }
 
   -- one more line that is no node's
-  pub judged_more : (reader new : TreeReader) (headings : List Heading) (line later : List ℕ) → JudgedUpTo input reader headings (line ++ 10 ∷ later) → lines_fed new ≡ one_more (lines_fed reader)
-      → ((nodes : List Node) (lines : List (List ℕ)) → HasRead reader nodes lines → HasRead new nodes (lines ++ line ∷ [])) → JudgedUpTo input new headings later
+  pub judged_more : (reader new : TreeReader) (headings : List Heading) (line later : List ℕ)
+      → JudgedUpTo input reader headings (line ++ 10 ∷ later) → lines_fed new ≡ one_more (lines_fed reader)
+      → ((nodes : List Node) (lines : List (List ℕ)) → HasRead reader nodes lines → HasRead new nodes (lines ++ line ∷ []))
+      → JudgedUpTo input new headings later
   judged_more reader new headings line later upto counts reads = record {
     nodes = upto.nodes;
     lines = upto.lines ++ line ∷ [];
@@ -74,8 +77,10 @@ module _ (input : List ℕ) (few : length input ≤ limit) where
   }
 
   -- one more line, with which a right node ends
-  pub judged_node : (reader new : TreeReader) (headings now : List Heading) (node : Node) (line later : List ℕ) → JudgedUpTo input reader headings (line ++ 10 ∷ later) → lines_fed new ≡ one_more (lines_fed reader)
-      → ((nodes : List Node) (lines : List (List ℕ)) → HasRead reader nodes lines → (HasReadAll new → ⊥) × HasRead new (nodes ++ node ∷ []) (lines ++ line ∷ []))
+  pub judged_node : (reader new : TreeReader) (headings now : List Heading) (node : Node) (line later : List ℕ)
+      → JudgedUpTo input reader headings (line ++ 10 ∷ later) → lines_fed new ≡ one_more (lines_fed reader)
+      → ((nodes : List Node) (lines : List (List ℕ)) → HasRead reader nodes lines → (HasReadAll new → ⊥) × HasRead new
+      (nodes ++ node ∷ []) (lines ++ line ∷ []))
       → IsRightNode headings node → now ≡ headings ++ node.heading ∷ [] → JudgedUpTo input new now later
   judged_node reader new headings now node line later upto counts reads right added = record {
     nodes = upto.nodes ++ node ∷ [];
@@ -85,11 +90,14 @@ module _ (input : List ℕ) (few : length input ≤ limit) where
     parts = upto.parts ∙ sym (text_of-push upto.lines line later);
     few = let read = reads upto.nodes upto.lines upto.read in few_nodes new.place (upto.nodes ++ node ∷ []) (upto.lines ++ line ∷ []) read.0 read.1;
     right = one_more_right upto.nodes node upto.right (rw upto.same at right);
-    same = added ∙ ap (λ (hs : List Heading). hs ++ node.heading ∷ []) upto.same ∙ sym (headings_of-append upto.nodes (node ∷ []));
+    same = added ∙ ap (λ (hs : List Heading). hs ++ node.heading ∷ []) upto.same
+        ∙ sym (headings_of-append upto.nodes (node ∷ []));
   }
 
-  pub judged_wrong_node : (reader new : TreeReader) (headings : List Heading) (node : Node) (line later : List ℕ) (k : ℕ) → JudgedUpTo input reader headings (line ++ 10 ∷ later)
-      → ((nodes : List Node) (lines : List (List ℕ)) → HasRead reader nodes lines → (HasReadAll new → ⊥) × HasRead new (nodes ++ node ∷ []) (lines ++ line ∷ []))
+  pub judged_wrong_node : (reader new : TreeReader) (headings : List Heading) (node : Node) (line later : List ℕ) (k : ℕ)
+      → JudgedUpTo input reader headings (line ++ 10 ∷ later)
+      → ((nodes : List Node) (lines : List (List ℕ)) → HasRead reader nodes lines → (HasReadAll new → ⊥) × HasRead new
+      (nodes ++ node ∷ []) (lines ++ line ∷ []))
       → (IsRightNode headings node → ⊥) → k ≡ length headings → IsNoNode input k
   judged_wrong_node reader new headings node line later k upto reads wrong place =
       let count : k ≡ length upto.nodes = place ∙ ap length upto.same ∙ length-map upto.nodes (λ (n : Node). n.heading) in
@@ -100,18 +108,25 @@ module _ (input : List ℕ) (few : length input ≤ limit) where
         right = Begins-stands new.place (upto.nodes ++ node ∷ []) (upto.lines ++ line ∷ []) (reads upto.nodes upto.lines upto.read).1;
         nodes = upto.nodes ++ node ∷ [];
         ended = ended_in new.place (upto.nodes ++ node ∷ []) (upto.lines ++ line ∷ []) (reads upto.nodes upto.lines upto.read).1;
-        few = let read = reads upto.nodes upto.lines upto.read in few_nodes new.place (upto.nodes ++ node ∷ []) (upto.lines ++ line ∷ []) read.0 read.1;
+        few =
+            let read = reads upto.nodes upto.lines upto.read in few_nodes new.place (upto.nodes ++ node ∷ [])
+            (upto.lines ++ line ∷ []) read.0 read.1;
         last = length-append upto.nodes (node ∷ []) ∙ ap (λ (n : ℕ). n + 1) (sym count);
         wrong = rw count (least_wrong-last upto.nodes node upto.right (rw (← upto.same) wrong));
       }
 
   -- a line that is not of the grammar in its place
-  pub judged_wrong_line : (reader : TreeReader) (headings : List Heading) (line later : List ℕ) (fed number : ℕ) → JudgedUpTo input reader headings (line ++ 10 ∷ later) → Lacks 10 line → fed ≡ one_more (lines_fed reader)
-      → ((nodes : List Node) (lines : List (List ℕ)) → HasRead reader nodes lines → (number ≡ fed) × (Begins AreTreeLines (lines ++ line ∷ []) → ⊥)) → IsNoText input number
+  pub judged_wrong_line : (reader : TreeReader) (headings : List Heading) (line later : List ℕ) (fed number : ℕ)
+      → JudgedUpTo input reader headings (line ++ 10 ∷ later) → Lacks 10 line → fed ≡ one_more (lines_fed reader)
+      → ((nodes : List Node) (lines : List (List ℕ)) → HasRead reader nodes lines → (number ≡ fed) × (Begins AreTreeLines (lines ++ line ∷ []) → ⊥))
+      → IsNoText input number
   judged_wrong_line reader headings line later fed number upto lacks counts wrong =
       let told = wrong upto.nodes upto.lines upto.read in
       record {
-        fault = wrong_line input upto.lines line later number upto.parts (told.0 ∙ counted_more _ _ upto.lines line _ upto.parts upto.counted counts) (Begins-stands reader.place upto.nodes upto.lines upto.read) lacks told.1;
+        fault =
+            wrong_line input upto.lines line later number upto.parts
+            (told.0 ∙ counted_more _ _ upto.lines line _ upto.parts upto.counted counts)
+            (Begins-stands reader.place upto.nodes upto.lines upto.read) lacks told.1;
         nodes = upto.nodes;
         ended = ended_in reader.place upto.nodes upto.lines upto.read;
         few = upto.few;
@@ -119,8 +134,10 @@ module _ (input : List ℕ) (few : length input ≤ limit) where
       }
 
   -- the line of one node too many
-  pub judged_too_many : (reader : TreeReader) (headings : List Heading) (line later : List ℕ) → JudgedUpTo input reader headings (line ++ 10 ∷ later)
-      → ((nodes : List Node) (lines : List (List ℕ)) → HasRead reader nodes lines → (length nodes ≡ most_nodes) × IsNextNode reader.place line) → IsTooManyNodes input
+  pub judged_too_many : (reader : TreeReader) (headings : List Heading) (line later : List ℕ)
+      → JudgedUpTo input reader headings (line ++ 10 ∷ later)
+      → ((nodes : List Node) (lines : List (List ℕ)) → HasRead reader nodes lines → (length nodes ≡ most_nodes) × IsNextNode reader.place line)
+      → IsTooManyNodes input
   judged_too_many reader headings line later upto many =
       let told = many upto.nodes upto.lines upto.read in
       let next : IsNextNode reader.place line = told.1 in
@@ -135,14 +152,19 @@ module _ (input : List ℕ) (few : length input ≤ limit) where
         next = next.node;
         next_fits = next.fits;
         rest = later;
-        parts = upto.parts ∙ sym (text_of-push upto.lines line later) ∙ ap (λ (ls : List (List ℕ)). text_of (ls ++ line ∷ []) ++ later) stands.same ∙ ap (λ (l : List ℕ). text_of ((front_lines next.so_far.size ++ flat_map node_lines upto.nodes) ++ l ∷ []) ++ later) next.same;
+        parts = upto.parts ∙ sym (text_of-push upto.lines line later)
+            ∙ ap (λ (ls : List (List ℕ)). text_of (ls ++ line ∷ []) ++ later) stands.same
+            ∙ ap (λ (l : List ℕ). text_of ((front_lines next.so_far.size ++ flat_map node_lines upto.nodes) ++ l ∷ []) ++ later) next.same;
       }
 
 -- what judging a node's line answers
-pub judged_answer : (input : List ℕ) → length input ≤ limit → (reader new : TreeReader) (headings now : List Heading) (node : Node) (line later : List ℕ) (answer : Option Answer)
+pub judged_answer : (input : List ℕ) → length input ≤ limit
+    → (reader new : TreeReader) (headings now : List Heading) (node : Node) (line later : List ℕ) (answer : Option Answer)
     → JudgedUpTo input reader headings (line ++ 10 ∷ later) → lines_fed new ≡ one_more (lines_fed reader)
-    → ((nodes : List Node) (lines : List (List ℕ)) → HasRead reader nodes lines → (HasReadAll new → ⊥) × HasRead new (nodes ++ node ∷ []) (lines ++ line ∷ []))
-    → AnswersNode headings node now answer → MatchOption answer (JudgedUpTo input new now later × (HasReadAll new → ⊥)) (IsJudged input)
+    → ((nodes : List Node) (lines : List (List ℕ)) → HasRead reader nodes lines → (HasReadAll new → ⊥) × HasRead new
+    (nodes ++ node ∷ []) (lines ++ line ∷ []))
+    → AnswersNode headings node now answer
+    → MatchOption answer (JudgedUpTo input new now later × (HasReadAll new → ⊥)) (IsJudged input)
 judged_answer input few reader new headings now node line later None upto counts reads says =
     (judged_node input few reader new headings now node line later upto counts reads says.0 says.1, (reads upto.nodes upto.lines upto.read).0)
 judged_answer input few reader new headings now node line later (Some (NoNode k)) upto counts reads says =
@@ -154,10 +176,13 @@ judged_answer input few reader new headings now node line later (Some BadWords) 
 judged_answer input few reader new headings now node line later (Some ReadFault) upto counts reads says = absurd says
 judged_answer input few reader new headings now node line later (Some TooLong) upto counts reads says = absurd says
 
-pub fed_small : (input : List ℕ) (reader : TreeReader) (headings : List Heading) (rest : List ℕ) → length input ≤ limit → JudgedUpTo input reader headings rest → lines_fed reader < 2 ^ 64 - 1
+pub fed_small : (input : List ℕ) (reader : TreeReader) (headings : List Heading) (rest : List ℕ) → length input ≤ limit
+    → JudgedUpTo input reader headings rest → lines_fed reader < 2 ^ 64 - 1
 fed_small input reader headings rest few upto = omega (arith, lines_few input few upto.lines rest upto.parts, upto.counted)
 
-pub missing_answer : (input : List ℕ) (reader : TreeReader) (headings : List Heading) (rest : List ℕ) (answer : Answer) → length input ≤ limit → JudgedUpTo input reader headings rest → (HasReadAll reader → ⊥) → Lacks 10 rest
+pub missing_answer : (input : List ℕ) (reader : TreeReader) (headings : List Heading) (rest : List ℕ) (answer : Answer)
+    → length input ≤ limit → JudgedUpTo input reader headings rest → (HasReadAll reader → ⊥) → Lacks 10 rest
     → (lines_fed reader < 2 ^ 64 - 1 → answer ≡ NoText (lines_fed reader + 1)) → IsJudged input answer
 missing_answer input reader headings rest answer few upto unended lacks says =
-    subst (IsJudged input) (sym (says (fed_small input reader headings rest few upto))) (judged_missing input few reader headings rest (lines_fed reader + 1) upto unended lacks refl)
+    subst (IsJudged input) (sym (says (fed_small input reader headings rest few upto)))
+    (judged_missing input few reader headings rest (lines_fed reader + 1) upto unended lacks refl)

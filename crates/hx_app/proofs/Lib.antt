@@ -4,6 +4,7 @@ pub mod Splits
 pub mod Cursors
 pub mod Spacing
 pub mod Masks
+pub mod CellWords
 pub mod HighBytes
 pub mod LineWords
 pub mod LineReads

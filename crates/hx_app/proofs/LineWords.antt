@@ -31,10 +31,13 @@ unfolding is_high
 AllHigh-size_words rows cols few_rows few_cols = (IsHigh-test (codes "size") refl, (IsHigh-decimal rows few_rows, (IsHigh-decimal cols few_cols, tt)))
 
 pub IsLine-size_words : (rows cols : ℕ) → IsNumber rows → IsNumber cols → IsLine (size_words rows cols)
-IsLine-size_words rows cols few_rows few_cols = IsLine-high (codes "size") (decimal rows ∷ decimal cols ∷ []) (AllHigh-size_words rows cols few_rows few_cols)
+IsLine-size_words rows cols few_rows few_cols =
+    IsLine-high (codes "size") (decimal rows ∷ decimal cols ∷ []) (AllHigh-size_words rows cols few_rows few_cols)
 
-pub words_in-size_line : (line : List ℕ) (size : Extent) → IsExtent size.rows size.cols → line ≡ size_line size → words_in line ≡ size_words size.rows size.cols
-words_in-size_line line size extent e = ap words_in e ∙ words_in-spaced (size_words size.rows size.cols) (IsLine-size_words size.rows size.cols (omega (arith, extent)) (omega (arith, extent)))
+pub words_in-size_line : (line : List ℕ) (size : Extent) → IsExtent size.rows size.cols → line ≡ size_line size
+    → words_in line ≡ size_words size.rows size.cols
+words_in-size_line line size extent e = ap words_in e
+    ∙ words_in-spaced (size_words size.rows size.cols) (IsLine-size_words size.rows size.cols (omega (arith, extent)) (omega (arith, extent)))
 
 -- the last line
 
@@ -45,9 +48,12 @@ pub AllHigh-end_words : (count : ℕ) (winner : Colour) → IsNumber count → A
 unfolding is_high
 AllHigh-end_words count winner small = (IsHigh-test (codes "end") refl, (IsHigh-decimal count small, (IsHigh-colour_word winner, tt)))
 
-pub words_in-end_line : (line : List ℕ) (count : ℕ) (winner : Colour) → IsNumber count → line ≡ end_line count winner → words_in line ≡ end_words count winner
+pub words_in-end_line : (line : List ℕ) (count : ℕ) (winner : Colour) → IsNumber count → line ≡ end_line count winner
+    → words_in line ≡ end_words count winner
 words_in-end_line line count winner small e =
-    ap words_in e ∙ words_in-spaced (end_words count winner) (IsLine-high (codes "end") (decimal count ∷ colour_word winner ∷ []) (AllHigh-end_words count winner small))
+    ap words_in e
+    ∙ words_in-spaced (end_words count winner)
+    (IsLine-high (codes "end") (decimal count ∷ colour_word winner ∷ []) (AllHigh-end_words count winner small))
 
 -- the line of a node
 
@@ -62,14 +68,23 @@ pub AllHigh-node_words : (size : Extent) (node : Node) → size.rows ≤ 11 → 
 unfolding is_high
 AllHigh-node_words size node few fits = (
   IsHigh-test (codes "node") refl,
-  (IsHigh-hex 32 node.heading.position.black, (IsHigh-hex 32 node.heading.position.white, (IsHigh-colour_word node.heading.to_move, (IsHigh-colour_word node.heading.winner, AllHigh-rule_words size node.rule few fits)))),
+  (
+    IsHigh-hex 32 node.heading.position.black,
+    (
+      IsHigh-hex 32 node.heading.position.white,
+      (IsHigh-colour_word node.heading.to_move, (IsHigh-colour_word node.heading.winner, AllHigh-rule_words size node.rule few fits)),
+    ),
+  ),
 )
 
 pub IsLine-node_words : (size : Extent) (node : Node) → size.rows ≤ 11 → RuleFits size node.rule → IsLine (node_words node)
 IsLine-node_words size node few fits =
     IsLine-high (codes "node")
-    (mask_word node.heading.position.black ∷ mask_word node.heading.position.white ∷ colour_word node.heading.to_move ∷ colour_word node.heading.winner ∷ rule_words node.rule)
+    (mask_word node.heading.position.black ∷ mask_word node.heading.position.white ∷ colour_word node.heading.to_move ∷
+    colour_word node.heading.winner ∷ rule_words node.rule)
     (AllHigh-node_words size node few fits)
 
-pub words_in-node_line : (size : Extent) (line : List ℕ) (node : Node) → IsExtent size.rows size.cols → NodeFits size node → line ≡ node_line node → words_in line ≡ node_words node
-words_in-node_line size line node extent fits e = ap words_in e ∙ words_in-spaced (node_words node) (IsLine-node_words size node extent.1 fits.rule)
+pub words_in-node_line : (size : Extent) (line : List ℕ) (node : Node) → IsExtent size.rows size.cols → NodeFits size node
+    → line ≡ node_line node → words_in line ≡ node_words node
+words_in-node_line size line node extent fits e = ap words_in e
+    ∙ words_in-spaced (node_words node) (IsLine-node_words size node extent.1 fits.rule)

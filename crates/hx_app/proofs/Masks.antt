@@ -1,4 +1,5 @@
--- Masks in 32 digits.
+-- Masks in 32 digits: different sets have different words, a loop over the digits reads the set, and a word in which some
+-- byte is no digit is that of no set.
 use Rattle.std.proofs.Common.{◌≡◌, ◌≢◌, ℕ, zero, suc, ◌+◌, ◌*◌, ◌/◌, ◌%◌, ◌<◌, ◌≤◌, ◌^◌, List, [], ◌∷◌, ◌++◌, length, get_or, take, refl, sym, ap, ◌∙◌, arith, ◌⊎◌, inl, inr, add-one, length-append, take_all}
 use Rattle.std.proofs.lemmas.List.{take_more}
 use Rattle.std.proofs.lemmas.List.{get_or_append_left}
@@ -26,9 +27,11 @@ hex_more i bits digit small =
     let low : (16 * bits + digit) % 16 ≡ digit = omega arith in
     rw add-one (rw (high, low) refl)
 
-pub read_hex : (word : List ℕ) (i bits digit : ℕ) → i < length word → digit < 16 → get_or word i 0 ≡ hex_digit digit → ReadHex word i bits → ReadHex word (i + 1) (16 * bits + digit)
+pub read_hex : (word : List ℕ) (i bits digit : ℕ) → i < length word → digit < 16 → get_or word i 0 ≡ hex_digit digit
+    → ReadHex word i bits → ReadHex word (i + 1) (16 * bits + digit)
 read_hex word i bits digit within small is before = record {
-  same = take_more word i 0 within ∙ ap (λ (t : List ℕ). t ++ get_or word i 0 ∷ []) before.same ∙ ap (λ (b : ℕ). hex i bits ++ b ∷ []) is ∙ sym (hex_more i bits digit small);
+  same = take_more word i 0 within ∙ ap (λ (t : List ℕ). t ++ get_or word i 0 ∷ []) before.same
+      ∙ ap (λ (b : ℕ). hex i bits ++ b ∷ []) is ∙ sym (hex_more i bits digit small);
   small = rw add-one (omega (arith, before.small));
 }
 
@@ -50,23 +53,28 @@ nat_cases i k = cases_lt i k
 below_or_last : (i k : ℕ) → i < k + 1 → (i < k) ⊎ (i ≡ k)
 below_or_last i k within = elim (nat_cases i k) [ inl below ↦ inl below | inr above ↦ inr (omega arith) ]
 
-hex_at_last : (front : List ℕ) (digit i : ℕ) {k : ℕ} → digit < 16 → (i < k) ⊎ (i ≡ k) → length front ≡ k → (i < k → IsHexByte (get_or front i 0)) → IsHexByte (get_or (front ++ hex_digit digit ∷ []) i 0)
+hex_at_last : (front : List ℕ) (digit i : ℕ) {k : ℕ} → digit < 16 → (i < k) ⊎ (i ≡ k) → length front ≡ k
+    → (i < k → IsHexByte (get_or front i 0)) → IsHexByte (get_or (front ++ hex_digit digit ∷ []) i 0)
 hex_at_last front digit i {k} small (inl below) len before = rw (get_or_append_left front (hex_digit digit ∷ []) 0 i (omega arith)) (before below)
 hex_at_last front digit i {k} small (inr last) len before = record {
   digit = digit;
   small = small;
-  is = ap (λ (j : ℕ). get_or (front ++ hex_digit digit ∷ []) j 0) (last ∙ sym len) ∙ get_or-append_seam front (hex_digit digit) [] 0;
+  is = ap (λ (j : ℕ). get_or (front ++ hex_digit digit ∷ []) j 0) (last ∙ sym len)
+      ∙ get_or-append_seam front (hex_digit digit) [] 0;
 }
 
 pub hex_at : (k n i : ℕ) → i < k → IsHexByte (get_or (hex k n) i 0)
 unfolding hex
 hex_at zero n i within = absurd (omega arith)
-hex_at (suc k) n i within = hex_at_last (hex k (n / 16)) (n % 16) i (omega arith) (below_or_last i k (omega (arith, within))) (length-hex k (n / 16)) (λ below. hex_at k (n / 16) i below)
+hex_at (suc k) n i within =
+    hex_at_last (hex k (n / 16)) (n % 16) i (omega arith) (below_or_last i k (omega (arith, within))) (length-hex k (n / 16))
+    (λ below. hex_at k (n / 16) i below)
 
 pub not_hex_length : (word : List ℕ) (n : ℕ) → length word ≢ 32 → word ≡ hex 32 n → ⊥
 not_hex_length word n other e = other (ap length e ∙ length-hex 32 n)
 
-pub not_hex_byte : (word : List ℕ) (n i : ℕ) → i < 32 → ((digit : ℕ) → digit < 16 → get_or word i 0 ≡ hex_digit digit → ⊥) → word ≡ hex 32 n → ⊥
+pub not_hex_byte : (word : List ℕ) (n i : ℕ) → i < 32 → ((digit : ℕ) → digit < 16 → get_or word i 0 ≡ hex_digit digit → ⊥)
+    → word ≡ hex 32 n → ⊥
 not_hex_byte word n i within other e =
     let there : IsHexByte (get_or (hex 32 n) i 0) = hex_at 32 n i within in
     other there.digit there.small (ap (λ (w : List ℕ). get_or w i 0) e ∙ there.is)

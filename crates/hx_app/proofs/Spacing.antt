@@ -15,11 +15,13 @@ abbrev pub IsLine : List (List ℕ) → Type 0
 IsLine [] = ⊥
 IsLine (word ∷ words) = Lacks 32 word × AreWords words
 
-words_in-spaced_from : (word : List ℕ) (words : List (List ℕ)) → Lacks 32 word → AreWords words → words_in (spaced (word ∷ words)) ≡ word ∷ words
+words_in-spaced_from : (word : List ℕ) (words : List (List ℕ)) → Lacks 32 word → AreWords words
+    → words_in (spaced (word ∷ words)) ≡ word ∷ words
 unfolding spaced
 words_in-spaced_from word [] first others = split_at_marks-lacks 32 word first
 words_in-spaced_from word (next ∷ words) first others =
-    split_at_marks-cut 32 word (spaced (next ∷ words)) first ∙ ap (λ (later : List (List ℕ)). word ∷ later) (words_in-spaced_from next words others.0 others.1)
+    split_at_marks-cut 32 word (spaced (next ∷ words)) first
+    ∙ ap (λ (later : List (List ℕ)). word ∷ later) (words_in-spaced_from next words others.0 others.1)
 
 pub words_in-spaced : (words : List (List ℕ)) → IsLine words → words_in (spaced words) ≡ words
 words_in-spaced [] line = absurd line
@@ -40,9 +42,11 @@ unfolding spaced
 spaced-empty_word [] some = absurd (some refl)
 spaced-empty_word (part ∷ parts) some = refl
 
-spaced-cond : (test : Bool) (byte : ℕ) (bytes : List ℕ) (parts : List (List ℕ)) → eqb byte 32 ≡ test → (parts ≡ [] → ⊥) → spaced parts ≡ bytes → spaced (cond test ([] ∷ parts) (in_first byte parts)) ≡ byte ∷ bytes
+spaced-cond : (test : Bool) (byte : ℕ) (bytes : List ℕ) (parts : List (List ℕ)) → eqb byte 32 ≡ test → (parts ≡ [] → ⊥)
+    → spaced parts ≡ bytes → spaced (cond test ([] ∷ parts) (in_first byte parts)) ≡ byte ∷ bytes
 spaced-cond true byte bytes parts is some before =
-    spaced-empty_word parts some ∙ ap (λ (b : ℕ). b ∷ spaced parts) (sym (eqb-true byte 32 is)) ∙ ap (λ (bs : List ℕ). byte ∷ bs) before
+    spaced-empty_word parts some ∙ ap (λ (b : ℕ). b ∷ spaced parts) (sym (eqb-true byte 32 is))
+    ∙ ap (λ (bs : List ℕ). byte ∷ bs) before
 spaced-cond false byte bytes parts is some before = spaced-in_first byte parts some ∙ ap (λ (bs : List ℕ). byte ∷ bs) before
 
 pub spaced-words_in : (line : List ℕ) → spaced (words_in line) ≡ line

@@ -1,5 +1,6 @@
--- Lines in the parts that are put together, and how long these are.
-use Rattle.std.proofs.Common.{◌≡◌, ◌≢◌, ℕ, suc, zero, ◌+◌, ◌*◌, ◌-◌, ◌/◌, ◌%◌, ◌<◌, ◌≤◌, ◌^◌, List, [], ◌∷◌, ◌++◌, length, refl, sym, ap, ◌∙◌, arith, append_assoc, length-append}
+-- Lines in the parts that are put one after the other, and how long these are. The digits of a mask are put from the most
+-- significant down, each the remainder of what is above its place.
+use Rattle.std.proofs.Common.{◌≡◌, ℕ, suc, ◌+◌, ◌*◌, ◌-◌, ◌/◌, ◌%◌, ◌<◌, ◌≤◌, ◌^◌, List, [], ◌∷◌, ◌++◌, length, refl, sym, ap, ◌∙◌, arith, append_assoc, length-append}
 use Rattle.std.specs.Prelude.{codes}
 use Rattle.std.specs.Fmt.{decimal}
 use Rattle.std.proofs.lemmas.Fmt.{length-decimal-le}
@@ -25,41 +26,56 @@ length-small n small = length-decimal-le 2 n (omega arith) (omega arith) (omega 
 pub length-counted : (n : ℕ) → n < 2 ^ 64 → length (decimal n) ≤ 20
 length-counted n small = length-decimal-le 20 n (omega arith) (omega arith) (omega arith)
 
-pub size_spelled : (old : List ℕ) (size : Extent) → ((((old ++ codes "size ") ++ decimal size.rows) ++ codes " ") ++ decimal size.cols) ++ codes "\n" ≡ old ++ (size_line size ++ 10 ∷ [])
+pub size_spelled : (old : List ℕ) (size : Extent)
+    → ((((old ++ codes "size ") ++ decimal size.rows) ++ codes " ") ++ decimal size.cols) ++ codes "\n" ≡ old ++ (size_line size ++ 10 ∷ [])
 unfolding spaced
 size_spelled old size = simp append_assoc
 
-pub stones_spelled : (old : List ℕ) (colour : Colour) (stones : ℕ) → (((old ++ colour_word colour) ++ codes " ") ++ mask_word stones) ++ codes "\n" ≡ old ++ (stones_line colour stones ++ 10 ∷ [])
+pub stones_spelled : (old : List ℕ) (colour : Colour) (stones : ℕ)
+    → (((old ++ colour_word colour) ++ codes " ") ++ mask_word stones) ++ codes "\n" ≡ old ++ (stones_line colour stones ++ 10 ∷ [])
 unfolding spaced
 stones_spelled old colour stones = simp append_assoc
 
-pub move_spelled : (old : List ℕ) (mover : Colour) → ((old ++ codes "move ") ++ colour_word mover) ++ codes "\n" ≡ old ++ (move_line mover ++ 10 ∷ [])
+pub move_spelled : (old : List ℕ) (mover : Colour)
+    → ((old ++ codes "move ") ++ colour_word mover) ++ codes "\n" ≡ old ++ (move_line mover ++ 10 ∷ [])
 unfolding spaced
 move_spelled old mover = simp append_assoc
 
-five_lines : (old a b c d e : List ℕ) → ((((old ++ (a ++ 10 ∷ [])) ++ (b ++ 10 ∷ [])) ++ (c ++ 10 ∷ [])) ++ (d ++ 10 ∷ [])) ++ (e ++ 10 ∷ []) ≡ old ++ text_of (a ∷ b ∷ c ∷ d ∷ e ∷ [])
+five_lines : (old a b c d e : List ℕ)
+    → ((((old ++ (a ++ 10 ∷ [])) ++ (b ++ 10 ∷ [])) ++ (c ++ 10 ∷ [])) ++ (d ++ 10 ∷ [])) ++ (e ++ 10 ∷ []) ≡ old ++ text_of (a ∷ b ∷ c ∷ d ∷ e ∷ [])
 unfolding text_of
 five_lines old a b c d e = simp append_assoc
 
 pub position_spelled : (old : List ℕ) (board : Board) (mover : Colour)
-    → ((((old ++ codes "hexpos 1\n") ++ (size_line board.size ++ 10 ∷ [])) ++ (stones_line Black board.black ++ 10 ∷ [])) ++ (stones_line White board.white ++ 10 ∷ [])) ++ (move_line mover ++ 10 ∷ []) ≡ old ++ position_text board mover
+    → ((((old ++ codes "hexpos 1\n") ++ (size_line board.size ++ 10 ∷ [])) ++ (stones_line Black board.black ++ 10 ∷ [])) ++
+    (stones_line White board.white ++ 10 ∷ [])) ++ (move_line mover ++ 10 ∷ []) ≡ old ++ position_text board mover
 unfolding spaced
-position_spelled old board mover = five_lines old (spaced (codes "hexpos" ∷ codes "1" ∷ [])) (size_line board.size) (stones_line Black board.black) (stones_line White board.white) (move_line mover)
+position_spelled old board mover =
+    five_lines old (spaced (codes "hexpos" ∷ codes "1" ∷ [])) (size_line board.size) (stones_line Black board.black)
+    (stones_line White board.white) (move_line mover)
 
 -- the digits of a mask down to a place
 pub hex_none : (old : List ℕ) (bits : ℕ) → old ≡ old ++ hex 0 bits
 unfolding hex
 hex_none old bits = sym (append-nil old)
 
-pub hex_next : (old now : List ℕ) (bits place digit : ℕ) → 0 < place → place ≤ 32 → now ≡ (old ++ hex (32 - place) (bits / 2 ^ (4 * place))) ++ digit ∷ [] → digit ≡ hex_digit (bits / 2 ^ (4 * (place - 1)) % 16)
+pub hex_next : (old now : List ℕ) (bits place digit : ℕ) → 0 < place → place ≤ 32
+    → now ≡ (old ++ hex (32 - place) (bits / 2 ^ (4 * place))) ++ digit ∷ []
+    → digit ≡ hex_digit (bits / 2 ^ (4 * (place - 1)) % 16)
     → now ≡ old ++ hex (32 - (place - 1)) (bits / 2 ^ (4 * (place - 1)))
 unfolding hex
 hex_next old now bits place digit some few is same =
     let count : 32 - (place - 1) ≡ suc (32 - place) = omega arith in
     let shift : 4 * place ≡ 4 * (place - 1) + 4 = omega arith in
-    let high : bits / 2 ^ (4 * (place - 1)) / 16 ≡ bits / 2 ^ (4 * place) = div-div-eq-div-mul bits (2 ^ (4 * (place - 1))) 16 ∙ ap (λ (n : ℕ). bits / n) (sym (ap (λ (n : ℕ). 2 ^ n) shift ∙ pow-add 2 (4 * (place - 1)) 4)) in
+    let high : bits / 2 ^ (4 * (place - 1)) / 16 ≡ bits / 2 ^ (4 * place) = div-div-eq-div-mul bits (2 ^ (4 * (place - 1))) 16
+    ∙ ap (λ (n : ℕ). bits / n) (sym (ap (λ (n : ℕ). 2 ^ n) shift ∙ pow-add 2 (4 * (place - 1)) 4)) in
     is ∙ append_assoc old (hex (32 - place) (bits / 2 ^ (4 * place))) (digit ∷ [])
-    ∙ ap (λ (xs : List ℕ). old ++ xs) (ap (λ (n : ℕ). hex (32 - place) n ++ digit ∷ []) (sym high) ∙ ap (λ (d : ℕ). hex (32 - place) (bits / 2 ^ (4 * (place - 1)) / 16) ++ d ∷ []) same ∙ ap (λ (k : ℕ). hex k (bits / 2 ^ (4 * (place - 1)))) (sym count))
+    ∙ ap (λ (xs : List ℕ). old ++ xs)
+    (ap (λ (n : ℕ). hex (32 - place) n ++ digit ∷ []) (sym high) ∙ ap
+    (λ (d : ℕ). hex (32 - place) (bits / 2 ^ (4 * (place - 1)) / 16) ++ d ∷ []) same ∙ ap
+    (λ (k : ℕ). hex k (bits / 2 ^ (4 * (place - 1)))) (sym count))
 
-pub length-digits : (old now : List ℕ) (bits place : ℕ) → now ≡ old ++ hex (32 - place) bits → length now ≡ length old + (32 - place)
-length-digits old now bits place is = ap length is ∙ length-append old (hex (32 - place) bits) ∙ ap (λ (n : ℕ). length old + n) (length-hex (32 - place) bits)
+pub length-digits : (old now : List ℕ) (bits place : ℕ) → now ≡ old ++ hex (32 - place) bits
+    → length now ≡ length old + (32 - place)
+length-digits old now bits place is = ap length is ∙ length-append old (hex (32 - place) bits)
+    ∙ ap (λ (n : ℕ). length old + n) (length-hex (32 - place) bits)

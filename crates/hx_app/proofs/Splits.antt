@@ -5,7 +5,8 @@ use Rattle.std.proofs.lemmas.List.{take_more}
 use Rattle.std.proofs.lemmas.Bool.{eq-eqb, ne_eqb}
 use Rattle.hx_app.specs.Words.{Lacks, in_first, split_at_marks}
 
-pub split_at_marks-cut : (mark : ℕ) (before after : List ℕ) → Lacks mark before → split_at_marks mark (before ++ mark ∷ after) ≡ before ∷ split_at_marks mark after
+pub split_at_marks-cut : (mark : ℕ) (before after : List ℕ) → Lacks mark before
+    → split_at_marks mark (before ++ mark ∷ after) ≡ before ∷ split_at_marks mark after
 unfolding split_at_marks
 split_at_marks-cut mark [] after lacks = rw (eq-eqb mark mark refl) refl
 split_at_marks-cut mark (byte ∷ bytes) after lacks =
@@ -35,5 +36,6 @@ Lacks-push mark byte [] lacks other = (other, tt)
 Lacks-push mark byte (first ∷ bytes) lacks other = (lacks.0, Lacks-push mark byte bytes lacks.1 other)
 
 -- a search for the mark that has come one byte further
-pub Lacks-take_more : (mark : ℕ) (bytes : List ℕ) (i : ℕ) → i < length bytes → Lacks mark (take i bytes) → get_or bytes i 0 ≢ mark → Lacks mark (take (i + 1) bytes)
+pub Lacks-take_more : (mark : ℕ) (bytes : List ℕ) (i : ℕ) → i < length bytes → Lacks mark (take i bytes) → get_or bytes i 0 ≢ mark
+    → Lacks mark (take (i + 1) bytes)
 Lacks-take_more mark bytes i within lacks other = rw (take_more bytes i 0 within) (Lacks-push mark (get_or bytes i 0) (take i bytes) lacks other)

@@ -1,27 +1,14 @@
 -- What the place of a reader in a text says of the lines that it has read: which nodes ended in them, that these are not
 -- too many, and that the text is not whole before its last line.
-use Rattle.std.proofs.Common.{◌≡◌, ◌≢◌, ℕ, ◌+◌, ◌-◌, ◌<◌, ◌≤◌, ◌^◌, List, [], ◌∷◌, ◌++◌, length, refl, sym, ap, ◌∙◌, subst, arith, append_assoc, length-append, min, Option, Some, None}
-use Rattle.std.proofs.lemmas.List.{append-nil, length-map}
-use Rattle.std.specs.Prelude.{flat_map, slice_get, MatchOption}
-use Rattle.hx_board.specs.Cells.{Extent}
-use Rattle.hx_board.specs.declared.colours.Colour.{Colour}
-use Rattle.hx_tree.specs.declared.nodes.Heading.{Heading}
+use Rattle.std.proofs.Common.{◌≡◌, ◌≢◌, ℕ, ◌≤◌, List, [], ◌∷◌, ◌++◌, length, refl, sym, ap, ◌∙◌, subst, arith}
+use Rattle.std.proofs.lemmas.List.{append-nil}
+use Rattle.std.specs.Prelude.{flat_map}
 use Rattle.hx_tree.specs.declared.nodes.Node.{Node}
-use Rattle.hx_tree.specs.Rules.{IsRightNode}
-use Rattle.hx_tree.specs.Trees.{AreRight, headings_of, IsRoot}
-use Rattle.hx_tree.proofs.Soundness.{one_more_right, least_wrong-last, headings_of-append, valid_tree}
-use Rattle.hx_app.specs.declared.answers.Answer.{Answer}
-use Rattle.hx_app.specs.declared.answers.Answer.TheVariants.{Yes, NoText, NoNode, BadWords, ReadFault, OutOfMemory, TooLong}
 use Rattle.hx_app.specs.declared.places.Place.{Place}
 use Rattle.hx_app.specs.declared.places.Place.TheVariants.{Title, Size, Between, After, Failed}
-use Rattle.hx_app.specs.declared.reader.TreeReader.{TreeReader}
-use Rattle.hx_app.specs.Words.{Lacks}
-use Rattle.hx_app.specs.Grammars.{text_of, Begins, IsFaultyLine}
 use Rattle.hx_app.specs.TreeTexts.{AreTreeLines, AreTreeLinesOf, front_lines, node_lines, end_line}
-use Rattle.hx_app.specs.Places.{Stands, StandsSoFar, most_nodes, IsNextNode}
-use Rattle.hx_app.specs.Reader.{HasRead, lines_fed, one_more}
-use Rattle.hx_app.specs.Answers.{limit}
-use Rattle.hx_app.specs.Judging.{EndedIn, Before_size, Among_nodes, After_end, IsYes, IsNoText, IsNoNode, IsTooManyNodes, IsJudged, JudgedUpTo, HasReadAll, AnswersNode}
+use Rattle.hx_app.specs.Places.{Stands, most_nodes}
+use Rattle.hx_app.specs.Judging.{EndedIn, Before_size, Among_nodes, After_end}
 use Rattle.hx_app.proofs.Alignment.{aligned}
 
 pub ended_in : (place : Place) (nodes : List Node) (lines : List (List ℕ)) → Stands place nodes lines → EndedIn lines nodes
@@ -31,7 +18,8 @@ ended_in (Between so_far) nodes lines stands = Among_nodes so_far.size stands.is
 ended_in After nodes lines stands = After_end stands.0 stands.1 stands.2
 ended_in (Failed fault) nodes lines stands = absurd stands
 
-pub few_nodes : (place : Place) (nodes : List Node) (lines : List (List ℕ)) → place ≢ After → Stands place nodes lines → length nodes ≤ most_nodes
+pub few_nodes : (place : Place) (nodes : List Node) (lines : List (List ℕ)) → place ≢ After → Stands place nodes lines
+    → length nodes ≤ most_nodes
 few_nodes Title nodes lines other stands = omega (arith, ap length stands.0)
 few_nodes Size nodes lines other stands = omega (arith, ap length stands.0)
 few_nodes (Between so_far) nodes lines other stands = omega (arith, stands.room, stands.count)
@@ -43,17 +31,24 @@ no_end_line [] end e = cc
 no_end_line (node ∷ more) end e = cc
 
 lines-none : (lines : List (List ℕ)) → AreTreeLines lines → lines ≡ [] → ⊥
-lines-none lines are none = let e : [] ≡ front_lines are.size ++ flat_map node_lines are.nodes ++ end_line (length are.nodes) are.winner ∷ [] = sym none ∙ are.are.same in cc
+lines-none lines are none =
+    let e : [] ≡ front_lines are.size ++ flat_map node_lines are.nodes ++ end_line (length are.nodes) are.winner ∷ [] = sym none
+    ∙ are.are.same in cc
 
 lines-one : (lines : List (List ℕ)) (line : List ℕ) → AreTreeLines lines → lines ≡ line ∷ [] → ⊥
-lines-one lines line are one = let e : line ∷ [] ≡ front_lines are.size ++ flat_map node_lines are.nodes ++ end_line (length are.nodes) are.winner ∷ [] = sym one ∙ are.are.same in cc
+lines-one lines line are one =
+    let e : line ∷ [] ≡ front_lines are.size ++ flat_map node_lines are.nodes ++ end_line (length are.nodes) are.winner ∷ [] =
+    sym one
+    ∙ are.are.same in cc
 
 -- the text is not whole before its last line
-pub not_whole : (place : Place) (nodes : List Node) (lines : List (List ℕ)) → place ≢ After → Stands place nodes lines → AreTreeLines lines → ⊥
+pub not_whole : (place : Place) (nodes : List Node) (lines : List (List ℕ)) → place ≢ After → Stands place nodes lines
+    → AreTreeLines lines → ⊥
 not_whole Title nodes lines other stands are = lines-none lines are stands.1
 not_whole Size nodes lines other stands are = lines-one lines _ are stands.1
 not_whole (Between so_far) nodes lines other stands are =
-    let on = aligned so_far.size nodes lines [] are.size are.nodes are.winner stands.is_size stands.each stands.same (subst (AreTreeLinesOf are.size are.nodes are.winner) (sym (append-nil lines)) are.are) in
+    let on = aligned so_far.size nodes lines [] are.size are.nodes are.winner stands.is_size stands.each stands.same
+    (subst (AreTreeLinesOf are.size are.nodes are.winner) (sym (append-nil lines)) are.are) in
     no_end_line on.on.more _ on.on.rest_is
 not_whole After nodes lines other stands are = other refl
 not_whole (Failed fault) nodes lines other stands are = stands

@@ -1,8 +1,7 @@
 -- No line of a tree's text has an LF in it, since its words are of high bytes. So each line in which such a text begins is
 -- a line of the input.
-use Rattle.std.proofs.Common.{◌≡◌, ℕ, ◌≤◌, List, [], ◌∷◌, ◌++◌, length, sym, subst, arith}
-use Rattle.std.specs.Prelude.{codes, flat_map}
-use Rattle.std.specs.Fmt.{decimal}
+use Rattle.std.proofs.Common.{ℕ, ◌≤◌, List, [], ◌∷◌, ◌++◌, length, sym, subst, arith}
+use Rattle.std.specs.Prelude.{flat_map}
 use Rattle.hx_board.specs.declared.colours.Colour.{Colour}
 use Rattle.hx_board.specs.Cells.{Extent, IsExtent}
 use Rattle.hx_tree.specs.declared.nodes.Node.{Node}
@@ -16,7 +15,8 @@ use Rattle.hx_app.proofs.LineWords.{title_words, AllHigh-title_words, size_words
 Lacks-node_line : (size : Extent) (node : Node) → size.rows ≤ 11 → NodeFits size node → Lacks 10 (node_line node)
 Lacks-node_line size node few fits = Lacks-spaced (node_words node) (AllHigh-node_words size node few fits.rule)
 
-AllLack-node_lines : (size : Extent) (nodes : List Node) → size.rows ≤ 11 → EachNodeFits size nodes → AllLack (flat_map node_lines nodes)
+AllLack-node_lines : (size : Extent) (nodes : List Node) → size.rows ≤ 11 → EachNodeFits size nodes
+    → AllLack (flat_map node_lines nodes)
 AllLack-node_lines size [] few each = tt
 AllLack-node_lines size (node ∷ nodes) few each = (Lacks-node_line size node few each.0, AllLack-node_lines size nodes few each.1)
 
@@ -32,9 +32,12 @@ Lacks-end_line count winner small = Lacks-spaced (end_words count winner) (AllHi
 pub AllLack-tree_lines : (lines : List (List ℕ)) → AreTreeLines lines → AllLack lines
 AllLack-tree_lines lines are =
     let few : are.size.rows ≤ 11 = are.are.is_size.1 in
-    let front : AllLack (front_lines are.size ++ flat_map node_lines are.nodes) = AllLack-append (front_lines are.size) (flat_map node_lines are.nodes) (AllLack-front_lines are.size are.are.is_size) (AllLack-node_lines are.size are.nodes few are.are.each) in
+    let front : AllLack (front_lines are.size ++ flat_map node_lines are.nodes) =
+    AllLack-append (front_lines are.size) (flat_map node_lines are.nodes) (AllLack-front_lines are.size are.are.is_size)
+    (AllLack-node_lines are.size are.nodes few are.are.each) in
     let whole : AllLack (tree_lines are.size are.nodes are.winner) =
-    AllLack-append (front_lines are.size ++ flat_map node_lines are.nodes) (end_line (length are.nodes) are.winner ∷ []) front (Lacks-end_line (length are.nodes) are.winner are.are.count, tt) in
+    AllLack-append (front_lines are.size ++ flat_map node_lines are.nodes) (end_line (length are.nodes) are.winner ∷ []) front
+    (Lacks-end_line (length are.nodes) are.winner are.are.count, tt) in
     subst AllLack (sym are.are.same) whole
 
 pub Lacks-begun : (before : List (List ℕ)) (line : List ℕ) → Begins AreTreeLines (before ++ line ∷ []) → Lacks 10 line

@@ -71,8 +71,8 @@ abbrev pub Goes : Place → List ℕ → Result Step Stop → Type 0
 Goes old line result = (nodes : List Node) (lines : List (List ℕ)) → Stands old nodes lines → Follows old nodes line (lines ++ line ∷ []) result
 
 -- the line is none of a node on a board of this size
-abbrev pub NoNode : Extent → List ℕ → Type 0
-NoNode size line = (node : Node) → NodeFits size node → line ≡ node_line node → ⊥
+abbrev pub IsNoNodeLine : Extent → List ℕ → Type 0
+IsNoNodeLine size line = (node : Node) → NodeFits size node → line ≡ node_line node → ⊥
 
 -- what comes after a node's line
 abbrev pub EndsNode : SoFar → Node → Step → Type 0

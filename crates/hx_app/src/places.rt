@@ -2,7 +2,7 @@
 //! judged by, so no line is read twice.
 
 ghost use Rattle.std.specs.Prelude.{◌≡◌, ◌↔◌, IsTrue};
-ghost use Rattle.hx_app.specs.Places.{Goes, NoNode, EndsNode};
+ghost use Rattle.hx_app.specs.Places.{Goes, IsNoNodeLine, EndsNode};
 
 use crate::lines;
 use hx_board::{Colour, Size};
@@ -150,7 +150,7 @@ fn with_node(so_far: SoFar, node: Node) -> Step
 
 /// Takes a line that is none of a node.
 fn at_end(so_far: SoFar, line: &[u8]) -> Result<Step, Stop>
-    requires { NoNode so_far.size line.now }
+    requires { IsNoNodeLine so_far.size line.now }
     ensures { Goes (Place.Between so_far) line.now result }
 {
     match lines::read_end(line) {

@@ -5,7 +5,9 @@ use Rattle.hx_app.proofs.Endings.{judged_yes, judged_some, surplus_answer}
 use Rattle.hx_app.proofs.judge.at_end.Goals as goal
 
 pub returns-then-is_empty : goal.returns-then-is_empty
-returns-then-is_empty c = λ input few upto all. judged_yes input _ _ _ upto all _ c.in-Some.ensures.value (nil_from_length _ (eqb-true _ _ (sym c.if-is_empty.ensures)))
+returns-then-is_empty c =
+    λ input few upto all. judged_yes input _ _ _ upto all _ c.in-Some.ensures.value
+    (nil_from_length _ (eqb-true _ _ (sym c.if-is_empty.ensures)))
 
 pub returns-else-is_empty : goal.returns-else-is_empty
 returns-else-is_empty c = λ input few upto all.

@@ -9,4 +9,5 @@ loop-line-init c = record {
 }
 
 pub returns : goal.returns
-returns c = missing_answer c.args.input.now _ _ _ _ c.requires c.loop-line.invariant.upto c.loop-line.invariant.unfinished c.in_default.ensures c.next_line_is_wrong.ensures
+returns c = missing_answer c.args.input.now _ _ _ _ c.requires c.loop-line.invariant.upto c.loop-line.invariant.unfinished
+    c.in_default.ensures c.next_line_is_wrong.ensures

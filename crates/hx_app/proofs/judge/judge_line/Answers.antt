@@ -1,4 +1,3 @@
-use Rattle.std.proofs.Common.{refl}
 use Rattle.hx_app.proofs.Judgements.{judged_more, judged_answer, judged_wrong_line, judged_too_many}
 use Rattle.hx_app.proofs.Endings.{judged_end}
 use Rattle.hx_app.proofs.judge.judge_line.Goals as goal
@@ -19,7 +18,9 @@ pub returns-in-Ok-End : goal.returns-in-Ok-End
 returns-in-Ok-End c = λ input few upto.
     let told = rw c.in-Ok-End.field-0-is at c.in-Ok-End.ensures.says in
     c.at_end.ensures input few
-    (rw c.deref.ensures.value (judged_more input few _ c.feed.new.self _ _ _ upto c.in-Ok-End.ensures.count (λ nodes lines read. judged_end c.feed.new.self nodes _ (told nodes lines read))))
+    (rw c.deref.ensures.value
+    (judged_more input few _ c.feed.new.self _ _ _ upto c.in-Ok-End.ensures.count
+    (λ nodes lines read. judged_end c.feed.new.self nodes _ (told nodes lines read))))
     (told upto.nodes upto.lines upto.read).0
 
 pub returns-in-Err-Text : goal.returns-in-Err-Text

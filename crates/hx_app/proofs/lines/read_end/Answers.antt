@@ -31,4 +31,9 @@ returns-in_err-end c = rw c.from_residual-in_err-end.ensures (λ v fits e.
     c.in_err-end.ensures at_end)
 
 pub returns : goal.returns
-returns c = (c.in_ok-count.ensures.0, line_from_words c.of-words.ensures (word_then c.in_ok-keyword.ensures.1 (word_then c.in_ok-count.ensures.1 (word_then c.in_ok-winner.ensures.1 (c.in_ok-end.ensures)))))
+returns c = (
+  c.in_ok-count.ensures.0,
+  line_from_words c.of-words.ensures
+      (word_then c.in_ok-keyword.ensures.1
+      (word_then c.in_ok-count.ensures.1 (word_then c.in_ok-winner.ensures.1 (c.in_ok-end.ensures)))),
+)

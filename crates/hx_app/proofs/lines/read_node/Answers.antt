@@ -59,4 +59,7 @@ returns-in_err-position c = rw c.from_residual-in_err-position.ensures (λ v fit
     (first_same c.in_ok-black.ensures.1 at_black) (first_same c.in_ok-white.ensures.1 at_white)))
 
 pub returns : goal.returns
-returns c = node_reads c.args.size _ _ _ _ _ _ _ c.rows-rows.ensures.valid c.in_ok-rule.ensures.0 c.in_ok-position.ensures (line_from_words c.of-words.ensures (word_then c.in_ok-keyword.ensures.1 (word_then c.in_ok-black.ensures.1 (word_then c.in_ok-white.ensures.1 (word_then c.in_ok-to_move.ensures.1 (word_then c.in_ok-winner.ensures.1 (c.in_ok-rule.ensures.1)))))))
+returns c = node_reads c.args.size _ _ _ _ _ _ _ c.rows-rows.ensures.valid c.in_ok-rule.ensures.0 c.in_ok-position.ensures
+    (line_from_words c.of-words.ensures
+    (word_then c.in_ok-keyword.ensures.1
+    (word_then c.in_ok-black.ensures.1 (word_then c.in_ok-white.ensures.1 (word_then c.in_ok-to_move.ensures.1 (word_then c.in_ok-winner.ensures.1 (c.in_ok-rule.ensures.1)))))))

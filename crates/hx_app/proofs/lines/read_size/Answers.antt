@@ -32,4 +32,8 @@ returns-in_err-end c = rw c.from_residual-in_err-end.ensures (λ v fits e.
     c.in_err-end.ensures at_end)
 
 pub returns : goal.returns
-returns c = size_reads _ _ _ _ c.in_ok-rows.ensures.0 c.in_ok-cols.ensures.0 (line_from_words c.of-words.ensures (word_then c.in_ok-keyword.ensures.1 (word_then c.in_ok-rows.ensures.1 (word_then c.in_ok-cols.ensures.1 (c.in_ok-end.ensures))))) c.size_of.ensures.some c.size_of.ensures.none
+returns c = size_reads _ _ _ _ c.in_ok-rows.ensures.0 c.in_ok-cols.ensures.0
+    (line_from_words c.of-words.ensures
+    (word_then c.in_ok-keyword.ensures.1
+    (word_then c.in_ok-rows.ensures.1 (word_then c.in_ok-cols.ensures.1 (c.in_ok-end.ensures))))) c.size_of.ensures.some
+    c.size_of.ensures.none

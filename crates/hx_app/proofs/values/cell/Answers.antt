@@ -1,5 +1,5 @@
 use Rattle.std.proofs.Common.{rules}
-use Rattle.hx_app.proofs.Numbers.{cell_reads}
+use Rattle.hx_app.proofs.CellWords.{cell_reads}
 use Rattle.hx_app.proofs.values.cell.Goals as goal
 
 pub returns : goal.returns

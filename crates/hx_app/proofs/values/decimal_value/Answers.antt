@@ -13,7 +13,19 @@ pub loop-byte-preserved : goal.loop-byte-preserved
 loop-byte-preserved c = rw c.from.ensures (read_digit _ _ _ c.loop-byte-test.true c.if-not-is_ascii_digit.ensures.cases c.loop-byte.invariant)
 
 pub overflow_mul-value : goal.overflow_mul-value
-overflow_mul-value c = omega (arith, value_bound c.args.word.now c.loop-byte.byte-index c.loop-byte.value (omega arith) (omega arith) c.loop-byte.invariant)
+overflow_mul-value c =
+    omega (
+      arith,
+      value_bound c.args.word.now c.loop-byte.byte-index c.loop-byte.value (omega arith) (omega arith)
+          c.loop-byte.invariant,
+    )
 
 pub overflow_add-value : goal.overflow_add-value
-overflow_add-value c = omega (arith, value_bound c.args.word.now c.loop-byte.byte-index c.loop-byte.value (omega arith) (omega arith) c.loop-byte.invariant, c.from.ensures, c.type_inv.word c.loop-byte.byte-index)
+overflow_add-value c =
+    omega (
+      arith,
+      value_bound c.args.word.now c.loop-byte.byte-index c.loop-byte.value (omega arith) (omega arith)
+          c.loop-byte.invariant,
+      c.from.ensures,
+      c.type_inv.word c.loop-byte.byte-index,
+    )

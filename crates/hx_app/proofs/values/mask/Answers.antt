@@ -12,16 +12,32 @@ pub returns-in_err-digit : goal.returns-in_err-digit
 returns-in_err-digit c = rw c.from_residual.ensures (λ n small e. not_hex_byte _ n c.loop-byte.byte-index (omega arith) c.in_err-digit.ensures e)
 
 pub overflow_mul-bits : goal.overflow_mul-bits
-overflow_mul-bits c = omega (arith, hex_bound c.args.word.now c.loop-byte.byte-index c.loop-byte.bits c.in_ok-digit.digit (omega arith) c.in_ok-digit.ensures.0 c.loop-byte.invariant)
+overflow_mul-bits c =
+    omega (
+      arith,
+      hex_bound c.args.word.now c.loop-byte.byte-index c.loop-byte.bits c.in_ok-digit.digit (omega arith)
+          c.in_ok-digit.ensures.0 c.loop-byte.invariant,
+    )
 
 pub overflow_add-bits : goal.overflow_add-bits
-overflow_add-bits c = omega (arith, c.from.ensures, hex_bound c.args.word.now c.loop-byte.byte-index c.loop-byte.bits c.in_ok-digit.digit (omega arith) c.in_ok-digit.ensures.0 c.loop-byte.invariant)
+overflow_add-bits c =
+    omega (
+      arith,
+      c.from.ensures,
+      hex_bound c.args.word.now c.loop-byte.byte-index c.loop-byte.bits c.in_ok-digit.digit
+          (omega arith) c.in_ok-digit.ensures.0 c.loop-byte.invariant,
+    )
 
 pub loop-byte-preserved : goal.loop-byte-preserved
-loop-byte-preserved c = rw c.from.ensures (read_hex _ _ _ _ c.loop-byte-test.true c.in_ok-digit.ensures.0 c.in_ok-digit.ensures.1 c.loop-byte.invariant)
+loop-byte-preserved c =
+    rw c.from.ensures (read_hex _ _ _ _ c.loop-byte-test.true c.in_ok-digit.ensures.0 c.in_ok-digit.ensures.1
+    c.loop-byte.invariant)
 
 pub returns : goal.returns
 returns c =
     let len : length c.args.word.now ≡ c.loop-byte.byte-index = omega arith in
     let whole : c.loop-byte.byte-index ≡ 32 = omega arith in
-    rw c.of.ensures (omega (arith, hex_bits c.args.word.now c.loop-byte.byte-index c.loop-byte.bits whole c.loop-byte.invariant), read_whole _ _ _ len whole c.loop-byte.invariant)
+    rw c.of.ensures (
+      omega (arith, hex_bits c.args.word.now c.loop-byte.byte-index c.loop-byte.bits whole c.loop-byte.invariant),
+      read_whole _ _ _ len whole c.loop-byte.invariant,
+    )

@@ -13,4 +13,5 @@ pub returns-in_err-value : goal.returns-in_err-value
 returns-in_err-value c = rw c.from_residual.ensures (not_a_number _ c.in_err-value.ensures.none)
 
 pub returns : goal.returns
-returns c = number_reads _ _ _ _ (c.if-not-is_canonical.ensures.0 refl) c.in_ok-value.ensures.some.0 c.in_ok-value.ensures.some.1 c.try_from.ensures c.ok.ensures.value
+returns c = number_reads _ _ _ _ (c.if-not-is_canonical.ensures.0 refl) c.in_ok-value.ensures.some.0 c.in_ok-value.ensures.some.1
+    c.try_from.ensures c.ok.ensures.value

@@ -1,5 +1,4 @@
-use Rattle.std.proofs.Common.{sym, ◌∙◌, ap, arith, length, ◌++◌, ◌∷◌, [], List, ℕ}
-use Rattle.hx_app.specs.Words.{hex}
+use Rattle.std.proofs.Common.{◌∙◌, ap, arith, ◌++◌, ◌∷◌, [], List, ℕ}
 use Rattle.hx_app.proofs.Spelled.{hex_none, hex_next, length-digits}
 use Rattle.hx_app.proofs.spelling.Text.put_mask.Goals as goal
 

@@ -7,4 +7,11 @@ put-requires c = omega (arith, length-small c.args.n c.requires.small, ap length
 
 pub returns-clause-short : goal.returns-clause-short
 returns-clause-short c =
-    omega (arith, length-small c.args.n c.requires.small, ap length (c.as_bytes.ensures.value ∙ c.format.ensures.text), ap length c.put.ensures, length-append c.args.self.now c.as_bytes.result.now)
+    omega (
+      arith,
+      length-small c.args.n c.requires.small,
+      ap length (c.as_bytes.ensures.value ∙ c.format.ensures.text),
+      ap length
+          c.put.ensures,
+      length-append c.args.self.now c.as_bytes.result.now,
+    )

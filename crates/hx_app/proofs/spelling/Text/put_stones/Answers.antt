@@ -19,7 +19,9 @@ put-requires-2 c =
     )
 
 pub returns-clause-text : goal.returns-clause-text
-returns-clause-text c = rw (c.put-2.ensures, c.put_mask.ensures, c.put.ensures, c.put_colour.ensures) (stones_spelled c.args.self.now c.args.colour c.args.stones)
+returns-clause-text c =
+    rw (c.put-2.ensures, c.put_mask.ensures, c.put.ensures, c.put_colour.ensures)
+    (stones_spelled c.args.self.now c.args.colour c.args.stones)
 
 pub returns-clause-short : goal.returns-clause-short
 returns-clause-short c =

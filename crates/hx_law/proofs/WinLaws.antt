@@ -1,0 +1,59 @@
+-- A stone more and a move more keep a win: the game is play on the whole board with a chain as the goal, and a chain stays
+-- when the player gets stones.
+use Rattle.std.proofs.Common.{ℕ, List, [], ◌∷◌, Bool, true, refl, inl, inr}
+use Rattle.hx_board.specs.declared.colours.Colour.{Colour}
+use Rattle.hx_board.specs.declared.vertices.Vertex.{Vertex}
+use Rattle.hx_board.specs.declared.vertices.Vertex.TheVariants.{Of, First, Last}
+use Rattle.hx_board.specs.Colours.{other_of}
+use Rattle.hx_board.specs.Positions.{Board, put}
+use Rattle.hx_board.specs.Graph.{IsOwn, Walk, Joined, HasChain}
+use Rattle.hx_board.specs.Game.{Wins, By_chain, By_move, By_answers}
+use Rattle.hx_law.specs.Laws.{ExtraStone, ExtraMove}
+use Rattle.hx_law.specs.Play.{Plays, By_goal, By_move as Play_move, By_answers as Play_answers}
+use Rattle.hx_law.proofs.PlayLaws.{KeepsStones, keeps_put, as_good_itself, as_good_more, kept}
+
+module _ (player : Colour) where
+  abbrev other : Colour
+  other = other_of player
+
+  own_stays : (before after : Board) → KeepsStones player before after → (vertex : Vertex) → IsOwn before player vertex → IsOwn after player vertex
+  own_stays before after keeps (Of cell) own = keeps.own cell own
+  own_stays before after keeps First own = tt
+  own_stays before after keeps Last own = tt
+
+  walk_stays : (before after : Board) → KeepsStones player before after → (from : Vertex) (inner : List Vertex) (to : Vertex) → Walk before player from inner to → Walk after player from inner to
+  walk_stays before after keeps from [] to touch = rw keeps.same_size touch
+  walk_stays before after keeps from (next ∷ rest) to walk = (rw keeps.same_size walk.0, own_stays before after keeps next walk.1, walk_stays before after keeps next rest to walk.2)
+
+  pub joined_stays : (from to : Vertex) (before after : Board) → KeepsStones player before after → Joined before player from to → Joined after player from to
+  joined_stays from to before after keeps (inl same) = inl same
+  joined_stays from to before after keeps (inr walk) = inr (walk.0, walk_stays before after keeps from walk.0 to walk.1)
+
+  pub chain-put : (board : Board) (who : Colour) (cell : ℕ) → HasChain board player → HasChain (put board who cell) player
+  chain-put board who cell = joined_stays First Last board (put board who cell) (keeps_put player board who cell)
+
+  abbrev everywhere : ℕ → Bool
+  everywhere cell = true
+
+  abbrev Chain : Board → Type 0
+  Chain board = HasChain board player
+
+  wins-plays : (board : Board) (mover : Colour) → Wins player board mover → Plays player everywhere Chain board mover
+  wins-plays board mover (By_chain _ _ chain) = By_goal board mover chain
+  wins-plays board mover (By_move _ _ cell own empty win) = Play_move board mover cell own (record { inside = refl; empty = empty }) (wins-plays (put board player cell) other win)
+  wins-plays board mover (By_answers _ _ some others empty all) =
+      Play_answers board mover some others (record { inside = refl; empty = empty }) (λ cell free. wins-plays (put board other cell) player (all cell free.empty))
+
+  plays-wins : (board : Board) (mover : Colour) → Plays player everywhere Chain board mover → Wins player board mover
+  plays-wins board mover (By_goal _ _ chain) = By_chain board mover chain
+  plays-wins board mover (Play_move _ _ cell own free win) = By_move board mover cell own free.empty (plays-wins (put board player cell) other win)
+  plays-wins board mover (Play_answers _ _ some others free all) =
+      By_answers board mover some others free.empty (λ cell empty. plays-wins (put board other cell) player (all cell (record { inside = refl; empty = empty })))
+
+  pub extra_stone : (board : Board) (mover : Colour) (cell : ℕ) → ExtraStone board mover player cell
+  extra_stone board mover cell win =
+      let good = as_good_more player everywhere everywhere board board (as_good_itself player everywhere board) player cell (inl refl) in
+      plays-wins (put board player cell) mover ((kept player Chain (joined_stays First Last) everywhere (put board player cell)).better everywhere board mover good (wins-plays board mover win))
+
+  pub extra_move : (board : Board) → ExtraMove board player
+  extra_move board win = plays-wins board player ((kept player Chain (joined_stays First Last) everywhere board).move_more other refl (wins-plays board other win))
