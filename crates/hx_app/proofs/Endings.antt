@@ -6,7 +6,7 @@ use Rattle.std.specs.Prelude.{slice_get}
 use Rattle.hx_tree.specs.declared.nodes.Heading.{Heading}
 use Rattle.hx_tree.specs.declared.nodes.Node.{Node}
 use Rattle.hx_tree.specs.Trees.{headings_of, IsRoot}
-use Rattle.hx_tree.proofs.Soundness.{valid_tree}
+use Rattle.hx_tree.proofs.TreeGrowth.{valid_tree}
 use Rattle.hx_app.specs.declared.answers.Answer.{Answer}
 use Rattle.hx_app.specs.declared.answers.Answer.TheVariants.{NoText}
 use Rattle.hx_app.specs.declared.places.Place.{Place}

@@ -6,7 +6,7 @@ use Rattle.std.specs.Prelude.{flat_map, MatchOption}
 use Rattle.hx_tree.specs.declared.nodes.Heading.{Heading}
 use Rattle.hx_tree.specs.declared.nodes.Node.{Node}
 use Rattle.hx_tree.specs.Rules.{IsRightNode}
-use Rattle.hx_tree.proofs.Soundness.{one_more_right, least_wrong-last, headings_of-append}
+use Rattle.hx_tree.proofs.TreeGrowth.{one_more_right, least_wrong-last, headings_of-append}
 use Rattle.hx_app.specs.declared.answers.Answer.{Answer}
 use Rattle.hx_app.specs.declared.answers.Answer.TheVariants.{Yes, NoText, NoNode, BadWords, ReadFault, OutOfMemory, TooLong}
 use Rattle.hx_app.specs.declared.places.Place.{Place}

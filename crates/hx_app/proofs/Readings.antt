@@ -7,7 +7,7 @@ use Rattle.hx_board.specs.declared.colours.Colour.{Colour}
 use Rattle.hx_board.specs.Cells.{Extent, IsExtent}
 use Rattle.hx_tree.specs.declared.nodes.Node.{Node}
 use Rattle.hx_tree.specs.Trees.{IsValidTree, IsLeastWrong}
-use Rattle.hx_tree.proofs.Soundness.{least_wrong-append, right_at-append}
+use Rattle.hx_tree.proofs.TreeGrowth.{least_wrong-append, right_at-append}
 use Rattle.hx_app.specs.Grammars.{text_of, IsFaultyLine}
 use Rattle.hx_app.specs.TreeTexts.{AreTreeLines, AreTreeLinesOf, IsTreeText, EachNodeFits, front_lines, node_lines, end_line}
 use Rattle.hx_app.specs.Places.{most_nodes}

@@ -5,7 +5,7 @@ use Rattle.std.specs.declared.alloc.Global.{Global}
 use Rattle.hx_io.specs.Sinks.{append}
 use Rattle.hx_tree.specs.declared.nodes.Heading.{Heading}
 use Rattle.hx_tree.specs.declared.nodes.Node.{Node}
-use Rattle.hx_tree.specs.Headings.{HeadingWins}
+use Rattle.hx_proof.specs.Winners.{OnlyWinner}
 use Rattle.hx_tree.specs.Trees.{IsValidTree, IsRoot}
 use Rattle.hx_app.specs.declared.answers.Answer.{Answer}
 use Rattle.hx_app.specs.declared.answers.Answer.TheVariants.{Yes, NoText, NoNode, BadWords, ReadFault, OutOfMemory, TooLong}
@@ -82,7 +82,8 @@ pub record IsRun (words : List (List ℕ)) (left_before left_now : Option (List 
   pub due : IsDue words left_before left_now source_rose answer
   pub written : IsWritten taken_before taken_now sink_rose answer status
 
--- The input is the text of a valid tree, the output names the root's winner and its position, and that player wins.
+-- The input is the text of a valid tree, the output names the root's winner and its position, and that player wins and
+-- the other does not.
 pub record SaysYes (input : List ℕ) (taken_before taken_now : Option (List ℕ)) : Type 0 where
   pub nodes : List Node
   pub root : Node
@@ -90,7 +91,7 @@ pub record SaysYes (input : List ℕ) (taken_before taken_now : Option (List ℕ
   pub valid : IsValidTree nodes
   pub last : IsRoot nodes root
   pub output : taken_now ≡ append taken_before (yes_text root.heading)
-  pub wins : HeadingWins root.heading
+  pub wins : OnlyWinner root.heading
 
 -- the input is the text of a valid tree of no more nodes than a text may have
 pub record IsProof (input : List ℕ) : Type 0 where

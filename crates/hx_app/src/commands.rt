@@ -35,7 +35,8 @@ pub fn run<S: Source, K: Sink, G: Gate + Sync>(
         (S.left source.old) (S.left source.new) (Rose (S.faults source.old) (S.faults source.new))
         (K.taken sink.old) (K.taken sink.new) (Rose (K.faults sink.old) (K.faults sink.new)) result }
 
-    // With status 0 the input is the text of a valid tree, the output says so, and the player that it names wins.
+    // With status 0 the input is the text of a valid tree, the output says so, and the player that it names wins and
+    // the other does not.
     ensures yes { result ≡ 0 → IfSome (S.left source.old) (λ input. SaysYes input (K.taken sink.old) (K.taken sink.new)) }
 
     // A text within the limits is answered with 0 where it is that of a valid tree, and else with 1.

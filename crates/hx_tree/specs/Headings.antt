@@ -2,7 +2,6 @@
 use Rattle.std.specs.Prelude.{◌≡◌}
 use Rattle.hx_board.specs.declared.colours.Colour.{Colour}
 use Rattle.hx_board.specs.Positions.{Board}
-use Rattle.hx_board.specs.Game.{Wins}
 use Rattle.hx_tree.specs.declared.nodes.Heading.{Heading}
 
 -- a heading with this position, mover and winner
@@ -10,7 +9,3 @@ pub record IsHeading (board : Board) (mover winner : Colour) (heading : Heading)
   pub same_position : heading.position ≡ board
   pub same_mover : heading.to_move ≡ mover
   pub same_winner : heading.winner ≡ winner
-
--- the heading's winner wins in the game tree
-abbrev pub HeadingWins : Heading → Type 0
-HeadingWins heading = Wins heading.winner heading.position heading.to_move

@@ -4,7 +4,6 @@ use Rattle.hx_tree.specs.declared.nodes.Heading.{Heading}
 use Rattle.hx_tree.specs.declared.nodes.Node.{Node}
 use Rattle.hx_tree.specs.declared.trees.Verdict.{Verdict}
 use Rattle.hx_tree.specs.declared.trees.Verdict.TheVariants.{Yes, Node as Wrong, Empty}
-use Rattle.hx_tree.specs.Headings.{HeadingWins}
 use Rattle.hx_tree.specs.Rules.{IsRightNode}
 
 -- the headings of the nodes, in their order
@@ -28,10 +27,6 @@ pub record IsValidTree (nodes : List Node) : Type 0 where
 pub record IsRoot (nodes : List Node) (root : Node) : Type 0 where
   pub front : List Node
   pub same : nodes ≡ front ++ root ∷ []
-
--- the winner of each node wins
-abbrev pub AllWin : List Node → Type 0
-AllWin nodes = (k : ℕ) → IfSome (slice_get nodes k) (λ node. HeadingWins node.heading)
 
 -- the first node that is not right
 pub record IsLeastWrong (nodes : List Node) (k : ℕ) : Type 0 where

@@ -1,13 +1,9 @@
-//! The checker on small trees, beside the plain rules, and callers of the laws.
-
-ghost use Rattle.std.specs.Prelude.{◌<◌, ◌^◌, length, IsTrue, IfOk};
-ghost use Rattle.hx_tree.specs.Headings.{HeadingWins};
-ghost use Rattle.hx_tree.specs.Trees.{AllWin};
+//! The checker on small trees, beside the plain rules.
 
 use super::plain::plain_verdict;
 use super::*;
 use hx_board::Colour::{Black, White};
-use hx_board::{Cell, Colour, Mask, Memory, Position, Size};
+use hx_board::{Cell, Colour, Mask, Position, Size};
 use std::alloc::Global;
 use std::process::Abort;
 use std::test::Fail;
@@ -124,37 +120,12 @@ fn names_the_first_wrong_node(rt: HostRuntime) -> Result<(), Fail> {
     Ok(())
 }
 
-/// Whether the nodes are a valid tree, and so each winner that they name wins.
-fn is_proof(alloc: Global, nodes: &[Node]) -> Result<bool, Memory>
-    requires { length nodes.now < 2 ^ 32 }
-    ensures { IfOk result (λ answer. IsTrue answer → AllWin nodes.now) }
-{
-    match check_tree(alloc, nodes)? {
-        Verdict::Yes => {
-            tree_sound(nodes);
-            Ok(true)
-        }
-        Verdict::Node(_) | Verdict::Empty => Ok(false),
-    }
-}
-
-/// Whether the node is right with no node before it, and so its winner wins.
-fn is_leaf(node: &Node) -> Result<bool, Memory>
-    ensures { IfOk result (λ answer. IsTrue answer → HeadingWins node.now.heading) }
-{
-    let is_right = check_node(&[], node)?;
-    if is_right {
-        node_sound(&[], node);
-    }
-    Ok(is_right)
-}
-
 #[test]
-fn winners_win(rt: HostRuntime) -> Result<(), Fail> {
-    let a1 = cell(0, 0)?;
+fn judges_one_node(rt: HostRuntime) -> Result<(), Fail> {
     let won = by_chain(heading(column(1, 1, 0)?, White, Black));
-    let start = by_move(heading(column(1, 0, 0)?, Black, Black), a1, 0);
-    assert!(rt; is_leaf(&won)?);
-    assert!(rt; is_proof(rt.alloc(), &[won, start])?);
+    let start = by_move(heading(column(1, 0, 0)?, Black, Black), cell(0, 0)?, 0);
+    assert!(rt; check_node(&[], &won)?);
+    assert!(rt; check_node(&[won.heading], &start)?);
+    assert!(rt; !check_node(&[], &start)?);
     Ok(())
 }

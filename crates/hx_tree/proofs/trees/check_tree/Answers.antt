@@ -6,7 +6,7 @@ use Rattle.std.proofs.lemmas.List.{take_more, take_all, take-append-drop, length
 use Rattle.hx_tree.specs.declared.nodes.Node.{Node}
 use Rattle.hx_tree.specs.Rules.{IsRightNode}
 use Rattle.hx_tree.specs.Trees.{headings_of, AreRight, IsLeastWrong}
-use Rattle.hx_tree.proofs.Soundness.{headings_of-append, one_more_right, least_wrong-last, least_wrong-append, valid_tree}
+use Rattle.hx_tree.proofs.TreeGrowth.{headings_of-append, one_more_right, least_wrong-last, least_wrong-append, valid_tree}
 use Rattle.hx_tree.proofs.trees.check_tree.Goals as goal
 
 -- the nodes up to a place are those before it and then the node there

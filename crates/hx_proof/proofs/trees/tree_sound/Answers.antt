@@ -1,5 +1,5 @@
-use Rattle.hx_tree.proofs.Soundness.{tree_wins, root_wins}
-use Rattle.hx_tree.proofs.laws.tree_sound.Goals as goal
+use Rattle.hx_proof.proofs.TreeSoundness.{tree_wins, root_wins}
+use Rattle.hx_proof.proofs.trees.tree_sound.Goals as goal
 
 pub returns-clause-all : goal.returns-clause-all
 returns-clause-all c = tree_wins c.args.nodes.now c.requires

@@ -1,0 +1,58 @@
+-- The winner of a right node wins, where the winners before it do, by the rule of the game tree that its own rule stands
+-- for. So the winner of each node of a valid tree wins, by induction on its place. The other player does not, since one
+-- player wins each position.
+use Rattle.std.proofs.Common.{ℕ, zero, suc, ◌<◌, List, [], ◌∷◌, take, length, Option, Some, None, arith}
+use Rattle.std.specs.Prelude.{slice_get, IfSome, IsSomeAnd}
+use Rattle.hx_board.specs.declared.colours.Colour.{Colour}
+use Rattle.hx_board.specs.Positions.{Board}
+use Rattle.hx_board.specs.Game.{Wins, By_chain, By_move}
+use Rattle.hx_law.proofs.OneWinner.{not_both_win}
+use Rattle.hx_tree.specs.declared.nodes.Heading.{Heading}
+use Rattle.hx_tree.specs.declared.nodes.Node.{Node}
+use Rattle.hx_tree.specs.declared.nodes.Rule.{Rule}
+use Rattle.hx_tree.specs.declared.nodes.Rule.TheVariants.{Chain, Move}
+use Rattle.hx_tree.specs.Headings.{IsHeading}
+use Rattle.hx_tree.specs.Rules.{IsRightRule, IsRightNode}
+use Rattle.hx_tree.specs.Trees.{headings_of, AreRight, IsValidTree, IsRoot}
+use Rattle.hx_tree.proofs.TreeGrowth.{slice_get-append_seam}
+use Rattle.hx_proof.specs.Winners.{HeadingWins, OnlyWinner, AllWin}
+
+-- who an earlier heading says wins does win
+child_wins : (child : Option Heading) (board : Board) (mover winner : Colour) → IfSome child HeadingWins → IsSomeAnd child (IsHeading board mover winner) → Wins winner board mover
+child_wins None board mover winner wins leads = absurd leads
+child_wins (Some child) board mover winner wins leads = rw (← leads.same_position, ← leads.same_mover, ← leads.same_winner) wins
+
+rule_wins : (before : List Heading) (heading : Heading) (rule : Rule) → ((k : ℕ) → IfSome (slice_get before k) HeadingWins) → IsRightRule before heading rule → HeadingWins heading
+rule_wins before heading Chain wins right = By_chain heading.position heading.to_move right
+rule_wins before heading (Move cell child) wins right =
+    By_move heading.position heading.to_move cell right.mover right.empty (child_wins _ _ _ _ (wins child) right.leads)
+
+pub node_wins : (before : List Heading) (node : Node) → ((k : ℕ) → IfSome (slice_get before k) HeadingWins) → IsRightNode before node → HeadingWins node.heading
+node_wins before node wins right = rule_wins before node.heading node.rule wins right.rule
+
+-- the headings before a place win, where the nodes before it do
+headings_win : (nodes : List Node) (k j : ℕ) → (j < k → IfSome (slice_get nodes j) (λ node. HeadingWins node.heading)) → IfSome (slice_get (headings_of (take k nodes)) j) HeadingWins
+headings_win [] zero j wins = tt
+headings_win [] (suc k) j wins = tt
+headings_win (node ∷ nodes) zero j wins = tt
+headings_win (node ∷ nodes) (suc k) zero wins = wins (omega arith)
+headings_win (node ∷ nodes) (suc k) (suc j) wins = headings_win nodes k j (λ less. wins (omega arith))
+
+next_wins : (nodes : List Node) (k : ℕ) (node : Option Node) → ((j : ℕ) → j < k → IfSome (slice_get nodes j) (λ n. HeadingWins n.heading)) → IfSome node (IsRightNode (headings_of (take k nodes)))
+    → IfSome node (λ n. HeadingWins n.heading)
+next_wins nodes k None wins right = tt
+next_wins nodes k (Some node) wins right = node_wins _ node (λ j. headings_win nodes k j (wins j)) right
+
+nodes_win : (nodes : List Node) → AreRight nodes → (bound k : ℕ) → k < bound → IfSome (slice_get nodes k) (λ node. HeadingWins node.heading)
+nodes_win nodes right zero k less = absurd (omega arith)
+nodes_win nodes right (suc bound) k less = next_wins nodes k (slice_get nodes k) (λ j before. nodes_win nodes right bound j (omega arith)) (right k)
+
+only_winner : (before : List Heading) (node : Option Node) → IfSome node (IsRightNode before) → IfSome node (λ n. HeadingWins n.heading) → IfSome node (λ n. OnlyWinner n.heading)
+only_winner before None right wins = tt
+only_winner before (Some node) right wins = record { wins = wins; other_does_not = not_both_win node.heading.position right.board node.heading.winner node.heading.to_move wins }
+
+pub tree_wins : (nodes : List Node) → IsValidTree nodes → AllWin nodes
+tree_wins nodes tree k = only_winner (headings_of (take k nodes)) (slice_get nodes k) (tree.right k) (nodes_win nodes tree.right (suc k) k (omega arith))
+
+pub root_wins : (nodes : List Node) (root : Node) → IsValidTree nodes → IsRoot nodes root → OnlyWinner root.heading
+root_wins nodes root tree is = rw (is.same, slice_get-append_seam is.front root) at (tree_wins nodes tree (length is.front))

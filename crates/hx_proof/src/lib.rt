@@ -1,0 +1,10 @@
+//! The rules of proof are sound: what each of them shows holds in the game tree. The laws are functions that do nothing;
+//! what they say stands in their contracts.
+#![tactic(auto)]
+
+mod trees;
+
+pub use trees::{node_sound, tree_sound};
+
+#[cfg(test)]
+mod tests;
