@@ -3,26 +3,29 @@
 use Rattle.std.proofs.Common.{◌≡◌, ◌≢◌, ℕ, ◌+◌, ◌-◌, ◌<◌, ◌≤◌, ◌^◌, List, [], ◌∷◌, ◌++◌, length, refl, sym, ap, ◌∙◌, subst, arith, length-append, Some, None}
 use Rattle.std.proofs.lemmas.List.{append-nil, length-map}
 use Rattle.std.specs.Prelude.{slice_get}
+use Rattle.hx_board.specs.declared.colours.Colour.{Colour}
+use Rattle.hx_board.specs.Cells.{Extent}
+use Rattle.hx_text.specs.TreeTexts.{AreTreeLinesOf}
 use Rattle.hx_tree.specs.declared.nodes.Heading.{Heading}
 use Rattle.hx_tree.specs.declared.nodes.Node.{Node}
 use Rattle.hx_tree.specs.Trees.{headings_of, IsRoot}
 use Rattle.hx_tree.proofs.TreeGrowth.{valid_tree}
 use Rattle.hx_app.specs.declared.answers.Answer.{Answer}
 use Rattle.hx_app.specs.declared.answers.Answer.TheVariants.{NoText}
-use Rattle.hx_app.specs.declared.places.Place.{Place}
-use Rattle.hx_app.specs.declared.places.Place.TheVariants.{After}
-use Rattle.hx_app.specs.declared.reader.TreeReader.{TreeReader}
-use Rattle.hx_app.specs.Grammars.{text_of}
-use Rattle.hx_app.specs.Places.{Stands}
-use Rattle.hx_app.specs.Reader.{HasRead, lines_fed}
+use Rattle.hx_text.specs.declared.places.Place.{Place}
+use Rattle.hx_text.specs.declared.places.Place.TheVariants.{After}
+use Rattle.hx_text.specs.declared.reader.TreeReader.{TreeReader}
+use Rattle.hx_text.specs.Grammars.{text_of}
+use Rattle.hx_text.specs.Places.{Stands}
+use Rattle.hx_text.specs.Reader.{HasRead, lines_fed}
 use Rattle.hx_app.specs.Answers.{limit}
 use Rattle.hx_app.specs.Judging.{IsYes, IsNoText, IsJudged, JudgedUpTo, HasReadAll}
-use Rattle.hx_app.proofs.Ends.{push-some}
-use Rattle.hx_app.proofs.Steps.{end_wrong}
+use Rattle.hx_text.proofs.Ends.{push-some}
+use Rattle.hx_text.proofs.Steps.{end_wrong}
 use Rattle.hx_app.proofs.Standings.{ended_in}
 use Rattle.hx_app.proofs.Judgements.{fed_small}
-use Rattle.hx_app.proofs.Completions.{Begins-stands}
-use Rattle.hx_app.proofs.Faults.{surplus}
+use Rattle.hx_text.proofs.Completions.{Begins-stands}
+use Rattle.hx_text.proofs.Faults.{surplus}
 
 heading_after : (front : List Node) (node : Node)
     → slice_get (headings_of (front ++ node ∷ [])) (length front) ≡ Some node.heading
@@ -98,9 +101,10 @@ module _ (input : List ℕ) (reader : TreeReader) (headings : List Heading) (lat
       cc
 
 -- after the last line
-pub judged_end : (reader : TreeReader) (nodes : List Node) (lines : List (List ℕ)) → HasReadAll reader × Stands After nodes lines
-    → HasRead reader nodes lines
-judged_end reader nodes lines told = subst (λ (p : Place). Stands p nodes lines) (sym told.0) told.1
+pub judged_end : (reader : TreeReader) (nodes : List Node) (lines : List (List ℕ)) (winner : Colour)
+    → HasReadAll reader × ((size : Extent) × AreTreeLinesOf size nodes winner lines) → HasRead reader nodes lines
+judged_end reader nodes lines winner told =
+    subst (λ (p : Place). Stands p nodes lines) (sym told.0) (told.1.0, winner, told.1.1)
 
 pub nothing_whole : (reader : TreeReader) → HasRead reader [] [] → HasReadAll reader → ⊥
 nothing_whole reader read all =

@@ -9,19 +9,19 @@ use Rattle.hx_tree.specs.Rules.{IsRightNode}
 use Rattle.hx_tree.proofs.TreeGrowth.{one_more_right, least_wrong-last, headings_of-append}
 use Rattle.hx_app.specs.declared.answers.Answer.{Answer}
 use Rattle.hx_app.specs.declared.answers.Answer.TheVariants.{Yes, NoText, NoNode, BadWords, ReadFault, OutOfMemory, TooLong}
-use Rattle.hx_app.specs.declared.places.Place.{Place}
-use Rattle.hx_app.specs.declared.reader.TreeReader.{TreeReader}
-use Rattle.hx_app.specs.Words.{Lacks}
-use Rattle.hx_app.specs.Grammars.{text_of, Begins}
-use Rattle.hx_app.specs.TreeTexts.{AreTreeLines, front_lines, node_lines}
-use Rattle.hx_app.specs.Places.{Stands, StandsSoFar, most_nodes, IsNextNode}
-use Rattle.hx_app.specs.Reader.{HasRead, lines_fed, one_more}
+use Rattle.hx_text.specs.declared.places.Place.{Place}
+use Rattle.hx_text.specs.declared.reader.TreeReader.{TreeReader}
+use Rattle.hx_text.specs.Words.{Lacks}
+use Rattle.hx_text.specs.Grammars.{text_of, Begins}
+use Rattle.hx_text.specs.TreeTexts.{AreTreeLines, front_lines, node_lines}
+use Rattle.hx_text.specs.Places.{Stands, StandsSoFar, most_nodes, IsNextNode}
+use Rattle.hx_text.specs.Reader.{HasRead, lines_fed, one_more}
 use Rattle.hx_app.specs.Answers.{limit}
 use Rattle.hx_app.specs.Judging.{IsNoText, IsNoNode, IsTooManyNodes, IsJudged, JudgedUpTo, HasReadAll, AnswersNode}
 use Rattle.hx_app.proofs.Standings.{ended_in, few_nodes, not_whole}
-use Rattle.hx_app.proofs.Completions.{Begins-stands}
-use Rattle.hx_app.proofs.Cuts.{text_of-push, length-text_of}
-use Rattle.hx_app.proofs.Faults.{missing, wrong_line}
+use Rattle.hx_text.proofs.Completions.{Begins-stands}
+use Rattle.hx_text.proofs.Cuts.{text_of-push, length-text_of}
+use Rattle.hx_text.proofs.Faults.{missing, wrong_line}
 
 -- before the first line
 pub judged_nothing : (input : List ℕ) (reader : TreeReader) (headings : List Heading) → HasRead reader [] []

@@ -8,15 +8,15 @@ use Rattle.hx_board.specs.Cells.{Extent, IsExtent}
 use Rattle.hx_tree.specs.declared.nodes.Node.{Node}
 use Rattle.hx_tree.specs.Trees.{IsValidTree, IsLeastWrong}
 use Rattle.hx_tree.proofs.TreeGrowth.{least_wrong-append, right_at-append}
-use Rattle.hx_app.specs.Grammars.{text_of, IsFaultyLine}
-use Rattle.hx_app.specs.TreeTexts.{AreTreeLines, AreTreeLinesOf, IsTreeText, EachNodeFits, front_lines, node_lines, end_line}
-use Rattle.hx_app.specs.Places.{most_nodes}
+use Rattle.hx_text.specs.Grammars.{text_of, IsFaultyLine}
+use Rattle.hx_text.specs.TreeTexts.{AreTreeLines, AreTreeLinesOf, IsTreeText, EachNodeFits, front_lines, node_lines, end_line}
+use Rattle.hx_text.specs.Places.{most_nodes}
 use Rattle.hx_app.specs.Judging.{EndedIn, Before_size, Among_nodes, After_end, IsNoText, IsNoNode, IsTooManyNodes}
-use Rattle.hx_app.proofs.Alignment.{aligned}
-use Rattle.hx_app.proofs.Steps.{flat_map-push, EachNodeFits-push}
-use Rattle.hx_app.proofs.Completions.{whole_are_of}
-use Rattle.hx_app.proofs.Cuts.{Agree, Second_goes_on, First_goes_on, agree, AllLack, ended-some, AllLack-front}
-use Rattle.hx_app.proofs.TreeLacks.{AllLack-tree_lines, AllLack-begun}
+use Rattle.hx_text.proofs.Alignment.{aligned}
+use Rattle.hx_text.proofs.Steps.{flat_map-push, EachNodeFits-push}
+use Rattle.hx_text.proofs.Completions.{whole_are_of}
+use Rattle.hx_text.proofs.Cuts.{Agree, Second_goes_on, First_goes_on, agree, AllLack, ended-some, AllLack-front}
+use Rattle.hx_text.proofs.TreeLacks.{AllLack-tree_lines, AllLack-begun}
 
 -- the nodes that ended in some lines are the first ones of each text that begins with these lines
 pub record GoOn (nodes all : List Node) : Type 0 where

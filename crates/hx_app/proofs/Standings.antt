@@ -4,12 +4,12 @@ use Rattle.std.proofs.Common.{◌≡◌, ◌≢◌, ℕ, ◌≤◌, List, [], �
 use Rattle.std.proofs.lemmas.List.{append-nil}
 use Rattle.std.specs.Prelude.{flat_map}
 use Rattle.hx_tree.specs.declared.nodes.Node.{Node}
-use Rattle.hx_app.specs.declared.places.Place.{Place}
-use Rattle.hx_app.specs.declared.places.Place.TheVariants.{Title, Size, Between, After, Failed}
-use Rattle.hx_app.specs.TreeTexts.{AreTreeLines, AreTreeLinesOf, front_lines, node_lines, end_line}
-use Rattle.hx_app.specs.Places.{Stands, most_nodes}
+use Rattle.hx_text.specs.declared.places.Place.{Place}
+use Rattle.hx_text.specs.declared.places.Place.TheVariants.{Title, Size, Between, After, Failed}
+use Rattle.hx_text.specs.TreeTexts.{AreTreeLines, AreTreeLinesOf, front_lines, node_lines, end_line}
+use Rattle.hx_text.specs.Places.{Stands, most_nodes}
 use Rattle.hx_app.specs.Judging.{EndedIn, Before_size, Among_nodes, After_end}
-use Rattle.hx_app.proofs.Alignment.{aligned}
+use Rattle.hx_text.proofs.Alignment.{aligned}
 
 pub ended_in : (place : Place) (nodes : List Node) (lines : List (List ℕ)) → Stands place nodes lines → EndedIn lines nodes
 ended_in Title nodes lines stands = Before_size stands.0 (omega (arith, ap length stands.1))

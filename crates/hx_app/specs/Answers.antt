@@ -3,22 +3,24 @@ use Rattle.std.specs.Prelude.{◌≡◌, ◌⊎◌, ℕ, ◌^◌, ◌<◌, ◌�
 use Rattle.std.specs.Fmt.{decimal}
 use Rattle.std.specs.declared.alloc.Global.{Global}
 use Rattle.hx_io.specs.Sinks.{append}
+use Rattle.hx_board.specs.declared.colours.Colour.{Colour}
 use Rattle.hx_tree.specs.declared.nodes.Heading.{Heading}
 use Rattle.hx_tree.specs.declared.nodes.Node.{Node}
 use Rattle.hx_proof.specs.Winners.{OnlyWinner}
 use Rattle.hx_tree.specs.Trees.{IsValidTree, IsRoot}
 use Rattle.hx_app.specs.declared.answers.Answer.{Answer}
 use Rattle.hx_app.specs.declared.answers.Answer.TheVariants.{Yes, NoText, NoNode, BadWords, ReadFault, OutOfMemory, TooLong}
-use Rattle.hx_app.specs.Words.{colour_word}
-use Rattle.hx_app.specs.PositionTexts.{position_text}
-use Rattle.hx_app.specs.TreeTexts.{IsTreeText}
-use Rattle.hx_app.specs.Places.{most_nodes}
+use Rattle.hx_text.specs.Words.{colour_word}
+use Rattle.hx_text.specs.PositionTexts.{position_text}
+use Rattle.hx_text.specs.TreeTexts.{IsTreeText}
+use Rattle.hx_text.specs.Places.{most_nodes}
 use Rattle.hx_app.specs.Judging.{IsYes, IsNoText, IsNoNode, IsTooManyNodes}
 
 -- the most bytes that are read
 abbrev pub limit : ℕ
 limit = 2 ^ 24
 
+-- the words of the command line, as bytes
 abbrev pub words_of : List (String Global) → List (List ℕ)
 words_of words = map string_bytes words
 
@@ -26,14 +28,19 @@ words_of words = map string_bytes words
 abbrev pub IsCheck : List (List ℕ) → Type 0
 IsCheck words = words ≡ codes "check" ∷ []
 
+-- the line that names a winner
+abbrev pub yes_line : Colour → List ℕ
+yes_line winner = codes "yes " ++ (colour_word winner ++ 10 ∷ [])
+
 -- the winner of the root, and the root's position and mover
 abbrev pub yes_text : Heading → List ℕ
-yes_text root = codes "yes " ++ (colour_word root.winner ++ 10 ∷ position_text root.position root.to_move)
+yes_text root = yes_line root.winner ++ position_text root.position root.to_move
 
 -- some words, a number and an LF
 abbrev pub counted_text : List ℕ → ℕ → List ℕ
 counted_text words n = words ++ (decimal n ++ 10 ∷ [])
 
+-- what is written for each answer
 abbrev pub answer_text : Answer → List ℕ
 answer_text (Yes root) = yes_text root
 answer_text (NoText line) = counted_text (codes "no text ") line
@@ -43,6 +50,7 @@ answer_text ReadFault = codes "read fault\n"
 answer_text OutOfMemory = codes "out of memory\n"
 answer_text TooLong = codes "too long\n"
 
+-- the exit status that tells each answer, where it was written whole
 abbrev pub status_of : Answer → ℕ
 status_of (Yes root) = 0
 status_of (NoText line) = 1

@@ -10,12 +10,12 @@ use Rattle.hx_tree.specs.Rules.{IsRightNode}
 use Rattle.hx_tree.specs.Trees.{AreRight, IsValidTree, IsRoot, IsLeastWrong, headings_of}
 use Rattle.hx_app.specs.declared.answers.Answer.{Answer}
 use Rattle.hx_app.specs.declared.answers.Answer.TheVariants.{Yes, NoText, NoNode, BadWords, ReadFault, OutOfMemory, TooLong}
-use Rattle.hx_app.specs.declared.places.Place.TheVariants.{After}
-use Rattle.hx_app.specs.declared.reader.TreeReader.{TreeReader}
-use Rattle.hx_app.specs.Grammars.{text_of, Begins, IsFaultyLine}
-use Rattle.hx_app.specs.TreeTexts.{AreTreeLines, AreTreeLinesOf, IsTreeText, NodeFits, EachNodeFits, node_lines, front_lines}
-use Rattle.hx_app.specs.Places.{most_nodes}
-use Rattle.hx_app.specs.Reader.{HasRead, lines_fed}
+use Rattle.hx_text.specs.declared.places.Place.TheVariants.{After}
+use Rattle.hx_text.specs.declared.reader.TreeReader.{TreeReader}
+use Rattle.hx_text.specs.Grammars.{text_of, Begins, IsFaultyLine}
+use Rattle.hx_text.specs.TreeTexts.{AreTreeLines, AreTreeLinesOf, IsTreeText, NodeFits, EachNodeFits, node_lines, front_lines}
+use Rattle.hx_text.specs.Places.{most_nodes}
+use Rattle.hx_text.specs.Reader.{HasRead, lines_fed}
 
 -- the nodes that ended in these lines, with which the text of a tree begins
 pub data EndedIn (lines : List (List ℕ)) (nodes : List Node) : Type 0 where

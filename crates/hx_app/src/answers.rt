@@ -1,13 +1,15 @@
 //! The answers of the program: the text that is written for each, and the exit status that tells it.
 
-ghost use Rattle.std.specs.Prelude.{◌≡◌, ◌+◌, ◌≤◌, ◌++◌, length};
+ghost use Rattle.std.specs.Prelude.{◌≡◌};
 ghost use Rattle.hx_io.specs.Causes.{HasCause};
 ghost use Rattle.hx_io.specs.Sinks.{TakesAll};
-ghost use Rattle.hx_app.specs.Answers.{status_of, answer_text, counted_text};
+ghost use Rattle.hx_app.specs.Answers.{status_of, answer_text, counted_text, yes_line, yes_text};
 
-use crate::spelling::Text;
+use hx_board::Colour;
 use hx_io::{Failed, Sink, write_all};
+use hx_text::write_position;
 use hx_tree::Heading;
+use itoa::Buffer;
 
 /// What is said in the end, whatever becomes of the writing.
 #[derive(Clone, Copy, Debug, PartialEq, Eq)]
@@ -44,43 +46,56 @@ impl Answer {
     }
 }
 
-/// Writes an answer. All of it is spelled before the first byte is written.
+/// Writes an answer.
 pub(crate) fn write_answer<K: Sink>(sink: &mut K, answer: &Answer) -> Result<(), Failed>
     ensures bytes { TakesAll (K.taken sink.old) (K.taken sink.new) result (answer_text answer.now) }
     ensures cause { HasCause (K.faults sink.old) (K.faults sink.new) result }
 {
-    let text = text_of(answer);
-    write_all(sink, text.bytes())
-}
-
-/// The text of an answer.
-fn text_of(answer: &Answer) -> Text
-    ensures { result ≡ answer_text answer.now }
-{
-    let mut text = Text::new();
     match answer {
-        Answer::Yes { root } => {
-            text.put(b"yes ");
-            text.put_colour(root.winner);
-            text.put(b"\n");
-            text.put_position(&root.position, root.to_move);
-        }
-        Answer::NoText { line } => put_counted(&mut text, b"no text ", *line),
-        Answer::NoNode { node } => put_counted(&mut text, b"no node ", *node),
-        Answer::BadWords => text.put(b"bad words\n"),
-        Answer::ReadFault => text.put(b"read fault\n"),
-        Answer::OutOfMemory => text.put(b"out of memory\n"),
-        Answer::TooLong => text.put(b"too long\n"),
+        Answer::Yes { root } => write_yes(sink, root),
+        Answer::NoText { line } => write_counted(sink, b"no text ", *line),
+        Answer::NoNode { node } => write_counted(sink, b"no node ", *node),
+        Answer::BadWords => write_all(sink, b"bad words\n"),
+        Answer::ReadFault => write_all(sink, b"read fault\n"),
+        Answer::OutOfMemory => write_all(sink, b"out of memory\n"),
+        Answer::TooLong => write_all(sink, b"too long\n"),
     }
-    text
 }
 
-/// Puts some words, a number and an LF.
-fn put_counted(text: &mut Text, words: &[u8], n: u64)
-    requires { length text.old + length words.now ≤ 100 }
-    ensures { text.new ≡ text.old ++ counted_text words.now n }
+/// Writes the winner of a root, and its position and mover.
+fn write_yes<K: Sink>(sink: &mut K, root: &Heading) -> Result<(), Failed>
+    ensures bytes { TakesAll (K.taken sink.old) (K.taken sink.new) result (yes_text root.now) }
+    ensures cause { HasCause (K.faults sink.old) (K.faults sink.new) result }
 {
-    text.put(words);
-    text.put_number(n);
-    text.put(b"\n");
+    match write_all(sink, yes_line(root.winner)) {
+        Ok(()) => write_position(sink, &root.position, root.to_move),
+        Err(Failed) => Err(Failed),
+    }
+}
+
+/// The line that names a winner.
+fn yes_line(winner: Colour) -> &'static [u8]
+    ensures { result.now ≡ yes_line winner }
+{
+    match winner {
+        Colour::Black => b"yes black\n",
+        Colour::White => b"yes white\n",
+    }
+}
+
+/// Writes some words, a number and an LF.
+#[tactic(auto, using(hx_io::proofs::SinkLaws::several_writes))]
+fn write_counted<K: Sink>(sink: &mut K, words: &[u8], n: u64) -> Result<(), Failed>
+    ensures bytes { TakesAll (K.taken sink.old) (K.taken sink.new) result (counted_text words.now n) }
+    ensures cause { HasCause (K.faults sink.old) (K.faults sink.new) result }
+{
+    let mut buffer = Buffer::new();
+    match write_all(sink, words) {
+        Ok(()) => {}
+        Err(Failed) => return Err(Failed),
+    }
+    match write_all(sink, buffer.format(n).as_bytes()) {
+        Ok(()) => write_all(sink, b"\n"),
+        Err(Failed) => Err(Failed),
+    }
 }

@@ -3,16 +3,14 @@
 
 ghost use Rattle.std.specs.Prelude.{◌≡◌, ◌+◌, ◌-◌, ◌^◌, ◌<◌, ◌≤◌, ◌++◌, ◌∷◌, [], ℕ, List, length, OnOk, OnErr, IsErrOf, MatchOption};
 ghost use Rattle.hx_tree.specs.Rules.{IsRightNode};
-ghost use Rattle.hx_app.specs.Words.{Lacks};
+ghost use Rattle.hx_text.specs.Words.{Lacks};
 ghost use Rattle.hx_app.specs.Answers.{limit};
-ghost use Rattle.hx_app.specs.Reader.{lines_fed};
+ghost use Rattle.hx_text.specs.Reader.{lines_fed};
 ghost use Rattle.hx_app.specs.Judging.{IsJudged, JudgedUpTo, AnswersNode, HasReadAll};
 
 use crate::answers::Answer;
-use crate::places::{Fed, TreeFault};
-use crate::reader::TreeReader;
-use crate::words::cut;
 use hx_board::Memory;
+use hx_text::{Fed, TreeFault, TreeReader, cut};
 use hx_tree::{Heading, Node, check_node};
 use std::alloc::Global;
 
@@ -52,12 +50,12 @@ fn judge_line(
         → JudgedUpTo input reader.old headings.old.items (line.now ++ 10 ∷ later.now)
         → MatchOption result (JudgedUpTo input reader.new headings.new.items later.now × (HasReadAll reader.new → ⊥)) (IsJudged input) }
 {
-    match reader.feed(line) {
+    match reader.feed(line, true) {
         Ok(Fed::More) => None,
         Ok(Fed::Node(node)) => judge_node(headings, &node),
-        Ok(Fed::End) => Some(at_end(reader, headings, later)),
+        Ok(Fed::End(_)) => Some(at_end(reader, headings, later)),
         Err(TreeFault::Text { line }) => Some(Answer::NoText { line }),
-        Err(TreeFault::TooMany) => Some(Answer::TooLong),
+        Err(TreeFault::TooMany { .. }) => Some(Answer::TooLong),
     }
 }
 

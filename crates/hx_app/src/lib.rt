@@ -5,16 +5,8 @@ mod answers;
 mod commands;
 mod input;
 mod judge;
-mod lines;
-mod places;
-mod reader;
-mod spelling;
-mod values;
-mod words;
 
 pub use commands::run;
 
-#[cfg(test)]
-mod plain;
 #[cfg(test)]
 mod tests;

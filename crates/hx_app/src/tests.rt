@@ -3,7 +3,6 @@
 mod damage;
 mod faults;
 mod limits;
-mod spellings;
 mod trees;
 mod words;
 

@@ -39,7 +39,7 @@ fn the_first_write_fails(rt: HostRuntime) -> Result<(), Fail> {
 
 #[test]
 fn each_read_fails_in_turn(rt: HostRuntime) -> Result<(), Fail> {
-    let whole = outcome_of(&rt, rt.alloc(), check_of(EXAMPLE, 2))?;
+    let whole = assert_answer(&rt, rt.alloc(), check_of(EXAMPLE, 2), 0, EXAMPLE_ANSWER)?;
     // The example has 213 bytes, and the last read finds the end.
     assert_eq!(rt; whole.reads, 108);
     for call in 0..whole.reads {

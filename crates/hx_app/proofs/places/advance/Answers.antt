@@ -1,5 +1,0 @@
-use Rattle.hx_app.proofs.Steps.{after_end_wrong}
-use Rattle.hx_app.proofs.places.advance.Goals as goal
-
-pub returns-in-After : goal.returns-in-After
-returns-in-After c = after_end_wrong c.args.place c.args.line.now c.in-After.is

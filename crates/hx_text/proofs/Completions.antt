@@ -1,0 +1,97 @@
+-- From each place of a tree's text it can be gone on: with a node on an empty board, if need be, and a last line. So the
+-- lines that a reader has read begin some text.
+use Rattle.std.proofs.Common.{◌≡◌, ℕ, ◌≤◌, List, [], ◌∷◌, ◌++◌, length, refl, sym, ap, ◌∙◌, subst, arith, append_assoc, length-append}
+use Rattle.std.proofs.lemmas.List.{append-nil}
+use Rattle.std.specs.Prelude.{flat_map}
+use Rattle.hx_board.specs.declared.colours.Colour.TheVariants.{Black}
+use Rattle.hx_board.specs.Cells.{Extent, IsExtent}
+use Rattle.hx_board.proofs.PositionLaws.{empty-is_position}
+use Rattle.hx_tree.specs.declared.nodes.Node.{Node}
+use Rattle.hx_tree.specs.declared.nodes.Rule.TheVariants.{Chain}
+use Rattle.hx_text.specs.declared.places.Place.{Place}
+use Rattle.hx_text.specs.declared.places.Place.TheVariants.{Title, Size, Between, After, Failed}
+use Rattle.hx_text.specs.PositionTexts.{size_line}
+use Rattle.hx_text.specs.Grammars.{Begins}
+use Rattle.hx_text.specs.TreeTexts.{AreTreeLines, AreTreeLinesOf, EachNodeFits, NodeFits, node_lines, front_lines, tree_lines, end_line}
+use Rattle.hx_text.specs.Places.{Stands}
+use Rattle.hx_text.proofs.Steps.{flat_map-push, EachNodeFits-push}
+
+-- the text of these nodes and one more
+abbrev pub whole_text : Extent → List Node → Node → List (List ℕ)
+whole_text size nodes node = tree_lines size (nodes ++ node ∷ []) node.heading.winner
+
+pub whole_are_of : (size : Extent) (nodes : List Node) (node : Node) → IsExtent size.rows size.cols → EachNodeFits size nodes
+    → NodeFits size node → length nodes ≤ 1048576
+    → AreTreeLinesOf size (nodes ++ node ∷ []) node.heading.winner (whole_text size nodes node)
+whole_are_of size nodes node extent each fits room = record {
+  is_size = extent;
+  each = EachNodeFits-push size nodes node each fits;
+  root = record { root = node; last = record { front = nodes; same = refl }; same = refl };
+  count = omega (arith, length-append nodes (node ∷ []));
+  same = refl;
+}
+
+pub whole_are : (size : Extent) (nodes : List Node) (node : Node) → IsExtent size.rows size.cols → EachNodeFits size nodes
+    → NodeFits size node → length nodes ≤ 1048576 → AreTreeLines (whole_text size nodes node)
+whole_are size nodes node extent each fits room =
+    record {
+      size = size;
+      nodes = nodes ++ node ∷ [];
+      winner = node.heading.winner;
+      are = whole_are_of size nodes node extent
+          each fits room;
+    }
+
+-- the text goes on with this node and ends
+with_node : (size : Extent) (nodes : List Node) (node : Node) (lines rest : List (List ℕ))
+    → lines ≡ front_lines size ++ flat_map node_lines nodes → IsExtent size.rows size.cols → EachNodeFits size nodes
+    → NodeFits size node → length nodes ≤ 1048576
+    → rest ≡ node_lines node ++ end_line (length (nodes ++ node ∷ [])) node.heading.winner ∷ [] → AreTreeLines (lines ++ rest)
+with_node size nodes node lines rest is extent each fits room rest_is =
+    let front : List (List ℕ) = front_lines size in
+    let last : List (List ℕ) = end_line (length (nodes ++ node ∷ [])) node.heading.winner ∷ [] in
+    let same : lines ++ rest ≡ whole_text size nodes node =
+    ap (λ (ls : List (List ℕ)). ls ++ rest) is ∙ ap (λ (ls : List (List ℕ)). (front ++ flat_map node_lines nodes) ++ ls) rest_is
+    ∙ sym (append_assoc (front ++ flat_map node_lines nodes) (node_lines node) last)
+    ∙ ap (λ (ls : List (List ℕ)). ls ++ last)
+    (append_assoc front (flat_map node_lines nodes) (node_lines node) ∙ ap (λ (ls : List (List ℕ)). front ++ ls)
+    (sym (flat_map-push nodes node))) in
+    subst AreTreeLines (sym same) (whole_are size nodes node extent each fits room)
+
+-- a node on an empty board
+abbrev plain : Extent → Node
+plain size = record { heading = record { position = record { size = size; black = 0; white = 0 }; to_move = Black; winner = Black }; rule = Chain }
+
+plain_fits : (size : Extent) → IsExtent size.rows size.cols → NodeFits size (plain size)
+plain_fits size extent = record { heading = record { size_is = refl; board = (extent, empty-is_position size) }; rule = tt }
+
+abbrev one : Extent
+one = record { rows = 1; cols = 1 }
+
+pub Begins-stands : (place : Place) (nodes : List Node) (lines : List (List ℕ)) → Stands place nodes lines
+    → Begins AreTreeLines lines
+Begins-stands Title nodes lines stands = (
+  whole_text one [] (plain one),
+  subst AreTreeLines
+      (ap (λ (ls : List (List ℕ)). ls ++ whole_text one [] (plain one)) (sym stands.1))
+      (whole_are one [] (plain one) (omega arith, omega arith, omega arith, omega arith) tt
+      (plain_fits one (omega arith, omega arith, omega arith, omega arith)) (omega arith)),
+)
+Begins-stands Size nodes lines stands =
+    let rest : List (List ℕ) = size_line one ∷ (flat_map node_lines (plain one ∷ []) ++ end_line 1 Black ∷ []) in (
+      rest,
+      subst AreTreeLines (ap (λ (ls : List (List ℕ)). ls ++ rest) (sym stands.1))
+          (whole_are one [] (plain one) (omega arith, omega arith, omega arith, omega arith) tt
+          (plain_fits one (omega arith, omega arith, omega arith, omega arith)) (omega arith)),
+    )
+Begins-stands (Between so_far) nodes lines stands = (
+  node_lines (plain so_far.size) ++ end_line (length (nodes ++ plain so_far.size ∷ [])) Black ∷ [],
+  with_node so_far.size nodes (plain so_far.size) lines _ stands.same stands.is_size stands.each
+      (plain_fits so_far.size stands.is_size) (omega (arith, stands.room, stands.count)) refl,
+)
+Begins-stands After nodes lines stands = (
+  [],
+  subst AreTreeLines (sym (append-nil lines))
+      (record { size = stands.0; nodes = nodes; winner = stands.1; are = stands.2 }),
+)
+Begins-stands (Failed fault) nodes lines stands = absurd stands

@@ -1,0 +1,42 @@
+-- What a cursor over the words of a line has left, and what it says of a line that its words were taken one after the
+-- other: the words that were taken are the first words of the line.
+use Rattle.std.proofs.Common.{◌≡◌, ℕ, List, [], ◌∷◌, ap, ◌∙◌, Bool, true, false}
+use Rattle.std.specs.declared.option.Option.{Option}
+use Rattle.std.specs.declared.option.Option.TheVariants.{None, Some}
+use Rattle.std.proofs.lemmas.Bool.{false≢true}
+use Rattle.hx_text.specs.Words.{Reads, Takes, Lacks, IsCut, split_at_marks, words_left}
+use Rattle.hx_text.proofs.Splits.{split_at_marks-cut, split_at_marks-lacks, split_at_marks-some}
+
+pub words_left-cut : (more : Bool) (rest word later : List ℕ) → more ≡ true → IsCut 32 rest word later
+    → words_left more rest ≡ word ∷ words_left more later
+words_left-cut true rest word later some cut = ap (split_at_marks 32) cut.1 ∙ split_at_marks-cut 32 word later cut.0
+words_left-cut false rest word later some _ = absurd (false≢true some)
+
+pub words_left-lacks : (more : Bool) (rest : List ℕ) → more ≡ true → Lacks 32 rest → words_left more rest ≡ rest ∷ []
+words_left-lacks true rest some lacks = split_at_marks-lacks 32 rest lacks
+words_left-lacks false rest some _ = absurd (false≢true some)
+
+pub words_left-some : (more : Bool) (rest : List ℕ) → more ≡ true → words_left more rest ≡ [] → ⊥
+words_left-some true rest some e = split_at_marks-some 32 rest e
+words_left-some false rest some _ = absurd (false≢true some)
+
+-- the next word is taken, and a reader of words reads it
+pub takes_by_word : {V : Type 0} (spelling : V → List ℕ) (Fits : V → Type 0) (read : Option V) (word : List ℕ) (old new : List (List ℕ))
+    → old ≡ word ∷ new → Reads spelling Fits word read → Takes spelling Fits old read new
+takes_by_word spelling Fits (Some value) word old new e reads = (reads.0, e ∙ ap (λ (first : List ℕ). first ∷ new) reads.1)
+takes_by_word spelling Fits None word old new e reads = λ value rest fits f. reads value fits cc
+
+pub takes_at_end : {V : Type 0} (spelling : V → List ℕ) (Fits : V → Type 0) (old new : List (List ℕ)) → old ≡ []
+    → Takes spelling Fits old None new
+takes_at_end spelling Fits old new e = λ value rest fits f. cc
+
+-- the same words in two ways
+pub first_same : {a b : List ℕ} {old new rest : List (List ℕ)} → old ≡ a ∷ new → old ≡ b ∷ rest → a ≡ b
+first_same {a} {b} {old} {new} {rest} e f = cc
+
+pub rest_same : {a b : List ℕ} {old new rest : List (List ℕ)} → old ≡ a ∷ new → old ≡ b ∷ rest → new ≡ rest
+rest_same {a} {b} {old} {new} {rest} e f = cc
+
+-- a word, and then these words
+pub word_then : {word : List ℕ} {old new rest : List (List ℕ)} → old ≡ word ∷ new → new ≡ rest → old ≡ word ∷ rest
+word_then {word} {old} {new} {rest} e f = cc

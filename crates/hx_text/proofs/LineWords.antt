@@ -1,0 +1,90 @@
+-- The words of the lines of a tree's text. All are of high bytes, so each line gives back the words that it was spelled
+-- from.
+use Rattle.std.proofs.Common.{◌≡◌, ℕ, ◌≤◌, List, [], ◌∷◌, refl, ap, ◌∙◌, arith}
+use Rattle.std.specs.Prelude.{codes}
+use Rattle.std.specs.Fmt.{decimal}
+use Rattle.hx_board.specs.declared.colours.Colour.{Colour}
+use Rattle.hx_board.specs.Cells.{Extent, IsExtent, OnBoard}
+use Rattle.hx_tree.specs.declared.nodes.Node.{Node}
+use Rattle.hx_tree.specs.declared.nodes.Rule.{Rule}
+use Rattle.hx_tree.specs.declared.nodes.Rule.TheVariants.{Chain, Move}
+use Rattle.hx_text.specs.Words.{colour_word, mask_word, words_in, IsNumber}
+use Rattle.hx_text.specs.PositionTexts.{size_line}
+use Rattle.hx_text.specs.TreeTexts.{end_line, rule_words, RuleFits, node_words, node_line, NodeFits}
+use Rattle.hx_text.proofs.Spacing.{IsLine, words_in-spaced}
+use Rattle.hx_text.proofs.HighBytes.{AllHigh, is_high, IsHigh-test, IsHigh-decimal, IsHigh-hex, IsHigh-colour_word, IsHigh-cell_word, IsLine-high}
+
+abbrev pub title_words : List (List ℕ)
+title_words = codes "hextree" ∷ codes "1" ∷ []
+
+pub AllHigh-title_words : AllHigh title_words
+unfolding is_high
+AllHigh-title_words = (IsHigh-test (codes "hextree") refl, (IsHigh-test (codes "1") refl, tt))
+
+-- the line of a size
+
+abbrev pub size_words : ℕ → ℕ → List (List ℕ)
+size_words rows cols = codes "size" ∷ decimal rows ∷ decimal cols ∷ []
+
+pub AllHigh-size_words : (rows cols : ℕ) → IsNumber rows → IsNumber cols → AllHigh (size_words rows cols)
+unfolding is_high
+AllHigh-size_words rows cols few_rows few_cols = (IsHigh-test (codes "size") refl, (IsHigh-decimal rows few_rows, (IsHigh-decimal cols few_cols, tt)))
+
+pub IsLine-size_words : (rows cols : ℕ) → IsNumber rows → IsNumber cols → IsLine (size_words rows cols)
+IsLine-size_words rows cols few_rows few_cols =
+    IsLine-high (codes "size") (decimal rows ∷ decimal cols ∷ []) (AllHigh-size_words rows cols few_rows few_cols)
+
+pub words_in-size_line : (line : List ℕ) (size : Extent) → IsExtent size.rows size.cols → line ≡ size_line size
+    → words_in line ≡ size_words size.rows size.cols
+words_in-size_line line size extent e = ap words_in e
+    ∙ words_in-spaced (size_words size.rows size.cols) (IsLine-size_words size.rows size.cols (omega (arith, extent)) (omega (arith, extent)))
+
+-- the last line
+
+abbrev pub end_words : ℕ → Colour → List (List ℕ)
+end_words count winner = codes "end" ∷ decimal count ∷ colour_word winner ∷ []
+
+pub AllHigh-end_words : (count : ℕ) (winner : Colour) → IsNumber count → AllHigh (end_words count winner)
+unfolding is_high
+AllHigh-end_words count winner small = (IsHigh-test (codes "end") refl, (IsHigh-decimal count small, (IsHigh-colour_word winner, tt)))
+
+pub words_in-end_line : (line : List ℕ) (count : ℕ) (winner : Colour) → IsNumber count → line ≡ end_line count winner
+    → words_in line ≡ end_words count winner
+words_in-end_line line count winner small e =
+    ap words_in e
+    ∙ words_in-spaced (end_words count winner)
+    (IsLine-high (codes "end") (decimal count ∷ colour_word winner ∷ []) (AllHigh-end_words count winner small))
+
+-- the line of a node
+
+AllHigh-rule_words : (size : Extent) (rule : Rule) → size.rows ≤ 11 → RuleFits size rule → AllHigh (rule_words rule)
+unfolding is_high
+AllHigh-rule_words size Chain few fits = (IsHigh-test (codes "chain") refl, tt)
+AllHigh-rule_words size (Move cell child) few fits =
+    let on : OnBoard size cell = fits.0 in
+    (IsHigh-test (codes "move") refl, (IsHigh-cell_word cell (omega (arith, on.row)), (IsHigh-decimal child fits.1, tt)))
+
+pub AllHigh-node_words : (size : Extent) (node : Node) → size.rows ≤ 11 → RuleFits size node.rule → AllHigh (node_words node)
+unfolding is_high
+AllHigh-node_words size node few fits = (
+  IsHigh-test (codes "node") refl,
+  (
+    IsHigh-hex 32 node.heading.position.black,
+    (
+      IsHigh-hex 32 node.heading.position.white,
+      (IsHigh-colour_word node.heading.to_move, (IsHigh-colour_word node.heading.winner, AllHigh-rule_words size node.rule few fits)),
+    ),
+  ),
+)
+
+pub IsLine-node_words : (size : Extent) (node : Node) → size.rows ≤ 11 → RuleFits size node.rule → IsLine (node_words node)
+IsLine-node_words size node few fits =
+    IsLine-high (codes "node")
+    (mask_word node.heading.position.black ∷ mask_word node.heading.position.white ∷ colour_word node.heading.to_move ∷
+    colour_word node.heading.winner ∷ rule_words node.rule)
+    (AllHigh-node_words size node few fits)
+
+pub words_in-node_line : (size : Extent) (line : List ℕ) (node : Node) → IsExtent size.rows size.cols → NodeFits size node
+    → line ≡ node_line node → words_in line ≡ node_words node
+words_in-node_line size line node extent fits e = ap words_in e
+    ∙ words_in-spaced (node_words node) (IsLine-node_words size node extent.1 fits.rule)

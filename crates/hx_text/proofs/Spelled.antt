@@ -1,0 +1,126 @@
+-- Lines in the parts that are put one after the other, and how long these are. The digits of a mask are put from the most
+-- significant down, each the remainder of what is above its place.
+use Rattle.std.proofs.Common.{◌≡◌, ℕ, suc, ◌+◌, ◌*◌, ◌-◌, ◌/◌, ◌%◌, ◌<◌, ◌≤◌, ◌^◌, List, [], ◌∷◌, ◌++◌, length, refl, sym, ap, ◌∙◌, arith, append_assoc, length-append}
+use Rattle.std.specs.Prelude.{codes}
+use Rattle.std.specs.Fmt.{decimal}
+use Rattle.std.proofs.lemmas.Fmt.{length-decimal-le}
+use Rattle.std.proofs.lemmas.List.{append-nil}
+use Rattle.std.proofs.lemmas.Nat.{pow-add}
+use Rattle.std.proofs.Math.Nat.{div-div-eq-div-mul}
+use Rattle.hx_board.specs.declared.colours.Colour.{Colour}
+use Rattle.hx_board.specs.declared.colours.Colour.TheVariants.{Black, White}
+use Rattle.hx_board.specs.Cells.{Extent}
+use Rattle.hx_board.specs.Positions.{Board}
+use Rattle.hx_tree.specs.declared.nodes.Node.{Node}
+use Rattle.hx_tree.specs.declared.nodes.Rule.{Rule}
+use Rattle.hx_tree.specs.declared.nodes.Rule.TheVariants.{Chain, Move}
+use Rattle.hx_text.specs.Words.{hex, hex_digit, spaced, colour_word, mask_word, cell_word}
+use Rattle.hx_text.specs.Grammars.{text_of}
+use Rattle.hx_text.specs.PositionTexts.{size_line, stones_line, move_line, position_text}
+use Rattle.hx_text.specs.TreeTexts.{rule_words, node_lines, front_lines, end_line}
+use Rattle.hx_text.proofs.Masks.{length-hex}
+
+pub length-colour_word : (colour : Colour) → length (colour_word colour) ≡ 5
+length-colour_word Black = refl
+length-colour_word White = refl
+
+pub length-small : (n : ℕ) → n < 100 → length (decimal n) ≤ 2
+length-small n small = length-decimal-le 2 n (omega arith) (omega arith) (omega arith)
+
+pub size_spelled : (old : List ℕ) (size : Extent)
+    → ((((old ++ codes "size ") ++ decimal size.rows) ++ codes " ") ++ decimal size.cols) ++ codes "\n" ≡ old ++ (size_line size ++ 10 ∷ [])
+unfolding spaced
+size_spelled old size = simp append_assoc
+
+pub stones_spelled : (old : List ℕ) (colour : Colour) (stones : ℕ)
+    → (((old ++ colour_word colour) ++ codes " ") ++ mask_word stones) ++ codes "\n" ≡ old ++ (stones_line colour stones ++ 10 ∷ [])
+unfolding spaced
+stones_spelled old colour stones = simp append_assoc
+
+pub move_spelled : (old : List ℕ) (mover : Colour)
+    → ((old ++ codes "move ") ++ colour_word mover) ++ codes "\n" ≡ old ++ (move_line mover ++ 10 ∷ [])
+unfolding spaced
+move_spelled old mover = simp append_assoc
+
+five_lines : (old a b c d e : List ℕ)
+    → ((((old ++ (a ++ 10 ∷ [])) ++ (b ++ 10 ∷ [])) ++ (c ++ 10 ∷ [])) ++ (d ++ 10 ∷ [])) ++ (e ++ 10 ∷ []) ≡ old ++ text_of (a ∷ b ∷ c ∷ d ∷ e ∷ [])
+unfolding text_of
+five_lines old a b c d e = simp append_assoc
+
+pub position_spelled : (old : List ℕ) (board : Board) (mover : Colour)
+    → ((((old ++ codes "hexpos 1\n") ++ (size_line board.size ++ 10 ∷ [])) ++ (stones_line Black board.black ++ 10 ∷ [])) ++
+    (stones_line White board.white ++ 10 ∷ [])) ++ (move_line mover ++ 10 ∷ []) ≡ old ++ position_text board mover
+unfolding spaced
+position_spelled old board mover =
+    five_lines old (spaced (codes "hexpos" ∷ codes "1" ∷ [])) (size_line board.size) (stones_line Black board.black)
+    (stones_line White board.white) (move_line mover)
+
+pub heading_spelled : (old : List ℕ) (size : Extent)
+    → (old ++ codes "hextree 1\n") ++ (size_line size ++ 10 ∷ []) ≡ old ++ text_of (front_lines size)
+unfolding spaced text_of
+heading_spelled old size = simp append_assoc
+
+pub chain_spelled : (old : List ℕ) → old ++ codes "chain" ≡ old ++ spaced (rule_words Chain)
+unfolding spaced
+chain_spelled old = refl
+
+pub winning_spelled : (old : List ℕ) (cell child : ℕ)
+    → (((old ++ codes "move ") ++ cell_word cell) ++ codes " ") ++ decimal child ≡ old ++ spaced (rule_words (Move cell child))
+unfolding spaced
+winning_spelled old cell child = simp append_assoc
+
+pub end_spelled : (old : List ℕ) (count : ℕ) (winner : Colour)
+    → ((((old ++ codes "end ") ++ decimal count) ++ codes " ") ++ colour_word winner) ++ codes "\n" ≡ old ++ text_of (end_line count winner ∷ [])
+unfolding spaced text_of
+end_spelled old count winner = simp append_assoc
+
+-- the parts that a node's line is put in are those of the line, whatever stands for the space
+in_parts : (old word black white mover winner rule gap end : List ℕ)
+    → ((((old ++ word) ++ ((black ++ (gap ++ white)) ++ gap)) ++ ((mover ++ (gap ++ winner)) ++ gap)) ++ rule) ++ end
+    ≡ old ++ ((word ++ (black ++ (gap ++ (white ++ (gap ++ (mover ++ (gap ++ (winner ++ (gap ++ rule))))))))) ++ end)
+in_parts old word black white mover winner rule gap end = simp append_assoc
+
+-- a line of five words and those of a rule
+line_spelled : (old black white mover winner : List ℕ) (rule : Rule)
+    → ((((old ++ codes "node ") ++ (black ++ 32 ∷ white ++ 32 ∷ [])) ++ (mover ++ 32 ∷ winner ++ 32 ∷ [])) ++ spaced (rule_words rule)) ++ codes "\n"
+    ≡ old ++ text_of (spaced (codes "node" ∷ black ∷ white ∷ mover ∷ winner ∷ rule_words rule) ∷ [])
+unfolding spaced text_of
+line_spelled old black white mover winner Chain =
+    in_parts old (codes "node ") black white mover winner (spaced (rule_words Chain)) (32 ∷ []) (10 ∷ [])
+line_spelled old black white mover winner (Move cell child) =
+    in_parts old (codes "node ") black white mover winner (spaced (rule_words (Move cell child))) (32 ∷ []) (10 ∷ [])
+
+pub node_spelled : (old : List ℕ) (node : Node)
+    → ((((old ++ codes "node ")
+    ++ (mask_word node.heading.position.black ++ 32 ∷ mask_word node.heading.position.white ++ 32 ∷ []))
+    ++ (colour_word node.heading.to_move ++ 32 ∷ colour_word node.heading.winner ++ 32 ∷ []))
+    ++ spaced (rule_words node.rule)) ++ codes "\n" ≡ old ++ text_of (node_lines node)
+node_spelled old node =
+    line_spelled old (mask_word node.heading.position.black) (mask_word node.heading.position.white) (colour_word node.heading.to_move)
+    (colour_word node.heading.winner) node.rule
+
+-- the digits of a mask down to a place
+pub hex_none : (old : List ℕ) (bits : ℕ) → old ≡ old ++ hex 0 bits
+unfolding hex
+hex_none old bits = sym (append-nil old)
+
+pub hex_next : (old now : List ℕ) (bits place digit : ℕ) → 0 < place → place ≤ 32
+    → now ≡ (old ++ hex (32 - place) (bits / 2 ^ (4 * place))) ++ digit ∷ []
+    → digit ≡ hex_digit (bits / 2 ^ (4 * (place - 1)) % 16)
+    → now ≡ old ++ hex (32 - (place - 1)) (bits / 2 ^ (4 * (place - 1)))
+unfolding hex
+hex_next old now bits place digit some few is same =
+    let count : 32 - (place - 1) ≡ suc (32 - place) = omega arith in
+    let shift : 4 * place ≡ 4 * (place - 1) + 4 = omega arith in
+    let high : bits / 2 ^ (4 * (place - 1)) / 16 ≡ bits / 2 ^ (4 * place) = div-div-eq-div-mul bits (2 ^ (4 * (place - 1))) 16
+    ∙ ap (λ (n : ℕ). bits / n) (sym (ap (λ (n : ℕ). 2 ^ n) shift ∙ pow-add 2 (4 * (place - 1)) 4)) in
+    is ∙ append_assoc old (hex (32 - place) (bits / 2 ^ (4 * place))) (digit ∷ [])
+    ∙ ap (λ (xs : List ℕ). old ++ xs)
+    (ap (λ (n : ℕ). hex (32 - place) n ++ digit ∷ []) (sym high) ∙ ap
+    (λ (d : ℕ). hex (32 - place) (bits / 2 ^ (4 * (place - 1)) / 16) ++ d ∷ []) same ∙ ap
+    (λ (k : ℕ). hex k (bits / 2 ^ (4 * (place - 1)))) (sym count))
+
+pub length-digits : (old now : List ℕ) (bits place : ℕ) → now ≡ old ++ hex (32 - place) bits
+    → length now ≡ length old + (32 - place)
+length-digits old now bits place is = ap length is ∙ length-append old (hex (32 - place) bits)
+    ∙ ap (λ (n : ℕ). length old + n) (length-hex (32 - place) bits)

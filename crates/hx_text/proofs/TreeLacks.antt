@@ -1,0 +1,47 @@
+-- No line of a tree's text has an LF in it, since its words are of high bytes. So each line in which such a text begins is
+-- a line of the input.
+use Rattle.std.proofs.Common.{ℕ, ◌≤◌, List, [], ◌∷◌, ◌++◌, length, sym, subst, arith}
+use Rattle.std.specs.Prelude.{flat_map}
+use Rattle.hx_board.specs.declared.colours.Colour.{Colour}
+use Rattle.hx_board.specs.Cells.{Extent, IsExtent}
+use Rattle.hx_tree.specs.declared.nodes.Node.{Node}
+use Rattle.hx_text.specs.Words.{Lacks, IsNumber}
+use Rattle.hx_text.specs.Grammars.{Begins}
+use Rattle.hx_text.specs.TreeTexts.{AreTreeLines, EachNodeFits, NodeFits, node_words, node_line, node_lines, front_lines, tree_lines, end_line}
+use Rattle.hx_text.proofs.Cuts.{AllLack, Lacks-middle, AllLack-append, AllLack-front}
+use Rattle.hx_text.proofs.HighBytes.{Lacks-spaced}
+use Rattle.hx_text.proofs.LineWords.{title_words, AllHigh-title_words, size_words, AllHigh-size_words, end_words, AllHigh-end_words, AllHigh-node_words}
+
+Lacks-node_line : (size : Extent) (node : Node) → size.rows ≤ 11 → NodeFits size node → Lacks 10 (node_line node)
+Lacks-node_line size node few fits = Lacks-spaced (node_words node) (AllHigh-node_words size node few fits.rule)
+
+AllLack-node_lines : (size : Extent) (nodes : List Node) → size.rows ≤ 11 → EachNodeFits size nodes
+    → AllLack (flat_map node_lines nodes)
+AllLack-node_lines size [] few each = tt
+AllLack-node_lines size (node ∷ nodes) few each = (Lacks-node_line size node few each.0, AllLack-node_lines size nodes few each.1)
+
+AllLack-front_lines : (size : Extent) → IsExtent size.rows size.cols → AllLack (front_lines size)
+AllLack-front_lines size extent = (
+  Lacks-spaced title_words AllHigh-title_words,
+  (Lacks-spaced (size_words size.rows size.cols) (AllHigh-size_words size.rows size.cols (omega (arith, extent)) (omega (arith, extent))), tt),
+)
+
+Lacks-end_line : (count : ℕ) (winner : Colour) → IsNumber count → Lacks 10 (end_line count winner)
+Lacks-end_line count winner small = Lacks-spaced (end_words count winner) (AllHigh-end_words count winner small)
+
+pub AllLack-tree_lines : (lines : List (List ℕ)) → AreTreeLines lines → AllLack lines
+AllLack-tree_lines lines are =
+    let few : are.size.rows ≤ 11 = are.are.is_size.1 in
+    let front : AllLack (front_lines are.size ++ flat_map node_lines are.nodes) =
+    AllLack-append (front_lines are.size) (flat_map node_lines are.nodes) (AllLack-front_lines are.size are.are.is_size)
+    (AllLack-node_lines are.size are.nodes few are.are.each) in
+    let whole : AllLack (tree_lines are.size are.nodes are.winner) =
+    AllLack-append (front_lines are.size ++ flat_map node_lines are.nodes) (end_line (length are.nodes) are.winner ∷ []) front
+    (Lacks-end_line (length are.nodes) are.winner are.are.count, tt) in
+    subst AllLack (sym are.are.same) whole
+
+pub Lacks-begun : (before : List (List ℕ)) (line : List ℕ) → Begins AreTreeLines (before ++ line ∷ []) → Lacks 10 line
+Lacks-begun before line begins = Lacks-middle before line begins.0 (AllLack-tree_lines ((before ++ line ∷ []) ++ begins.0) begins.1)
+
+pub AllLack-begun : (lines : List (List ℕ)) → Begins AreTreeLines lines → AllLack lines
+AllLack-begun lines begins = AllLack-front lines begins.0 (AllLack-tree_lines (lines ++ begins.0) begins.1)

@@ -1,0 +1,94 @@
+-- The places in a tree's text: what each says of the lines and nodes before it, and what one more line does there.
+use Rattle.std.specs.Prelude.{◌≡◌, ◌≢◌, ℕ, ◌<◌, ◌≤◌, List, [], ◌∷◌, ◌++◌, length, flat_map, Bool, IsTrue}
+use Rattle.std.specs.declared.option.Option.{Option}
+use Rattle.std.specs.declared.option.Option.TheVariants.{None, Some}
+use Rattle.std.specs.declared.result.Result.{Result}
+use Rattle.std.specs.declared.result.Result.TheVariants.{Ok, Err}
+use Rattle.hx_board.specs.declared.colours.Colour.{Colour}
+use Rattle.hx_board.specs.Cells.{Extent, IsExtent}
+use Rattle.hx_tree.specs.declared.nodes.Node.{Node}
+use Rattle.hx_text.specs.declared.places.SoFar.{SoFar}
+use Rattle.hx_text.specs.declared.places.Fed.{Fed}
+use Rattle.hx_text.specs.declared.places.Fed.TheVariants.{More, Node as Whole, End}
+use Rattle.hx_text.specs.declared.places.Place.{Place}
+use Rattle.hx_text.specs.declared.places.Place.TheVariants.{Title, Size, Between, After, Failed}
+use Rattle.hx_text.specs.declared.places.Step.{Step}
+use Rattle.hx_text.specs.declared.places.TreeFault.{TreeFault}
+use Rattle.hx_text.specs.declared.places.TreeFault.TheVariants.{Text, TooMany as TooManyNodes}
+use Rattle.hx_text.specs.declared.places.Stop.{Stop}
+use Rattle.hx_text.specs.declared.places.Stop.TheVariants.{Wrong, TooMany}
+use Rattle.hx_text.specs.Grammars.{Begins}
+use Rattle.hx_text.specs.TreeTexts.{AreTreeLines, AreTreeLinesOf, EachNodeFits, NodeFits, IsRootWinner, title_line, front_lines, node_line, node_lines}
+
+-- the most nodes of a text
+abbrev pub most_nodes : ℕ
+most_nodes = 1048576
+
+-- the winner in the last node's heading, if there is a node
+abbrev pub IsLastWinner : List Node → Option Colour → Type 0
+IsLastWinner nodes None = nodes ≡ []
+IsLastWinner nodes (Some winner) = IsRootWinner nodes winner
+
+-- the lines so far are those of these nodes
+pub record StandsSoFar (so_far : SoFar) (nodes : List Node) (lines : List (List ℕ)) : Type 0 where
+  pub is_size : IsExtent so_far.size.rows so_far.size.cols
+  pub each : EachNodeFits so_far.size nodes
+  pub winner : IsLastWinner nodes so_far.winner
+  pub count : so_far.count ≡ length nodes
+  pub room : so_far.count ≤ most_nodes
+  pub same : lines ≡ front_lines so_far.size ++ flat_map node_lines nodes
+
+-- the lines so far are those of these nodes, at this place in the text
+abbrev pub Stands : Place → List Node → List (List ℕ) → Type 0
+Stands Title nodes lines = (nodes ≡ []) × (lines ≡ [])
+Stands Size nodes lines = (nodes ≡ []) × (lines ≡ title_line ∷ [])
+Stands (Between so_far) nodes lines = StandsSoFar so_far nodes lines
+Stands After nodes lines = (size : Extent) × (winner : Colour) × AreTreeLinesOf size nodes winner lines
+Stands (Failed fault) nodes lines = ⊥
+
+-- a right line of a node of this text
+pub record IsNextNode (place : Place) (line : List ℕ) : Type 0 where
+  pub so_far : SoFar
+  pub is : place ≡ Between so_far
+  pub node : Node
+  pub fits : NodeFits so_far.size node
+  pub same : line ≡ node_line node
+
+-- what a line brought: the place after it, the nodes before it, the lines with it; the end comes with the last line alone
+abbrev pub Brings : Fed → Place → List Node → List (List ℕ) → Type 0
+Brings More new nodes lines = (new ≢ After) × Stands new nodes lines
+Brings (Whole node) new nodes lines = (new ≢ After) × Stands new (nodes ++ node ∷ []) lines
+Brings (End winner) new nodes lines = (new ≡ After) × ((size : Extent) × AreTreeLinesOf size nodes winner lines)
+
+-- what a step over a line says: the place and the nodes before the line, the line, the lines with it
+abbrev pub Follows : Place → List Node → List ℕ → List (List ℕ) → Result Step Stop → Type 0
+Follows old nodes line lines (Ok step) = Brings step.fed step.place nodes lines
+Follows old nodes line lines (Err Wrong) = Begins AreTreeLines lines → ⊥
+Follows old nodes line lines (Err TooMany) = (length nodes ≡ most_nodes) × IsNextNode old line
+
+-- the same, whatever nodes and lines came before
+abbrev pub Goes : Place → List ℕ → Result Step Stop → Type 0
+Goes old line result = (nodes : List Node) (lines : List (List ℕ)) → Stands old nodes lines → Follows old nodes line (lines ++ line ∷ []) result
+
+-- the line is none of a node on a board of this size
+abbrev pub IsNoNodeLine : Extent → List ℕ → Type 0
+IsNoNodeLine size line = (node : Node) → NodeFits size node → line ≡ node_line node → ⊥
+
+-- what comes after a node's line
+abbrev pub EndsNode : SoFar → Node → Step → Type 0
+EndsNode so_far node step =
+    (nodes : List Node) (lines : List (List ℕ)) → StandsSoFar so_far nodes lines → so_far.count < most_nodes → NodeFits so_far.size node
+    → Brings step.fed step.place nodes (lines ++ node_lines node)
+
+-- what a reader says of one more line: old and new are the places before and after it, lines the lines with it
+abbrev pub Told : Place → List ℕ → Bool → ℕ → List Node → List (List ℕ) → Place → Result Fed TreeFault → Type 0
+Told old line ended number nodes lines new (Ok fed) = IsTrue ended × Brings fed new nodes lines
+-- the line is not ended, or is not of the grammar in its place
+Told old line ended number nodes lines new (Err (Text at_line)) = (at_line ≡ number) × (IsTrue ended → Begins AreTreeLines lines → ⊥)
+-- the line is a right one of one node too many
+Told old line ended number nodes lines new (Err (TooManyNodes count)) = IsTrue ended × (count ≡ most_nodes) × (length nodes ≡ most_nodes) × IsNextNode old line
+
+-- the fault of the line with this number, which was not taken
+abbrev pub fault_of_stop : Stop → ℕ → TreeFault
+fault_of_stop Wrong number = Text number
+fault_of_stop TooMany number = TooManyNodes most_nodes

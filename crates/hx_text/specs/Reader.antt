@@ -1,0 +1,29 @@
+-- What a reader of a tree's text has read, and what it says of one more line.
+use Rattle.std.specs.Prelude.{◌≡◌, ℕ, ◌+◌, ◌-◌, ◌^◌, List, [], ◌∷◌, ◌++◌, min, Bool}
+use Rattle.std.specs.declared.result.Result.{Result}
+use Rattle.hx_tree.specs.declared.nodes.Node.{Node}
+use Rattle.hx_text.specs.declared.places.Fed.{Fed}
+use Rattle.hx_text.specs.declared.places.Place.TheVariants.{Failed}
+use Rattle.hx_text.specs.declared.places.TreeFault.{TreeFault}
+use Rattle.hx_text.specs.declared.reader.TreeReader.{TreeReader}
+use Rattle.hx_text.specs.Places.{Stands, Told}
+
+-- the lines that the reader was fed with are those of the nodes that it handed out
+abbrev pub HasRead : TreeReader → List Node → List (List ℕ) → Type 0
+HasRead reader nodes lines = Stands reader.place nodes lines
+
+-- the reader answers this fault from now on
+abbrev pub HasFailed : TreeReader → TreeFault → Type 0
+HasFailed reader fault = reader.place ≡ Failed fault
+
+-- how many lines were fed, up to the last value of the count
+abbrev pub lines_fed : TreeReader → ℕ
+lines_fed reader = reader.fed
+
+-- the next value of a count of 64 bits, which stands at its last value
+abbrev pub one_more : ℕ → ℕ
+one_more count = min (count + 1) (2 ^ 64 - 1)
+
+-- what a reader says of one more line, after it handed out these nodes and was fed with these lines
+abbrev pub Says : TreeReader → TreeReader → List Node → List (List ℕ) → List ℕ → Bool → Result Fed TreeFault → Type 0
+Says old new nodes lines line ended result = Told old.place line ended new.fed nodes (lines ++ line ∷ []) new.place result

@@ -1,0 +1,22 @@
+//! The texts of positions and of trees, read and written exactly.
+#![tactic(auto)]
+
+mod lines;
+mod places;
+mod positions;
+mod reader;
+mod spelling;
+mod values;
+mod words;
+mod writer;
+
+pub use places::{Fed, TreeFault};
+pub use positions::{TextFault, read_position};
+pub use reader::TreeReader;
+pub use words::cut;
+pub use writer::{write_end, write_heading, write_node, write_position};
+
+#[cfg(test)]
+mod plain;
+#[cfg(test)]
+mod tests;

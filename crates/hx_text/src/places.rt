@@ -1,0 +1,179 @@
+//! The places in the text of a tree, and what one more line does at each. A place holds all that the next line is
+//! judged by, so no line is read twice.
+
+ghost use Rattle.std.specs.Prelude.{◌≡◌, ◌↔◌, IsTrue};
+ghost use Rattle.hx_text.specs.Places.{Goes, IsNoNodeLine, EndsNode};
+
+use crate::lines;
+use hx_board::{Colour, Size};
+use hx_tree::Node;
+
+/// Why a text is not read on.
+#[derive(Clone, Copy, PartialEq, Eq, Debug)]
+pub enum TreeFault {
+    /// The line with this number, counted from 1, is not of the grammar in its place.
+    Text { line: u64 },
+    /// The line begins one node more than a text may have, which is this many.
+    TooMany { nodes: u32 },
+}
+
+/// What a line brought.
+#[derive(PartialEq, Eq, Debug, Drop)]
+pub enum Fed {
+    /// Nothing yet.
+    More,
+    /// A node, which ends with this line.
+    Node(Node),
+    /// The end of the text, with the winner of its last node.
+    End(Colour),
+}
+
+/// What the lines after the size have said so far: how many nodes, and the winner of the last.
+#[derive(Clone, Copy, PartialEq, Eq, Debug)]
+pub struct SoFar {
+    pub size: Size,
+    pub count: u32,
+    pub winner: Option<Colour>,
+}
+
+/// Where the next line stands.
+#[derive(Clone, Copy, PartialEq, Eq, Debug)]
+pub enum Place {
+    /// At the first line, the title.
+    Title,
+    /// At the line of the board's size.
+    Size,
+    /// At a line of a node, or at the last line.
+    Between(SoFar),
+    /// After the last line.
+    After,
+    /// After a line that was not taken.
+    Failed(TreeFault),
+}
+
+/// A step to the place after a line, and what the line brought.
+#[derive(PartialEq, Eq, Debug, Drop)]
+pub struct Step {
+    pub fed: Fed,
+    pub place: Place,
+}
+
+/// Why a line is not taken.
+#[derive(Clone, Copy, PartialEq, Eq, Debug)]
+pub enum Stop {
+    /// It is not of the grammar in its place.
+    Wrong,
+    /// It begins one node more than a text may have.
+    TooMany,
+}
+
+/// The most nodes of a text.
+pub(crate) const MOST_NODES: u32 = 1_048_576;
+
+/// Takes one more line, without its LF.
+pub(crate) fn advance(place: Place, line: &[u8]) -> Result<Step, Stop>
+    ensures { Goes place line.now result }
+{
+    match place {
+        Place::Title => at_title(line),
+        Place::Size => at_size(line),
+        Place::Between(so_far) => between(so_far, line),
+        Place::After => Err(Stop::Wrong),
+        Place::Failed(_) => Err(Stop::Wrong),
+    }
+}
+
+/// Takes the title.
+fn at_title(line: &[u8]) -> Result<Step, Stop>
+    ensures { Goes Place.Title line.now result }
+{
+    if lines::is_title(line) {
+        Ok(Step {
+            fed: Fed::More,
+            place: Place::Size,
+        })
+    } else {
+        Err(Stop::Wrong)
+    }
+}
+
+/// Takes the line of the size.
+fn at_size(line: &[u8]) -> Result<Step, Stop>
+    ensures { Goes Place.Size line.now result }
+{
+    match lines::read_size(line) {
+        Some(size) => {
+            let so_far = SoFar {
+                size,
+                count: 0,
+                winner: None,
+            };
+            Ok(Step {
+                fed: Fed::More,
+                place: Place::Between(so_far),
+            })
+        }
+        None => Err(Stop::Wrong),
+    }
+}
+
+/// Takes a line of a node, or the last line.
+fn between(so_far: SoFar, line: &[u8]) -> Result<Step, Stop>
+    ensures { Goes (Place.Between so_far) line.now result }
+{
+    match lines::read_node(so_far.size, line) {
+        Some(node) => {
+            if so_far.count < MOST_NODES {
+                Ok(with_node(so_far, node))
+            } else {
+                Err(Stop::TooMany)
+            }
+        }
+        None => at_end(so_far, line),
+    }
+}
+
+/// The step over a node's line.
+fn with_node(so_far: SoFar, node: Node) -> Step
+    ensures { EndsNode so_far node result }
+{
+    let next = SoFar {
+        size: so_far.size,
+        count: so_far.count.saturating_add(1),
+        winner: Some(node.heading.winner),
+    };
+    Step {
+        fed: Fed::Node(node),
+        place: Place::Between(next),
+    }
+}
+
+/// Takes a line that is none of a node.
+fn at_end(so_far: SoFar, line: &[u8]) -> Result<Step, Stop>
+    requires { IsNoNodeLine so_far.size line.now }
+    ensures { Goes (Place.Between so_far) line.now result }
+{
+    match lines::read_end(line) {
+        Some(end) => {
+            if is_end(so_far, end) {
+                Ok(Step {
+                    fed: Fed::End(end.winner),
+                    place: Place::After,
+                })
+            } else {
+                Err(Stop::Wrong)
+            }
+        }
+        None => Err(Stop::Wrong),
+    }
+}
+
+/// Whether these are the number of nodes and the winner of the last.
+fn is_end(so_far: SoFar, end: lines::End) -> bool
+    ensures { IsTrue result ↔ ((end.count ≡ so_far.count) × (so_far.winner ≡ Some end.winner)) }
+{
+    match so_far.winner {
+        Some(last) => end.count == so_far.count && last == end.winner,
+        None => false,
+    }
+}

@@ -1,0 +1,115 @@
+//! The reader of a tree's text, which is fed line by line and hands out each node with its last line. It counts the
+//! lines and keeps its first fault, and leaves to the places what a line may be.
+
+ghost use Rattle.std.specs.Prelude.{◌≡◌, ◌∷◌, ◌++◌, [], ℕ, List, IfErr, true};
+ghost use Rattle.hx_tree.specs.declared.nodes.Node.{Node as TreeNode};
+ghost use Rattle.hx_text.specs.declared.places.TreeFault.{TreeFault as Fault};
+ghost use Rattle.hx_text.specs.Grammars.{Begins};
+ghost use Rattle.hx_text.specs.TreeTexts.{AreTreeLines};
+ghost use Rattle.hx_text.specs.Places.{Stands, Told, fault_of_stop};
+ghost use Rattle.hx_text.specs.Reader.{HasRead, HasFailed, Says, lines_fed, one_more};
+
+use crate::places::{self, Fed, MOST_NODES, Place, Step, Stop, TreeFault};
+
+/// Reads the text of a tree line by line.
+#[derive(Debug, Drop)]
+pub struct TreeReader {
+    fed: u64,
+    place: Place,
+}
+
+/// What the reader says of a line, and the place after it.
+#[derive(Drop)]
+struct Taken {
+    told: Result<Fed, TreeFault>,
+    place: Place,
+}
+
+impl TreeReader {
+    /// A reader at the beginning of a text.
+    pub fn new() -> TreeReader
+        ensures nothing { HasRead result [] [] }
+        ensures none { lines_fed result ≡ 0 }
+    {
+        TreeReader {
+            fed: 0,
+            place: Place::Title,
+        }
+    }
+
+    /// How many lines were fed.
+    pub fn lines(&self) -> u64
+        ensures { result ≡ lines_fed self.now }
+    {
+        self.fed
+    }
+
+    /// Takes one more line, without its LF, and whether an LF followed.
+    pub fn feed(&mut self, line: &[u8], ended: bool) -> Result<Fed, TreeFault>
+        ensures count { lines_fed self.new ≡ one_more (lines_fed self.old) }
+        ensures says { (nodes : List TreeNode) (lines : List (List ℕ)) → HasRead self.old nodes lines
+            → Says self.old self.new nodes lines line.now ended result }
+        ensures failed { IfErr result (λ fault. HasFailed self.new fault) }
+        // A fault is answered for ever after.
+        ensures again { (fault : Fault) → HasFailed self.old fault → result ≡ Err fault }
+    {
+        self.fed = self.fed.saturating_add(1);
+        let Taken { told, place } = take_line(self.place, line, ended, self.fed);
+        self.place = place;
+        told
+    }
+}
+
+/// What the reader says, and its next place.
+fn take_line(place: Place, line: &[u8], ended: bool, number: u64) -> Taken
+    ensures says { (nodes : List TreeNode) (lines : List (List ℕ)) → Stands place nodes lines
+        → Told place line.now ended number nodes (lines ++ line.now ∷ []) result.place result.told }
+    ensures failed { IfErr result.told (λ fault. result.place ≡ Place.Failed fault) }
+    ensures again { (fault : Fault) → place ≡ Place.Failed fault → result.told ≡ Err fault }
+{
+    if let Place::Failed(fault) = place {
+        return Taken {
+            told: Err(fault),
+            place,
+        };
+    }
+    if !ended {
+        return failed(TreeFault::Text { line: number });
+    }
+    stepped(place, line, number)
+}
+
+/// A fault, which is kept.
+fn failed(fault: TreeFault) -> Taken
+    ensures { result ≡ record { told = Err fault; place = Place.Failed fault } }
+{
+    Taken {
+        told: Err(fault),
+        place: Place::Failed(fault),
+    }
+}
+
+/// What the reader says, and its next place, where it has found no fault before.
+fn stepped(place: Place, line: &[u8], number: u64) -> Taken
+    ensures says { (nodes : List TreeNode) (lines : List (List ℕ)) → Stands place nodes lines
+        → Told place line.now true number nodes (lines ++ line.now ∷ []) result.place result.told }
+    ensures failed { IfErr result.told (λ fault. result.place ≡ Place.Failed fault) }
+{
+    match places::advance(place, line) {
+        Ok(Step { fed, place }) => Taken {
+            told: Ok(fed),
+            place,
+        },
+        Err(stop) => failed(fault_of(stop, number)),
+    }
+}
+
+/// The fault of a line with this number that was not taken.
+fn fault_of(stop: Stop, number: u64) -> TreeFault
+    ensures { result ≡ fault_of_stop stop number }
+{
+    match stop {
+        Stop::Wrong => TreeFault::Text { line: number },
+        Stop::TooMany => TreeFault::TooMany { nodes: MOST_NODES },
+    }
+}

@@ -1,0 +1,247 @@
+//! Spelling the texts that go out. A text is put together in place, so that it needs no memory and can be written at
+//! once. None is longer than 128 bytes: the longest, that of a position, has 109.
+
+ghost use Rattle.std.specs.Prelude.{◌≡◌, ◌+◌, ◌≤◌, ◌++◌, ◌<◌, ◌∷◌, [], length};
+ghost use Rattle.std.specs.Fmt.{decimal};
+ghost use Rattle.hx_tree.specs.declared.nodes.Rule.TheVariants.{Move};
+ghost use Rattle.hx_text.specs.Words.{hex_digit, mask_word, colour_word, cell_word, spaced};
+ghost use Rattle.hx_text.specs.Grammars.{text_of};
+ghost use Rattle.hx_text.specs.PositionTexts.{size_line, stones_line, move_line, position_text};
+ghost use Rattle.hx_text.specs.TreeTexts.{rule_words, node_lines, front_lines, end_line};
+
+use crate::values;
+use arrayvec::ArrayVec;
+use hx_board::{Cell, Colour, Mask, Position, Size};
+use hx_tree::{Node, Rule};
+use itoa::Buffer;
+use std::marker::Model;
+
+/// How many digits a mask has.
+const MASK_DIGITS: u8 = 32;
+
+/// A text of at most 128 bytes, seen as its bytes.
+#[derive(Drop)]
+pub(crate) struct Text {
+    bytes: ArrayVec<u8, 128>,
+}
+
+impl Model for Text {
+    ghost use Rattle.std.specs.Prelude.{List, ℕ};
+
+    ghost Value = { List ℕ };
+
+    ghost view = { λ t. t.bytes.items };
+}
+
+impl Text {
+    /// The empty text.
+    pub(crate) fn new() -> Text
+        ensures { result ≡ [] }
+    {
+        Text {
+            bytes: ArrayVec::new(),
+        }
+    }
+
+    /// Its bytes.
+    pub(crate) fn bytes(&self) -> &[u8]
+        ensures { result.now ≡ self.now }
+    {
+        self.bytes.as_slice()
+    }
+
+    /// Puts these bytes at the end.
+    pub(crate) fn put(&mut self, bytes: &[u8])
+        requires { length self.old + length bytes.now ≤ 128 }
+        ensures { self.new ≡ self.old ++ bytes.now }
+    {
+        self.bytes.try_extend_from_slice(bytes).unwrap();
+    }
+
+    /// Puts the word of a colour.
+    pub(crate) fn put_colour(&mut self, colour: Colour)
+        requires { length self.old + 5 ≤ 128 }
+        ensures { self.new ≡ self.old ++ colour_word colour }
+    {
+        self.put(values::colour_word(colour));
+    }
+
+    /// Puts the digits of a mask, the most significant first.
+    pub(crate) fn put_mask(&mut self, mask: Mask)
+        requires { length self.old + 32 ≤ 128 }
+        ensures { self.new ≡ self.old ++ mask_word mask }
+    {
+        let bits = mask.bits();
+        for place in (0..MASK_DIGITS).rev() {
+            let digit = (bits >> (4 * place)) % 16;
+            self.put(&[hex_digit_of(digit as u8)]);
+        }
+    }
+
+    /// Puts the text of a position and the player to move.
+    pub(crate) fn put_position(&mut self, position: &Position, to_move: Colour)
+        requires { length self.old + 109 ≤ 128 }
+        ensures { self.new ≡ self.old ++ position_text position.now to_move }
+    {
+        self.put(b"hexpos 1\n");
+        self.put_size(position.size());
+        self.put_stones(Colour::Black, position.stones(Colour::Black));
+        self.put_stones(Colour::White, position.stones(Colour::White));
+        self.put_move(to_move);
+    }
+
+    /// Puts the line of a size.
+    fn put_size(&mut self, size: Size)
+        requires { length self.old + 11 ≤ 128 }
+        ensures text { self.new ≡ self.old ++ (size_line size ++ 10 ∷ []) }
+        ensures short { length self.new ≤ length self.old + 11 }
+    {
+        self.put(b"size ");
+        self.put_small(size.rows());
+        self.put(b" ");
+        self.put_small(size.cols());
+        self.put(b"\n");
+    }
+
+    /// Puts a number of at most two digits.
+    fn put_small(&mut self, n: u8)
+        requires room { length self.old + 2 ≤ 128 }
+        requires small { n < 100 }
+        ensures text { self.new ≡ self.old ++ decimal n }
+        ensures short { length self.new ≤ length self.old + 2 }
+    {
+        let mut buffer = Buffer::new();
+        self.put(buffer.format(n).as_bytes());
+    }
+
+    /// Puts the line of a player's stones.
+    fn put_stones(&mut self, colour: Colour, stones: Mask)
+        requires { length self.old + 39 ≤ 128 }
+        ensures text { self.new ≡ self.old ++ (stones_line colour stones ++ 10 ∷ []) }
+        ensures short { length self.new ≤ length self.old + 39 }
+    {
+        self.put_colour(colour);
+        self.put(b" ");
+        self.put_mask(stones);
+        self.put(b"\n");
+    }
+
+    /// Puts the line of the player to move.
+    fn put_move(&mut self, to_move: Colour)
+        requires { length self.old + 11 ≤ 128 }
+        ensures { self.new ≡ self.old ++ (move_line to_move ++ 10 ∷ []) }
+    {
+        self.put(b"move ");
+        self.put_colour(to_move);
+        self.put(b"\n");
+    }
+
+    /// Puts the lines of a tree's text before its nodes: the title and the size of the board.
+    pub(crate) fn put_heading(&mut self, size: Size)
+        requires { length self.old + 21 ≤ 128 }
+        ensures { self.new ≡ self.old ++ text_of (front_lines size) }
+    {
+        self.put(b"hextree 1\n");
+        self.put_size(size);
+    }
+
+    /// Puts the line of a node.
+    pub(crate) fn put_node(&mut self, node: &Node)
+        requires { length self.old + 103 ≤ 128 }
+        ensures { self.new ≡ self.old ++ text_of (node_lines node.now) }
+    {
+        self.put(b"node ");
+        self.put_masks(&node.heading.position);
+        self.put_colours(node.heading.to_move, node.heading.winner);
+        self.put_rule(&node.rule);
+        self.put(b"\n");
+    }
+
+    /// Puts the last line of a tree's text, which says how many nodes there are and who wins.
+    pub(crate) fn put_end(&mut self, nodes: u32, winner: Colour)
+        requires { length self.old + 21 ≤ 128 }
+        ensures { self.new ≡ self.old ++ text_of (end_line nodes winner ∷ []) }
+    {
+        self.put(b"end ");
+        self.put_index(nodes);
+        self.put(b" ");
+        self.put_colour(winner);
+        self.put(b"\n");
+    }
+
+    /// Puts the masks of both players' stones, each with the space after it.
+    fn put_masks(&mut self, position: &Position)
+        requires { length self.old + 66 ≤ 128 }
+        ensures text { self.new ≡ self.old ++ (mask_word position.now.black ++ 32 ∷ mask_word position.now.white ++ 32 ∷ []) }
+        ensures short { length self.new ≤ length self.old + 66 }
+    {
+        self.put_mask(position.stones(Colour::Black));
+        self.put(b" ");
+        self.put_mask(position.stones(Colour::White));
+        self.put(b" ");
+    }
+
+    /// Puts the player to move and the winner, each with the space after it.
+    fn put_colours(&mut self, to_move: Colour, winner: Colour)
+        requires { length self.old + 12 ≤ 128 }
+        ensures text { self.new ≡ self.old ++ (colour_word to_move ++ 32 ∷ colour_word winner ++ 32 ∷ []) }
+        ensures short { length self.new ≤ length self.old + 12 }
+    {
+        self.put_colour(to_move);
+        self.put(b" ");
+        self.put_colour(winner);
+        self.put(b" ");
+    }
+
+    /// Puts the words of a rule, which end a node's line.
+    fn put_rule(&mut self, rule: &Rule)
+        requires { length self.old + 19 ≤ 128 }
+        ensures text { self.new ≡ self.old ++ spaced (rule_words rule.now) }
+        ensures short { length self.new ≤ length self.old + 19 }
+    {
+        match rule {
+            Rule::Chain => self.put(b"chain"),
+            Rule::Move { cell, child } => self.put_winning(*cell, *child),
+        }
+    }
+
+    /// Puts the words of a winning move and of the child that goes on.
+    fn put_winning(&mut self, cell: Cell, child: u32)
+        requires { length self.old + 19 ≤ 128 }
+        ensures text { self.new ≡ self.old ++ spaced (rule_words (Move cell child)) }
+        ensures short { length self.new ≤ length self.old + 19 }
+    {
+        self.put(b"move ");
+        self.put_cell(cell);
+        self.put(b" ");
+        self.put_index(child);
+    }
+
+    /// Puts the word of a cell: the letter of its column, and its row counted from 1.
+    fn put_cell(&mut self, cell: Cell)
+        requires { length self.old + 3 ≤ 128 }
+        ensures text { self.new ≡ self.old ++ cell_word cell }
+        ensures short { length self.new ≤ length self.old + 3 }
+    {
+        self.put(&[b'a' + cell.col()]);
+        self.put_small(cell.row() + 1);
+    }
+
+    /// Puts the number of a node, or how many there are.
+    fn put_index(&mut self, n: u32)
+        requires { length self.old + 10 ≤ 128 }
+        ensures text { self.new ≡ self.old ++ decimal n }
+        ensures short { length self.new ≤ length self.old + 10 }
+    {
+        let mut buffer = Buffer::new();
+        self.put(buffer.format(n).as_bytes());
+    }
+}
+
+/// The digit of a mask for a number below 16.
+fn hex_digit_of(n: u8) -> u8
+    requires { n ≤ 15 }
+    ensures { result ≡ hex_digit n }
+{
+    if n < 10 { b'0' + n } else { b'a' + (n - 10) }
+}

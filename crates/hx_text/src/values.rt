@@ -1,0 +1,119 @@
+//! The values that single words stand for: numbers, masks, colours and cells. Each value has one word, so what is
+//! spelled in another way, as a number with a leading zero, is none.
+
+ghost use Rattle.std.specs.Prelude.{◌≡◌, ◌+◌, ◌<◌, ◌≤◌, ◌↔◌, IsTrue, IfSome, IfNone, ℕ, length};
+ghost use Rattle.std.specs.Fmt.{decimal};
+ghost use Rattle.std.specs.Str.Parse.{AllDigits, digits_value};
+ghost use Rattle.hx_board.specs.Cells.{OnBoard, row_of, col_of};
+ghost use Rattle.hx_text.specs.Words.{Reads, IsNumber, IsSet, hex_digit, IsCanonical, mask_word, colour_word, cell_word};
+
+use hx_board::{Cell, Colour, Mask, Size};
+
+/// A number below 2 to the power of 32, in decimal digits without a leading zero.
+pub(crate) fn number(word: &[u8]) -> Option<u32>
+    ensures { Reads decimal IsNumber word.now result }
+{
+    if !is_canonical(word) {
+        return None;
+    }
+    let value = decimal_value(word)?;
+    u32::try_from(value).ok()
+}
+
+/// Whether the word is one to ten bytes, and begins with a zero only where it is one byte.
+fn is_canonical(word: &[u8]) -> bool
+    ensures { IsTrue result ↔ IsCanonical word.now }
+{
+    match word {
+        [] => false,
+        [_] => true,
+        [first, ..] => *first != b'0' && word.len() <= 10,
+    }
+}
+
+/// The number that a word of digits stands for. Ten digits are less than 64 bits hold.
+fn decimal_value(word: &[u8]) -> Option<u64>
+    requires { length word.now ≤ 10 }
+    ensures some { IfSome result (λ value. AllDigits 10 word.now × (value ≡ digits_value 10 word.now)) }
+    ensures none { IfNone result (AllDigits 10 word.now → ⊥) }
+{
+    let mut value: u64 = 0;
+    for byte in word {
+        if !byte.is_ascii_digit() {
+            return None;
+        }
+        value = 10 * value + u64::from(*byte - b'0');
+    }
+    Some(value)
+}
+
+/// A set of cells: exactly 32 digits, the most significant first.
+pub(crate) fn mask(word: &[u8]) -> Option<Mask>
+    ensures { Reads mask_word IsSet word.now result }
+{
+    if word.len() != 32 {
+        return None;
+    }
+    let mut bits: u128 = 0;
+    for byte in word {
+        let digit = hex_value(*byte)?;
+        bits = 16 * bits + u128::from(digit);
+    }
+    Some(Mask::of(bits))
+}
+
+/// The value of a digit of a mask. Its letters are small ones.
+fn hex_value(byte: u8) -> Option<u8>
+    ensures { Reads hex_digit (λ d. d < 16) byte result }
+{
+    match byte {
+        b'0'..=b'9' => Some(byte - b'0'),
+        b'a'..=b'f' => Some(byte - b'a' + 10),
+        _ => None,
+    }
+}
+
+/// A player.
+pub(crate) fn colour(word: &[u8]) -> Option<Colour>
+    ensures { Reads colour_word (λ _. Unit {0}) word.now result }
+{
+    match word {
+        b"black" => Some(Colour::Black),
+        b"white" => Some(Colour::White),
+        _ => None,
+    }
+}
+
+/// The word of a player.
+pub(crate) fn colour_word(colour: Colour) -> &'static [u8]
+    ensures { result.now ≡ colour_word colour }
+{
+    match colour {
+        Colour::Black => b"black",
+        Colour::White => b"white",
+    }
+}
+
+/// A cell of a board of this size: the letter of its column and the number of its row.
+pub(crate) fn cell(size: Size, word: &[u8]) -> Option<Cell>
+    ensures { Reads cell_word (OnBoard size) word.now result }
+{
+    // The proof takes from here that a board has at most eleven rows.
+    let _rows = size.rows();
+    let (letter, digits) = word.split_first()?;
+    let row = number(digits)?;
+    cell_at(size, *letter, row)
+}
+
+/// The cell in a column by its letter, and in a row counted from 1.
+fn cell_at(size: Size, letter: u8, row: u32) -> Option<Cell>
+    ensures some { IfSome result (λ cell. OnBoard size cell × (letter ≡ 97 + col_of cell) × (row ≡ row_of cell + 1)) }
+    ensures none { IfNone result ((cell : ℕ) → OnBoard size cell → letter ≡ 97 + col_of cell → row ≡ row_of cell + 1 → ⊥) }
+{
+    // The proof takes from here that a board has at most eleven rows and columns.
+    let _rows = size.rows();
+    let col = letter.checked_sub(b'a')?;
+    let above = row.checked_sub(1)?;
+    let row = u8::try_from(above).ok()?;
+    size.cell(row, col)
+}

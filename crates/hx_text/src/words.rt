@@ -1,0 +1,122 @@
+//! The words of a line, taken one after the other. Words are separated by exactly one space, so two spaces have an
+//! empty word between them, and a line begins and ends with a word.
+
+ghost use Rattle.std.specs.Prelude.{◌≡◌, ◌≢◌, ◌∷◌, [], MatchOption};
+ghost use Rattle.std.specs.Fmt.{decimal};
+ghost use Rattle.hx_board.specs.Cells.{OnBoard};
+ghost use Rattle.hx_text.specs.Words.{Takes, IsNumber, IsSet, IsCut, Lacks, words_in, mask_word, colour_word, cell_word};
+
+use crate::values;
+use hx_board::{Cell, Colour, Mask, Size};
+use std::marker::Model;
+
+/// The words of a line that are still to be taken, seen as a list of words.
+///
+/// A word that is taken and is not of the kind asked for is gone: the line is of no use then.
+#[derive(Drop)]
+pub(crate) struct Words<'a> {
+    rest: &'a [u8],
+    /// Whether a word is left. The rest may be empty and still be one.
+    more: bool,
+}
+
+impl<'a> Model for Words<'a> {
+    ghost use Rattle.std.specs.Prelude.{ℕ, List};
+    ghost use Rattle.hx_text.specs.Words.{words_left};
+
+    ghost Value = { List (List ℕ) };
+
+    ghost view = { λ w. words_left w.more w.rest.now };
+}
+
+impl<'a> Words<'a> {
+    /// All words of a line.
+    pub(crate) fn of(line: &'a [u8]) -> Words<'a>
+        ensures { result ≡ words_in line.now }
+    {
+        Words {
+            rest: line,
+            more: true,
+        }
+    }
+
+    /// Takes the next word.
+    pub(crate) fn next(&mut self) -> Option<&'a [u8]>
+        ensures { MatchOption result (self.old ≡ []) (λ word. self.old ≡ word.now ∷ self.new) }
+    {
+        if !self.more {
+            return None;
+        }
+        let rest = self.rest;
+        match cut(rest, b' ') {
+            Some((word, later)) => {
+                self.rest = later;
+                Some(word)
+            }
+            None => {
+                self.more = false;
+                Some(rest)
+            }
+        }
+    }
+
+    /// Takes a word that has to stand there.
+    pub(crate) fn keyword(&mut self, expected: &[u8]) -> Option<()>
+        ensures { Takes (λ _. expected.now) (λ _. Unit {0}) self.old result self.new }
+    {
+        let word = self.next()?;
+        if word == expected { Some(()) } else { None }
+    }
+
+    /// Takes a number.
+    pub(crate) fn number(&mut self) -> Option<u32>
+        ensures { Takes decimal IsNumber self.old result self.new }
+    {
+        let word = self.next()?;
+        values::number(word)
+    }
+
+    /// Takes a set of cells.
+    pub(crate) fn mask(&mut self) -> Option<Mask>
+        ensures { Takes mask_word IsSet self.old result self.new }
+    {
+        let word = self.next()?;
+        values::mask(word)
+    }
+
+    /// Takes a player.
+    pub(crate) fn colour(&mut self) -> Option<Colour>
+        ensures { Takes colour_word (λ _. Unit {0}) self.old result self.new }
+    {
+        let word = self.next()?;
+        values::colour(word)
+    }
+
+    /// Takes a cell of a board of this size.
+    pub(crate) fn cell(&mut self, size: Size) -> Option<Cell>
+        ensures { Takes cell_word (OnBoard size) self.old result self.new }
+    {
+        let word = self.next()?;
+        values::cell(size, word)
+    }
+
+    /// Nothing where no word is left.
+    pub(crate) fn end(&self) -> Option<()>
+        ensures { MatchOption result (self.now ≢ []) (λ _. self.now ≡ []) }
+    {
+        if self.more { None } else { Some(()) }
+    }
+}
+
+/// The bytes before the first mark, and those after it.
+pub fn cut(bytes: &[u8], mark: u8) -> Option<(&[u8], &[u8])>
+    ensures { MatchOption result (Lacks mark bytes.now) (λ parts. IsCut mark bytes.now parts.0.now parts.1.now) }
+{
+    for (place, byte) in bytes.iter().enumerate() {
+        if *byte == mark {
+            let (before, after) = bytes.split_at(place);
+            return Some((before, &after[1..]));
+        }
+    }
+    None
+}
