@@ -1,6 +1,7 @@
 -- Bytes cut into lines. Lines without an LF are the only ones that make their bytes, so of two ways to cut the same bytes
 -- into such lines and a rest one goes on where the other ends.
 use Rattle.std.proofs.Common.{◌≡◌, ℕ, ◌≤◌, List, [], ◌∷◌, ◌++◌, length, refl, sym, ap, ◌∙◌, subst, arith, append_assoc, length-append}
+use Rattle.std.proofs.lemmas.List.{append-nil}
 use Rattle.hx_text.specs.Words.{Lacks}
 use Rattle.hx_text.specs.Grammars.{text_of}
 
@@ -81,3 +82,21 @@ agree (line ∷ a) (other ∷ b) x y la lb e =
     let same : line ≡ other = cut_same 10 line other (text_of a ++ x) (text_of b ++ y) la.0 lb.0 parts in
     let rest : text_of a ++ x ≡ text_of b ++ y = cut_rest 10 line other (text_of a ++ x) (text_of b ++ y) la.0 lb.0 parts in
     subst (λ (l : List ℕ). Agree (line ∷ a) (l ∷ b) x y) same (Agree-cons line a b x y (agree a b x y la.1 lb.1 rest))
+
+-- lines are told by their text
+pub text_injective : (a b : List (List ℕ)) → AllLack a → AllLack b → text_of a ≡ text_of b → a ≡ b
+unfolding text_of
+text_injective a b la lb e = same (agree a b [] [] la lb (ap (λ (t : List ℕ). t ++ []) e))
+  where
+    same : {a b : List (List ℕ)} → Agree a b [] [] → a ≡ b
+    same {a} {b} (Second_goes_on [] is left) = sym (is ∙ append-nil a)
+    same {a} {b} (Second_goes_on (next ∷ more) is left) =
+        absurd (ended-some next (text_of more) (sym (append-nil (next ++ 10 ∷ text_of more)) ∙ sym left))
+    same {a} {b} (First_goes_on [] is left) = is ∙ append-nil b
+    same {a} {b} (First_goes_on (next ∷ more) is left) =
+        absurd (ended-some next (text_of more) (sym (append-nil (next ++ 10 ∷ text_of more)) ∙ sym left))
+
+pub text_of-append : (a b : List (List ℕ)) → text_of (a ++ b) ≡ text_of a ++ text_of b
+unfolding text_of
+text_of-append [] b = refl
+text_of-append (line ∷ a) b = ap (λ (t : List ℕ). line ++ 10 ∷ t) (text_of-append a b) ∙ sym (append_assoc line (10 ∷ text_of a) (text_of b))

@@ -19,3 +19,4 @@ pub mod PositionLines
 pub mod PositionFaults
 pub mod WholePositions
 pub mod Spelled
+pub mod WholeTrees

@@ -1,7 +1,7 @@
 -- The first faulty line of a position's text, at each of its lines: it is missing or has no LF, or it is not right. The
 -- lines before it begin a text, since a board may be empty.
 use Rattle.std.proofs.Common.{◌≡◌, ◌≢◌, ℕ, ◌+◌, ◌<◌, List, [], ◌∷◌, ◌++◌, length, refl, sym, ap, ◌∙◌, subst, arith, Option, Some, None}
-use Rattle.std.specs.Option.{SomeIff, IfSome, IfNone}
+use Rattle.std.specs.Option.{SomeIff, IfNone}
 use Rattle.std.specs.declared.result.Result.{Result}
 use Rattle.std.specs.declared.result.Result.TheVariants.{Ok, Err}
 use Rattle.std.proofs.lemmas.List.{append-nil}

@@ -1,16 +1,15 @@
 -- The lines of a position's text: their words are of high bytes, so each line gives back what it was spelled from.
-use Rattle.std.proofs.Common.{◌≡◌, ℕ, List, [], ◌∷◌, Option, Some, None, refl, sym, ap, ◌∙◌, subst, arith}
+use Rattle.std.proofs.Common.{◌≡◌, ℕ, List, [], ◌∷◌, refl, sym, ap, ◌∙◌, arith}
 use Rattle.std.specs.Prelude.{codes}
-use Rattle.std.specs.Option.{SomeIff, IfNone}
 use Rattle.hx_board.specs.declared.colours.Colour.{Colour}
 use Rattle.hx_board.specs.declared.colours.Colour.TheVariants.{Black, White}
 use Rattle.hx_board.specs.Cells.{Extent, IsExtent}
 use Rattle.hx_board.specs.Positions.{Board, IsBoard, IsPosition}
-use Rattle.hx_board.proofs.PositionLaws.{board-small, empty-is_position}
+use Rattle.hx_board.proofs.PositionLaws.{board-small}
 use Rattle.hx_board.proofs.SetLaws.{has-empty}
 use Rattle.std.proofs.lemmas.Bool.{false≢true}
 use Rattle.hx_text.specs.Words.{Lacks, mask_word, colour_word, words_in, spaced, IsSet}
-use Rattle.hx_text.specs.PositionTexts.{position_title, size_line, stones_line, move_line, position_lines, ArePositionLines}
+use Rattle.hx_text.specs.PositionTexts.{stones_line, move_line, position_lines}
 use Rattle.hx_text.proofs.Spacing.{IsLine, words_in-spaced, spaced_injective}
 use Rattle.hx_text.proofs.HighBytes.{AllHigh, is_high, IsHigh-test, IsHigh-hex, IsHigh-colour_word, IsLine-high, Lacks-spaced}
 use Rattle.hx_text.proofs.Masks.{mask_injective}

@@ -12,17 +12,8 @@ use Rattle.hx_text.specs.Grammars.{text_of, Begins, IsFaultyLine}
 use Rattle.hx_text.specs.PositionTexts.{position_lines, position_text, size_line, stones_line, move_line, ArePositionLines}
 use Rattle.hx_text.specs.PositionReads.{ReadsFrom}
 use Rattle.hx_text.proofs.Injective.{size_injective, board_same}
-use Rattle.hx_text.proofs.Cuts.{AllLack, AllLack-front, ended-some, Agree, Second_goes_on, First_goes_on, agree}
+use Rattle.hx_text.proofs.Cuts.{AllLack, AllLack-front, ended-some, Agree, Second_goes_on, First_goes_on, agree, text_injective}
 use Rattle.hx_text.proofs.PositionLines.{stones_injective, move_injective, black_small, white_small, AllLack-position_lines}
-
-same_lines : (a b : List (List ℕ)) → Agree a b [] [] → a ≡ b
-unfolding text_of
-same_lines a b (Second_goes_on [] is left) = sym (is ∙ append-nil a)
-same_lines a b (Second_goes_on (next ∷ more) is left) =
-    absurd (ended-some next (text_of more) (sym (append-nil (next ++ 10 ∷ text_of more)) ∙ sym left))
-same_lines a b (First_goes_on [] is left) = is ∙ append-nil b
-same_lines a b (First_goes_on (next ∷ more) is left) =
-    absurd (ended-some next (text_of more) (sym (append-nil (next ++ 10 ∷ text_of more)) ∙ sym left))
 
 not_faulty : (lines before : List (List ℕ)) (rest : List ℕ) → ArePositionLines lines → Agree lines before [] rest
     → ((next more : List ℕ) → rest ≡ next ++ 10 ∷ more → Begins ArePositionLines (before ++ next ∷ []) → ⊥)
@@ -60,9 +51,9 @@ pub spelled_is_read : (bytes : List ℕ) (read : Result (Board × Colour) TextFa
     → (board : Board) (mover : Colour) → IsBoard board → bytes ≡ position_text board mover → read ≡ Ok (board, mover)
 unfolding text_of
 spelled_is_read bytes (Ok (a, m)) reads board mover fits e =
-    let lines : position_lines a m ≡ position_lines board mover = same_lines (position_lines a m) (position_lines board mover)
-    (agree (position_lines a m) (position_lines board mover) [] [] (AllLack-position_lines a m reads.0)
-    (AllLack-position_lines board mover fits) (ap (λ (t : List ℕ). t ++ []) (sym reads.1 ∙ e))) in
+    let lines : position_lines a m ≡ position_lines board mover =
+    text_injective (position_lines a m) (position_lines board mover) (AllLack-position_lines a m reads.0)
+    (AllLack-position_lines board mover fits) (sym reads.1 ∙ e) in
     let same = position_injective a board m mover reads.0 fits lines in
     ap (λ (b : Board). Ok (b, m)) same.0 ∙ ap (λ (c : Colour). Ok (board, c)) same.1
 spelled_is_read bytes (Err fault) reads board mover fits e =

@@ -88,3 +88,8 @@ pub record IsTreeText (bytes : List ℕ) (nodes : List Node) : Type 0 where
   pub lines : List (List ℕ)
   pub are : AreTreeLinesOf size nodes winner lines
   pub same : bytes ≡ text_of lines
+
+-- the bytes of a tree that is written piece by piece: the lines before the nodes, each node, the last line
+abbrev pub written_tree : Extent → List Node → Colour → List ℕ
+written_tree size nodes winner =
+    (text_of (front_lines size) ++ flat_map (λ node. text_of (node_lines node)) nodes) ++ text_of (end_line (length nodes) winner ∷ [])

@@ -1,6 +1,7 @@
 //! The texts of positions and of trees, read and written exactly.
 #![tactic(auto)]
 
+mod laws;
 mod lines;
 mod places;
 mod positions;
@@ -10,6 +11,7 @@ mod values;
 mod words;
 mod writer;
 
+pub use laws::{text_tells_nodes, written_is_text};
 pub use places::{Fed, TreeFault};
 pub use positions::{TextFault, read_position};
 pub use reader::TreeReader;

@@ -2,8 +2,8 @@
 
 use crate::plain::{plain_position, plain_tree};
 use crate::{
-    Fed, TextFault, TreeFault, TreeReader, cut, read_position, write_end, write_heading,
-    write_node, write_position,
+    Fed, TextFault, TreeFault, TreeReader, cut, read_position, text_tells_nodes, write_end,
+    write_heading, write_node, write_position, written_is_text,
 };
 use hx_board::Colour::{Black, White};
 use hx_board::{Colour, Mask, Position, Size};
@@ -222,4 +222,10 @@ fn a_cell_holds_one_stone(rt: HostRuntime) -> Result<(), Fail> {
     let text = ONE_BY_ONE.replace(rt.alloc(), "0\n", "1\n")?;
     assert_eq!(rt; read_position(text.as_bytes()), Err(TextFault { line: 4 }));
     Ok(())
+}
+
+#[test]
+fn the_laws_of_texts_are_called() {
+    text_tells_nodes();
+    written_is_text();
 }
