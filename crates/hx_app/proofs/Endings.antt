@@ -85,8 +85,7 @@ module _ (input : List ℕ) (reader : TreeReader) (headings : List Heading) (lat
         (Begins-stands reader.place upto.nodes upto.lines upto.read) some
         (λ next begins. end_wrong are.0 are.1 upto.nodes upto.lines next are.2 begins);
     nodes = upto.nodes;
-    ended = ended_in reader.place upto.nodes upto.lines upto.read;
-    few = upto.few;
+    ended = ended_in reader.place upto.nodes upto.lines upto.read upto.few;
     right = upto.right;
   }
 

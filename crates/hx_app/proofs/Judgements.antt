@@ -13,12 +13,13 @@ use Rattle.hx_text.specs.declared.places.Place.{Place}
 use Rattle.hx_text.specs.declared.reader.TreeReader.{TreeReader}
 use Rattle.hx_text.specs.Words.{Lacks}
 use Rattle.hx_text.specs.Grammars.{text_of, Begins}
-use Rattle.hx_text.specs.TreeTexts.{AreTreeLines, front_lines, node_lines}
+use Rattle.hx_text.specs.TreeTexts.{AreTreeLines, front_lines, node_lines, head_line}
 use Rattle.hx_text.specs.Places.{Stands, StandsSoFar, most_nodes, IsNextNode}
 use Rattle.hx_text.specs.Reader.{HasRead, lines_fed, one_more}
 use Rattle.hx_app.specs.Answers.{limit}
 use Rattle.hx_app.specs.Judging.{IsNoText, IsNoNode, IsTooManyNodes, IsJudged, JudgedUpTo, HasReadAll, AnswersNode}
 use Rattle.hx_app.proofs.Standings.{ended_in, few_nodes, not_whole}
+use Rattle.hx_text.proofs.BegunNodes.{node_of_head}
 use Rattle.hx_text.proofs.Completions.{Begins-stands}
 use Rattle.hx_text.proofs.Cuts.{text_of-push, length-text_of}
 use Rattle.hx_text.proofs.Faults.{missing, wrong_line}
@@ -55,8 +56,7 @@ module _ (input : List ℕ) (few : length input ≤ limit) where
         (Begins-stands reader.place upto.nodes upto.lines upto.read)
         (not_whole reader.place upto.nodes upto.lines unended upto.read) lacks;
     nodes = upto.nodes;
-    ended = ended_in reader.place upto.nodes upto.lines upto.read;
-    few = upto.few;
+    ended = ended_in reader.place upto.nodes upto.lines upto.read upto.few;
     right = upto.right;
   }
 
@@ -107,10 +107,10 @@ module _ (input : List ℕ) (few : length input ≤ limit) where
         parts = upto.parts ∙ sym (text_of-push upto.lines line later);
         right = Begins-stands new.place (upto.nodes ++ node ∷ []) (upto.lines ++ line ∷ []) (reads upto.nodes upto.lines upto.read).1;
         nodes = upto.nodes ++ node ∷ [];
-        ended = ended_in new.place (upto.nodes ++ node ∷ []) (upto.lines ++ line ∷ []) (reads upto.nodes upto.lines upto.read).1;
-        few =
-            let read = reads upto.nodes upto.lines upto.read in few_nodes new.place (upto.nodes ++ node ∷ [])
-            (upto.lines ++ line ∷ []) read.0 read.1;
+        ended =
+            let read = reads upto.nodes upto.lines upto.read in
+            ended_in new.place (upto.nodes ++ node ∷ []) (upto.lines ++ line ∷ []) read.1
+            (few_nodes new.place (upto.nodes ++ node ∷ []) (upto.lines ++ line ∷ []) read.0 read.1);
         last = length-append upto.nodes (node ∷ []) ∙ ap (λ (n : ℕ). n + 1) (sym count);
         wrong = rw count (least_wrong-last upto.nodes node upto.right (rw (← upto.same) wrong));
       }
@@ -128,12 +128,11 @@ module _ (input : List ℕ) (few : length input ≤ limit) where
             (told.0 ∙ counted_more _ _ upto.lines line _ upto.parts upto.counted counts)
             (Begins-stands reader.place upto.nodes upto.lines upto.read) lacks told.1;
         nodes = upto.nodes;
-        ended = ended_in reader.place upto.nodes upto.lines upto.read;
-        few = upto.few;
+        ended = ended_in reader.place upto.nodes upto.lines upto.read upto.few;
         right = upto.right;
       }
 
-  -- the line of one node too many
+  -- the first line of one node too many
   pub judged_too_many : (reader : TreeReader) (headings : List Heading) (line later : List ℕ)
       → JudgedUpTo input reader headings (line ++ 10 ∷ later)
       → ((nodes : List Node) (lines : List (List ℕ)) → HasRead reader nodes lines → (length nodes ≡ most_nodes) × IsNextNode reader.place line)
@@ -141,6 +140,7 @@ module _ (input : List ℕ) (few : length input ≤ limit) where
   judged_too_many reader headings line later upto many =
       let told = many upto.nodes upto.lines upto.read in
       let next : IsNextNode reader.place line = told.1 in
+      let whole = node_of_head next.so_far.size next.head (subst (λ (p : Place). Stands p upto.nodes upto.lines) next.is upto.read).is_size next.fits in
       let stands : StandsSoFar next.so_far upto.nodes upto.lines = subst (λ (p : Place). Stands p upto.nodes upto.lines) next.is upto.read in
       record {
         size = next.so_far.size;
@@ -149,12 +149,12 @@ module _ (input : List ℕ) (few : length input ≤ limit) where
         each = stands.each;
         right = upto.right;
         full = told.0;
-        next = next.node;
-        next_fits = next.fits;
+        next = whole.0;
+        next_fits = whole.1;
         rest = later;
         parts = upto.parts ∙ sym (text_of-push upto.lines line later)
             ∙ ap (λ (ls : List (List ℕ)). text_of (ls ++ line ∷ []) ++ later) stands.same
-            ∙ ap (λ (l : List ℕ). text_of ((front_lines next.so_far.size ++ flat_map node_lines upto.nodes) ++ l ∷ []) ++ later) next.same;
+            ∙ ap (λ (l : List ℕ). text_of ((front_lines next.so_far.size ++ flat_map node_lines upto.nodes) ++ l ∷ []) ++ later) (next.same ∙ ap head_line (sym whole.2));
       }
 
 -- what judging a node's line answers

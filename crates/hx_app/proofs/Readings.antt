@@ -8,11 +8,13 @@ use Rattle.hx_board.specs.Cells.{Extent, IsExtent}
 use Rattle.hx_tree.specs.declared.nodes.Node.{Node}
 use Rattle.hx_tree.specs.Trees.{IsValidTree, IsLeastWrong}
 use Rattle.hx_tree.proofs.TreeGrowth.{least_wrong-append, right_at-append}
+use Rattle.hx_text.specs.Words.{IsNumber}
 use Rattle.hx_text.specs.Grammars.{text_of, IsFaultyLine}
-use Rattle.hx_text.specs.TreeTexts.{AreTreeLines, AreTreeLinesOf, IsTreeText, EachNodeFits, front_lines, node_lines, end_line}
+use Rattle.hx_text.specs.TreeTexts.{AreTreeLines, AreTreeLinesOf, IsTreeText, EachNodeFits, NodeFits, front_lines, head_of, head_line, rule_lines, node_lines, end_line, tree_lines}
 use Rattle.hx_text.specs.Places.{most_nodes}
-use Rattle.hx_app.specs.Judging.{EndedIn, Before_size, Among_nodes, After_end, IsNoText, IsNoNode, IsTooManyNodes}
+use Rattle.hx_app.specs.Judging.{EndedIn, Before_size, Among_nodes, Inside_node, After_end, IsNoText, IsNoNode, IsTooManyNodes}
 use Rattle.hx_text.proofs.Alignment.{aligned}
+use Rattle.hx_text.proofs.NodeInjective.{head_not_end}
 use Rattle.hx_text.proofs.Steps.{flat_map-push, EachNodeFits-push}
 use Rattle.hx_text.proofs.Completions.{whole_are_of}
 use Rattle.hx_text.proofs.Cuts.{Agree, Second_goes_on, First_goes_on, agree, AllLack, ended-some, AllLack-front}
@@ -27,85 +29,184 @@ pub ended_first : (lines more : List (List ℕ)) (nodes all : List Node) (size :
     → AreTreeLinesOf size all winner (lines ++ more) → GoOn nodes all
 ended_first lines more nodes all size winner (Before_size none short) are =
     record { more = all; same = ap (λ (ns : List Node). ns ++ all) (sym none) }
-ended_first lines more nodes all size winner (Among_nodes first is_size each same) are =
+ended_first lines more nodes all size winner (Among_nodes first is_size each few same) are =
     let on = aligned first nodes lines more size all winner is_size each same are in record { more = on.on.more; same = on.on.nodes_are }
-ended_first lines more nodes all size winner (After_end first last whole) are =
+ended_first lines more nodes all size winner (Inside_node first is_size each few node fits part rest whole some same) are =
+    let front : List (List ℕ) = front_lines first ++ flat_map node_lines nodes in
+    let same_lines : lines ++ more ≡ front ++ (part ++ more) = ap (λ (ls : List (List ℕ)). ls ++ more) same ∙ append_assoc front part more in
+    let on = aligned first nodes front (part ++ more) size all winner is_size each refl
+    (subst (AreTreeLinesOf size all winner) same_lines are) in record { more = on.on.more; same = on.on.nodes_are }
+ended_first lines more nodes all size winner (After_end first last whole few) are =
     let front : List (List ℕ) = front_lines first ++ flat_map node_lines nodes in
     let same : lines ++ more ≡ front ++ (end_line (length nodes) last ∷ more) = ap (λ (ls : List (List ℕ)). ls ++ more) whole.same
     ∙ append_assoc front (end_line (length nodes) last ∷ []) more in
     let on = aligned first nodes front (end_line (length nodes) last ∷ more) size all winner whole.is_size whole.each refl
     (subst (AreTreeLinesOf size all winner) same are) in record { more = on.on.more; same = on.on.nodes_are }
 
-length-node_lines : (nodes : List Node) → length (flat_map node_lines nodes) ≡ length nodes
-length-node_lines [] = refl
-length-node_lines (node ∷ nodes) = omega (arith, length-node_lines nodes)
+-- no more nodes ended than a text may have
+few_ended : (lines : List (List ℕ)) (nodes : List Node) → EndedIn lines nodes → length nodes ≤ most_nodes
+few_ended lines nodes (Before_size none short) = omega (arith, ap length none)
+few_ended lines nodes (Among_nodes size is_size each few same) = few
+few_ended lines nodes (Inside_node size is_size each few node fits part rest whole some same) = omega (arith, few)
+few_ended lines nodes (After_end size winner whole few) = few
 
-length-front : (size : Extent) (nodes : List Node) → length (front_lines size ++ flat_map node_lines nodes) ≡ 2 + length nodes
-length-front size nodes = omega (arith, length-append (front_lines size) (flat_map node_lines nodes), length-node_lines nodes)
+-- a text with no more nodes than a text may have, which begins with these lines
+record Completed (lines : List (List ℕ)) : Type 0 where
+  size : Extent
+  nodes : List Node
+  winner : Colour
+  rest : List (List ℕ)
+  are : AreTreeLinesOf size nodes winner (lines ++ rest)
+  few : length nodes ≤ most_nodes
 
--- as many nodes ended in some lines as in their front
-pub ended_many : (front lines more : List (List ℕ)) (many nodes : List Node) (size : Extent) → IsExtent size.rows size.cols
-    → EachNodeFits size many → front ≡ front_lines size ++ flat_map node_lines many → lines ≡ front ++ more → EndedIn lines nodes
-    → length many ≤ length nodes
-ended_many front lines more many nodes size is_size each front_is is (Before_size none short) =
-    absurd (omega (arith, ap length is, length-append front more, ap length front_is, length-front size many))
-ended_many front lines more many nodes size is_size each front_is is (Among_nodes first first_is each_first same) =
-    omega (arith, ap length is, length-append front more, ap length front_is, length-front size many, ap length same, length-front first nodes)
-ended_many front lines more many nodes size is_size each front_is is (After_end first last whole) =
-    let on = aligned size many front more first nodes last is_size each front_is (subst (AreTreeLinesOf first nodes last) is whole) in
-    omega (arith, ap length on.on.nodes_are, length-append many on.on.more)
+-- lines of nodes alone, after which the last line may follow
+with_end : (size : Extent) (front : List Node) (node : Node) (lines : List (List ℕ)) → IsExtent size.rows size.cols
+    → EachNodeFits size (front ++ node ∷ []) → length (front ++ node ∷ []) ≤ most_nodes
+    → lines ≡ front_lines size ++ flat_map node_lines (front ++ node ∷ []) → Completed lines
+with_end size front node lines is_size each few same =
+    let end : List (List ℕ) = end_line (length (front ++ node ∷ [])) node.heading.winner ∷ [] in
+    record {
+      size = size;
+      nodes = front ++ node ∷ [];
+      winner = node.heading.winner;
+      rest = end;
+      are = record {
+        is_size = is_size;
+        each = each;
+        root = record { root = node; last = record { front = front; same = refl }; same = refl };
+        count = omega (arith, few);
+        same = ap (λ (ls : List (List ℕ)). ls ++ end) same
+            ∙ append_assoc (front_lines size) (flat_map node_lines (front ++ node ∷ [])) end;
+      };
+      few = few;
+    }
 
--- the lines of too many nodes
-abbrev many_lines : {input : List ℕ} → IsTooManyNodes input → List (List ℕ)
-many_lines many = front_lines many.size ++ flat_map node_lines many.nodes ++ node_lines many.next
+-- a list with some node has a last one
+last_split : (first : Node) (nodes : List Node) → (front : List Node) × (last : Node) × (first ∷ nodes ≡ front ++ last ∷ [])
+last_split first [] = ([], first, refl)
+last_split first (next ∷ nodes) =
+    let rest = last_split next nodes in (first ∷ rest.0, rest.1, ap (λ (ns : List Node). first ∷ ns) rest.2)
 
-many_are : {input : List ℕ} (many : IsTooManyNodes input)
-    → many_lines many ≡ front_lines many.size ++ flat_map node_lines (many.nodes ++ many.next ∷ [])
-many_are many = append_assoc (front_lines many.size) (flat_map node_lines many.nodes) (node_lines many.next)
-    ∙ ap (λ (ls : List (List ℕ)). front_lines many.size ++ ls) (sym (flat_map-push many.nodes many.next))
+completed_nodes : (size : Extent) (nodes : List Node) (lines : List (List ℕ)) → 3 ≤ length lines → IsExtent size.rows size.cols
+    → EachNodeFits size nodes → length nodes ≤ most_nodes → lines ≡ front_lines size ++ flat_map node_lines nodes → Completed lines
+completed_nodes size [] lines long is_size each few same = absurd (omega (arith, ap length same))
+completed_nodes size (first ∷ nodes) lines long is_size each few same =
+    let last = last_split first nodes in
+    with_end size last.0 last.1 lines is_size (subst (EachNodeFits size) last.2 each) (omega (arith, few, ap length last.2))
+    (same ∙ ap (λ (ns : List Node). front_lines size ++ flat_map node_lines ns) last.2)
+
+completed_begun : (size : Extent) (nodes : List Node) (node : Node) (part rest lines : List (List ℕ)) → IsExtent size.rows size.cols
+    → EachNodeFits size nodes → length nodes < most_nodes → NodeFits size node → node_lines node ≡ part ++ rest
+    → lines ≡ (front_lines size ++ flat_map node_lines nodes) ++ part → Completed lines
+completed_begun size nodes node part rest lines is_size each few fits whole same =
+    let front : List (List ℕ) = front_lines size ++ flat_map node_lines nodes in
+    let longer : lines ++ rest ≡ front_lines size ++ flat_map node_lines (nodes ++ node ∷ []) =
+    ap (λ (ls : List (List ℕ)). ls ++ rest) same ∙ append_assoc front part rest ∙ ap (λ (ls : List (List ℕ)). front ++ ls) (sym whole)
+    ∙ append_assoc (front_lines size) (flat_map node_lines nodes) (node_lines node)
+    ∙ ap (λ (ls : List (List ℕ)). front_lines size ++ ls) (sym (flat_map-push nodes node)) in
+    let ended : Completed (lines ++ rest) =
+    with_end size nodes node (lines ++ rest) is_size (EachNodeFits-push size nodes node each fits)
+    (omega (arith, few, length-append nodes (node ∷ []))) longer in
+    record {
+      size = ended.size;
+      nodes = ended.nodes;
+      winner = ended.winner;
+      rest = rest ++ ended.rest;
+      are = subst (AreTreeLinesOf ended.size ended.nodes ended.winner) (append_assoc lines rest ended.rest) ended.are;
+      few = ended.few;
+    }
+
+completed : (lines : List (List ℕ)) (nodes : List Node) → 3 ≤ length lines → EndedIn lines nodes → Completed lines
+completed lines nodes long (Before_size none short) = absurd (omega (arith, short))
+completed lines nodes long (Among_nodes size is_size each few same) = completed_nodes size nodes lines long is_size each few same
+completed lines nodes long (Inside_node size is_size each few node fits part rest whole some same) =
+    completed_begun size nodes node part rest lines is_size each few fits whole same
+completed lines nodes long (After_end size winner whole few) = record {
+  size = size;
+  nodes = nodes;
+  winner = winner;
+  rest = [];
+  are = subst (AreTreeLinesOf size nodes winner) (sym (append-nil lines)) whole;
+  few = few;
+}
+
+-- the lines of too many nodes, up to the first line of the last
+abbrev pub many_lines : {input : List ℕ} → IsTooManyNodes input → List (List ℕ)
+many_lines many = front_lines many.size ++ flat_map node_lines many.nodes ++ head_line (head_of many.next) ∷ []
 
 abbrev all_of : {input : List ℕ} → IsTooManyNodes input → List Node
 all_of many = many.nodes ++ many.next ∷ []
 
-many_each : {input : List ℕ} (many : IsTooManyNodes input) → EachNodeFits many.size (all_of many)
-many_each many = EachNodeFits-push many.size many.nodes many.next many.each many.next_fits
+-- and the lines with which a text of theirs goes on
+many_rest : {input : List ℕ} → IsTooManyNodes input → List (List ℕ)
+many_rest many = rule_lines many.next.rule ++ end_line (length (many.nodes ++ many.next ∷ [])) many.next.heading.winner ∷ []
 
--- and the text that goes on with a last line
-many_last : {input : List ℕ} → IsTooManyNodes input → List ℕ
-many_last many = end_line (length (many.nodes ++ many.next ∷ [])) many.next.heading.winner
+many_are : {input : List ℕ} (many : IsTooManyNodes input)
+    → many_lines many ++ many_rest many ≡ tree_lines many.size (all_of many) many.next.heading.winner
+unfolding many_rest
+many_are many =
+    let front : List (List ℕ) = front_lines many.size ++ flat_map node_lines many.nodes in
+    let end : List (List ℕ) = end_line (length (all_of many)) many.next.heading.winner ∷ [] in
+    ap (λ (ls : List (List ℕ)). ls ++ many_rest many) (sym (append_assoc (front_lines many.size) (flat_map node_lines many.nodes) (head_line (head_of many.next) ∷ [])))
+    ∙ append_assoc front (head_line (head_of many.next) ∷ []) (many_rest many)
+    ∙ sym (append_assoc front (node_lines many.next) end)
+    ∙ ap (λ (ls : List (List ℕ)). ls ++ end)
+    (append_assoc (front_lines many.size) (flat_map node_lines many.nodes) (node_lines many.next)
+    ∙ ap (λ (ls : List (List ℕ)). front_lines many.size ++ ls) (sym (flat_map-push many.nodes many.next)))
 
 many_whole : {input : List ℕ} (many : IsTooManyNodes input)
-    → AreTreeLinesOf many.size (all_of many) many.next.heading.winner (many_lines many ++ many_last many ∷ [])
-unfolding many_last
+    → AreTreeLinesOf many.size (all_of many) many.next.heading.winner (many_lines many ++ many_rest many)
 many_whole many =
-    subst (AreTreeLinesOf many.size (all_of many) many.next.heading.winner)
-    (sym (ap (λ (ls : List (List ℕ)). ls ++ many_last many ∷ []) (many_are many)))
+    subst (AreTreeLinesOf many.size (all_of many) many.next.heading.winner) (sym (many_are many))
     (whole_are_of many.size many.nodes many.next many.is_size many.each many.next_fits (omega (arith, many.full)))
 
 AllLack-many_lines : {input : List ℕ} (many : IsTooManyNodes input) → AllLack (many_lines many)
 AllLack-many_lines many =
-    AllLack-front (many_lines many) (many_last many ∷ [])
+    AllLack-front (many_lines many) (many_rest many)
     (AllLack-tree_lines _
     (record { size = many.size; nodes = all_of many; winner = many.next.heading.winner; are = many_whole many }))
 
-length-all : {input : List ℕ} (many : IsTooManyNodes input) → length (all_of many) ≡ most_nodes + 1
-length-all many = length-append many.nodes (many.next ∷ []) ∙ ap (λ (n : ℕ). n + 1) many.full
+no_end_yet : {input : List ℕ} (many : IsTooManyNodes input) (more : List Node) (rest : List (List ℕ)) (count : ℕ) (winner : Colour) → IsNumber count
+    → head_line (head_of many.next) ∷ rest ≡ flat_map node_lines more ++ end_line count winner ∷ [] → 1 ≤ length more
+no_end_yet many [] rest count winner small e =
+    let first : head_line (head_of many.next) ≡ end_line count winner = cc in
+    absurd (head_not_end many.size (head_of many.next) count winner many.is_size many.next_fits.head small first)
+no_end_yet many (node ∷ more) rest count winner small e = omega arith
+
+-- no text that begins so has as few nodes as a text may have
+more_nodes : {input : List ℕ} (many : IsTooManyNodes input) (size : Extent) (all : List Node) (winner : Colour) (rest : List (List ℕ))
+    → AreTreeLinesOf size all winner (many_lines many ++ rest) → length all ≤ most_nodes → ⊥
+more_nodes many size all winner rest are few =
+    let front : List (List ℕ) = front_lines many.size ++ flat_map node_lines many.nodes in
+    let head : List ℕ = head_line (head_of many.next) in
+    let same : many_lines many ++ rest ≡ front ++ (head ∷ rest) =
+    ap (λ (ls : List (List ℕ)). ls ++ rest) (sym (append_assoc (front_lines many.size) (flat_map node_lines many.nodes) (head ∷ [])))
+    ∙ append_assoc front (head ∷ []) rest in
+    let on = aligned many.size many.nodes front (head ∷ rest) size all winner many.is_size many.each refl
+    (subst (AreTreeLinesOf size all winner) same are) in
+    let some : 1 ≤ length on.on.more = no_end_yet many on.on.more rest (length all) winner are.count on.on.rest_is in
+    absurd (omega (arith, few, some, many.full, ap length on.on.nodes_are, length-append many.nodes on.on.more))
+
+long_many : {input : List ℕ} (many : IsTooManyNodes input) (lines more : List (List ℕ)) → lines ≡ many_lines many ++ more → 3 ≤ length lines
+long_many many lines more is =
+    omega (arith, ap length is, length-append (many_lines many) more, length-append (flat_map node_lines many.nodes) (head_line (head_of many.next) ∷ []))
 
 -- more nodes than a text may have
 too_many : {input : List ℕ} (many : IsTooManyNodes input) (lines more : List (List ℕ)) (nodes : List Node)
-    → lines ≡ many_lines many ++ more → EndedIn lines nodes → length nodes ≤ most_nodes → ⊥
-too_many many lines more nodes is ended few =
-    let much : length (all_of many) ≤ length nodes =
-    ended_many (many_lines many) lines more (all_of many) nodes many.size many.is_size (many_each many) (many_are many) is
-    ended in
-    absurd (omega (arith, much, length-all many))
+    → lines ≡ many_lines many ++ more → EndedIn lines nodes → ⊥
+too_many many lines more nodes is ended =
+    let whole : Completed lines = completed lines nodes (long_many many lines more is) ended in
+    let same : lines ++ whole.rest ≡ many_lines many ++ (more ++ whole.rest) =
+    ap (λ (ls : List (List ℕ)). ls ++ whole.rest) is ∙ append_assoc (many_lines many) more whole.rest in
+    more_nodes many whole.size whole.nodes whole.winner (more ++ whole.rest)
+    (subst (AreTreeLinesOf whole.size whole.nodes whole.winner) same whole.are) whole.few
 
--- the rest of the lines of too many nodes, with a last line
+-- the rest of the lines of too many nodes
 goes_to_end : {input : List ℕ} (many : IsTooManyNodes input) (lines more : List (List ℕ)) → many_lines many ≡ lines ++ more
-    → AreTreeLinesOf many.size (all_of many) many.next.heading.winner (lines ++ (more ++ many_last many ∷ []))
+    → AreTreeLinesOf many.size (all_of many) many.next.heading.winner (lines ++ (more ++ many_rest many))
 goes_to_end many lines more is =
     subst (AreTreeLinesOf many.size (all_of many) many.next.heading.winner)
-    (ap (λ (ls : List (List ℕ)). ls ++ many_last many ∷ []) is ∙ append_assoc lines more (many_last many ∷ []))
+    (ap (λ (ls : List (List ℕ)). ls ++ many_rest many) is ∙ append_assoc lines more (many_rest many))
     (many_whole many)
 
 wrong_within : {input : List ℕ} (many : IsTooManyNodes input) (nodes : List Node) (k : ℕ) → GoOn nodes (all_of many)
@@ -117,11 +218,11 @@ wrong_within many nodes k on wrong within =
 
 many_not_wrong_by : {input : List ℕ} (many : IsTooManyNodes input) (k : ℕ) (is : IsNoNode input k)
     → Agree (many_lines many) is.lines many.rest is.rest → ⊥
-many_not_wrong_by many k is (Second_goes_on more same rest) = too_many many is.lines more is.nodes same is.ended is.few
+many_not_wrong_by many k is (Second_goes_on more same rest) = too_many many is.lines more is.nodes same is.ended
 many_not_wrong_by many k is (First_goes_on more same rest) =
     wrong_within many is.nodes k
-    (ended_first is.lines (more ++ many_last many ∷ []) is.nodes (all_of many) many.size many.next.heading.winner is.ended
-    (goes_to_end many is.lines more same)) is.wrong (omega (arith, is.last, is.few))
+    (ended_first is.lines (more ++ many_rest many) is.nodes (all_of many) many.size many.next.heading.winner is.ended
+    (goes_to_end many is.lines more same)) is.wrong (omega (arith, is.last, few_ended is.lines is.nodes is.ended))
 
 pub many_not_wrong : (input : List ℕ) (k : ℕ) → IsTooManyNodes input → IsNoNode input k → ⊥
 many_not_wrong input k many is =
@@ -141,14 +242,14 @@ many_not_fault_at : {input : List ℕ} (many : IsTooManyNodes input) (line : ℕ
     → many_lines many ≡ is.fault.before ++ more → is.fault.rest ≡ text_of more ++ many.rest → ⊥
 many_not_fault_at many line is [] same rest =
     too_many many is.fault.before [] is.nodes (sym (append-nil is.fault.before) ∙ sym same ∙ sym (append-nil (many_lines many)))
-    is.ended is.few
+    is.ended
 many_not_fault_at {input} many line is (next ∷ more) same rest =
-    no_next input line is.fault next more (more ++ many_last many ∷ []) many.rest rest
+    no_next input line is.fault next more (more ++ many_rest many) many.rest rest
     (record { size = many.size; nodes = all_of many; winner = many.next.heading.winner; are = goes_to_end many is.fault.before (next ∷ more) same })
 
 many_not_fault_by : {input : List ℕ} (many : IsTooManyNodes input) (line : ℕ) (is : IsNoText input line)
     → Agree (many_lines many) is.fault.before many.rest is.fault.rest → ⊥
-many_not_fault_by many line is (Second_goes_on more same rest) = too_many many is.fault.before more is.nodes same is.ended is.few
+many_not_fault_by many line is (Second_goes_on more same rest) = too_many many is.fault.before more is.nodes same is.ended
 many_not_fault_by many line is (First_goes_on more same rest) = many_not_fault_at many line is more same rest
 
 pub many_not_fault : (input : List ℕ) (line : ℕ) → IsTooManyNodes input → IsNoText input line → ⊥
@@ -216,12 +317,21 @@ valid_not_wrong input nodes k text valid is =
     let least : IsLeastWrong nodes k = subst (λ (ns : List Node). IsLeastWrong ns k) (sym on.same) (least_wrong-append is.nodes on.more k is.wrong) in
     least.wrong (valid.right k)
 
+text_not_many_by : {input : List ℕ} {nodes : List Node} (text : IsTreeText input nodes) → length nodes ≤ most_nodes
+    → (many : IsTooManyNodes input) → Agree (many_lines many) text.lines many.rest [] → ⊥
+unfolding text_of
+text_not_many_by {input} {nodes} text few many (Second_goes_on more same left) =
+    more_nodes many text.size nodes text.winner more (subst (AreTreeLinesOf text.size nodes text.winner) same text.are) few
+text_not_many_by {input} {nodes} text few many (First_goes_on [] same left) =
+    more_nodes many text.size nodes text.winner []
+    (subst (AreTreeLinesOf text.size nodes text.winner)
+    (sym (append-nil text.lines) ∙ sym same ∙ sym (append-nil (many_lines many))) text.are) few
+text_not_many_by {input} {nodes} text few many (First_goes_on (next ∷ more) same left) =
+    absurd (ended-some next (text_of more ++ many.rest) (sym (append_assoc next (10 ∷ text_of more) many.rest) ∙ sym left))
+
 pub text_not_many : (input : List ℕ) (nodes : List Node) → IsTreeText input nodes → length nodes ≤ most_nodes
     → IsTooManyNodes input → ⊥
 text_not_many input nodes text few many =
-    let ended : EndedIn (many_lines many) (all_of many) = Among_nodes many.size many.is_size (many_each many) (many_are many) in
-    let on : GoOn (all_of many) nodes =
-    within_text text (many_lines many) many.rest (all_of many) ended
-    (agree text.lines (many_lines many) [] many.rest (AllLack-text text) (AllLack-many_lines many)
-    (append-nil (text_of text.lines) ∙ sym text.same ∙ many.parts)) in
-    absurd (omega (arith, few, length-all many, ap length on.same, length-append (all_of many) on.more))
+    text_not_many_by text few many
+    (agree (many_lines many) text.lines many.rest [] (AllLack-many_lines many) (AllLack-text text)
+    (sym many.parts ∙ text.same ∙ sym (append-nil (text_of text.lines))))

@@ -5,24 +5,31 @@ use Rattle.std.proofs.lemmas.List.{append-nil}
 use Rattle.std.specs.Prelude.{flat_map}
 use Rattle.hx_tree.specs.declared.nodes.Node.{Node}
 use Rattle.hx_text.specs.declared.places.Place.{Place}
-use Rattle.hx_text.specs.declared.places.Place.TheVariants.{Title, Size, Between, After, Failed}
+use Rattle.hx_text.specs.declared.places.Place.TheVariants.{Title, Size, Between, Inside, After, Failed}
 use Rattle.hx_text.specs.TreeTexts.{AreTreeLines, AreTreeLinesOf, front_lines, node_lines, end_line}
 use Rattle.hx_text.specs.Places.{Stands, most_nodes}
-use Rattle.hx_app.specs.Judging.{EndedIn, Before_size, Among_nodes, After_end}
+use Rattle.hx_app.specs.Judging.{EndedIn, Before_size, Among_nodes, Inside_node, After_end}
 use Rattle.hx_text.proofs.Alignment.{aligned}
+use Rattle.hx_text.proofs.BegunNodes.{EndsInNode, inside_begins_node, in_node_not_whole}
 
-pub ended_in : (place : Place) (nodes : List Node) (lines : List (List ℕ)) → Stands place nodes lines → EndedIn lines nodes
-ended_in Title nodes lines stands = Before_size stands.0 (omega (arith, ap length stands.1))
-ended_in Size nodes lines stands = Before_size stands.0 (omega (arith, ap length stands.1))
-ended_in (Between so_far) nodes lines stands = Among_nodes so_far.size stands.is_size stands.each stands.same
-ended_in After nodes lines stands = After_end stands.0 stands.1 stands.2
-ended_in (Failed fault) nodes lines stands = absurd stands
+pub ended_in : (place : Place) (nodes : List Node) (lines : List (List ℕ)) → Stands place nodes lines → length nodes ≤ most_nodes
+    → EndedIn lines nodes
+ended_in Title nodes lines stands few = Before_size stands.0 (omega (arith, ap length stands.1))
+ended_in Size nodes lines stands few = Before_size stands.0 (omega (arith, ap length stands.1))
+ended_in (Between so_far) nodes lines stands few = Among_nodes so_far.size stands.is_size stands.each few stands.same
+ended_in (Inside begun) nodes lines stands few =
+    let ends : EndsInNode begun.so_far.size nodes lines = inside_begins_node begun nodes lines stands in
+    Inside_node begun.so_far.size stands.stands.is_size stands.stands.each (omega (arith, stands.room, stands.stands.count)) ends.node ends.fits
+    ends.part ends.rest ends.parts ends.lacks ends.same
+ended_in After nodes lines stands few = After_end stands.0 stands.1 stands.2 few
+ended_in (Failed fault) nodes lines stands few = absurd stands
 
 pub few_nodes : (place : Place) (nodes : List Node) (lines : List (List ℕ)) → place ≢ After → Stands place nodes lines
     → length nodes ≤ most_nodes
 few_nodes Title nodes lines other stands = omega (arith, ap length stands.0)
 few_nodes Size nodes lines other stands = omega (arith, ap length stands.0)
 few_nodes (Between so_far) nodes lines other stands = omega (arith, stands.room, stands.count)
+few_nodes (Inside begun) nodes lines other stands = omega (arith, stands.room, stands.stands.count)
 few_nodes After nodes lines other stands = absurd (other refl)
 few_nodes (Failed fault) nodes lines other stands = absurd stands
 
@@ -50,5 +57,7 @@ not_whole (Between so_far) nodes lines other stands are =
     let on = aligned so_far.size nodes lines [] are.size are.nodes are.winner stands.is_size stands.each stands.same
     (subst (AreTreeLinesOf are.size are.nodes are.winner) (sym (append-nil lines)) are.are) in
     no_end_line on.on.more _ on.on.rest_is
+not_whole (Inside begun) nodes lines other stands are =
+    in_node_not_whole begun.so_far.size nodes lines stands.stands.is_size stands.stands.each (inside_begins_node begun nodes lines stands) are
 not_whole After nodes lines other stands are = other refl
 not_whole (Failed fault) nodes lines other stands are = stands

@@ -1,5 +1,5 @@
 -- What is said of an input: that it is the text of a valid tree, or which of its lines or nodes is the first fault.
-use Rattle.std.specs.Prelude.{◌≡◌, ℕ, ◌+◌, ◌≤◌, List, [], ◌∷◌, ◌++◌, length, flat_map}
+use Rattle.std.specs.Prelude.{◌≡◌, ◌≢◌, ℕ, ◌+◌, ◌<◌, ◌≤◌, List, [], ◌∷◌, ◌++◌, length, flat_map}
 use Rattle.std.specs.declared.option.Option.{Option}
 use Rattle.std.specs.declared.option.Option.TheVariants.{None, Some}
 use Rattle.hx_board.specs.declared.colours.Colour.{Colour}
@@ -13,15 +13,20 @@ use Rattle.hx_app.specs.declared.answers.Answer.TheVariants.{Yes, NoText, NoNode
 use Rattle.hx_text.specs.declared.places.Place.TheVariants.{After}
 use Rattle.hx_text.specs.declared.reader.TreeReader.{TreeReader}
 use Rattle.hx_text.specs.Grammars.{text_of, Begins, IsFaultyLine}
-use Rattle.hx_text.specs.TreeTexts.{AreTreeLines, AreTreeLinesOf, IsTreeText, NodeFits, EachNodeFits, node_lines, front_lines}
+use Rattle.hx_text.specs.TreeTexts.{AreTreeLines, AreTreeLinesOf, IsTreeText, NodeFits, EachNodeFits, head_of, head_line, node_lines, front_lines}
 use Rattle.hx_text.specs.Places.{most_nodes}
 use Rattle.hx_text.specs.Reader.{HasRead, lines_fed}
 
--- the nodes that ended in these lines, with which the text of a tree begins
+-- the nodes that ended in these lines, with which the text of a tree begins that has no more nodes than a text may have
 pub data EndedIn (lines : List (List ℕ)) (nodes : List Node) : Type 0 where
   Before_size : nodes ≡ [] → length lines ≤ 1 → EndedIn lines nodes
-  Among_nodes : (size : Extent) → IsExtent size.rows size.cols → EachNodeFits size nodes → lines ≡ front_lines size ++ flat_map node_lines nodes → EndedIn lines nodes
-  After_end : (size : Extent) (winner : Colour) → AreTreeLinesOf size nodes winner lines → EndedIn lines nodes
+  Among_nodes : (size : Extent) → IsExtent size.rows size.cols → EachNodeFits size nodes → length nodes ≤ most_nodes
+      → lines ≡ front_lines size ++ flat_map node_lines nodes → EndedIn lines nodes
+  -- a further node has begun and has not all of its lines
+  Inside_node : (size : Extent) → IsExtent size.rows size.cols → EachNodeFits size nodes → length nodes < most_nodes
+      → (node : Node) → NodeFits size node → (part rest : List (List ℕ)) → node_lines node ≡ part ++ rest → rest ≢ []
+      → lines ≡ (front_lines size ++ flat_map node_lines nodes) ++ part → EndedIn lines nodes
+  After_end : (size : Extent) (winner : Colour) → AreTreeLinesOf size nodes winner lines → length nodes ≤ most_nodes → EndedIn lines nodes
 
 -- the input is the text of a valid tree with this root
 pub record IsYes (input : List ℕ) (heading : Heading) : Type 0 where
@@ -38,7 +43,6 @@ pub record IsNoText (input : List ℕ) (line : ℕ) : Type 0 where
   pub fault : IsFaultyLine AreTreeLines input line
   pub nodes : List Node
   pub ended : EndedIn fault.before nodes
-  pub few : length nodes ≤ most_nodes
   pub right : AreRight nodes
 
 -- this node, counted from 0, is the least that is not right, and the lines up to its end are of the grammar
@@ -50,10 +54,9 @@ pub record IsNoNode (input : List ℕ) (k : ℕ) : Type 0 where
   pub nodes : List Node
   pub ended : EndedIn lines nodes
   pub last : length nodes ≡ k + 1
-  pub few : length nodes ≤ most_nodes
   pub wrong : IsLeastWrong nodes k
 
--- as many right nodes as a text may have, and then the line of one more
+-- as many right nodes as a text may have, and then the first line of one more
 pub record IsTooManyNodes (input : List ℕ) : Type 0 where
   pub size : Extent
   pub is_size : IsExtent size.rows size.cols
@@ -64,7 +67,7 @@ pub record IsTooManyNodes (input : List ℕ) : Type 0 where
   pub next : Node
   pub next_fits : NodeFits size next
   pub rest : List ℕ
-  pub parts : input ≡ text_of (front_lines size ++ flat_map node_lines nodes ++ node_lines next) ++ rest
+  pub parts : input ≡ text_of (front_lines size ++ flat_map node_lines nodes ++ head_line (head_of next) ∷ []) ++ rest
 
 -- what each answer says of the input
 abbrev pub IsJudged : List ℕ → Answer → Type 0

@@ -26,7 +26,7 @@ pub(crate) fn judge(alloc: Global, input: &[u8]) -> Answer
     requires { length input.now ≤ limit }
     ensures { IsJudged input.now result }
 {
-    let mut reader = TreeReader::new();
+    let mut reader = TreeReader::new(alloc);
     let mut headings = Vec::new(alloc);
     let mut rest = input;
     while let Some((line, later)) = cut(rest, b'\n') {
@@ -56,6 +56,7 @@ fn judge_line(
         Ok(Fed::End(_)) => Some(at_end(reader, headings, later)),
         Err(TreeFault::Text { line }) => Some(Answer::NoText { line }),
         Err(TreeFault::TooMany { .. }) => Some(Answer::TooLong),
+        Err(TreeFault::Memory) => Some(Answer::OutOfMemory),
     }
 }
 

@@ -1,5 +1,6 @@
 //! The top call over sources and sinks in memory.
 
+mod answered;
 mod damage;
 mod faults;
 mod limits;

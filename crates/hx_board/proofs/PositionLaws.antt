@@ -1,10 +1,12 @@
 -- The laws of positions.
 use Rattle.std.proofs.Common.{◌≡◌, ◌≢◌, ℕ, ◌^◌, ◌<◌, Bool, true, false, refl, sym, ap, ◌∙◌, subst, ⊎_elim, arith, ◌↔◌}
 use Rattle.std.proofs.lemmas.Bool.{false≢true}
-use Rattle.hx_board.specs.Sets.{has, insert, union, intersection, difference, IsSubset}
+use Rattle.hx_board.specs.Sets.{has, insert, remove, union, intersection, difference, IsSubset}
 use Rattle.hx_board.specs.Cells.{Extent, OnBoard}
-use Rattle.hx_board.specs.Positions.{Board, IsBoard, IsPosition, IsEmpty}
-use Rattle.hx_board.proofs.SetLaws.{has-empty, has-insert_cases, has-intersection_both, has-union_left, has-union_right, has-union_cases, has-difference_left, has-difference_right, has-difference_both, has-intersection_left, has-intersection_right, same_set, is_false, set-small}
+use Rattle.hx_board.specs.declared.colours.Colour.{Colour}
+use Rattle.hx_board.specs.declared.colours.Colour.TheVariants.{Black, White}
+use Rattle.hx_board.specs.Positions.{Board, IsBoard, IsPosition, IsEmpty, put, lifted}
+use Rattle.hx_board.proofs.SetLaws.{has-empty, has-insert_cases, has-intersection_both, has-union_left, has-union_right, has-union_cases, has-difference_left, has-difference_right, has-difference_both, has-intersection_left, has-intersection_right, same_set, is_false, set-small, remove-absent, remove-insert}
 use Rattle.hx_board.proofs.CellLaws.{on_board-small}
 
 pub empty-is_position : (size : Extent) → IsPosition size 0 0
@@ -68,6 +70,19 @@ position-apart size black white p =
 pub position-inside : (size : Extent) (black white all : ℕ) → ((n : ℕ) → (has all n ≡ true) ↔ OnBoard size n) → IsPosition size black white → IsSubset (union black white) all
 position-inside size black white all is_all p n h =
     (is_all n).1 (⊎_elim (p.black_inside n) (p.white_inside n) (has-union_cases black white n h))
+
+-- lifting the stone that was put on an empty cell gives the board back
+pub lifted-put : (board : Board) (colour : Colour) (cell : ℕ) → IsEmpty board cell → lifted (put board colour cell) cell ≡ board
+lifted-put board Black cell e =
+    ap (λ (b : ℕ). record board { black = b; white = remove board.white cell }) (remove-insert board.black cell e.no_black)
+    ∙ ap (λ (w : ℕ). record board { white = w }) (remove-absent board.white cell e.no_white)
+lifted-put board White cell e =
+    ap (λ (b : ℕ). record board { black = b; white = remove (insert board.white cell) cell }) (remove-absent board.black cell e.no_black)
+    ∙ ap (λ (w : ℕ). record board { white = w }) (remove-insert board.white cell e.no_white)
+
+-- the same of a board that is equal to the one with the stone, the form in which the prover finds it for `lift`
+pub lifted_back : (old before : Board) (colour : Colour) (cell : ℕ) → IsEmpty before cell → old ≡ put before colour cell → lifted old cell ≡ before
+lifted_back old before colour cell e same = ap (λ (board : Board). lifted board cell) same ∙ lifted-put before colour cell e
 
 -- the sets of a position have only cells of a board, whose indexes are below 121
 pub board-small : (board : Board) → IsBoard board → (board.black < 2 ^ 128) × (board.white < 2 ^ 128)

@@ -19,6 +19,7 @@ abbrev pub IsLastLine : Extent → Colour → ℕ → Type 0
 IsLastLine size Black cell = row_of cell + 1 ≡ size.rows
 IsLastLine size White cell = col_of cell + 1 ≡ size.cols
 
+-- a vertex of a player's graph: a cell of the board, or one of the player's two sides
 abbrev pub IsVertex : Extent → Vertex → Type 0
 IsVertex size (Of cell) = OnBoard size cell
 IsVertex size First = Unit {0}
@@ -51,6 +52,7 @@ Walk board player from (next ∷ rest) to = Touches board.size player from next 
 abbrev pub Joined : Board → Colour → Vertex → Vertex → Type 0
 Joined board player from to = (from ≡ to) ⊎ ((inner : List Vertex) × Walk board player from inner to)
 
+-- the player's two sides are joined
 abbrev pub HasChain : Board → Colour → Type 0
 HasChain board player = Joined board player First Last
 

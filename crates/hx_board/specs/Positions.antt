@@ -1,10 +1,10 @@
 -- Positions: a board and the cells that hold stones.
-use Rattle.std.specs.Prelude.{◌≡◌, ℕ, true, false, if◌then◌else◌}
+use Rattle.std.specs.Prelude.{◌≡◌, ℕ, true, false, if◌then◌else◌, ◌⊎◌}
 use Rattle.std.specs.declared.option.Option.{Option}
 use Rattle.std.specs.declared.option.Option.TheVariants.{None, Some}
 use Rattle.hx_board.specs.declared.colours.Colour.{Colour}
 use Rattle.hx_board.specs.declared.colours.Colour.TheVariants.{Black, White}
-use Rattle.hx_board.specs.Sets.{has, insert}
+use Rattle.hx_board.specs.Sets.{has, insert, remove}
 use Rattle.hx_board.specs.Cells.{Extent, IsExtent, OnBoard}
 
 -- a board of some size with the sets of cells that hold a black and a white stone
@@ -42,3 +42,11 @@ stone_at board cell = if has board.black cell then Some Black else (if has board
 abbrev pub put : Board → Colour → ℕ → Board
 put board Black cell = record board { black = insert board.black cell }
 put board White cell = record board { white = insert board.white cell }
+
+-- a cell that holds a stone
+abbrev pub IsHeld : Board → ℕ → Type 0
+IsHeld board cell = (has board.black cell ≡ true) ⊎ (has board.white cell ≡ true)
+
+-- the board without the stone on a cell, and nothing else changed
+abbrev pub lifted : Board → ℕ → Board
+lifted board cell = record board { black = remove board.black cell; white = remove board.white cell }

@@ -14,7 +14,7 @@ use std::alloc::{AllocError, Global};
 
 /// Whether two cells touch: the steps from a cell to those that touch it are one left, one right, one up, one down,
 /// one up and right, one down and left.
-pub fn cells_touch(cell: Cell, other: Cell) -> bool {
+pub(crate) fn cells_touch(cell: Cell, other: Cell) -> bool {
     let down = other.row() as i8 - cell.row() as i8;
     let right = other.col() as i8 - cell.col() as i8;
     matches!(
@@ -36,7 +36,7 @@ fn is_along(size: Size, player: Colour, cell: Cell, side: &Vertex) -> bool {
 }
 
 /// Whether two vertices of the player's graph touch. The two sides do not.
-pub fn touch(size: Size, player: Colour, vertex: &Vertex, other: &Vertex) -> bool {
+pub(crate) fn touch(size: Size, player: Colour, vertex: &Vertex, other: &Vertex) -> bool {
     match (vertex, other) {
         (Vertex::Of(cell), Vertex::Of(next)) => cells_touch(*cell, *next),
         (Vertex::Of(cell), side) => is_along(size, player, *cell, side),
@@ -46,13 +46,27 @@ pub fn touch(size: Size, player: Colour, vertex: &Vertex, other: &Vertex) -> boo
 }
 
 /// Whether this is a vertex of a player's graph on a board of this size.
-pub fn is_vertex(size: Size, vertex: &Vertex) -> bool
+pub(crate) fn is_vertex(size: Size, vertex: &Vertex) -> bool
     ensures { IsTrue result ↔ IsVertex size vertex.now }
 {
     match vertex {
         Vertex::Of(cell) => cell.row() < size.rows() && cell.col() < size.cols(),
         Vertex::First | Vertex::Last => true,
     }
+}
+
+/// How many cells have no stone.
+pub(crate) fn empty_count(position: &Position) -> u32 {
+    let size = position.size();
+    let mut count = 0;
+    for index in 0..121u8 {
+        if let Some(cell) = size.cell(index / 11, index % 11)
+            && position.at(cell).is_none()
+        {
+            count += 1;
+        }
+    }
+    count
 }
 
 /// Whether a vertex is a stone or a side of the player.
@@ -64,7 +78,7 @@ fn is_own(position: &Position, player: Colour, vertex: &Vertex) -> bool {
 }
 
 /// The vertices of a player's graph: the cells of the board and the two sides.
-pub fn vertices(alloc: Global, size: Size) -> Result<Vec<Vertex>, AllocError> {
+pub(crate) fn vertices(alloc: Global, size: Size) -> Result<Vec<Vertex>, AllocError> {
     let mut all = Vec::new(alloc);
     for row in 0..size.rows() {
         for col in 0..size.cols() {
@@ -80,7 +94,7 @@ pub fn vertices(alloc: Global, size: Size) -> Result<Vec<Vertex>, AllocError> {
 
 /// The vertices that are joined to one: itself, and those to which a walk leads whose inner vertices are all the
 /// player's own.
-pub fn joined_to(
+pub(crate) fn joined_to(
     alloc: Global,
     position: &Position,
     player: Colour,
@@ -110,13 +124,17 @@ pub fn joined_to(
 }
 
 /// Whether the player's two sides are joined.
-pub fn has_chain(alloc: Global, position: &Position, player: Colour) -> Result<bool, AllocError> {
+pub(crate) fn has_chain(
+    alloc: Global,
+    position: &Position,
+    player: Colour,
+) -> Result<bool, AllocError> {
     Ok(joined_to(alloc, position, player, &Vertex::First)?.contains(&Vertex::Last))
 }
 
 /// Whether the player wins the position with this mover, by trying each move of each player to the end of the game.
 /// A game of more than `moves` moves counts as lost.
-pub fn wins(
+pub(crate) fn wins(
     alloc: Global,
     position: &Position,
     player: Colour,

@@ -4,7 +4,8 @@
 
 ghost use Rattle.std.specs.Prelude.{◌≡◌, ℕ, ◌↔◌, SomeIff, true};
 ghost use Rattle.hx_board.specs.Sets.{has};
-ghost use Rattle.hx_board.specs.Positions.{IsPosition, IsBoard, IsEmpty, stones_of, stone_at, put};
+ghost use Rattle.hx_board.specs.Positions.{IsPosition, IsBoard, IsEmpty, IsHeld, Board, stones_of, stone_at, put, lifted};
+ghost use Rattle.hx_board.specs.Counts.{empty_count};
 
 use crate::cells::Cell;
 use crate::colours::Colour;
@@ -86,6 +87,14 @@ impl Position {
         self.size.all().minus(held)
     }
 
+    /// How many cells have no stone, from 0 to 121.
+    pub fn empty_count(&self) -> u32
+        ensures { result ≡ empty_count self.now }
+    {
+        let _size = self.size();
+        self.empties().count()
+    }
+
     /// The colour of the stone on a cell. None where the cell is empty, and where it lies off the board.
     pub fn at(&self, cell: Cell) -> Option<Colour>
         ensures { result ≡ stone_at self.now cell }
@@ -108,5 +117,17 @@ impl Position {
             Colour::Black => self.black = self.black.with(cell),
             Colour::White => self.white = self.white.with(cell),
         }
+    }
+
+    /// Takes the stone off a cell that holds one. Nothing else changes, so lifting the stone that was put last gives
+    /// the position before it.
+    #[tactic(auto, using(crate::proofs::PositionLaws::lifted_back))]
+    pub fn lift(&mut self, cell: Cell)
+        requires { IsHeld self.old cell }
+        ensures value { self.new ≡ lifted self.old cell }
+        ensures back { (before : Board) (colour : Colour) → IsEmpty before cell → self.old ≡ put before colour cell → self.new ≡ before }
+    {
+        self.black = self.black.without(cell);
+        self.white = self.white.without(cell);
     }
 }

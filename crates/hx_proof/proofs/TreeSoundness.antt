@@ -1,17 +1,21 @@
 -- The winner of a right node wins, where the winners before it do, by the rule of the game tree that its own rule stands
 -- for. So the winner of each node of a valid tree wins, by induction on its place. The other player does not, since one
 -- player wins each position.
-use Rattle.std.proofs.Common.{ℕ, zero, suc, ◌<◌, List, [], ◌∷◌, take, length, Option, Some, None, arith}
+use Rattle.std.proofs.Common.{◌≡◌, ℕ, zero, suc, ◌<◌, List, [], ◌∷◌, take, length, get_or, Option, Some, None, arith}
 use Rattle.std.specs.Prelude.{slice_get, IfSome, IsSomeAnd}
 use Rattle.hx_board.specs.declared.colours.Colour.{Colour}
-use Rattle.hx_board.specs.Positions.{Board}
-use Rattle.hx_board.specs.Game.{Wins, By_chain, By_move}
+use Rattle.hx_board.specs.Colours.{other_of}
+use Rattle.hx_board.specs.Positions.{Board, put}
+use Rattle.hx_board.specs.Game.{Wins, By_chain, By_move, By_answers}
 use Rattle.hx_law.proofs.OneWinner.{not_both_win}
 use Rattle.hx_tree.specs.declared.nodes.Heading.{Heading}
+use Rattle.hx_tree.specs.declared.nodes.Line.{Line}
+use Rattle.hx_tree.specs.declared.nodes.Line.TheVariants.{Child}
 use Rattle.hx_tree.specs.declared.nodes.Node.{Node}
 use Rattle.hx_tree.specs.declared.nodes.Rule.{Rule}
-use Rattle.hx_tree.specs.declared.nodes.Rule.TheVariants.{Chain, Move}
+use Rattle.hx_tree.specs.declared.nodes.Rule.TheVariants.{Chain, Move, All}
 use Rattle.hx_tree.specs.Headings.{IsHeading}
+use Rattle.hx_tree.specs.Answers.{cell_of, cells_of, IsRightLine}
 use Rattle.hx_tree.specs.Rules.{IsRightRule, IsRightNode}
 use Rattle.hx_tree.specs.Trees.{headings_of, AreRight, IsValidTree, IsRoot}
 use Rattle.hx_tree.proofs.TreeGrowth.{slice_get-append_seam}
@@ -22,10 +26,24 @@ child_wins : (child : Option Heading) (board : Board) (mover winner : Colour) �
 child_wins None board mover winner wins leads = absurd leads
 child_wins (Some child) board mover winner wins leads = rw (← leads.same_position, ← leads.same_mover, ← leads.same_winner) wins
 
+-- the winner wins after the move that a right line answers
+line_wins : (before : List Heading) (heading : Heading) → ((k : ℕ) → IfSome (slice_get before k) HeadingWins) → (line : Line) → IsRightLine before heading line
+    → Wins heading.winner (put heading.position (other_of heading.winner) (cell_of line)) heading.winner
+line_wins before heading wins (Child cell child) right = child_wins _ _ _ _ (wins child) right
+
+answer_wins : (before : List Heading) (heading : Heading) → ((k : ℕ) → IfSome (slice_get before k) HeadingWins) → (lines : List Line) (k cell : ℕ) → k < length (cells_of lines)
+    → get_or (cells_of lines) k cell ≡ cell → IfSome (slice_get lines k) (IsRightLine before heading) → Wins heading.winner (put heading.position (other_of heading.winner) cell) heading.winner
+answer_wins before heading wins [] k cell less is right = absurd (omega arith)
+answer_wins before heading wins (line ∷ lines) zero cell less is right = rw is at (line_wins before heading wins line right)
+answer_wins before heading wins (line ∷ lines) (suc k) cell less is right = answer_wins before heading wins lines k cell (omega arith) is right
+
 rule_wins : (before : List Heading) (heading : Heading) (rule : Rule) → ((k : ℕ) → IfSome (slice_get before k) HeadingWins) → IsRightRule before heading rule → HeadingWins heading
 rule_wins before heading Chain wins right = By_chain heading.position heading.to_move right
 rule_wins before heading (Move cell child) wins right =
     By_move heading.position heading.to_move cell right.mover right.empty (child_wins _ _ _ _ (wins child) right.leads)
+rule_wins before heading (All lines) wins right =
+    By_answers heading.position heading.to_move right.some right.mover right.some_empty
+    (λ cell empty. let found = right.answered.each cell empty in answer_wins before heading wins lines found.0 cell found.1 found.2 (right.lines_right found.0))
 
 pub node_wins : (before : List Heading) (node : Node) → ((k : ℕ) → IfSome (slice_get before k) HeadingWins) → IsRightNode before node → HeadingWins node.heading
 node_wins before node wins right = rule_wins before node.heading node.rule wins right.rule

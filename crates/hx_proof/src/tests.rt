@@ -5,8 +5,8 @@ ghost use Rattle.hx_proof.specs.Winners.{HeadingWins, AllWin};
 
 use super::*;
 use hx_board::Colour::{Black, White};
-use hx_board::{Colour, Mask, Memory, Position, Size};
-use hx_tree::{Heading, Node, Rule, Verdict, check_node, check_tree};
+use hx_board::{Cell, Colour, Mask, Memory, Position, Size};
+use hx_tree::{Heading, Line, Lines, Node, Rule, Verdict, check_node, check_tree};
 use std::alloc::Global;
 use std::test::Fail;
 
@@ -35,33 +35,58 @@ fn is_leaf(node: &Node) -> Result<bool, Memory>
     Ok(is_right)
 }
 
-/// A heading on the board of one cell.
-fn heading(black: u128, to_move: Colour, winner: Colour) -> Result<Heading, Fail> {
-    let size = Size::new(1, 1).ok_or("size")?;
-    let position = Position::from_masks(size, Mask::of(black), Mask::empty()).ok_or("stones")?;
+/// A heading of Black's win on a board of one row.
+fn heading(cols: u8, black: u128, white: u128, to_move: Colour) -> Result<Heading, Fail> {
+    let size = Size::new(1, cols).ok_or("size")?;
+    let stones = Position::from_masks(size, Mask::of(black), Mask::of(white));
     Ok(Heading {
-        position,
+        position: stones.ok_or("stones")?,
         to_move,
-        winner,
+        winner: Black,
     })
+}
+
+/// A cell of the first row.
+fn cell(col: u8) -> Result<Cell, Fail> {
+    let size = Size::new(1, 2).ok_or("size")?;
+    Ok(size.cell(0, col).ok_or("cell")?)
 }
 
 #[test]
 fn winners_win(rt: HostRuntime) -> Result<(), Fail> {
     let won = Node {
-        heading: heading(1, White, Black)?,
+        heading: heading(1, 1, 0, White)?,
         rule: Rule::Chain,
     };
-    let size = Size::new(1, 1).ok_or("size")?;
     let start = Node {
-        heading: heading(0, Black, Black)?,
+        heading: heading(1, 0, 0, Black)?,
         rule: Rule::Move {
-            cell: size.cell(0, 0).ok_or("cell")?,
+            cell: cell(0)?,
             child: 0,
         },
     };
     assert!(rt; is_leaf(&won)?);
     assert!(rt; !is_leaf(&start)?);
+    assert!(rt; is_proof(rt.alloc(), &[won, start])?);
+    Ok(())
+}
+
+#[test]
+fn who_answers_each_move_wins(rt: HostRuntime) -> Result<(), Fail> {
+    let won = Node {
+        heading: heading(2, 1, 2, Black)?,
+        rule: Rule::Chain,
+    };
+    let line = Line::Child {
+        cell: cell(1)?,
+        child: 0,
+    };
+    let start = Node {
+        heading: heading(2, 1, 0, White)?,
+        rule: Rule::All {
+            lines: Lines::new(vec![in rt.alloc(); line]?),
+        },
+    };
     assert!(rt; is_proof(rt.alloc(), &[won, start])?);
     Ok(())
 }

@@ -7,8 +7,9 @@ use Rattle.hx_board.specs.Cells.{Extent, IsExtent}
 use Rattle.hx_tree.specs.declared.nodes.Node.{Node}
 use Rattle.hx_text.specs.Words.{IsNumber}
 use Rattle.hx_text.specs.PositionTexts.{size_line}
-use Rattle.hx_text.specs.TreeTexts.{AreTreeLinesOf, EachNodeFits, node_lines, front_lines, node_line, end_line}
-use Rattle.hx_text.proofs.Injective.{node_cancel, size_injective, node_not_end}
+use Rattle.hx_text.specs.TreeTexts.{AreTreeLinesOf, EachNodeFits, head_of, head_line, node_lines, front_lines, end_line}
+use Rattle.hx_text.proofs.Injective.{size_injective}
+use Rattle.hx_text.proofs.NodeInjective.{node_cancel, head_not_end}
 
 -- the nodes after these, and their lines
 pub record GoesOn (size : Extent) (nodes all : List Node) (rest : List (List ℕ)) (end : List ℕ) : Type 0 where
@@ -32,8 +33,8 @@ pub nodes_cancel : (size : Extent) (count : ℕ) (winner : Colour) (nodes all : 
     → GoesOn size nodes all rest (end_line count winner)
 nodes_cancel size count winner [] all rest extent small fa fb e = record { more = all; nodes_are = refl; fits = fb; rest_is = e }
 nodes_cancel size count winner (a ∷ nodes) [] rest extent small fa fb e =
-    let first : node_line a ≡ end_line count winner = cc in
-    absurd (node_not_end size a count winner extent fa.0 small first)
+    let first : head_line (head_of a) ≡ end_line count winner = cc in
+    absurd (head_not_end size (head_of a) count winner extent fa.0.head small first)
 nodes_cancel size count winner (a ∷ nodes) (b ∷ all) rest extent small fa fb e =
     let parts = node_cancel size a b (flat_map node_lines nodes ++ rest) (flat_map node_lines all ++ end_line count winner ∷ []) extent fa.0 fb.0
     (sym (append_assoc (node_lines a) (flat_map node_lines nodes) rest) ∙ e ∙ append_assoc (node_lines b)

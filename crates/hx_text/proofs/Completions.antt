@@ -1,5 +1,5 @@
--- From each place of a tree's text it can be gone on: with a node on an empty board, if need be, and a last line. So the
--- lines that a reader has read begin some text.
+-- From each place of a tree's text it can be gone on: with the lines that a node lacks, or with a node on an empty board, if
+-- need be, and a last line. So the lines that a reader has read begin some text.
 use Rattle.std.proofs.Common.{◌≡◌, ℕ, ◌≤◌, List, [], ◌∷◌, ◌++◌, length, refl, sym, ap, ◌∙◌, subst, arith, append_assoc, length-append}
 use Rattle.std.proofs.lemmas.List.{append-nil}
 use Rattle.std.specs.Prelude.{flat_map}
@@ -9,12 +9,13 @@ use Rattle.hx_board.proofs.PositionLaws.{empty-is_position}
 use Rattle.hx_tree.specs.declared.nodes.Node.{Node}
 use Rattle.hx_tree.specs.declared.nodes.Rule.TheVariants.{Chain}
 use Rattle.hx_text.specs.declared.places.Place.{Place}
-use Rattle.hx_text.specs.declared.places.Place.TheVariants.{Title, Size, Between, After, Failed}
+use Rattle.hx_text.specs.declared.places.Place.TheVariants.{Title, Size, Between, Inside, After, Failed}
 use Rattle.hx_text.specs.PositionTexts.{size_line}
 use Rattle.hx_text.specs.Grammars.{Begins}
 use Rattle.hx_text.specs.TreeTexts.{AreTreeLines, AreTreeLinesOf, EachNodeFits, NodeFits, node_lines, front_lines, tree_lines, end_line}
 use Rattle.hx_text.specs.Places.{Stands}
 use Rattle.hx_text.proofs.Steps.{flat_map-push, EachNodeFits-push}
+use Rattle.hx_text.proofs.BegunNodes.{EndsInNode, inside_begins_node}
 
 -- the text of these nodes and one more
 abbrev pub whole_text : Extent → List Node → Node → List (List ℕ)
@@ -63,7 +64,25 @@ abbrev plain : Extent → Node
 plain size = record { heading = record { position = record { size = size; black = 0; white = 0 }; to_move = Black; winner = Black }; rule = Chain }
 
 plain_fits : (size : Extent) → IsExtent size.rows size.cols → NodeFits size (plain size)
-plain_fits size extent = record { heading = record { size_is = refl; board = (extent, empty-is_position size) }; rule = tt }
+plain_fits size extent = record {
+  head = record { heading = record { size_is = refl; board = (extent, empty-is_position size) }; opening = tt };
+  lines = tt;
+}
+
+-- the text goes on with the lines that a node lacks
+Begins-in_node : (size : Extent) (nodes : List Node) (lines : List (List ℕ)) → IsExtent size.rows size.cols → EachNodeFits size nodes
+    → length nodes ≤ 1048576 → EndsInNode size nodes lines → Begins AreTreeLines lines
+Begins-in_node size nodes lines extent each room ends =
+    let front : List (List ℕ) = front_lines size ++ flat_map node_lines nodes in
+    let last : List (List ℕ) = end_line (length (nodes ++ ends.node ∷ [])) ends.node.heading.winner ∷ [] in
+    let same : lines ++ (ends.rest ++ last) ≡ front ++ (node_lines ends.node ++ last) =
+    ap (λ (ls : List (List ℕ)). ls ++ (ends.rest ++ last)) ends.same
+    ∙ append_assoc front ends.part (ends.rest ++ last)
+    ∙ ap (λ (ls : List (List ℕ)). front ++ ls) (sym (append_assoc ends.part ends.rest last))
+    ∙ ap (λ (ls : List (List ℕ)). front ++ (ls ++ last)) (sym ends.parts) in (
+      ends.rest ++ last,
+      subst AreTreeLines (sym same) (with_node size nodes ends.node front (node_lines ends.node ++ last) refl extent each ends.fits room refl),
+    )
 
 abbrev one : Extent
 one = record { rows = 1; cols = 1 }
@@ -89,6 +108,9 @@ Begins-stands (Between so_far) nodes lines stands = (
   with_node so_far.size nodes (plain so_far.size) lines _ stands.same stands.is_size stands.each
       (plain_fits so_far.size stands.is_size) (omega (arith, stands.room, stands.count)) refl,
 )
+Begins-stands (Inside begun) nodes lines stands =
+    Begins-in_node begun.so_far.size nodes lines stands.stands.is_size stands.stands.each
+    (omega (arith, stands.stands.room, stands.stands.count)) (inside_begins_node begun nodes lines stands)
 Begins-stands After nodes lines stands = (
   [],
   subst AreTreeLines (sym (append-nil lines))

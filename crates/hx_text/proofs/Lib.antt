@@ -7,10 +7,16 @@ pub mod Masks
 pub mod CellWords
 pub mod HighBytes
 pub mod LineWords
-pub mod LineReads
+pub mod SizeReads
+pub mod HeadLines
+pub mod AnswerLines
 pub mod Injective
+pub mod NodeInjective
 pub mod Alignment
 pub mod Steps
+pub mod BegunSteps
+pub mod BegunFaults
+pub mod BegunNodes
 pub mod Completions
 pub mod Cuts
 pub mod TreeLacks
@@ -19,4 +25,6 @@ pub mod PositionLines
 pub mod PositionFaults
 pub mod WholePositions
 pub mod Spelled
+pub mod Pieces
 pub mod WholeTrees
+pub mod ValidTrees

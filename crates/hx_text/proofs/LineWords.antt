@@ -1,18 +1,15 @@
--- The words of the lines of a tree's text. All are of high bytes, so each line gives back the words that it was spelled
--- from.
-use Rattle.std.proofs.Common.{◌≡◌, ℕ, ◌≤◌, List, [], ◌∷◌, refl, ap, ◌∙◌, arith}
+-- The words of the lines of a tree's text outside of its nodes. All are of high bytes, so each line gives back the words
+-- that it was spelled from.
+use Rattle.std.proofs.Common.{◌≡◌, ℕ, List, [], ◌∷◌, refl, ap, ◌∙◌, arith}
 use Rattle.std.specs.Prelude.{codes}
 use Rattle.std.specs.Fmt.{decimal}
 use Rattle.hx_board.specs.declared.colours.Colour.{Colour}
-use Rattle.hx_board.specs.Cells.{Extent, IsExtent, OnBoard}
-use Rattle.hx_tree.specs.declared.nodes.Node.{Node}
-use Rattle.hx_tree.specs.declared.nodes.Rule.{Rule}
-use Rattle.hx_tree.specs.declared.nodes.Rule.TheVariants.{Chain, Move}
-use Rattle.hx_text.specs.Words.{colour_word, mask_word, words_in, IsNumber}
+use Rattle.hx_board.specs.Cells.{Extent, IsExtent}
+use Rattle.hx_text.specs.Words.{colour_word, words_in, IsNumber}
 use Rattle.hx_text.specs.PositionTexts.{size_line}
-use Rattle.hx_text.specs.TreeTexts.{end_line, rule_words, RuleFits, node_words, node_line, NodeFits}
+use Rattle.hx_text.specs.TreeTexts.{end_line}
 use Rattle.hx_text.proofs.Spacing.{IsLine, words_in-spaced}
-use Rattle.hx_text.proofs.HighBytes.{AllHigh, is_high, IsHigh-test, IsHigh-decimal, IsHigh-hex, IsHigh-colour_word, IsHigh-cell_word, IsLine-high}
+use Rattle.hx_text.proofs.HighBytes.{AllHigh, is_high, IsHigh-test, IsHigh-decimal, IsHigh-colour_word, IsLine-high}
 
 abbrev pub title_words : List (List ℕ)
 title_words = codes "hextree" ∷ codes "1" ∷ []
@@ -54,37 +51,3 @@ words_in-end_line line count winner small e =
     ap words_in e
     ∙ words_in-spaced (end_words count winner)
     (IsLine-high (codes "end") (decimal count ∷ colour_word winner ∷ []) (AllHigh-end_words count winner small))
-
--- the line of a node
-
-AllHigh-rule_words : (size : Extent) (rule : Rule) → size.rows ≤ 11 → RuleFits size rule → AllHigh (rule_words rule)
-unfolding is_high
-AllHigh-rule_words size Chain few fits = (IsHigh-test (codes "chain") refl, tt)
-AllHigh-rule_words size (Move cell child) few fits =
-    let on : OnBoard size cell = fits.0 in
-    (IsHigh-test (codes "move") refl, (IsHigh-cell_word cell (omega (arith, on.row)), (IsHigh-decimal child fits.1, tt)))
-
-pub AllHigh-node_words : (size : Extent) (node : Node) → size.rows ≤ 11 → RuleFits size node.rule → AllHigh (node_words node)
-unfolding is_high
-AllHigh-node_words size node few fits = (
-  IsHigh-test (codes "node") refl,
-  (
-    IsHigh-hex 32 node.heading.position.black,
-    (
-      IsHigh-hex 32 node.heading.position.white,
-      (IsHigh-colour_word node.heading.to_move, (IsHigh-colour_word node.heading.winner, AllHigh-rule_words size node.rule few fits)),
-    ),
-  ),
-)
-
-pub IsLine-node_words : (size : Extent) (node : Node) → size.rows ≤ 11 → RuleFits size node.rule → IsLine (node_words node)
-IsLine-node_words size node few fits =
-    IsLine-high (codes "node")
-    (mask_word node.heading.position.black ∷ mask_word node.heading.position.white ∷ colour_word node.heading.to_move ∷
-    colour_word node.heading.winner ∷ rule_words node.rule)
-    (AllHigh-node_words size node few fits)
-
-pub words_in-node_line : (size : Extent) (line : List ℕ) (node : Node) → IsExtent size.rows size.cols → NodeFits size node
-    → line ≡ node_line node → words_in line ≡ node_words node
-words_in-node_line size line node extent fits e = ap words_in e
-    ∙ words_in-spaced (node_words node) (IsLine-node_words size node extent.1 fits.rule)

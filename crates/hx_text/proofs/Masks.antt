@@ -1,12 +1,12 @@
--- Masks in 32 digits: different sets have different words, a loop over the digits reads the set, and a word in which some
--- byte is no digit is that of no set.
-use Rattle.std.proofs.Common.{◌≡◌, ◌≢◌, ℕ, zero, suc, ◌+◌, ◌*◌, ◌/◌, ◌%◌, ◌<◌, ◌≤◌, ◌^◌, List, [], ◌∷◌, ◌++◌, length, get_or, take, refl, sym, ap, ◌∙◌, arith, ◌⊎◌, inl, inr, add-one, length-append, take_all}
-use Rattle.std.proofs.lemmas.List.{take_more}
-use Rattle.std.proofs.lemmas.List.{get_or_append_left}
+-- Masks in 32 digits: different sets have different words. A loop over half the digits reads that half of a set, or finds
+-- that some byte is no digit; the two halves are those of one set.
+use Rattle.std.proofs.Common.{◌≡◌, ℕ, zero, suc, ◌+◌, ◌*◌, ◌/◌, ◌%◌, ◌<◌, ◌≤◌, ◌^◌, List, [], ◌∷◌, ◌++◌, length, get_or, take, drop, refl, sym, ap, ◌∙◌, arith, add-one, add-zero, add-suc, append_assoc, length-append, Bool, true, false, ltb, ◌&&◌}
+use Rattle.std.proofs.lemmas.List.{take_more, append-nil, take-append-drop}
 use Rattle.std.proofs.lemmas.Bool.Decides.{nat_tests}
-use Rattle.std.proofs.Math.Seq.{get_or-append_seam}
-use Rattle.std.proofs.lemmas.Bool.{cases_lt}
+use Rattle.std.proofs.Math.Seq.{take-append_seam, drop-append_seam}
+use Rattle.std.proofs.lemmas.Bool.{false≢true, ltb-true, lt-ltb}
 use Rattle.std.proofs.Math.Nat.{pow-le-pow_right}
+use Rattle.hx_board.proofs.SetLaws.{and_left, and_right}
 use Rattle.hx_text.specs.Words.{hex, hex_digit}
 use Rattle.hx_text.proofs.Ends.{push_injective}
 
@@ -15,79 +15,116 @@ unfolding hex
 length-hex zero n = refl
 length-hex (suc k) n = length-append (hex k (n / 16)) (hex_digit (n % 16) ∷ []) ∙ omega (arith, length-hex k (n / 16))
 
--- a loop over the digits reads one more
-pub record ReadHex (word : List ℕ) (i bits : ℕ) : Type 0 where
-  pub same : take i word ≡ hex i bits
+-- A loop over the digits has come so far. Where each byte was a digit the digits are those of a number, else they are
+-- those of none.
+pub record ReadHex (word : List ℕ) (i bits : ℕ) (known : Bool) : Type 0 where
   pub small : bits < 16 ^ i
+  pub right : known ≡ true → take i word ≡ hex i bits
+  pub wrong : known ≡ false → (n : ℕ) → take i word ≡ hex i n → ⊥
 
-pub hex_more : (i bits digit : ℕ) → digit < 16 → hex (i + 1) (16 * bits + digit) ≡ hex i bits ++ hex_digit digit ∷ []
+pub read_no_hex : (word : List ℕ) → ReadHex word 0 0 true
+unfolding hex
+read_no_hex word = record { small = omega arith; right = λ _. refl; wrong = λ no. absurd (false≢true (sym no)) }
+
+hex_more : (i bits digit : ℕ) → digit < 16 → hex (i + 1) (16 * bits + digit) ≡ hex i bits ++ hex_digit digit ∷ []
 unfolding hex
 hex_more i bits digit small =
     let high : (16 * bits + digit) / 16 ≡ bits = omega arith in
     let low : (16 * bits + digit) % 16 ≡ digit = omega arith in
     rw add-one (rw (high, low) refl)
 
-pub read_hex : (word : List ℕ) (i bits digit : ℕ) → i < length word → digit < 16 → get_or word i 0 ≡ hex_digit digit
-    → ReadHex word i bits → ReadHex word (i + 1) (16 * bits + digit)
-read_hex word i bits digit within small is before = record {
-  same = take_more word i 0 within ∙ ap (λ (t : List ℕ). t ++ get_or word i 0 ∷ []) before.same
-      ∙ ap (λ (b : ℕ). hex i bits ++ b ∷ []) is ∙ sym (hex_more i bits digit small);
+hex_parts : (i n : ℕ) → hex (i + 1) n ≡ hex i (n / 16) ++ hex_digit (n % 16) ∷ []
+unfolding hex
+hex_parts i n = rw add-one refl
+
+right_more : (word : List ℕ) (i bits digit : ℕ) (known : Bool) → i < length word
+    → (digit < 16 → get_or word i 0 ≡ hex_digit digit)
+    → (known ≡ true → take i word ≡ hex i bits) → (known && ltb digit 16) ≡ true
+    → take (i + 1) word ≡ hex (i + 1) (16 * bits + digit % 16)
+right_more word i bits digit known within is before holds =
+    let small : digit < 16 = ltb-true digit 16 (and_right known (ltb digit 16) holds) in
+    let same : digit % 16 ≡ digit = omega arith in
+    take_more word i 0 within
+    ∙ ap (λ (t : List ℕ). t ++ get_or word i 0 ∷ []) (before (and_left known (ltb digit 16) holds))
+    ∙ ap (λ (byte : ℕ). hex i bits ++ byte ∷ []) (is small)
+    ∙ sym (hex_more i bits digit small) ∙ ap (λ (d : ℕ). hex (i + 1) (16 * bits + d)) (sym same)
+
+last_digit : (word : List ℕ) (i n : ℕ) → i < length word → take (i + 1) word ≡ hex (i + 1) n
+    → (take i word ≡ hex i (n / 16)) × (get_or word i 0 ≡ hex_digit (n % 16))
+last_digit word i n within e =
+    push_injective (take i word) (hex i (n / 16)) (get_or word i 0) (hex_digit (n % 16)) (sym (take_more word i 0 within) ∙ e ∙ hex_parts i n)
+
+wrong_more : (word : List ℕ) (i digit : ℕ) (known : Bool) → i < length word
+    → ((d : ℕ) → d < 16 → get_or word i 0 ≡ hex_digit d → digit ≡ d)
+    → (known ≡ false → (n : ℕ) → take i word ≡ hex i n → ⊥) → (known && ltb digit 16) ≡ false
+    → (n : ℕ) → take (i + 1) word ≡ hex (i + 1) n → ⊥
+wrong_more word i digit true within each before fails n e =
+    let same : digit ≡ n % 16 = each (n % 16) (omega arith) (last_digit word i n within e).1 in
+    false≢true (sym fails ∙ lt-ltb digit 16 (omega arith))
+wrong_more word i digit false within each before fails n e = before refl (n / 16) (last_digit word i n within e).0
+
+-- the loop reads one more byte
+pub read_hex : (word : List ℕ) (i bits digit : ℕ) (known : Bool) → i < length word
+    → (digit < 16 → get_or word i 0 ≡ hex_digit digit)
+    → ((d : ℕ) → d < 16 → get_or word i 0 ≡ hex_digit d → digit ≡ d)
+    → ReadHex word i bits known → ReadHex word (i + 1) (16 * bits + digit % 16) (known && ltb digit 16)
+read_hex word i bits digit known within is each before = record {
   small = rw add-one (omega (arith, before.small));
+  right = right_more word i bits digit known within is before.right;
+  wrong = wrong_more word i digit known within each before.wrong;
 }
 
-pub hex_bound : (word : List ℕ) (i bits digit : ℕ) → i < 32 → digit < 16 → ReadHex word i bits → 16 * bits + digit < 16 ^ 32
-hex_bound word i bits digit short small before =
-    let next : i + 1 ≤ 32 = omega arith in
-    let most : 16 ^ (i + 1) ≤ 16 ^ 32 = pow-le-pow_right (omega arith) next in
+pub hex_bound : (word : List ℕ) (i bits digit : ℕ) (known : Bool) → i < 16 → digit < 16 → ReadHex word i bits known
+    → 16 * bits + digit < 2 ^ 64
+hex_bound word i bits digit known short small before =
+    let next : i + 1 ≤ 16 = omega arith in
+    let most : 16 ^ (i + 1) ≤ 16 ^ 16 = pow-le-pow_right (omega arith) next in
     let step : 16 ^ (i + 1) ≡ 16 * 16 ^ i = rw add-one (omega arith) in
     omega (arith, before.small, most, step)
 
-pub record IsHexByte (byte : ℕ) : Type 0 where
-  pub digit : ℕ
-  pub small : digit < 16
-  pub is : byte ≡ hex_digit digit
-
-nat_cases : (i k : ℕ) → (i < k) ⊎ (k ≤ i)
-nat_cases i k = cases_lt i k
-
-below_or_last : (i k : ℕ) → i < k + 1 → (i < k) ⊎ (i ≡ k)
-below_or_last i k within = elim (nat_cases i k) [ inl below ↦ inl below | inr above ↦ inr (omega arith) ]
-
-hex_at_last : (front : List ℕ) (digit i : ℕ) {k : ℕ} → digit < 16 → (i < k) ⊎ (i ≡ k) → length front ≡ k
-    → (i < k → IsHexByte (get_or front i 0)) → IsHexByte (get_or (front ++ hex_digit digit ∷ []) i 0)
-hex_at_last front digit i {k} small (inl below) len before = rw (get_or_append_left front (hex_digit digit ∷ []) 0 i (omega arith)) (before below)
-hex_at_last front digit i {k} small (inr last) len before = record {
-  digit = digit;
-  small = small;
-  is = ap (λ (j : ℕ). get_or (front ++ hex_digit digit ∷ []) j 0) (last ∙ sym len)
-      ∙ get_or-append_seam front (hex_digit digit) [] 0;
-}
-
-pub hex_at : (k n i : ℕ) → i < k → IsHexByte (get_or (hex k n) i 0)
+-- a number in two parts
+hex_joined : (m k a b : ℕ) → b < 16 ^ k → hex (m + k) (a * 16 ^ k + b) ≡ hex m a ++ hex k b
 unfolding hex
-hex_at zero n i within = absurd (omega arith)
-hex_at (suc k) n i within =
-    hex_at_last (hex k (n / 16)) (n % 16) i (omega arith) (below_or_last i k (omega (arith, within))) (length-hex k (n / 16))
-    (λ below. hex_at k (n / 16) i below)
+hex_joined m zero a b small =
+    let none : a * 16 ^ 0 + b ≡ a = omega arith in
+    ap (λ (k : ℕ). hex k (a * 16 ^ 0 + b)) (add-zero m) ∙ ap (hex m) none ∙ sym (append-nil (hex m a))
+hex_joined m (suc k) a b small =
+    let step : 16 ^ suc k ≡ 16 * 16 ^ k = omega arith in
+    let scaled : a * 16 ^ suc k ≡ 16 * (a * 16 ^ k) = ap (λ (n : ℕ). a * n) step ∙ omega arith in
+    let high : (a * 16 ^ suc k + b) / 16 ≡ a * 16 ^ k + b / 16 = omega (arith, scaled) in
+    let low : (a * 16 ^ suc k + b) % 16 ≡ b % 16 = omega (arith, scaled) in
+    ap (λ (j : ℕ). hex j (a * 16 ^ suc k + b)) (add-suc m k)
+    ∙ ap (λ (n : ℕ). hex (m + k) n ++ hex_digit ((a * 16 ^ suc k + b) % 16) ∷ []) high
+    ∙ ap (λ (d : ℕ). hex (m + k) (a * 16 ^ k + b / 16) ++ hex_digit d ∷ []) low
+    ∙ ap (λ (t : List ℕ). t ++ hex_digit (b % 16) ∷ []) (hex_joined m k a (b / 16) (omega arith))
+    ∙ append_assoc (hex m a) (hex k (b / 16)) (hex_digit (b % 16) ∷ [])
 
-pub not_hex_length : (word : List ℕ) (n : ℕ) → length word ≢ 32 → word ≡ hex 32 n → ⊥
-not_hex_length word n other e = other (ap length e ∙ length-hex 32 n)
+-- a mask in two halves
+mask_joined : (high low : ℕ) → low < 2 ^ 64 → hex 32 (high * 2 ^ 64 + low) ≡ hex 16 high ++ hex 16 low
+mask_joined high low small = hex_joined 16 16 high low small
 
-pub not_hex_byte : (word : List ℕ) (n i : ℕ) → i < 32 → ((digit : ℕ) → digit < 16 → get_or word i 0 ≡ hex_digit digit → ⊥)
-    → word ≡ hex 32 n → ⊥
-not_hex_byte word n i within other e =
-    let there : IsHexByte (get_or (hex 32 n) i 0) = hex_at 32 n i within in
-    other there.digit there.small (ap (λ (w : List ℕ). get_or w i 0) e ∙ there.is)
+mask_halves : (n : ℕ) → hex 32 n ≡ hex 16 (n / 2 ^ 64) ++ hex 16 (n % 2 ^ 64)
+mask_halves n =
+    let whole : n ≡ n / 2 ^ 64 * 2 ^ 64 + n % 2 ^ 64 = omega arith in
+    ap (hex 32) whole ∙ mask_joined (n / 2 ^ 64) (n % 2 ^ 64) (omega arith)
 
-pub read_whole : (word : List ℕ) (i bits : ℕ) → length word ≡ i → i ≡ 32 → ReadHex word i bits → word ≡ hex 32 bits
-read_whole word i bits len whole before = sym (take_all i word (omega arith)) ∙ before.same ∙ ap (λ (k : ℕ). hex k bits) whole
+pub high_half : (word : List ℕ) (n : ℕ) → word ≡ hex 32 n → take 16 word ≡ hex 16 (n / 2 ^ 64)
+high_half word n e =
+    ap (take 16) (e ∙ mask_halves n)
+    ∙ ap (λ (k : ℕ). take k (hex 16 (n / 2 ^ 64) ++ hex 16 (n % 2 ^ 64))) (sym (length-hex 16 (n / 2 ^ 64)))
+    ∙ take-append_seam (hex 16 (n / 2 ^ 64)) (hex 16 (n % 2 ^ 64))
 
-pub read_no_hex : (word : List ℕ) → ReadHex word 0 0
-unfolding hex
-read_no_hex word = record { same = refl; small = omega arith }
+pub low_half : (word : List ℕ) (n : ℕ) → word ≡ hex 32 n → drop 16 word ≡ hex 16 (n % 2 ^ 64)
+low_half word n e =
+    ap (drop 16) (e ∙ mask_halves n)
+    ∙ ap (λ (k : ℕ). drop k (hex 16 (n / 2 ^ 64) ++ hex 16 (n % 2 ^ 64))) (sym (length-hex 16 (n / 2 ^ 64)))
+    ∙ drop-append_seam (hex 16 (n / 2 ^ 64)) (hex 16 (n % 2 ^ 64))
 
-pub hex_bits : (word : List ℕ) (i bits : ℕ) → i ≡ 32 → ReadHex word i bits → bits < 2 ^ 128
-hex_bits word i bits whole before = omega (arith, before.small, ap (λ (k : ℕ). 16 ^ k) whole)
+pub whole_mask : (word : List ℕ) (high low : ℕ) → low < 2 ^ 64 → take 16 word ≡ hex 16 high → drop 16 word ≡ hex 16 low
+    → word ≡ hex 32 (high * 2 ^ 64 + low)
+whole_mask word high low small front back =
+    sym (take-append-drop 16 word) ∙ ap (λ (t : List ℕ). t ++ drop 16 word) front ∙ ap (λ (t : List ℕ). hex 16 high ++ t) back
+    ∙ sym (mask_joined high low small)
 
 hex_digit_injective : (a b : ℕ) → a < 16 → b < 16 → hex_digit a ≡ hex_digit b → a ≡ b
 hex_digit_injective a b small few e = grind (arith, nat_tests)

@@ -8,7 +8,7 @@ use Rattle.hx_board.specs.Positions.{Board, IsBoard, IsPosition}
 use Rattle.hx_board.proofs.PositionLaws.{board-small}
 use Rattle.hx_board.proofs.SetLaws.{has-empty}
 use Rattle.std.proofs.lemmas.Bool.{false≢true}
-use Rattle.hx_text.specs.Words.{Lacks, mask_word, colour_word, words_in, spaced, IsSet}
+use Rattle.hx_text.specs.Words.{mask_word, colour_word, words_in, IsSet}
 use Rattle.hx_text.specs.PositionTexts.{stones_line, move_line, position_lines}
 use Rattle.hx_text.proofs.Spacing.{IsLine, words_in-spaced, spaced_injective}
 use Rattle.hx_text.proofs.HighBytes.{AllHigh, is_high, IsHigh-test, IsHigh-hex, IsHigh-colour_word, IsLine-high, Lacks-spaced}

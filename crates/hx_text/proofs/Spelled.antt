@@ -11,13 +11,14 @@ use Rattle.hx_board.specs.declared.colours.Colour.{Colour}
 use Rattle.hx_board.specs.declared.colours.Colour.TheVariants.{Black, White}
 use Rattle.hx_board.specs.Cells.{Extent}
 use Rattle.hx_board.specs.Positions.{Board}
-use Rattle.hx_tree.specs.declared.nodes.Node.{Node}
-use Rattle.hx_tree.specs.declared.nodes.Rule.{Rule}
-use Rattle.hx_tree.specs.declared.nodes.Rule.TheVariants.{Chain, Move}
+use Rattle.hx_tree.specs.declared.nodes.Line.TheVariants.{Child}
+use Rattle.hx_text.specs.declared.node_lines.Opening.{Opening}
+use Rattle.hx_text.specs.declared.node_lines.Opening.TheVariants.{Chain, Move, All}
+use Rattle.hx_text.specs.declared.node_lines.Head.{Head}
 use Rattle.hx_text.specs.Words.{hex, hex_digit, spaced, colour_word, mask_word, cell_word}
 use Rattle.hx_text.specs.Grammars.{text_of}
 use Rattle.hx_text.specs.PositionTexts.{size_line, stones_line, move_line, position_text}
-use Rattle.hx_text.specs.TreeTexts.{rule_words, node_lines, front_lines, end_line}
+use Rattle.hx_text.specs.TreeTexts.{opening_words, head_line, answer_line, front_lines, end_line}
 use Rattle.hx_text.proofs.Masks.{length-hex}
 
 pub length-colour_word : (colour : Colour) → length (colour_word colour) ≡ 5
@@ -60,44 +61,56 @@ pub heading_spelled : (old : List ℕ) (size : Extent)
 unfolding spaced text_of
 heading_spelled old size = simp append_assoc
 
-pub chain_spelled : (old : List ℕ) → old ++ codes "chain" ≡ old ++ spaced (rule_words Chain)
+pub chain_spelled : (old : List ℕ) → old ++ codes "chain" ≡ old ++ spaced (opening_words Chain)
 unfolding spaced
 chain_spelled old = refl
 
 pub winning_spelled : (old : List ℕ) (cell child : ℕ)
-    → (((old ++ codes "move ") ++ cell_word cell) ++ codes " ") ++ decimal child ≡ old ++ spaced (rule_words (Move cell child))
+    → (((old ++ codes "move ") ++ cell_word cell) ++ codes " ") ++ decimal child ≡ old ++ spaced (opening_words (Move cell child))
 unfolding spaced
 winning_spelled old cell child = simp append_assoc
+
+pub all_spelled : (old : List ℕ) (lines : ℕ) → (old ++ codes "all 0 0 ") ++ decimal lines ≡ old ++ spaced (opening_words (All lines))
+unfolding spaced
+all_spelled old lines = append_assoc old (codes "all 0 0 ") (decimal lines)
+
+pub child_spelled : (old : List ℕ) (cell child : ℕ)
+    → ((((old ++ codes "line ") ++ cell_word cell) ++ codes " child ") ++ decimal child) ++ codes "\n"
+    ≡ old ++ (answer_line (Child cell child) ++ 10 ∷ [])
+unfolding spaced
+child_spelled old cell child = simp append_assoc
 
 pub end_spelled : (old : List ℕ) (count : ℕ) (winner : Colour)
     → ((((old ++ codes "end ") ++ decimal count) ++ codes " ") ++ colour_word winner) ++ codes "\n" ≡ old ++ text_of (end_line count winner ∷ [])
 unfolding spaced text_of
 end_spelled old count winner = simp append_assoc
 
--- the parts that a node's line is put in are those of the line, whatever stands for the space
-in_parts : (old word black white mover winner rule gap end : List ℕ)
-    → ((((old ++ word) ++ ((black ++ (gap ++ white)) ++ gap)) ++ ((mover ++ (gap ++ winner)) ++ gap)) ++ rule) ++ end
-    ≡ old ++ ((word ++ (black ++ (gap ++ (white ++ (gap ++ (mover ++ (gap ++ (winner ++ (gap ++ rule))))))))) ++ end)
-in_parts old word black white mover winner rule gap end = simp append_assoc
+-- the parts that a node's first line is put in are those of the line, whatever stands for the space
+in_parts : (old word black white mover winner opening gap end : List ℕ)
+    → ((((old ++ word) ++ ((black ++ (gap ++ white)) ++ gap)) ++ ((mover ++ (gap ++ winner)) ++ gap)) ++ opening) ++ end
+    ≡ old ++ ((word ++ (black ++ (gap ++ (white ++ (gap ++ (mover ++ (gap ++ (winner ++ (gap ++ opening))))))))) ++ end)
+in_parts old word black white mover winner opening gap end = simp append_assoc
 
--- a line of five words and those of a rule
-line_spelled : (old black white mover winner : List ℕ) (rule : Rule)
-    → ((((old ++ codes "node ") ++ (black ++ 32 ∷ white ++ 32 ∷ [])) ++ (mover ++ 32 ∷ winner ++ 32 ∷ [])) ++ spaced (rule_words rule)) ++ codes "\n"
-    ≡ old ++ text_of (spaced (codes "node" ∷ black ∷ white ∷ mover ∷ winner ∷ rule_words rule) ∷ [])
-unfolding spaced text_of
+-- a line of five words and those of an opening
+line_spelled : (old black white mover winner : List ℕ) (opening : Opening)
+    → ((((old ++ codes "node ") ++ (black ++ 32 ∷ white ++ 32 ∷ [])) ++ (mover ++ 32 ∷ winner ++ 32 ∷ [])) ++ spaced (opening_words opening)) ++ codes "\n"
+    ≡ old ++ (spaced (codes "node" ∷ black ∷ white ∷ mover ∷ winner ∷ opening_words opening) ++ 10 ∷ [])
+unfolding spaced
 line_spelled old black white mover winner Chain =
-    in_parts old (codes "node ") black white mover winner (spaced (rule_words Chain)) (32 ∷ []) (10 ∷ [])
+    in_parts old (codes "node ") black white mover winner (spaced (opening_words Chain)) (32 ∷ []) (10 ∷ [])
 line_spelled old black white mover winner (Move cell child) =
-    in_parts old (codes "node ") black white mover winner (spaced (rule_words (Move cell child))) (32 ∷ []) (10 ∷ [])
+    in_parts old (codes "node ") black white mover winner (spaced (opening_words (Move cell child))) (32 ∷ []) (10 ∷ [])
+line_spelled old black white mover winner (All lines) =
+    in_parts old (codes "node ") black white mover winner (spaced (opening_words (All lines))) (32 ∷ []) (10 ∷ [])
 
-pub node_spelled : (old : List ℕ) (node : Node)
+pub head_spelled : (old : List ℕ) (head : Head)
     → ((((old ++ codes "node ")
-    ++ (mask_word node.heading.position.black ++ 32 ∷ mask_word node.heading.position.white ++ 32 ∷ []))
-    ++ (colour_word node.heading.to_move ++ 32 ∷ colour_word node.heading.winner ++ 32 ∷ []))
-    ++ spaced (rule_words node.rule)) ++ codes "\n" ≡ old ++ text_of (node_lines node)
-node_spelled old node =
-    line_spelled old (mask_word node.heading.position.black) (mask_word node.heading.position.white) (colour_word node.heading.to_move)
-    (colour_word node.heading.winner) node.rule
+    ++ (mask_word head.heading.position.black ++ 32 ∷ mask_word head.heading.position.white ++ 32 ∷ []))
+    ++ (colour_word head.heading.to_move ++ 32 ∷ colour_word head.heading.winner ++ 32 ∷ []))
+    ++ spaced (opening_words head.opening)) ++ codes "\n" ≡ old ++ (head_line head ++ 10 ∷ [])
+head_spelled old head =
+    line_spelled old (mask_word head.heading.position.black) (mask_word head.heading.position.white) (colour_word head.heading.to_move)
+    (colour_word head.heading.winner) head.opening
 
 -- the digits of a mask down to a place
 pub hex_none : (old : List ℕ) (bits : ℕ) → old ≡ old ++ hex 0 bits

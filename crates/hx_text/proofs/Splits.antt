@@ -1,7 +1,6 @@
 -- Bytes cut at a mark into parts, as a line is cut at its spaces: there is a part always, and the bytes before the first
 -- mark are the first part.
-use Rattle.std.proofs.Common.{◌≡◌, ◌≢◌, ℕ, ◌+◌, ◌<◌, List, [], ◌∷◌, ◌++◌, length, get_or, take, refl, ap, Bool, true, false, eqb, cond}
-use Rattle.std.proofs.lemmas.List.{take_more}
+use Rattle.std.proofs.Common.{◌≡◌, ℕ, List, [], ◌∷◌, ◌++◌, refl, ap, Bool, true, false, eqb, cond}
 use Rattle.std.proofs.lemmas.Bool.{eq-eqb, ne_eqb}
 use Rattle.hx_text.specs.Words.{Lacks, in_first, split_at_marks}
 
@@ -30,12 +29,3 @@ pub split_at_marks-some : (mark : ℕ) (bytes : List ℕ) → split_at_marks mar
 unfolding split_at_marks
 split_at_marks-some mark [] e = cc
 split_at_marks-some mark (byte ∷ bytes) e = cond-some (eqb byte mark) byte (split_at_marks mark bytes) e
-
-Lacks-push : (mark byte : ℕ) (bytes : List ℕ) → Lacks mark bytes → byte ≢ mark → Lacks mark (bytes ++ byte ∷ [])
-Lacks-push mark byte [] lacks other = (other, tt)
-Lacks-push mark byte (first ∷ bytes) lacks other = (lacks.0, Lacks-push mark byte bytes lacks.1 other)
-
--- a search for the mark that has come one byte further
-pub Lacks-take_more : (mark : ℕ) (bytes : List ℕ) (i : ℕ) → i < length bytes → Lacks mark (take i bytes) → get_or bytes i 0 ≢ mark
-    → Lacks mark (take (i + 1) bytes)
-Lacks-take_more mark bytes i within lacks other = rw (take_more bytes i 0 within) (Lacks-push mark (get_or bytes i 0) (take i bytes) lacks other)

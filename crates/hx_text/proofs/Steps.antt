@@ -1,5 +1,5 @@
--- One more line at each place of a tree's text: after a node's line the lines are those of one node more, and a line that
--- no reader takes is not of the grammar in its place.
+-- One more line at each place of a tree's text outside of its nodes: after a node's last line the lines are those of one node
+-- more, and a line that no reader takes is not of the grammar in its place.
 use Rattle.std.proofs.Common.{◌≡◌, ◌≢◌, ℕ, ◌+◌, ◌<◌, List, [], ◌∷◌, ◌++◌, length, refl, sym, ap, ◌∙◌, subst, arith, append_assoc, length-append, Option, Some, None}
 use Rattle.std.proofs.lemmas.List.{append-nil}
 use Rattle.std.proofs.lemmas.Grind.{flat_map-append}
@@ -12,10 +12,11 @@ use Rattle.hx_text.specs.declared.places.Place.{Place}
 use Rattle.hx_text.specs.declared.places.Place.TheVariants.{After}
 use Rattle.hx_text.specs.Words.{IsNumber}
 use Rattle.hx_text.specs.Grammars.{Begins}
-use Rattle.hx_text.specs.TreeTexts.{AreTreeLines, AreTreeLinesOf, EachNodeFits, IsRootWinner, NodeFits, node_line, node_lines, title_line, front_lines, end_line}
-use Rattle.hx_text.specs.Places.{most_nodes, IsLastWinner, StandsSoFar, IsNoNodeLine, Stands}
+use Rattle.hx_text.specs.TreeTexts.{AreTreeLines, AreTreeLinesOf, EachNodeFits, IsRootWinner, NodeFits, head_of, head_line, node_lines, title_line, front_lines, end_line}
+use Rattle.hx_text.specs.Places.{most_nodes, IsLastWinner, StandsSoFar, IsNoHead, Stands}
 use Rattle.hx_text.proofs.Ends.{push-some, push_injective}
-use Rattle.hx_text.proofs.Injective.{end_injective, node_not_end}
+use Rattle.hx_text.proofs.Injective.{end_injective}
+use Rattle.hx_text.proofs.NodeInjective.{head_not_end}
 use Rattle.hx_text.proofs.Alignment.{Aligned, aligned}
 
 -- the title
@@ -31,6 +32,7 @@ title_wrong nodes lines line none other begins =
 pub flat_map-push : (nodes : List Node) (node : Node)
     → flat_map node_lines (nodes ++ node ∷ []) ≡ flat_map node_lines nodes ++ node_lines node
 flat_map-push nodes node = flat_map-append node_lines nodes (node ∷ [])
+    ∙ ap (λ (ls : List (List ℕ)). flat_map node_lines nodes ++ ls) (append-nil (node_lines node))
 
 pub EachNodeFits-push : (size : Extent) (nodes : List Node) (node : Node) → EachNodeFits size nodes → NodeFits size node
     → EachNodeFits size (nodes ++ node ∷ [])
@@ -66,34 +68,34 @@ same_lines size nodes winner lines line rest are = subst (AreTreeLinesOf size no
 
 wrong_more : {so_far : SoFar} {line : List ℕ} (nodes all : List Node) {rest : List (List ℕ)} (size : Extent) (winner : Colour)
     (whole : List (List ℕ)) (more : List Node)
-    → IsNoNodeLine so_far.size line
+    → IsNoHead so_far.size line
     → ((count : ℕ) (w : Colour) → IsNumber count → line ≡ end_line count w → count ≡ so_far.count → so_far.winner ≡ Some w → ⊥)
     → so_far.count ≡ length nodes → IsLastWinner nodes so_far.winner → AreTreeLinesOf size all winner whole → all ≡ nodes ++ more
     → EachNodeFits so_far.size more → line ∷ rest ≡ flat_map node_lines more ++ end_line (length all) winner ∷ [] → ⊥
-wrong_more {so_far} {line} nodes all {rest} size winner whole [] no_node no_end counted last are nodes_are fits rest_is =
+wrong_more {so_far} {line} nodes all {rest} size winner whole [] no_head no_end counted last are nodes_are fits rest_is =
     let same : all ≡ nodes = nodes_are ∙ append-nil nodes in
     let first : line ≡ end_line (length all) winner = cc in
     no_end (length all) winner are.count first (ap length same ∙ sym counted)
     (winner_same nodes so_far.winner winner last (subst (λ (ns : List Node). IsRootWinner ns winner) same are.root))
-wrong_more {so_far} {line} nodes all {rest} size winner whole (node ∷ more) no_node no_end counted last are nodes_are fits rest_is =
-    let first : line ≡ node_line node = cc in
-    no_node node fits.0 first
+wrong_more {so_far} {line} nodes all {rest} size winner whole (node ∷ more) no_head no_end counted last are nodes_are fits rest_is =
+    let first : line ≡ head_line (head_of node) = cc in
+    no_head (head_of node) fits.0.head first
 
 wrong_after : (so_far : SoFar) (line : List ℕ) (nodes all : List Node) (rest : List (List ℕ)) {size : Extent} (winner : Colour)
     {whole lines : List (List ℕ)}
-    → IsNoNodeLine so_far.size line
+    → IsNoHead so_far.size line
     → ((count : ℕ) (w : Colour) → IsNumber count → line ≡ end_line count w → count ≡ so_far.count → so_far.winner ≡ Some w → ⊥)
     → StandsSoFar so_far nodes lines → AreTreeLinesOf size all winner whole
     → Aligned so_far.size nodes (line ∷ rest) size all winner → ⊥
-wrong_after so_far line nodes all rest {size} winner {whole} no_node no_end stands are on =
-    wrong_more nodes all size winner whole on.on.more no_node no_end stands.count stands.winner are on.on.nodes_are on.on.fits on.on.rest_is
+wrong_after so_far line nodes all rest {size} winner {whole} no_head no_end stands are on =
+    wrong_more nodes all size winner whole on.on.more no_head no_end stands.count stands.winner are on.on.nodes_are on.on.fits on.on.rest_is
 
--- no line is right but a line of a node, or the last line of the text
-pub between_wrong : (so_far : SoFar) (line : List ℕ) (nodes : List Node) (lines : List (List ℕ)) → IsNoNodeLine so_far.size line
+-- no line is right but a first line of a node, or the last line of the text
+pub between_wrong : (so_far : SoFar) (line : List ℕ) (nodes : List Node) (lines : List (List ℕ)) → IsNoHead so_far.size line
     → ((count : ℕ) (winner : Colour) → IsNumber count → line ≡ end_line count winner → count ≡ so_far.count → so_far.winner ≡ Some winner → ⊥)
     → StandsSoFar so_far nodes lines → Begins AreTreeLines (lines ++ line ∷ []) → ⊥
-between_wrong so_far line nodes lines no_node no_end stands begins =
-    wrong_after so_far line nodes begins.1.nodes (begins.0) begins.1.winner no_node no_end stands begins.1.are
+between_wrong so_far line nodes lines no_head no_end stands begins =
+    wrong_after so_far line nodes begins.1.nodes (begins.0) begins.1.winner no_head no_end stands begins.1.are
     (aligned so_far.size nodes lines (line ∷ begins.0) begins.1.size begins.1.nodes begins.1.winner stands.is_size stands.each
     stands.same (same_lines begins.1.size begins.1.nodes begins.1.winner lines line begins.0 begins.1.are))
 
@@ -110,8 +112,8 @@ after_wrong : (size : Extent) (winner : Colour) (nodes : List Node) (line : List
     → end_line (length nodes) winner ∷ line ∷ rest ≡ flat_map node_lines more ++ end ∷ [] → ⊥
 after_wrong size winner nodes line rest [] end extent small fits e = let later : line ∷ rest ≡ [] = cc in cc
 after_wrong size winner nodes line rest (node ∷ more) end extent small fits e =
-    let first : end_line (length nodes) winner ≡ node_line node = cc in
-    node_not_end size node (length nodes) winner extent fits.0 small (sym first)
+    let first : end_line (length nodes) winner ≡ head_line (head_of node) = cc in
+    head_not_end size (head_of node) (length nodes) winner extent fits.0.head small (sym first)
 
 -- nothing follows the last line
 pub end_wrong : (size : Extent) (winner : Colour) (nodes : List Node) (lines : List (List ℕ)) (line : List ℕ)

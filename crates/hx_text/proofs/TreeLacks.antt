@@ -1,24 +1,42 @@
 -- No line of a tree's text has an LF in it, since its words are of high bytes. So each line in which such a text begins is
 -- a line of the input.
-use Rattle.std.proofs.Common.{ℕ, ◌≤◌, List, [], ◌∷◌, ◌++◌, length, sym, subst, arith}
+use Rattle.std.proofs.Common.{ℕ, ◌≤◌, List, [], ◌∷◌, ◌++◌, length, map, sym, subst, arith}
 use Rattle.std.specs.Prelude.{flat_map}
 use Rattle.hx_board.specs.declared.colours.Colour.{Colour}
 use Rattle.hx_board.specs.Cells.{Extent, IsExtent}
+use Rattle.hx_tree.specs.declared.nodes.Line.{Line}
+use Rattle.hx_tree.specs.declared.nodes.Rule.{Rule}
+use Rattle.hx_tree.specs.declared.nodes.Rule.TheVariants.{Chain, Move, All}
 use Rattle.hx_tree.specs.declared.nodes.Node.{Node}
 use Rattle.hx_text.specs.Words.{Lacks, IsNumber}
 use Rattle.hx_text.specs.Grammars.{Begins}
-use Rattle.hx_text.specs.TreeTexts.{AreTreeLines, EachNodeFits, NodeFits, node_words, node_line, node_lines, front_lines, tree_lines, end_line}
+use Rattle.hx_text.specs.TreeTexts.{AreTreeLines, EachNodeFits, NodeFits, EachAnswerFits, LinesFit, head_of, head_words, answer_words, answer_line, rule_lines, node_lines, front_lines, tree_lines, end_line}
 use Rattle.hx_text.proofs.Cuts.{AllLack, Lacks-middle, AllLack-append, AllLack-front}
 use Rattle.hx_text.proofs.HighBytes.{Lacks-spaced}
-use Rattle.hx_text.proofs.LineWords.{title_words, AllHigh-title_words, size_words, AllHigh-size_words, end_words, AllHigh-end_words, AllHigh-node_words}
+use Rattle.hx_text.proofs.LineWords.{title_words, AllHigh-title_words, size_words, AllHigh-size_words, end_words, AllHigh-end_words}
+use Rattle.hx_text.proofs.HeadLines.{AllHigh-head_words}
+use Rattle.hx_text.proofs.AnswerLines.{AllHigh-answer_words}
 
-Lacks-node_line : (size : Extent) (node : Node) → size.rows ≤ 11 → NodeFits size node → Lacks 10 (node_line node)
-Lacks-node_line size node few fits = Lacks-spaced (node_words node) (AllHigh-node_words size node few fits.rule)
+AllLack-answers : (size : Extent) (lines : List Line) → size.rows ≤ 11 → EachAnswerFits size lines → AllLack (map answer_line lines)
+AllLack-answers size [] few each = tt
+AllLack-answers size (line ∷ lines) few each =
+    (Lacks-spaced (answer_words line) (AllHigh-answer_words size line few each.0), AllLack-answers size lines few each.1)
 
-AllLack-node_lines : (size : Extent) (nodes : List Node) → size.rows ≤ 11 → EachNodeFits size nodes
-    → AllLack (flat_map node_lines nodes)
-AllLack-node_lines size [] few each = tt
-AllLack-node_lines size (node ∷ nodes) few each = (Lacks-node_line size node few each.0, AllLack-node_lines size nodes few each.1)
+AllLack-rule_lines : (size : Extent) (rule : Rule) → size.rows ≤ 11 → LinesFit size rule → AllLack (rule_lines rule)
+AllLack-rule_lines size Chain few fits = tt
+AllLack-rule_lines size (Move cell child) few fits = tt
+AllLack-rule_lines size (All lines) few fits = AllLack-answers size lines few fits
+
+AllLack-node : (size : Extent) (node : Node) → size.rows ≤ 11 → NodeFits size node → AllLack (node_lines node)
+AllLack-node size node few fits = (
+  Lacks-spaced (head_words (head_of node)) (AllHigh-head_words size (head_of node) few fits.head.opening),
+  AllLack-rule_lines size node.rule few fits.lines,
+)
+
+AllLack-nodes : (size : Extent) (nodes : List Node) → size.rows ≤ 11 → EachNodeFits size nodes → AllLack (flat_map node_lines nodes)
+AllLack-nodes size [] few each = tt
+AllLack-nodes size (node ∷ nodes) few each =
+    AllLack-append (node_lines node) (flat_map node_lines nodes) (AllLack-node size node few each.0) (AllLack-nodes size nodes few each.1)
 
 AllLack-front_lines : (size : Extent) → IsExtent size.rows size.cols → AllLack (front_lines size)
 AllLack-front_lines size extent = (
@@ -34,7 +52,7 @@ AllLack-tree_lines lines are =
     let few : are.size.rows ≤ 11 = are.are.is_size.1 in
     let front : AllLack (front_lines are.size ++ flat_map node_lines are.nodes) =
     AllLack-append (front_lines are.size) (flat_map node_lines are.nodes) (AllLack-front_lines are.size are.are.is_size)
-    (AllLack-node_lines are.size are.nodes few are.are.each) in
+    (AllLack-nodes are.size are.nodes few are.are.each) in
     let whole : AllLack (tree_lines are.size are.nodes are.winner) =
     AllLack-append (front_lines are.size ++ flat_map node_lines are.nodes) (end_line (length are.nodes) are.winner ∷ []) front
     (Lacks-end_line (length are.nodes) are.winner are.are.count, tt) in

@@ -1,33 +1,66 @@
--- The text of a tree: its title, the size of its board, each node in a line, and a last line.
-use Rattle.std.specs.Prelude.{◌≡◌, ℕ, List, [], ◌∷◌, ◌++◌, length, flat_map, codes}
+-- The text of a tree: its title, the size of its board, the lines of each node, and a last line.
+use Rattle.std.specs.Prelude.{◌≡◌, ℕ, ◌≤◌, List, [], ◌∷◌, ◌++◌, length, map, flat_map, codes}
 use Rattle.std.specs.Fmt.{decimal}
 use Rattle.hx_board.specs.declared.colours.Colour.{Colour}
 use Rattle.hx_board.specs.Cells.{Extent, IsExtent, OnBoard}
 use Rattle.hx_board.specs.Positions.{IsBoard}
 use Rattle.hx_tree.specs.declared.nodes.Heading.{Heading}
 use Rattle.hx_tree.specs.declared.nodes.Rule.{Rule}
-use Rattle.hx_tree.specs.declared.nodes.Rule.TheVariants.{Chain, Move}
+use Rattle.hx_tree.specs.declared.nodes.Rule.TheVariants.{Chain, Move, All}
+use Rattle.hx_tree.specs.declared.nodes.Line.{Line}
+use Rattle.hx_tree.specs.declared.nodes.Line.TheVariants.{Child}
 use Rattle.hx_tree.specs.declared.nodes.Node.{Node}
 use Rattle.hx_tree.specs.Trees.{IsRoot}
+use Rattle.hx_text.specs.declared.node_lines.Opening.{Opening}
+use Rattle.hx_text.specs.declared.node_lines.Opening.TheVariants.{Chain as Chain_opening, Move as Move_opening, All as All_opening}
+use Rattle.hx_text.specs.declared.node_lines.Head.{Head}
 use Rattle.hx_text.specs.Words.{spaced, mask_word, colour_word, cell_word, IsNumber}
 use Rattle.hx_text.specs.Grammars.{text_of}
 use Rattle.hx_text.specs.PositionTexts.{size_line}
 
-abbrev pub rule_words : Rule → List (List ℕ)
-rule_words Chain = codes "chain" ∷ []
-rule_words (Move cell child) = codes "move" ∷ cell_word cell ∷ decimal child ∷ []
+-- the most lines that answer the opponent's moves
+abbrev pub most_answers : ℕ
+most_answers = 121
 
-abbrev pub node_words : Node → List (List ℕ)
-node_words node =
-    codes "node" ∷ mask_word node.heading.position.black ∷ mask_word node.heading.position.white
-    ∷ colour_word node.heading.to_move ∷ colour_word node.heading.winner ∷ rule_words node.rule
+-- what a node's first line tells of its rule
+abbrev pub opening_of : Rule → Opening
+opening_of Chain = Chain_opening
+opening_of (Move cell child) = Move_opening cell child
+opening_of (All lines) = All_opening (length lines)
 
-abbrev pub node_line : Node → List ℕ
-node_line node = spaced (node_words node)
+abbrev pub opening_words : Opening → List (List ℕ)
+opening_words Chain_opening = codes "chain" ∷ []
+opening_words (Move_opening cell child) = codes "move" ∷ cell_word cell ∷ decimal child ∷ []
+opening_words (All_opening lines) = codes "all" ∷ codes "0" ∷ codes "0" ∷ decimal lines ∷ []
+
+-- the first line of a node
+abbrev pub head_of : Node → Head
+head_of node = record { heading = node.heading; opening = opening_of node.rule }
+
+abbrev pub head_words : Head → List (List ℕ)
+head_words head =
+    codes "node" ∷ mask_word head.heading.position.black ∷ mask_word head.heading.position.white
+    ∷ colour_word head.heading.to_move ∷ colour_word head.heading.winner ∷ opening_words head.opening
+
+abbrev pub head_line : Head → List ℕ
+head_line head = spaced (head_words head)
+
+-- the line of an answer to a move of the opponent
+abbrev pub answer_words : Line → List (List ℕ)
+answer_words (Child cell child) = codes "line" ∷ cell_word cell ∷ codes "child" ∷ decimal child ∷ []
+
+abbrev pub answer_line : Line → List ℕ
+answer_line line = spaced (answer_words line)
+
+-- the lines of a node after the first
+abbrev pub rule_lines : Rule → List (List ℕ)
+rule_lines Chain = []
+rule_lines (Move cell child) = []
+rule_lines (All lines) = map answer_line lines
 
 -- the lines of a node
 abbrev pub node_lines : Node → List (List ℕ)
-node_lines node = node_line node ∷ []
+node_lines node = head_line (head_of node) ∷ rule_lines node.rule
 
 abbrev pub title_line : List ℕ
 title_line = spaced (codes "hextree" ∷ codes "1" ∷ [])
@@ -47,14 +80,38 @@ pub record HeadingFits (size : Extent) (heading : Heading) : Type 0 where
   pub size_is : heading.position.size ≡ size
   pub board : IsBoard heading.position
 
-abbrev pub RuleFits : Extent → Rule → Type 0
-RuleFits size Chain = Unit {0}
-RuleFits size (Move cell child) = OnBoard size cell × IsNumber child
+abbrev pub OpeningFits : Extent → Opening → Type 0
+OpeningFits size Chain_opening = Unit {0}
+OpeningFits size (Move_opening cell child) = OnBoard size cell × IsNumber child
+OpeningFits size (All_opening lines) = lines ≤ most_answers
 
--- a node on a board of this size
+-- a first line of a node on a board of this size
+pub record HeadFits (size : Extent) (head : Head) : Type 0 where
+  pub heading : HeadingFits size head.heading
+  pub opening : OpeningFits size head.opening
+
+abbrev pub AnswerFits : Extent → Line → Type 0
+AnswerFits size (Child cell child) = OnBoard size cell × IsNumber child
+
+abbrev pub EachAnswerFits : Extent → List Line → Type 0
+EachAnswerFits size [] = Unit {0}
+EachAnswerFits size (line ∷ lines) = AnswerFits size line × EachAnswerFits size lines
+
+abbrev pub LinesFit : Extent → Rule → Type 0
+LinesFit size Chain = Unit {0}
+LinesFit size (Move cell child) = Unit {0}
+LinesFit size (All lines) = EachAnswerFits size lines
+
+-- a node on a board of this size, with no more lines than a text may have
 pub record NodeFits (size : Extent) (node : Node) : Type 0 where
-  pub heading : HeadingFits size node.heading
-  pub rule : RuleFits size node.rule
+  pub head : HeadFits size (head_of node)
+  pub lines : LinesFit size node.rule
+
+-- the lists of a rule are no longer than a text may have them
+abbrev pub ListsFit : Rule → Type 0
+ListsFit Chain = Unit {0}
+ListsFit (Move cell child) = Unit {0}
+ListsFit (All lines) = length lines ≤ most_answers
 
 abbrev pub EachNodeFits : Extent → List Node → Type 0
 EachNodeFits size [] = Unit {0}

@@ -1,8 +1,10 @@
 //! The texts of positions and of trees, read and written exactly.
 #![tactic(auto)]
 
+mod begun_nodes;
 mod laws;
 mod lines;
+mod node_lines;
 mod places;
 mod positions;
 mod reader;

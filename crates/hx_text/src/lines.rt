@@ -1,16 +1,14 @@
-//! The lines of the texts, with a reader for each kind. A line that is not of the kind is answered with None.
+//! The lines of the texts outside of nodes, with a reader for each kind. A line that is not of the kind is answered with None.
 
-ghost use Rattle.std.specs.Prelude.{◌≡◌, ◌≢◌, ℕ, ◌↔◌, ◌∷◌, [], IsTrue, IfSome, IfNone, MatchOption};
-ghost use Rattle.std.specs.Fmt.{decimal};
-ghost use Rattle.hx_board.specs.Cells.{IsExtent, OnBoard};
-ghost use Rattle.hx_text.specs.Words.{Reads, IsNumber, IsSet, cell_word};
+ghost use Rattle.std.specs.Prelude.{◌≡◌, ◌↔◌, IsTrue, IfSome, IfNone};
+ghost use Rattle.hx_board.specs.Cells.{IsExtent};
+ghost use Rattle.hx_text.specs.Words.{Reads, IsNumber, IsSet};
 ghost use Rattle.hx_text.specs.PositionTexts.{position_title, size_line, stones_line, move_line};
-ghost use Rattle.hx_text.specs.TreeTexts.{title_line, end_line, rule_words, RuleFits, node_line, NodeFits};
+ghost use Rattle.hx_text.specs.TreeTexts.{title_line, end_line};
 
 use crate::values;
 use crate::words::Words;
-use hx_board::{Colour, Mask, Position, Size};
-use hx_tree::{Heading, Node, Rule};
+use hx_board::{Colour, Mask, Size};
 
 /// What the last line of a tree's text says.
 #[derive(Clone, Copy, PartialEq, Eq, Debug)]
@@ -95,59 +93,4 @@ pub(crate) fn read_end(line: &[u8]) -> Option<End>
     let winner = words.colour()?;
     words.end()?;
     Some(End { count, winner })
-}
-
-/// The line `node BLACK WHITE MOVER WINNER RULE`.
-pub(crate) fn read_node(size: Size, line: &[u8]) -> Option<Node>
-    ensures { Reads node_line (NodeFits size) line.now result }
-{
-    // The proof takes from here that the size is one of a board.
-    let _rows = size.rows();
-    let mut words = Words::of(line);
-    words.keyword(b"node")?;
-    let black = words.mask()?;
-    let white = words.mask()?;
-    let to_move = words.colour()?;
-    let winner = words.colour()?;
-    let rule = read_rule(size, &mut words)?;
-    let position = Position::from_masks(size, black, white)?;
-    let heading = Heading {
-        position,
-        to_move,
-        winner,
-    };
-    Some(Node { heading, rule })
-}
-
-/// The words of a node's rule, which are the last ones of its line.
-fn read_rule(size: Size, words: &mut Words<'_>) -> Option<Rule>
-    ensures { Reads rule_words (RuleFits size) words.old result }
-{
-    let word = words.next()?;
-    match word {
-        b"chain" => read_chain(words),
-        b"move" => read_move(size, words),
-        _ => None,
-    }
-}
-
-/// The rest of the rule `chain`: no word.
-fn read_chain(words: &Words<'_>) -> Option<Rule>
-    ensures { MatchOption result (words.now ≢ []) (λ rule. (rule ≡ Rule.Chain) × (words.now ≡ [])) }
-{
-    words.end()?;
-    Some(Rule::Chain)
-}
-
-/// The rest of the rule `move`: the words `CELL CHILD`.
-fn read_move(size: Size, words: &mut Words<'_>) -> Option<Rule>
-    ensures some { IfSome result (λ rule. (cell child : ℕ) × (rule ≡ Rule.Move cell child) × OnBoard size cell × IsNumber child
-        × (words.old ≡ cell_word cell ∷ decimal child ∷ [])) }
-    ensures none { IfNone result ((cell child : ℕ) → OnBoard size cell → IsNumber child
-        → words.old ≡ cell_word cell ∷ decimal child ∷ [] → ⊥) }
-{
-    let cell = words.cell(size)?;
-    let child = words.number()?;
-    words.end()?;
-    Some(Rule::Move { cell, child })
 }

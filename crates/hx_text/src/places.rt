@@ -2,11 +2,13 @@
 //! judged by, so no line is read twice.
 
 ghost use Rattle.std.specs.Prelude.{◌≡◌, ◌↔◌, IsTrue};
-ghost use Rattle.hx_text.specs.Places.{Goes, IsNoNodeLine, EndsNode};
+ghost use Rattle.hx_text.specs.Places.{Goes, IsNoHead};
 
-use crate::lines;
+use crate::begun_nodes::{self, Begun};
+use crate::{lines, node_lines};
 use hx_board::{Colour, Size};
 use hx_tree::Node;
+use std::alloc::Global;
 
 /// Why a text is not read on.
 #[derive(Clone, Copy, PartialEq, Eq, Debug)]
@@ -15,6 +17,8 @@ pub enum TreeFault {
     Text { line: u64 },
     /// The line begins one node more than a text may have, which is this many.
     TooMany { nodes: u32 },
+    /// Memory for a node's lists was wanting.
+    Memory,
 }
 
 /// What a line brought.
@@ -28,7 +32,7 @@ pub enum Fed {
     End(Colour),
 }
 
-/// What the lines after the size have said so far: how many nodes, and the winner of the last.
+/// What the nodes that ended have said so far: how many they are, and the winner of the last.
 #[derive(Clone, Copy, PartialEq, Eq, Debug)]
 pub struct SoFar {
     pub size: Size,
@@ -37,14 +41,16 @@ pub struct SoFar {
 }
 
 /// Where the next line stands.
-#[derive(Clone, Copy, PartialEq, Eq, Debug)]
+#[derive(Debug, Drop)]
 pub enum Place {
     /// At the first line, the title.
     Title,
     /// At the line of the board's size.
     Size,
-    /// At a line of a node, or at the last line.
+    /// At the first line of a node, or at the last line.
     Between(SoFar),
+    /// At a later line of a node.
+    Inside(Begun),
     /// After the last line.
     After,
     /// After a line that was not taken.
@@ -52,7 +58,7 @@ pub enum Place {
 }
 
 /// A step to the place after a line, and what the line brought.
-#[derive(PartialEq, Eq, Debug, Drop)]
+#[derive(Debug, Drop)]
 pub struct Step {
     pub fed: Fed,
     pub place: Place,
@@ -65,19 +71,22 @@ pub enum Stop {
     Wrong,
     /// It begins one node more than a text may have.
     TooMany,
+    /// Memory was wanting.
+    Memory,
 }
 
 /// The most nodes of a text.
 pub(crate) const MOST_NODES: u32 = 1_048_576;
 
 /// Takes one more line, without its LF.
-pub(crate) fn advance(place: Place, line: &[u8]) -> Result<Step, Stop>
+pub(crate) fn advance(alloc: Global, place: Place, line: &[u8]) -> Result<Step, Stop>
     ensures { Goes place line.now result }
 {
     match place {
         Place::Title => at_title(line),
         Place::Size => at_size(line),
-        Place::Between(so_far) => between(so_far, line),
+        Place::Between(so_far) => between(alloc, so_far, line),
+        Place::Inside(begun) => begun_nodes::inside(begun, line),
         Place::After => Err(Stop::Wrong),
         Place::Failed(_) => Err(Stop::Wrong),
     }
@@ -117,14 +126,14 @@ fn at_size(line: &[u8]) -> Result<Step, Stop>
     }
 }
 
-/// Takes a line of a node, or the last line.
-fn between(so_far: SoFar, line: &[u8]) -> Result<Step, Stop>
+/// Takes the first line of a node, or the last line.
+fn between(alloc: Global, so_far: SoFar, line: &[u8]) -> Result<Step, Stop>
     ensures { Goes (Place.Between so_far) line.now result }
 {
-    match lines::read_node(so_far.size, line) {
-        Some(node) => {
+    match node_lines::read_head(so_far.size, line) {
+        Some(head) => {
             if so_far.count < MOST_NODES {
-                Ok(with_node(so_far, node))
+                begun_nodes::begin(alloc, so_far, head)
             } else {
                 Err(Stop::TooMany)
             }
@@ -133,24 +142,9 @@ fn between(so_far: SoFar, line: &[u8]) -> Result<Step, Stop>
     }
 }
 
-/// The step over a node's line.
-fn with_node(so_far: SoFar, node: Node) -> Step
-    ensures { EndsNode so_far node result }
-{
-    let next = SoFar {
-        size: so_far.size,
-        count: so_far.count.saturating_add(1),
-        winner: Some(node.heading.winner),
-    };
-    Step {
-        fed: Fed::Node(node),
-        place: Place::Between(next),
-    }
-}
-
-/// Takes a line that is none of a node.
+/// Takes a line that is no first line of a node.
 fn at_end(so_far: SoFar, line: &[u8]) -> Result<Step, Stop>
-    requires { IsNoNodeLine so_far.size line.now }
+    requires { IsNoHead so_far.size line.now }
     ensures { Goes (Place.Between so_far) line.now result }
 {
     match lines::read_end(line) {

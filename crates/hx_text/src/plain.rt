@@ -2,7 +2,7 @@
 //! compare the program with. Nothing here is shared with what the program reads and writes by.
 
 use hx_board::{Cell, Colour, Position, Size};
-use hx_tree::{Node, Rule};
+use hx_tree::{Line, Node, Rule};
 use std::alloc::{AllocError, Global};
 
 /// The text of a position and the player to move.
@@ -32,8 +32,10 @@ pub(crate) fn plain_tree(
     let cols = size.cols();
     let mut text = format!(in alloc; "hextree 1\nsize {rows} {cols}\n")?;
     for node in nodes {
-        let line = plain_node(alloc, node)?;
+        let line = plain_head(alloc, node)?;
         text.push_str(line.as_str())?;
+        let answers = plain_answers(alloc, &node.rule)?;
+        text.push_str(answers.as_str())?;
     }
     let count = nodes.len();
     let last = plain_colour(winner);
@@ -42,8 +44,8 @@ pub(crate) fn plain_tree(
     Ok(text)
 }
 
-/// The line of a node.
-fn plain_node(alloc: Global, node: &Node) -> Result<String, AllocError> {
+/// The first line of a node.
+fn plain_head(alloc: Global, node: &Node) -> Result<String, AllocError> {
     let black = plain_mask(&node.heading.position, Colour::Black);
     let white = plain_mask(&node.heading.position, Colour::White);
     let mover = plain_colour(node.heading.to_move);
@@ -59,6 +61,33 @@ fn plain_rule(alloc: Global, rule: &Rule) -> Result<String, AllocError> {
             let column = plain_letter(*cell);
             let row = cell.row() + 1;
             format!(in alloc; "move {column}{row} {child}")
+        }
+        Rule::All { lines } => {
+            let count = lines.items().len();
+            format!(in alloc; "all 0 0 {count}")
+        }
+    }
+}
+
+/// The lines of a node after its first.
+fn plain_answers(alloc: Global, rule: &Rule) -> Result<String, AllocError> {
+    let mut text = String::new(alloc);
+    if let Rule::All { lines } = rule {
+        for line in lines.items() {
+            let answer = plain_answer(alloc, *line)?;
+            text.push_str(answer.as_str())?;
+        }
+    }
+    Ok(text)
+}
+
+/// The line of an answer to a move of the opponent.
+fn plain_answer(alloc: Global, line: Line) -> Result<String, AllocError> {
+    match line {
+        Line::Child { cell, child } => {
+            let column = plain_letter(cell);
+            let row = cell.row() + 1;
+            format!(in alloc; "line {column}{row} child {child}\n")
         }
     }
 }

@@ -10,10 +10,13 @@ ghost use Rattle.hx_text.specs.Places.{Stands, Told, fault_of_stop};
 ghost use Rattle.hx_text.specs.Reader.{HasRead, HasFailed, Says, lines_fed, one_more};
 
 use crate::places::{self, Fed, MOST_NODES, Place, Step, Stop, TreeFault};
+use std::alloc::Global;
+use std::mem;
 
 /// Reads the text of a tree line by line.
 #[derive(Debug, Drop)]
 pub struct TreeReader {
+    alloc: Global,
     fed: u64,
     place: Place,
 }
@@ -26,12 +29,13 @@ struct Taken {
 }
 
 impl TreeReader {
-    /// A reader at the beginning of a text.
-    pub fn new() -> TreeReader
+    /// A reader at the beginning of a text. It takes memory for the lists of nodes alone.
+    pub fn new(alloc: Global) -> TreeReader
         ensures nothing { HasRead result [] [] }
         ensures none { lines_fed result ≡ 0 }
     {
         TreeReader {
+            alloc,
             fed: 0,
             place: Place::Title,
         }
@@ -54,14 +58,15 @@ impl TreeReader {
         ensures again { (fault : Fault) → HasFailed self.old fault → result ≡ Err fault }
     {
         self.fed = self.fed.saturating_add(1);
-        let Taken { told, place } = take_line(self.place, line, ended, self.fed);
+        let place = mem::replace(&mut self.place, Place::After);
+        let Taken { told, place } = take_line(self.alloc, place, line, ended, self.fed);
         self.place = place;
         told
     }
 }
 
 /// What the reader says, and its next place.
-fn take_line(place: Place, line: &[u8], ended: bool, number: u64) -> Taken
+fn take_line(alloc: Global, place: Place, line: &[u8], ended: bool, number: u64) -> Taken
     ensures says { (nodes : List TreeNode) (lines : List (List ℕ)) → Stands place nodes lines
         → Told place line.now ended number nodes (lines ++ line.now ∷ []) result.place result.told }
     ensures failed { IfErr result.told (λ fault. result.place ≡ Place.Failed fault) }
@@ -76,7 +81,7 @@ fn take_line(place: Place, line: &[u8], ended: bool, number: u64) -> Taken
     if !ended {
         return failed(TreeFault::Text { line: number });
     }
-    stepped(place, line, number)
+    stepped(alloc, place, line, number)
 }
 
 /// A fault, which is kept.
@@ -90,12 +95,12 @@ fn failed(fault: TreeFault) -> Taken
 }
 
 /// What the reader says, and its next place, where it has found no fault before.
-fn stepped(place: Place, line: &[u8], number: u64) -> Taken
+fn stepped(alloc: Global, place: Place, line: &[u8], number: u64) -> Taken
     ensures says { (nodes : List TreeNode) (lines : List (List ℕ)) → Stands place nodes lines
         → Told place line.now true number nodes (lines ++ line.now ∷ []) result.place result.told }
     ensures failed { IfErr result.told (λ fault. result.place ≡ Place.Failed fault) }
 {
-    match places::advance(place, line) {
+    match places::advance(alloc, place, line) {
         Ok(Step { fed, place }) => Taken {
             told: Ok(fed),
             place,
@@ -111,5 +116,6 @@ fn fault_of(stop: Stop, number: u64) -> TreeFault
     match stop {
         Stop::Wrong => TreeFault::Text { line: number },
         Stop::TooMany => TreeFault::TooMany { nodes: MOST_NODES },
+        Stop::Memory => TreeFault::Memory,
     }
 }

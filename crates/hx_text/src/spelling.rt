@@ -1,28 +1,33 @@
 //! Spelling the texts that go out. A text is put together in place, so that it needs no memory and can be written at
-//! once. None is longer than 128 bytes: the longest, that of a position, has 109.
+//! once. The longest that goes out as a whole is that of a position, with 109 bytes; a node with many lines goes out in
+//! pieces.
 
-ghost use Rattle.std.specs.Prelude.{◌≡◌, ◌+◌, ◌≤◌, ◌++◌, ◌<◌, ◌∷◌, [], length};
+ghost use Rattle.std.specs.Prelude.{◌≡◌, ◌+◌, ◌≤◌, ◌++◌, ◌<◌, ◌∷◌, [], length, ◌↔◌, IsTrue};
 ghost use Rattle.std.specs.Fmt.{decimal};
-ghost use Rattle.hx_tree.specs.declared.nodes.Rule.TheVariants.{Move};
+ghost use Rattle.hx_tree.specs.declared.nodes.Line.TheVariants.{Child};
+ghost use Rattle.hx_text.specs.declared.node_lines.Opening.TheVariants.{Move, All};
 ghost use Rattle.hx_text.specs.Words.{hex_digit, mask_word, colour_word, cell_word, spaced};
 ghost use Rattle.hx_text.specs.Grammars.{text_of};
 ghost use Rattle.hx_text.specs.PositionTexts.{size_line, stones_line, move_line, position_text};
-ghost use Rattle.hx_text.specs.TreeTexts.{rule_words, node_lines, front_lines, end_line};
+ghost use Rattle.hx_text.specs.TreeTexts.{ListsFit, opening_of, opening_words, head_of, head_line, answer_line, front_lines, end_line};
 
 use crate::values;
 use arrayvec::ArrayVec;
 use hx_board::{Cell, Colour, Mask, Position, Size};
-use hx_tree::{Node, Rule};
+use hx_tree::{Line, Node, Rule};
 use itoa::Buffer;
 use std::marker::Model;
+
+/// The most bytes of a text. Each new text is filled with as many zeros, so more of them make short texts slower.
+const ROOM: usize = 512;
 
 /// How many digits a mask has.
 const MASK_DIGITS: u8 = 32;
 
-/// A text of at most 128 bytes, seen as its bytes.
+/// A text of at most `ROOM` bytes, seen as its bytes.
 #[derive(Drop)]
 pub(crate) struct Text {
-    bytes: ArrayVec<u8, 128>,
+    bytes: ArrayVec<u8, ROOM>,
 }
 
 impl Model for Text {
@@ -50,9 +55,16 @@ impl Text {
         self.bytes.as_slice()
     }
 
+    /// Whether so many bytes more have room.
+    pub(crate) fn has_room(&self, bytes: usize) -> bool
+        ensures { IsTrue result ↔ (length self.now + bytes ≤ ROOM) }
+    {
+        bytes <= self.bytes.remaining_capacity()
+    }
+
     /// Puts these bytes at the end.
     pub(crate) fn put(&mut self, bytes: &[u8])
-        requires { length self.old + length bytes.now ≤ 128 }
+        requires { length self.old + length bytes.now ≤ ROOM }
         ensures { self.new ≡ self.old ++ bytes.now }
     {
         self.bytes.try_extend_from_slice(bytes).unwrap();
@@ -60,7 +72,7 @@ impl Text {
 
     /// Puts the word of a colour.
     pub(crate) fn put_colour(&mut self, colour: Colour)
-        requires { length self.old + 5 ≤ 128 }
+        requires { length self.old + 5 ≤ ROOM }
         ensures { self.new ≡ self.old ++ colour_word colour }
     {
         self.put(values::colour_word(colour));
@@ -68,7 +80,7 @@ impl Text {
 
     /// Puts the digits of a mask, the most significant first.
     pub(crate) fn put_mask(&mut self, mask: Mask)
-        requires { length self.old + 32 ≤ 128 }
+        requires { length self.old + 32 ≤ ROOM }
         ensures { self.new ≡ self.old ++ mask_word mask }
     {
         let bits = mask.bits();
@@ -80,7 +92,7 @@ impl Text {
 
     /// Puts the text of a position and the player to move.
     pub(crate) fn put_position(&mut self, position: &Position, to_move: Colour)
-        requires { length self.old + 109 ≤ 128 }
+        requires { length self.old + 109 ≤ ROOM }
         ensures { self.new ≡ self.old ++ position_text position.now to_move }
     {
         self.put(b"hexpos 1\n");
@@ -92,7 +104,7 @@ impl Text {
 
     /// Puts the line of a size.
     fn put_size(&mut self, size: Size)
-        requires { length self.old + 11 ≤ 128 }
+        requires { length self.old + 11 ≤ ROOM }
         ensures text { self.new ≡ self.old ++ (size_line size ++ 10 ∷ []) }
         ensures short { length self.new ≤ length self.old + 11 }
     {
@@ -105,7 +117,7 @@ impl Text {
 
     /// Puts a number of at most two digits.
     fn put_small(&mut self, n: u8)
-        requires room { length self.old + 2 ≤ 128 }
+        requires room { length self.old + 2 ≤ ROOM }
         requires small { n < 100 }
         ensures text { self.new ≡ self.old ++ decimal n }
         ensures short { length self.new ≤ length self.old + 2 }
@@ -116,7 +128,7 @@ impl Text {
 
     /// Puts the line of a player's stones.
     fn put_stones(&mut self, colour: Colour, stones: Mask)
-        requires { length self.old + 39 ≤ 128 }
+        requires { length self.old + 39 ≤ ROOM }
         ensures text { self.new ≡ self.old ++ (stones_line colour stones ++ 10 ∷ []) }
         ensures short { length self.new ≤ length self.old + 39 }
     {
@@ -128,7 +140,7 @@ impl Text {
 
     /// Puts the line of the player to move.
     fn put_move(&mut self, to_move: Colour)
-        requires { length self.old + 11 ≤ 128 }
+        requires { length self.old + 11 ≤ ROOM }
         ensures { self.new ≡ self.old ++ (move_line to_move ++ 10 ∷ []) }
     {
         self.put(b"move ");
@@ -138,28 +150,51 @@ impl Text {
 
     /// Puts the lines of a tree's text before its nodes: the title and the size of the board.
     pub(crate) fn put_heading(&mut self, size: Size)
-        requires { length self.old + 21 ≤ 128 }
+        requires { length self.old + 21 ≤ ROOM }
         ensures { self.new ≡ self.old ++ text_of (front_lines size) }
     {
         self.put(b"hextree 1\n");
         self.put_size(size);
     }
 
-    /// Puts the line of a node.
-    pub(crate) fn put_node(&mut self, node: &Node)
-        requires { length self.old + 103 ≤ 128 }
-        ensures { self.new ≡ self.old ++ text_of (node_lines node.now) }
+    /// Puts the first line of a node.
+    pub(crate) fn put_head(&mut self, node: &Node)
+        requires room { length self.old + 103 ≤ ROOM }
+        requires lists { ListsFit node.now.rule }
+        ensures { self.new ≡ self.old ++ (head_line (head_of node.now) ++ 10 ∷ []) }
     {
         self.put(b"node ");
         self.put_masks(&node.heading.position);
         self.put_colours(node.heading.to_move, node.heading.winner);
-        self.put_rule(&node.rule);
+        self.put_opening(&node.rule);
+        self.put(b"\n");
+    }
+
+    /// Puts the line of an answer to a move of the opponent.
+    pub(crate) fn put_answer(&mut self, line: &Line)
+        requires { length self.old + 26 ≤ ROOM }
+        ensures { self.new ≡ self.old ++ (answer_line line.now ++ 10 ∷ []) }
+    {
+        match line {
+            Line::Child { cell, child } => self.put_child(*cell, *child),
+        }
+    }
+
+    /// Puts the line of an answer by a child.
+    fn put_child(&mut self, cell: Cell, child: u32)
+        requires { length self.old + 26 ≤ ROOM }
+        ensures { self.new ≡ self.old ++ (answer_line (Child cell child) ++ 10 ∷ []) }
+    {
+        self.put(b"line ");
+        self.put_cell(cell);
+        self.put(b" child ");
+        self.put_index(child);
         self.put(b"\n");
     }
 
     /// Puts the last line of a tree's text, which says how many nodes there are and who wins.
     pub(crate) fn put_end(&mut self, nodes: u32, winner: Colour)
-        requires { length self.old + 21 ≤ 128 }
+        requires { length self.old + 21 ≤ ROOM }
         ensures { self.new ≡ self.old ++ text_of (end_line nodes winner ∷ []) }
     {
         self.put(b"end ");
@@ -171,7 +206,7 @@ impl Text {
 
     /// Puts the masks of both players' stones, each with the space after it.
     fn put_masks(&mut self, position: &Position)
-        requires { length self.old + 66 ≤ 128 }
+        requires { length self.old + 66 ≤ ROOM }
         ensures text { self.new ≡ self.old ++ (mask_word position.now.black ++ 32 ∷ mask_word position.now.white ++ 32 ∷ []) }
         ensures short { length self.new ≤ length self.old + 66 }
     {
@@ -183,7 +218,7 @@ impl Text {
 
     /// Puts the player to move and the winner, each with the space after it.
     fn put_colours(&mut self, to_move: Colour, winner: Colour)
-        requires { length self.old + 12 ≤ 128 }
+        requires { length self.old + 12 ≤ ROOM }
         ensures text { self.new ≡ self.old ++ (colour_word to_move ++ 32 ∷ colour_word winner ++ 32 ∷ []) }
         ensures short { length self.new ≤ length self.old + 12 }
     {
@@ -193,22 +228,34 @@ impl Text {
         self.put(b" ");
     }
 
-    /// Puts the words of a rule, which end a node's line.
-    fn put_rule(&mut self, rule: &Rule)
-        requires { length self.old + 19 ≤ 128 }
-        ensures text { self.new ≡ self.old ++ spaced (rule_words rule.now) }
+    /// Puts the words of a rule that end its node's first line.
+    fn put_opening(&mut self, rule: &Rule)
+        requires room { length self.old + 19 ≤ ROOM }
+        requires lists { ListsFit rule.now }
+        ensures text { self.new ≡ self.old ++ spaced (opening_words (opening_of rule.now)) }
         ensures short { length self.new ≤ length self.old + 19 }
     {
         match rule {
             Rule::Chain => self.put(b"chain"),
             Rule::Move { cell, child } => self.put_winning(*cell, *child),
+            Rule::All { lines } => self.put_all(lines.items().len() as u32),
         }
+    }
+
+    /// Puts the words of a rule that answers each move, with so many lines.
+    fn put_all(&mut self, lines: u32)
+        requires { length self.old + 19 ≤ ROOM }
+        ensures text { self.new ≡ self.old ++ spaced (opening_words (All lines)) }
+        ensures short { length self.new ≤ length self.old + 19 }
+    {
+        self.put(b"all 0 0 ");
+        self.put_index(lines);
     }
 
     /// Puts the words of a winning move and of the child that goes on.
     fn put_winning(&mut self, cell: Cell, child: u32)
-        requires { length self.old + 19 ≤ 128 }
-        ensures text { self.new ≡ self.old ++ spaced (rule_words (Move cell child)) }
+        requires { length self.old + 19 ≤ ROOM }
+        ensures text { self.new ≡ self.old ++ spaced (opening_words (Move cell child)) }
         ensures short { length self.new ≤ length self.old + 19 }
     {
         self.put(b"move ");
@@ -219,7 +266,7 @@ impl Text {
 
     /// Puts the word of a cell: the letter of its column, and its row counted from 1.
     fn put_cell(&mut self, cell: Cell)
-        requires { length self.old + 3 ≤ 128 }
+        requires { length self.old + 3 ≤ ROOM }
         ensures text { self.new ≡ self.old ++ cell_word cell }
         ensures short { length self.new ≤ length self.old + 3 }
     {
@@ -229,7 +276,7 @@ impl Text {
 
     /// Puts the number of a node, or how many there are.
     fn put_index(&mut self, n: u32)
-        requires { length self.old + 10 ≤ 128 }
+        requires { length self.old + 10 ≤ ROOM }
         ensures text { self.new ≡ self.old ++ decimal n }
         ensures short { length self.new ≤ length self.old + 10 }
     {

@@ -1,5 +1,8 @@
 //! Texts in the plain program's words: each is read as what it tells of, and what is written is the same.
 
+ghost use Rattle.std.specs.Prelude.{IsTrue};
+ghost use Rattle.hx_text.specs.TreeTexts.{ListsFit};
+
 use crate::plain::{plain_position, plain_tree};
 use crate::{
     Fed, TextFault, TreeFault, TreeReader, cut, read_position, text_tells_nodes, write_end,
@@ -8,7 +11,7 @@ use crate::{
 use hx_board::Colour::{Black, White};
 use hx_board::{Colour, Mask, Position, Size};
 use hx_io::MemorySink;
-use hx_tree::{Heading, Node, Rule};
+use hx_tree::{Heading, Line, Lines, Node, Rule};
 use std::alloc::Global;
 use std::process::Abort;
 use std::test::Fail;
@@ -76,11 +79,47 @@ fn by_move(position: Position, winner: Colour, row: u8, col: u8, child: u32) -> 
     Ok(Node { heading, rule })
 }
 
+/// The opponent is to move, and each of his moves that is given by row and column is answered by a child.
+fn by_all(
+    alloc: Global,
+    position: Position,
+    winner: Colour,
+    answers: &[(u8, u8, u32)],
+) -> Result<Node, Fail> {
+    let mut lines = Vec::new(alloc);
+    for (row, col, child) in answers {
+        let cell = position.size().cell(*row, *col).ok_or("cell")?;
+        lines.push(Line::Child {
+            cell,
+            child: *child,
+        })?;
+    }
+    let heading = Heading {
+        position,
+        to_move: winner.other(),
+        winner,
+    };
+    let rule = Rule::All {
+        lines: Lines::new(lines),
+    };
+    Ok(Node { heading, rule })
+}
+
+/// Black wins the empty board of 11 by 11, and each of the 121 moves has its answer.
+fn by_all_cells(alloc: Global) -> Result<Node, Fail> {
+    let size = Size::new(11, 11).ok_or("size")?;
+    let mut answers = Vec::new(alloc);
+    for index in 0..121u8 {
+        answers.push((index / 11, index % 11, 4294967295 - u32::from(index)))?;
+    }
+    by_all(alloc, drawn(size, "")?, Black, &answers)
+}
+
 /// The plain text of these nodes is read as these nodes, and the position of the last is written as the plain one.
 fn assert_told(rt: &impl Abort, alloc: Global, nodes: &[Node]) -> Result<(), Fail> {
     let root = nodes.last().ok_or("no node")?.heading;
     let text = plain_tree(alloc, root.position.size(), nodes, root.winner)?;
-    let mut reader = TreeReader::new();
+    let mut reader = TreeReader::new(alloc);
     let reading = reading_of(alloc, &mut reader, text.as_bytes())?;
     assert_eq!(rt; reading.nodes.as_slice(), nodes);
     assert_eq!(rt; reading.last, Ok(Fed::End(root.winner)));
@@ -99,19 +138,47 @@ fn assert_told(rt: &impl Abort, alloc: Global, nodes: &[Node]) -> Result<(), Fai
     Ok(())
 }
 
-/// The nodes are written, with the lines before and after them, as the plain text of their tree.
-fn assert_written(rt: &impl Abort, alloc: Global, nodes: &[Node]) -> Result<(), Fail> {
+/// Whether the lists of a rule are no longer than a text may have them.
+fn lists_fit(rule: &Rule) -> bool
+    ensures { IsTrue result → ListsFit rule.now }
+{
+    match rule {
+        Rule::Chain | Rule::Move { .. } => true,
+        Rule::All { lines } => lines.items().len() <= 121,
+    }
+}
+
+/// A sink that took these nodes, with the lines before and after them, a few bytes at a time.
+fn written(rt: &impl Abort, alloc: Global, nodes: &[Node]) -> Result<MemorySink, Fail> {
     let root = nodes.last().ok_or("no node")?.heading;
-    let size = root.position.size();
-    let text = plain_tree(alloc, size, nodes, root.winner)?;
-    let mut sink = MemorySink::new(alloc, 1024, 7, Vec::new(alloc))?;
-    assert_eq!(rt; write_heading(&mut sink, size), Ok(()));
+    let mut sink = MemorySink::new(alloc, 8192, 7, Vec::new(alloc))?;
+    assert_eq!(rt; write_heading(&mut sink, root.position.size()), Ok(()));
     for node in nodes {
+        assert!(rt; lists_fit(&node.rule));
         assert_eq!(rt; write_node(&mut sink, node), Ok(()));
     }
     let count = u32::try_from(nodes.len()).ok().ok_or("count")?;
     assert_eq!(rt; write_end(&mut sink, count, root.winner), Ok(()));
+    Ok(sink)
+}
+
+/// The nodes are written, with the lines before and after them, as the plain text of their tree.
+fn assert_written(rt: &impl Abort, alloc: Global, nodes: &[Node]) -> Result<(), Fail> {
+    let root = nodes.last().ok_or("no node")?.heading;
+    let text = plain_tree(alloc, root.position.size(), nodes, root.winner)?;
+    let sink = written(rt, alloc, nodes)?;
     assert_eq!(rt; sink.bytes(), text.as_bytes());
+    Ok(())
+}
+
+/// What is written of these nodes is read as these nodes.
+fn assert_read_back(rt: &impl Abort, alloc: Global, nodes: &[Node]) -> Result<(), Fail> {
+    let root = nodes.last().ok_or("no node")?.heading;
+    let sink = written(rt, alloc, nodes)?;
+    let mut reader = TreeReader::new(alloc);
+    let reading = reading_of(alloc, &mut reader, sink.bytes())?;
+    assert_eq!(rt; reading.nodes.as_slice(), nodes);
+    assert_eq!(rt; reading.last, Ok(Fed::End(root.winner)));
     Ok(())
 }
 
@@ -141,16 +208,49 @@ fn trees_on_three_by_three(rt: HostRuntime) -> Result<(), Fail> {
 
 #[test]
 fn a_tree_is_written(rt: HostRuntime) -> Result<(), Fail> {
+    let alloc = rt.alloc();
     let size = Size::new(11, 11).ok_or("size")?;
     let by_black = by_chain(drawn(size, "W.BWWB..B")?, White, Black);
     let by_white = by_move(drawn(size, "B.WB..W..")?, White, 9, 10, 4294967295)?;
+    let few = [(0, 0, 0), (10, 9, 1), (3, 10, 4294967295)];
+    let few = by_all(alloc, drawn(size, "WB.")?, White, &few)?;
+    // It is longer than a text has room.
+    let many = by_all_cells(alloc)?;
     let last = by_move(drawn(size, "BW..")?, Black, 0, 0, 0)?;
-    assert_written(&rt, rt.alloc(), &[by_black, by_white, last])
+    assert_written(&rt, alloc, &[by_black, by_white, few, many, last])
+}
+
+/// Trees of each rule, with lists of no, of two and of the most lines.
+fn trees_to_read_back(alloc: Global) -> Result<Vec<Vec<Node>>, Fail> {
+    let mut trees = Vec::new(alloc);
+    let size = Size::new(1, 1).ok_or("size")?;
+    let chain = by_chain(drawn(size, "B")?, White, Black);
+    trees.push(vec![in alloc; chain]?)?;
+    let none = by_all(alloc, drawn(size, "W")?, White, &[])?;
+    trees.push(vec![in alloc; none]?)?;
+    let size = Size::new(1, 2).ok_or("size")?;
+    let right_stone = by_chain(drawn(size, "WB")?, White, Black);
+    let right_move = by_move(drawn(size, "W.")?, Black, 0, 1, 0)?;
+    let left_stone = by_chain(drawn(size, "BW")?, White, Black);
+    let left_move = by_move(drawn(size, ".W")?, Black, 0, 0, 2)?;
+    let both = by_all(alloc, drawn(size, "..")?, Black, &[(0, 0, 1), (0, 1, 3)])?;
+    trees.push(vec![in alloc; right_stone, right_move, left_stone, left_move, both]?)?;
+    trees.push(vec![in alloc; by_all_cells(alloc)?]?)?;
+    Ok(trees)
+}
+
+#[test]
+fn a_written_tree_is_read_back(rt: HostRuntime) -> Result<(), Fail> {
+    let trees = trees_to_read_back(rt.alloc())?;
+    for tree in &trees {
+        assert_read_back(&rt, rt.alloc(), tree)?;
+    }
+    Ok(())
 }
 
 #[test]
 fn a_fault_is_answered_for_ever(rt: HostRuntime) -> Result<(), Fail> {
-    let mut reader = TreeReader::new();
+    let mut reader = TreeReader::new(rt.alloc());
     assert_eq!(rt; reader.feed(b"hextree 1", true), Ok(Fed::More));
     assert_eq!(rt;
         reader.feed(b"size 12 1", true),
@@ -166,11 +266,73 @@ fn a_fault_is_answered_for_ever(rt: HostRuntime) -> Result<(), Fail> {
 
 #[test]
 fn a_line_that_is_not_ended_is_wrong(rt: HostRuntime) -> Result<(), Fail> {
-    let mut reader = TreeReader::new();
+    let mut reader = TreeReader::new(rt.alloc());
     assert_eq!(rt;
         reader.feed(b"hextree 1", false),
         Err(TreeFault::Text { line: 1 })
     );
+    Ok(())
+}
+
+/// A tree whose root answers both moves of White: wherever he moves, Black moves to the other cell and has a chain.
+const BOTH_MOVES: &str = "hextree 1
+size 1 2
+node 00000000000000000000000000000002 00000000000000000000000000000001 white black chain
+node 00000000000000000000000000000000 00000000000000000000000000000001 black black move b1 0
+node 00000000000000000000000000000001 00000000000000000000000000000002 white black chain
+node 00000000000000000000000000000000 00000000000000000000000000000002 black black move a1 2
+node 00000000000000000000000000000000 00000000000000000000000000000000 white black all 0 0 2
+line a1 child 1
+line b1 child 3
+end 5 black
+";
+
+#[test]
+fn the_lines_of_a_node_are_read(rt: HostRuntime) -> Result<(), Fail> {
+    let alloc = rt.alloc();
+    let size = Size::new(1, 2).ok_or("size")?;
+    let mut lines = Vec::new(alloc);
+    for (col, child) in [(0, 1), (1, 3)] {
+        let cell = size.cell(0, col).ok_or("cell")?;
+        lines.push(Line::Child { cell, child })?;
+    }
+    let rule = Rule::All {
+        lines: Lines::new(lines),
+    };
+    let mut reader = TreeReader::new(alloc);
+    let reading = reading_of(alloc, &mut reader, BOTH_MOVES.as_bytes())?;
+    assert_eq!(rt; reading.last, Ok(Fed::End(Black)));
+    assert_eq!(rt; reading.nodes.len(), 5);
+    assert_eq!(rt; reading.nodes[4].rule, rule);
+    Ok(())
+}
+
+/// What stands in that text, what is put in its place there, and the line that is wrong then.
+const CHANGES_OF_LINES: [(&str, &str, u64); 12] = [
+    ("all 0 0 2", "all 0 0", 7),
+    ("all 0 0 2", "all 0 0 02", 7),
+    ("all 0 0 2", "all 0 0 122", 7),
+    ("all 0 0 2", "all 0 1 2", 7),
+    ("all 0 0 2", "all 0 1 0", 7),
+    ("all 0 0 2", "all 0 0 0", 8),
+    ("all 0 0 2", "all 0 0 1", 9),
+    ("all 0 0 2", "all 0 0 3", 10),
+    ("line a1", "line c1", 8),
+    ("child 3", "child 3 ", 9),
+    ("line b1 child 3\n", "", 9),
+    ("end", "line a1 child 0\nend", 10),
+];
+
+#[test]
+fn each_wrong_line_of_a_node_is_named(rt: HostRuntime) -> Result<(), Fail> {
+    let alloc = rt.alloc();
+    for (old, new, line) in CHANGES_OF_LINES {
+        let (before, after) = BOTH_MOVES.split_once(old).ok_or("not in the text")?;
+        let text = format!(in alloc; "{before}{new}{after}")?;
+        let mut reader = TreeReader::new(alloc);
+        let reading = reading_of(alloc, &mut reader, text.as_bytes())?;
+        assert_eq!(rt; reading.last, Err(TreeFault::Text { line }), "{text}");
+    }
     Ok(())
 }
 

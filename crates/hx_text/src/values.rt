@@ -1,11 +1,11 @@
 //! The values that single words stand for: numbers, masks, colours and cells. Each value has one word, so what is
 //! spelled in another way, as a number with a leading zero, is none.
 
-ghost use Rattle.std.specs.Prelude.{◌≡◌, ◌+◌, ◌<◌, ◌≤◌, ◌↔◌, IsTrue, IfSome, IfNone, ℕ, length};
+ghost use Rattle.std.specs.Prelude.{◌≡◌, ◌+◌, ◌<◌, ◌≤◌, ◌^◌, ◌↔◌, IsTrue, IfSome, IfNone, ℕ, length};
 ghost use Rattle.std.specs.Fmt.{decimal};
 ghost use Rattle.std.specs.Str.Parse.{AllDigits, digits_value};
 ghost use Rattle.hx_board.specs.Cells.{OnBoard, row_of, col_of};
-ghost use Rattle.hx_text.specs.Words.{Reads, IsNumber, IsSet, hex_digit, IsCanonical, mask_word, colour_word, cell_word};
+ghost use Rattle.hx_text.specs.Words.{Reads, IsNumber, IsSet, hex, hex_digit, IsCanonical, mask_word, colour_word, cell_word};
 
 use hx_board::{Cell, Colour, Mask, Size};
 
@@ -54,22 +54,43 @@ pub(crate) fn mask(word: &[u8]) -> Option<Mask>
     if word.len() != 32 {
         return None;
     }
-    let mut bits: u128 = 0;
-    for byte in word {
-        let digit = hex_value(*byte)?;
-        bits = 16 * bits + u128::from(digit);
-    }
-    Some(Mask::of(bits))
+    let (high, low) = word.split_at(16);
+    let high = half_mask(high)?;
+    let low = half_mask(low)?;
+    Some(Mask::of(u128::from(high) * HALF + u128::from(low)))
 }
 
-/// The value of a digit of a mask. Its letters are small ones.
-fn hex_value(byte: u8) -> Option<u8>
-    ensures { Reads hex_digit (λ d. d < 16) byte result }
+/// What a digit in the first half of a mask counts more than the one in the same place of the second.
+const HALF: u128 = 18_446_744_073_709_551_616;
+
+/// The number of half a mask. Its digits differ from mask to mask, so nothing here branches on them.
+fn half_mask(digits: &[u8]) -> Option<u64>
+    requires { length digits.now ≡ 16 }
+    ensures { Reads (hex 16) (λ n. n < 2 ^ 64) digits.now result }
 {
-    match byte {
-        b'0'..=b'9' => Some(byte - b'0'),
-        b'a'..=b'f' => Some(byte - b'a' + 10),
-        _ => None,
+    let mut bits: u64 = 0;
+    let mut known = true;
+    for byte in digits {
+        let digit = hex_value(*byte);
+        known &= digit < 16;
+        bits = 16 * bits + u64::from(digit % 16);
+    }
+    if known { Some(bits) } else { None }
+}
+
+/// The value of a digit of a mask, whose letters are small ones; 16 for a byte that is no digit.
+fn hex_value(byte: u8) -> u8
+    ensures digit { result < 16 → byte ≡ hex_digit result }
+    ensures each { (digit : ℕ) → digit < 16 → byte ≡ hex_digit digit → result ≡ digit }
+{
+    let digit = byte.wrapping_sub(b'0');
+    let letter = byte.wrapping_sub(b'a');
+    if digit < 10 {
+        digit
+    } else if letter < 6 {
+        letter + 10
+    } else {
+        16
     }
 }
 

@@ -8,6 +8,7 @@ ghost use Rattle.hx_text.specs.Words.{Takes, IsNumber, IsSet, IsCut, Lacks, word
 
 use crate::values;
 use hx_board::{Cell, Colour, Mask, Size};
+use memchr::memchr;
 use std::marker::Model;
 
 /// The words of a line that are still to be taken, seen as a list of words.
@@ -112,11 +113,6 @@ impl<'a> Words<'a> {
 pub fn cut(bytes: &[u8], mark: u8) -> Option<(&[u8], &[u8])>
     ensures { MatchOption result (Lacks mark bytes.now) (λ parts. IsCut mark bytes.now parts.0.now parts.1.now) }
 {
-    for (place, byte) in bytes.iter().enumerate() {
-        if *byte == mark {
-            let (before, after) = bytes.split_at(place);
-            return Some((before, &after[1..]));
-        }
-    }
-    None
+    let place = memchr(mark, bytes)?;
+    Some((&bytes[..place], &bytes[place + 1..]))
 }

@@ -6,8 +6,9 @@ use Rattle.hx_board.specs.Graph.{HasChain}
 use Rattle.hx_tree.specs.declared.nodes.Heading.{Heading}
 use Rattle.hx_tree.specs.declared.nodes.Node.{Node}
 use Rattle.hx_tree.specs.declared.nodes.Rule.{Rule}
-use Rattle.hx_tree.specs.declared.nodes.Rule.TheVariants.{Chain, Move}
+use Rattle.hx_tree.specs.declared.nodes.Rule.TheVariants.{Chain, Move, All}
 use Rattle.hx_tree.specs.Headings.{IsHeading}
+use Rattle.hx_tree.specs.Answers.{IsRightAll}
 
 -- the winner moves to an empty cell, and an earlier heading says that it wins the position after that
 pub record IsRightMove (before : List Heading) (heading : Heading) (cell child : ℕ) : Type 0 where
@@ -19,6 +20,7 @@ pub record IsRightMove (before : List Heading) (heading : Heading) (cell child :
 abbrev pub IsRightRule : List Heading → Heading → Rule → Type 0
 IsRightRule before heading Chain = HasChain heading.position heading.winner
 IsRightRule before heading (Move cell child) = IsRightMove before heading cell child
+IsRightRule before heading (All lines) = IsRightAll before heading lines
 
 -- a node is right after these headings: its board has a position on it, and its rule is right
 pub record IsRightNode (before : List Heading) (node : Node) : Type 0 where

@@ -1,11 +1,15 @@
 //! Strategy trees that prove who wins a position, and their checker.
 #![tactic(auto)]
 
+mod answers;
+mod headings;
+mod lists;
 mod nodes;
 mod rules;
 mod trees;
 
-pub use nodes::{Heading, Node, Rule};
+pub use lists::Lines;
+pub use nodes::{Heading, Line, Node, Rule};
 pub use rules::check_node;
 pub use trees::{Verdict, check_tree};
 

@@ -1,6 +1,10 @@
 //! The nodes of a strategy tree. Each says who wins a position, and by which rule. A tree is a list of nodes, in which
 //! a node names its children by their places before it.
 
+ghost use Rattle.std.specs.Prelude.{◌≡◌};
+ghost use Rattle.hx_tree.specs.Answers.{cell_of};
+
+use crate::lists::Lines;
 use hx_board::{Cell, Colour, Position};
 
 /// What a node says: in this position, with this player to move, this player wins.
@@ -19,6 +23,28 @@ pub enum Rule {
 
     /// The winner moves to a cell, and wins the position after that move by the child, an earlier node of the tree.
     Move { cell: Cell, child: u32 },
+
+    /// The opponent is to move and has a move, and whichever cell he moves to, the line of that cell says why the winner
+    /// wins after it. The lines stand in cell order.
+    All { lines: Lines },
+}
+
+/// Why the winner wins after a move of the opponent.
+#[derive(Clone, Copy, PartialEq, Eq, Debug)]
+pub enum Line {
+    /// After the opponent's move to the cell the winner wins by the child, an earlier node of the tree.
+    Child { cell: Cell, child: u32 },
+}
+
+impl Line {
+    /// The cell that the opponent moves to.
+    pub fn cell(&self) -> Cell
+        ensures { result ≡ cell_of self.now }
+    {
+        match self {
+            Line::Child { cell, .. } => *cell,
+        }
+    }
 }
 
 /// A node of a strategy tree.

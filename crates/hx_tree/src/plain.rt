@@ -2,7 +2,7 @@
 
 ghost use Rattle.std.specs.Prelude.{◌<◌, ◌^◌, length};
 
-use crate::nodes::{Heading, Node, Rule};
+use crate::nodes::{Heading, Line, Node, Rule};
 use crate::trees::Verdict;
 use hx_board::{Cell, Colour, Position, chain};
 
@@ -25,26 +25,63 @@ pub(crate) fn plain_verdict(nodes: &[Node]) -> Verdict
 /// Whether a node is right after these nodes.
 fn is_right(earlier: &[Node], node: &Node) -> bool {
     let heading = &node.heading;
+    let winner_moves = heading.to_move == heading.winner;
     match &node.rule {
         Rule::Chain => chain(&heading.position, heading.winner),
-        Rule::Move { cell, child } => match earlier.get(*child as usize) {
-            None => false,
-            Some(next) => leads_to(heading, *cell, &next.heading),
-        },
+        Rule::Move { cell, child } => winner_moves && leads_to(earlier, heading, *cell, *child),
+        Rule::All { lines } => !winner_moves && each_is_answered(earlier, heading, lines.items()),
     }
 }
 
-/// Whether the winner of the first heading has the move, and comes to the second by a stone on this cell.
-fn leads_to(heading: &Heading, cell: Cell, next: &Heading) -> bool {
+/// Whether some cell is empty, and there are lines for the empty cells, one after the other, and no other line.
+fn each_is_answered(earlier: &[Node], heading: &Heading, lines: &[Line]) -> bool {
+    let mut rest = lines;
+    for index in 0..121u8 {
+        if let Some(cell) = empty_cell(&heading.position, index) {
+            match rest {
+                [line, more @ ..] if is_answer(earlier, heading, cell, line) => rest = more,
+                _ => return false,
+            }
+        }
+    }
+    rest.is_empty() && !lines.is_empty()
+}
+
+/// The cell with this index. None where it lies off the board or holds a stone.
+fn empty_cell(position: &Position, index: u8) -> Option<Cell> {
+    let cell = position.size().cell(index / 11, index % 11)?;
+    if position.at(cell).is_none() {
+        Some(cell)
+    } else {
+        None
+    }
+}
+
+/// Whether this line is for this cell and is right.
+fn is_answer(earlier: &[Node], heading: &Heading, cell: Cell, line: &Line) -> bool {
+    match line {
+        Line::Child { cell: here, child } => {
+            *here == cell && leads_to(earlier, heading, cell, *child)
+        }
+    }
+}
+
+/// Whether the mover of the heading comes to the child by a stone on this cell, and the winner is the same.
+fn leads_to(earlier: &[Node], heading: &Heading, cell: Cell, child: u32) -> bool {
     let size = heading.position.size();
     let is_on_board = cell.row() < size.rows() && cell.col() < size.cols();
     let is_empty = heading.position.at(cell).is_none();
-    heading.to_move == heading.winner
-        && is_on_board
-        && is_empty
-        && next.to_move != heading.to_move
-        && next.winner == heading.winner
-        && is_with_stone(&next.position, &heading.position, heading.winner, cell)
+    match earlier.get(child as usize) {
+        None => false,
+        Some(node) => {
+            let next = &node.heading;
+            is_on_board
+                && is_empty
+                && next.to_move != heading.to_move
+                && next.winner == heading.winner
+                && is_with_stone(&next.position, &heading.position, heading.to_move, cell)
+        }
+    }
 }
 
 /// Whether the first position is the second with this stone on this cell, cell by cell.

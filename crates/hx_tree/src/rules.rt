@@ -2,11 +2,12 @@
 //! found.
 
 ghost use Rattle.std.specs.Prelude.{◌↔◌, IsTrue, IsOk, IfOk};
-ghost use Rattle.hx_tree.specs.Headings.{IsHeading};
 ghost use Rattle.hx_tree.specs.Rules.{IsRightMove, IsRightNode};
 
+use crate::answers::check_all;
+use crate::headings::leads;
 use crate::nodes::{Heading, Node, Rule};
-use hx_board::{Cell, Colour, Memory, Position, chain};
+use hx_board::{Cell, Memory, chain};
 
 /// Whether a node is right after these headings.
 pub fn check_node(before: &[Heading], node: &Node) -> Result<bool, Memory>
@@ -19,6 +20,7 @@ pub fn check_node(before: &[Heading], node: &Node) -> Result<bool, Memory>
     match &node.rule {
         Rule::Chain => Ok(chain(&heading.position, heading.winner)),
         Rule::Move { cell, child } => Ok(check_move(before, heading, *cell, *child)),
+        Rule::All { lines } => Ok(check_all(before, heading, lines.items())),
     }
 }
 
@@ -32,17 +34,5 @@ fn check_move(before: &[Heading], heading: &Heading, cell: Cell, child: u32) -> 
     if !heading.position.empties().has(cell) {
         return false;
     }
-    let mut expected = heading.position;
-    expected.play(heading.winner, cell);
-    match before.get(child as usize) {
-        None => false,
-        Some(next) => is_heading(next, &expected, heading.winner.other(), heading.winner),
-    }
-}
-
-/// Whether a heading has this position, mover and winner.
-fn is_heading(heading: &Heading, position: &Position, mover: Colour, winner: Colour) -> bool
-    ensures { IsTrue result ↔ IsHeading position.now mover winner heading.now }
-{
-    heading.position == *position && heading.to_move == mover && heading.winner == winner
+    leads(before, heading, heading.winner, cell, child)
 }

@@ -38,6 +38,20 @@ fn by_move(heading: Heading, cell: Cell, child: u32) -> Node {
     Node { heading, rule }
 }
 
+/// A node whose lines answer the opponent's moves to these cells by these children.
+fn by_answers(alloc: Global, heading: Heading, answers: &[(Cell, u32)]) -> Result<Node, Fail> {
+    let mut items = Vec::new(alloc);
+    for (cell, child) in answers {
+        items.push(Line::Child {
+            cell: *cell,
+            child: *child,
+        })?;
+    }
+    let lines = Lines::new(items);
+    let rule = Rule::All { lines };
+    Ok(Node { heading, rule })
+}
+
 /// The checker and the plain rules both say this of the nodes.
 fn both_say(rt: &impl Abort, alloc: Global, nodes: &[Node], expected: Verdict) -> Result<(), Fail> {
     assert!(rt; nodes.len() < 100);
@@ -99,6 +113,83 @@ fn judges_children(rt: HostRuntime) -> Result<(), Fail> {
     let reply = heading(column(2, 1, 0)?, White, White);
     let other_winner = [by_chain(full), by_move(reply, a2, 0), by_move(claim, a1, 1)];
     both_say(&rt, rt.alloc(), &other_winner, Verdict::Node(2))?;
+    Ok(())
+}
+
+/// On a board of two rows White wins against each first move: a tree of which the root, at the place 5, is not there.
+/// The last node, at the place 4, has the position of the one at the place 2, and the other mover.
+fn replies(alloc: Global) -> Result<Vec<Node>, Fail> {
+    let a1 = cell(0, 0)?;
+    let a2 = cell(1, 0)?;
+    let held_a1 = column(2, 1 << 11, 1)?;
+    let nodes = vec![in alloc;
+        by_chain(heading(column(2, 1, 1 << 11)?, Black, White)),
+        by_move(heading(column(2, 1, 0)?, White, White), a2, 0),
+        by_chain(heading(held_a1, Black, White)),
+        by_move(heading(column(2, 1 << 11, 0)?, White, White), a1, 2),
+        by_chain(heading(held_a1, White, White)),
+    ]?;
+    Ok(nodes)
+}
+
+/// The checker and the plain rules both say this of the replies and a root with these answers.
+fn both_say_of(
+    rt: &impl Abort,
+    alloc: Global,
+    root: Heading,
+    answers: &[(Cell, u32)],
+    expected: Verdict,
+) -> Result<(), Fail> {
+    let mut nodes = replies(alloc)?;
+    nodes.push(by_answers(alloc, root, answers)?)?;
+    both_say(rt, alloc, nodes.as_slice(), expected)
+}
+
+#[test]
+fn judges_answers(rt: HostRuntime) -> Result<(), Fail> {
+    let a1 = cell(0, 0)?;
+    let a2 = cell(1, 0)?;
+    let a3 = cell(2, 0)?;
+    let start = heading(column(2, 0, 0)?, Black, White);
+    let own_turn = heading(column(2, 0, 0)?, White, White);
+    let full = heading(column(2, 1, 1 << 11)?, Black, White);
+    let one_left = heading(column(2, 0, 1)?, Black, White);
+    let lost = heading(column(2, 1 << 11, 0)?, White, Black);
+    let wrong = [
+        (start, &[(a1, 1)][..]), // no line for a2
+        (start, &[(a2, 3)]), // no line for a1
+        (start, &[(a1, 1), (a1, 1), (a2, 3)]), // a line twice
+        (start, &[(a2, 3), (a1, 1)]), // not in cell order
+        (start, &[(a1, 1), (a2, 3), (a3, 3)]), // a cell off the board
+        (start, &[(a1, 3), (a2, 3)]), // a child of another position
+        (start, &[(a1, 1), (a2, 5)]), // a child at its own place
+        (own_turn, &[(a1, 1), (a2, 3)]), // the winner is to move
+        (full, &[]), // no move
+        (lost, &[(a1, 2)]), // a child with the other winner
+        (one_left, &[(a2, 2)]), // a child with the other mover
+        (one_left, &[(a1, 1), (a2, 4)]), // a held cell
+    ];
+    for (root, answers) in wrong {
+        both_say_of(&rt, rt.alloc(), root, answers, Verdict::Node(5))?;
+    }
+    both_say_of(&rt, rt.alloc(), start, &[(a1, 1), (a2, 3)], Verdict::Yes)?;
+    both_say_of(&rt, rt.alloc(), one_left, &[(a2, 4)], Verdict::Yes)
+}
+
+#[test]
+fn lists_hold_their_lines(rt: HostRuntime) -> Result<(), Fail> {
+    let line = Line::Child {
+        cell: cell(1, 0)?,
+        child: 7,
+    };
+    let lines = Lines::new(vec![in rt.alloc(); line]?);
+    assert_eq!(rt;
+        (lines.items(), line.cell()),
+        ([line].as_slice(), cell(1, 0)?)
+    );
+    assert!(rt; lines == Lines::new(vec![in rt.alloc(); line]?));
+    assert!(rt; lines != Lines::new(vec![in rt.alloc()]?));
+    assert!(rt; lines.into_inner().as_slice() == [line].as_slice());
     Ok(())
 }
 

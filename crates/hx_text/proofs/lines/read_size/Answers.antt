@@ -2,7 +2,7 @@ use Rattle.std.proofs.Common.{◌∙◌, arith}
 use Rattle.hx_text.proofs.Cursors.{rest_same, word_then}
 use Rattle.hx_text.proofs.Spacing.{line_from_words}
 use Rattle.hx_text.proofs.LineWords.{words_in-size_line}
-use Rattle.hx_text.proofs.LineReads.{size_reads}
+use Rattle.hx_text.proofs.SizeReads.{size_reads}
 use Rattle.hx_text.proofs.lines.read_size.Goals as goal
 
 pub returns-in_err-keyword : goal.returns-in_err-keyword

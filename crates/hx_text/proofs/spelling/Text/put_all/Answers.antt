@@ -1,0 +1,5 @@
+use Rattle.hx_text.proofs.Spelled.{all_spelled}
+use Rattle.hx_text.proofs.spelling.Text.put_all.Goals as goal
+
+pub returns-clause-text : goal.returns-clause-text
+returns-clause-text c = rw (c.put_index.ensures.text, c.put.ensures) (all_spelled c.args.self.now c.args.lines)
