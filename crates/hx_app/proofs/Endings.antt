@@ -18,7 +18,8 @@ use Rattle.hx_text.specs.declared.reader.TreeReader.{TreeReader}
 use Rattle.hx_text.specs.Grammars.{text_of}
 use Rattle.hx_text.specs.Places.{Stands}
 use Rattle.hx_text.specs.Reader.{HasRead, lines_fed}
-use Rattle.hx_app.specs.Answers.{limit}
+use Rattle.hx_app.specs.declared.commands.Command.TheVariants.{Check}
+use Rattle.hx_app.specs.Commands.{limit_of}
 use Rattle.hx_app.specs.Judging.{IsYes, IsNoText, IsJudged, JudgedUpTo, HasReadAll}
 use Rattle.hx_text.proofs.Ends.{push-some}
 use Rattle.hx_text.proofs.Steps.{end_wrong}
@@ -111,7 +112,7 @@ nothing_whole reader read all =
     push-some whole.2.root.last.front whole.2.root.root (sym whole.2.root.last.same)
 
 pub surplus_answer : (input : List ℕ) (reader : TreeReader) (headings : List Heading) (later : List ℕ) (answer : Answer)
-    → length input ≤ limit → JudgedUpTo input reader headings later → HasReadAll reader → later ≢ []
+    → length input ≤ limit_of Check → JudgedUpTo input reader headings later → HasReadAll reader → later ≢ []
     → (lines_fed reader < 2 ^ 64 - 1 → answer ≡ NoText (lines_fed reader + 1)) → IsJudged input answer
 surplus_answer input reader headings later answer few upto all some says =
     subst (IsJudged input) (sym (says (fed_small input reader headings later few upto)))

@@ -8,7 +8,7 @@ use Rattle.hx_tree.specs.declared.nodes.Node.{Node}
 use Rattle.hx_tree.specs.Rules.{IsRightNode}
 use Rattle.hx_tree.proofs.TreeGrowth.{one_more_right, least_wrong-last, headings_of-append}
 use Rattle.hx_app.specs.declared.answers.Answer.{Answer}
-use Rattle.hx_app.specs.declared.answers.Answer.TheVariants.{Yes, NoText, NoNode, BadWords, ReadFault, OutOfMemory, TooLong}
+use Rattle.hx_app.specs.declared.answers.Answer.TheVariants.{Yes, NoText, NoNode, Solved, UnknownSweep, BadPosition, BadWords, ReadFault, OutOfMemory, TooLong}
 use Rattle.hx_text.specs.declared.places.Place.{Place}
 use Rattle.hx_text.specs.declared.reader.TreeReader.{TreeReader}
 use Rattle.hx_text.specs.Words.{Lacks}
@@ -16,7 +16,8 @@ use Rattle.hx_text.specs.Grammars.{text_of, Begins}
 use Rattle.hx_text.specs.TreeTexts.{AreTreeLines, front_lines, node_lines, head_line}
 use Rattle.hx_text.specs.Places.{Stands, StandsSoFar, most_nodes, IsNextNode}
 use Rattle.hx_text.specs.Reader.{HasRead, lines_fed, one_more}
-use Rattle.hx_app.specs.Answers.{limit}
+use Rattle.hx_app.specs.declared.commands.Command.TheVariants.{Check}
+use Rattle.hx_app.specs.Commands.{limit_of}
 use Rattle.hx_app.specs.Judging.{IsNoText, IsNoNode, IsTooManyNodes, IsJudged, JudgedUpTo, HasReadAll, AnswersNode}
 use Rattle.hx_app.proofs.Standings.{ended_in, few_nodes, not_whole}
 use Rattle.hx_text.proofs.BegunNodes.{node_of_head}
@@ -39,9 +40,9 @@ judged_nothing input reader headings read none empty = record {
   same = empty;
 }
 
-module _ (input : List ℕ) (few : length input ≤ limit) where
+module _ (input : List ℕ) (few : length input ≤ limit_of Check) where
   -- how many lines there are
-  pub lines_few : (lines : List (List ℕ)) (rest : List ℕ) → input ≡ text_of lines ++ rest → length lines ≤ limit
+  pub lines_few : (lines : List (List ℕ)) (rest : List ℕ) → input ≡ text_of lines ++ rest → length lines ≤ limit_of Check
   lines_few lines rest parts = omega (arith, few, ap length parts, length-append (text_of lines) rest, length-text_of lines)
 
   counted_more : (fed now : ℕ) (lines : List (List ℕ)) (line rest : List ℕ) → input ≡ text_of lines ++ rest → fed ≡ length lines
@@ -158,7 +159,7 @@ module _ (input : List ℕ) (few : length input ≤ limit) where
       }
 
 -- what judging a node's line answers
-pub judged_answer : (input : List ℕ) → length input ≤ limit
+pub judged_answer : (input : List ℕ) → length input ≤ limit_of Check
     → (reader new : TreeReader) (headings now : List Heading) (node : Node) (line later : List ℕ) (answer : Option Answer)
     → JudgedUpTo input reader headings (line ++ 10 ∷ later) → lines_fed new ≡ one_more (lines_fed reader)
     → ((nodes : List Node) (lines : List (List ℕ)) → HasRead reader nodes lines → (HasReadAll new → ⊥) × HasRead new
@@ -172,16 +173,19 @@ judged_answer input few reader new headings now node line later (Some (NoNode k)
 judged_answer input few reader new headings now node line later (Some OutOfMemory) upto counts reads says = tt
 judged_answer input few reader new headings now node line later (Some (Yes root)) upto counts reads says = absurd says
 judged_answer input few reader new headings now node line later (Some (NoText l)) upto counts reads says = absurd says
+judged_answer input few reader new headings now node line later (Some (Solved s)) upto counts reads says = absurd says
+judged_answer input few reader new headings now node line later (Some (UnknownSweep n)) upto counts reads says = absurd says
+judged_answer input few reader new headings now node line later (Some (BadPosition l)) upto counts reads says = absurd says
 judged_answer input few reader new headings now node line later (Some BadWords) upto counts reads says = absurd says
 judged_answer input few reader new headings now node line later (Some ReadFault) upto counts reads says = absurd says
 judged_answer input few reader new headings now node line later (Some TooLong) upto counts reads says = absurd says
 
-pub fed_small : (input : List ℕ) (reader : TreeReader) (headings : List Heading) (rest : List ℕ) → length input ≤ limit
+pub fed_small : (input : List ℕ) (reader : TreeReader) (headings : List Heading) (rest : List ℕ) → length input ≤ limit_of Check
     → JudgedUpTo input reader headings rest → lines_fed reader < 2 ^ 64 - 1
 fed_small input reader headings rest few upto = omega (arith, lines_few input few upto.lines rest upto.parts, upto.counted)
 
 pub missing_answer : (input : List ℕ) (reader : TreeReader) (headings : List Heading) (rest : List ℕ) (answer : Answer)
-    → length input ≤ limit → JudgedUpTo input reader headings rest → (HasReadAll reader → ⊥) → Lacks 10 rest
+    → length input ≤ limit_of Check → JudgedUpTo input reader headings rest → (HasReadAll reader → ⊥) → Lacks 10 rest
     → (lines_fed reader < 2 ^ 64 - 1 → answer ≡ NoText (lines_fed reader + 1)) → IsJudged input answer
 missing_answer input reader headings rest answer few upto unended lacks says =
     subst (IsJudged input) (sym (says (fed_small input reader headings rest few upto)))

@@ -3,3 +3,9 @@ pub mod Judgements
 pub mod Endings
 pub mod Answering
 pub mod Readings
+pub mod OneAnswer
+pub mod NamedAnswers
+pub mod NodesOut
+pub mod Positions
+pub mod SweptTrees
+pub mod Runs

@@ -9,7 +9,7 @@ use Rattle.hx_tree.specs.declared.nodes.Node.{Node}
 use Rattle.hx_tree.specs.Rules.{IsRightNode}
 use Rattle.hx_tree.specs.Trees.{AreRight, IsValidTree, IsRoot, IsLeastWrong, headings_of}
 use Rattle.hx_app.specs.declared.answers.Answer.{Answer}
-use Rattle.hx_app.specs.declared.answers.Answer.TheVariants.{Yes, NoText, NoNode, BadWords, ReadFault, OutOfMemory, TooLong}
+use Rattle.hx_app.specs.declared.answers.Answer.TheVariants.{Yes, NoText, NoNode, Solved, UnknownSweep, BadPosition, BadWords, ReadFault, OutOfMemory, TooLong}
 use Rattle.hx_text.specs.declared.places.Place.TheVariants.{After}
 use Rattle.hx_text.specs.declared.reader.TreeReader.{TreeReader}
 use Rattle.hx_text.specs.Grammars.{text_of, Begins, IsFaultyLine}
@@ -74,6 +74,9 @@ abbrev pub IsJudged : List ℕ → Answer → Type 0
 IsJudged input (Yes root) = IsYes input root
 IsJudged input (NoText line) = IsNoText input line
 IsJudged input (NoNode node) = IsNoNode input node
+IsJudged input (Solved solution) = ⊥
+IsJudged input (UnknownSweep empties) = ⊥
+IsJudged input (BadPosition line) = ⊥
 IsJudged input BadWords = ⊥
 IsJudged input ReadFault = ⊥
 IsJudged input OutOfMemory = Unit {0}
@@ -100,6 +103,9 @@ AnswersNode before node now None = IsRightNode before node × (now ≡ before ++
 AnswersNode before node now (Some (Yes root)) = ⊥
 AnswersNode before node now (Some (NoText line)) = ⊥
 AnswersNode before node now (Some (NoNode k)) = (IsRightNode before node → ⊥) × (k ≡ length before)
+AnswersNode before node now (Some (Solved solution)) = ⊥
+AnswersNode before node now (Some (UnknownSweep empties)) = ⊥
+AnswersNode before node now (Some (BadPosition line)) = ⊥
 AnswersNode before node now (Some BadWords) = ⊥
 AnswersNode before node now (Some ReadFault) = ⊥
 AnswersNode before node now (Some OutOfMemory) = Unit {0}

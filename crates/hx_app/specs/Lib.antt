@@ -1,2 +1,5 @@
+pub mod Commands
 pub mod Judging
+pub mod Solving
 pub mod Answers
+pub mod Promises

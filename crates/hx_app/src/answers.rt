@@ -3,8 +3,9 @@
 ghost use Rattle.std.specs.Prelude.{◌≡◌};
 ghost use Rattle.hx_io.specs.Causes.{HasCause};
 ghost use Rattle.hx_io.specs.Sinks.{TakesAll};
-ghost use Rattle.hx_app.specs.Answers.{status_of, answer_text, counted_text, yes_line, yes_text};
+ghost use Rattle.hx_app.specs.Answers.{CanBeWritten, status_of, answer_text, counted_text, yes_line, yes_text};
 
+use crate::solutions::{Solution, write_solution};
 use hx_board::Colour;
 use hx_io::{Failed, Sink, write_all};
 use hx_text::write_position;
@@ -12,7 +13,7 @@ use hx_tree::Heading;
 use itoa::Buffer;
 
 /// What is said in the end, whatever becomes of the writing.
-#[derive(Clone, Copy, Debug, PartialEq, Eq)]
+#[derive(Debug, Drop, PartialEq, Eq)]
 pub enum Answer {
     /// The input is the text of a valid tree with this root.
     Yes { root: Heading },
@@ -20,13 +21,19 @@ pub enum Answer {
     NoText { line: u64 },
     /// This node, counted from 0, is the first that is not right.
     NoNode { node: u64 },
+    /// The winner of the input's position, with a tree that proves it.
+    Solved(Solution),
+    /// The input's position has so many empty cells, which are too many for a full search.
+    UnknownSweep { empties: u32 },
+    /// The input is the text of no position: this line, counted from 1, is the first that is wrong.
+    BadPosition { line: u64 },
     /// The words are no command.
     BadWords,
     /// A read failed.
     ReadFault,
     /// There was not enough memory.
     OutOfMemory,
-    /// The input has more bytes than are read, or more nodes than a text may have.
+    /// The input has more bytes than the command reads, or more nodes than a text may have.
     TooLong,
 }
 
@@ -36,9 +43,11 @@ impl Answer {
         ensures { result ≡ status_of self.now }
     {
         match self {
-            Answer::Yes { .. } => 0,
+            Answer::Yes { .. } | Answer::Solved(_) => 0,
             Answer::NoText { .. } | Answer::NoNode { .. } => 1,
             Answer::BadWords => 2,
+            Answer::UnknownSweep { .. } => 3,
+            Answer::BadPosition { .. } => 4,
             Answer::ReadFault => 5,
             Answer::OutOfMemory => 7,
             Answer::TooLong => 8,
@@ -48,6 +57,7 @@ impl Answer {
 
 /// Writes an answer.
 pub(crate) fn write_answer<K: Sink>(sink: &mut K, answer: &Answer) -> Result<(), Failed>
+    requires { CanBeWritten answer.now }
     ensures bytes { TakesAll (K.taken sink.old) (K.taken sink.new) result (answer_text answer.now) }
     ensures cause { HasCause (K.faults sink.old) (K.faults sink.new) result }
 {
@@ -55,6 +65,11 @@ pub(crate) fn write_answer<K: Sink>(sink: &mut K, answer: &Answer) -> Result<(),
         Answer::Yes { root } => write_yes(sink, root),
         Answer::NoText { line } => write_counted(sink, b"no text ", *line),
         Answer::NoNode { node } => write_counted(sink, b"no node ", *node),
+        Answer::Solved(solution) => write_solution(sink, solution),
+        Answer::UnknownSweep { empties } => {
+            write_counted(sink, b"unknown sweep ", u64::from(*empties))
+        }
+        Answer::BadPosition { line } => write_counted(sink, b"bad position ", *line),
         Answer::BadWords => write_all(sink, b"bad words\n"),
         Answer::ReadFault => write_all(sink, b"read fault\n"),
         Answer::OutOfMemory => write_all(sink, b"out of memory\n"),

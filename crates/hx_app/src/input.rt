@@ -1,6 +1,6 @@
 //! Reading all that a source has, up to a limit on its bytes, which bounds the memory that an input takes.
 
-ghost use Rattle.std.specs.Prelude.{◌≡◌, ℕ, ◌^◌, ◌<◌, ◌≤◌, List, length, IfOk, IsErrOf};
+ghost use Rattle.std.specs.Prelude.{◌≡◌, ℕ, ◌<◌, ◌≤◌, List, length, IfOk, IsErrOf};
 ghost use Rattle.hx_io.specs.Causes.{Rose};
 ghost use Rattle.hx_io.specs.Sources.{prepend, IsAtEnd};
 

@@ -4,7 +4,8 @@
 ghost use Rattle.std.specs.Prelude.{◌≡◌, ◌+◌, ◌-◌, ◌^◌, ◌<◌, ◌≤◌, ◌++◌, ◌∷◌, [], ℕ, List, length, OnOk, OnErr, IsErrOf, MatchOption};
 ghost use Rattle.hx_tree.specs.Rules.{IsRightNode};
 ghost use Rattle.hx_text.specs.Words.{Lacks};
-ghost use Rattle.hx_app.specs.Answers.{limit};
+ghost use Rattle.hx_app.specs.declared.commands.Command.TheVariants.{Check};
+ghost use Rattle.hx_app.specs.Commands.{limit_of};
 ghost use Rattle.hx_text.specs.Reader.{lines_fed};
 ghost use Rattle.hx_app.specs.Judging.{IsJudged, JudgedUpTo, AnswersNode, HasReadAll};
 
@@ -23,7 +24,7 @@ enum NodeFault {
 
 /// What is to be said of an input.
 pub(crate) fn judge(alloc: Global, input: &[u8]) -> Answer
-    requires { length input.now ≤ limit }
+    requires { length input.now ≤ limit_of Check }
     ensures { IsJudged input.now result }
 {
     let mut reader = TreeReader::new(alloc);
@@ -46,7 +47,7 @@ fn judge_line(
     later: &[u8],
 ) -> Option<Answer>
     requires { Lacks 10 line.now }
-    ensures { (input : List ℕ) → length input ≤ limit
+    ensures { (input : List ℕ) → length input ≤ limit_of Check
         → JudgedUpTo input reader.old headings.old.items (line.now ++ 10 ∷ later.now)
         → MatchOption result (JudgedUpTo input reader.new headings.new.items later.now × (HasReadAll reader.new → ⊥)) (IsJudged input) }
 {
@@ -93,7 +94,7 @@ fn add_node(headings: &mut Vec<Heading>, node: &Node) -> Result<(), NodeFault>
 
 /// The answer after the last line of a text, which nothing may follow.
 fn at_end(reader: &TreeReader, headings: &[Heading], later: &[u8]) -> Answer
-    ensures { (input : List ℕ) → length input ≤ limit → JudgedUpTo input reader.now headings.now later.now
+    ensures { (input : List ℕ) → length input ≤ limit_of Check → JudgedUpTo input reader.now headings.now later.now
         → HasReadAll reader.now → IsJudged input result }
 {
     match headings.last() {

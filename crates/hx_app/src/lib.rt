@@ -1,10 +1,12 @@
-//! The top call of the program: the command `check`, from the bytes that come in to the bytes that go out.
+//! The top call of the program: its commands, from the bytes that come in to the bytes that go out.
 #![tactic(auto)]
 
 mod answers;
 mod commands;
 mod input;
 mod judge;
+mod solutions;
+mod solve;
 
 pub use commands::run;
 

@@ -4,6 +4,7 @@ mod answered;
 mod damage;
 mod faults;
 mod limits;
+mod solve;
 mod trees;
 mod words;
 
@@ -83,7 +84,7 @@ fn outcome_of(rt: &impl Abort, alloc: Global, trial: Trial<'_>) -> Result<Outcom
     let failing_reads = calls_of(alloc, trial.failing_read)?;
     let failing_writes = calls_of(alloc, trial.failing_write)?;
     let mut source = MemorySource::new(input, trial.piece, failing_reads);
-    let mut sink = MemorySink::new(alloc, 4096, trial.piece, failing_writes)?;
+    let mut sink = MemorySink::new(alloc, 65_536, trial.piece, failing_writes)?;
     let status = run(alloc, &words, &mut source, &mut sink, &RealGate);
     Ok(Outcome {
         status,

@@ -2,6 +2,7 @@ pub mod Numbers
 pub mod Ends
 pub mod Splits
 pub mod Cursors
+pub mod Keywords
 pub mod Spacing
 pub mod Masks
 pub mod CellWords
@@ -28,3 +29,4 @@ pub mod Spelled
 pub mod Pieces
 pub mod WholeTrees
 pub mod ValidTrees
+pub mod OneFault

@@ -1,6 +1,6 @@
 -- A text that goes out to a sink in pieces: what has gone, and then what is still held, is the text so far.
-use Rattle.std.proofs.Common.{◌≡◌, ℕ, ◌+◌, ◌<◌, List, [], ◌∷◌, ◌++◌, length, get_or, take, drop, map, refl, ap, sym, ◌∙◌, subst, append_assoc}
-use Rattle.std.specs.Prelude.{Option, Result, Ok, Err}
+use Rattle.std.proofs.Common.{◌≡◌, ℕ, ◌+◌, ◌<◌, List, [], ◌∷◌, ◌++◌, length, get_or, take, drop, map, ap, sym, ◌∙◌, subst, append_assoc}
+use Rattle.std.specs.Prelude.{Option, Result}
 use Rattle.std.proofs.lemmas.List.{append-nil as list_append-nil, map-append, map_more, take-append-drop}
 use Rattle.hx_io.specs.Sinks.{append, TakesFront, TakesAll}
 use Rattle.hx_io.proofs.SinkLaws.{append-nil, append-then, TakesFront-append, TakesFront-then, TakesAll-then}

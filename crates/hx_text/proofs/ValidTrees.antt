@@ -1,9 +1,9 @@
 -- The nodes of a valid tree on boards of one size, of no more nodes than a text may have, are within the limits of a text:
 -- each cell is on the board, a child is an earlier node, and as each empty cell has one line there are at most 121 lines.
-use Rattle.std.proofs.Common.{◌≡◌, ℕ, zero, suc, ◌+◌, ◌<◌, ◌≤◌, ◌^◌, List, [], ◌∷◌, length, map, take, get_or, arith, Option, Some, None}
+use Rattle.std.proofs.Common.{◌≡◌, ℕ, zero, suc, ◌<◌, ◌≤◌, List, [], ◌∷◌, length, take, get_or, arith, Option, Some, None}
 use Rattle.std.specs.Prelude.{slice_get, IfSome, IsSomeAnd}
 use Rattle.std.specs.List.{All as EachItem}
-use Rattle.std.proofs.lemmas.List.{length-map, length-take-le, get_or_default}
+use Rattle.std.proofs.lemmas.List.{length-map}
 use Rattle.std.proofs.lemmas.Map.Keys.{sorted_from_strictly_increasing}
 use Rattle.std.proofs.lemmas.Map.Views.{length-le_from_below}
 use Rattle.hx_board.specs.Cells.{Extent, IsExtent, OnBoard}

@@ -43,7 +43,7 @@ position_injective a b m n fits_a fits_b e =
       move_injective m n moves,
     )
 
-AllLack-position : (lines : List (List ℕ)) → ArePositionLines lines → AllLack lines
+pub AllLack-position : (lines : List (List ℕ)) → ArePositionLines lines → AllLack lines
 AllLack-position lines are = rw are.same (AllLack-position_lines are.board are.mover are.is_board)
 
 -- what is spelled so is read

@@ -87,6 +87,10 @@ Follows old nodes line lines (Err Memory) = Unit {0}
 abbrev pub Goes : Place → List ℕ → Result Step Stop → Type 0
 Goes old line result = (nodes : List Node) (lines : List (List ℕ)) → Stands old nodes lines → Follows old nodes line (lines ++ line ∷ []) result
 
+-- the line is one of a node that more lines of it follow
+abbrev pub GoesOn : Place → List ℕ → Place → Type 0
+GoesOn old line new = (begun : Begun) × (old ≡ Inside begun) × Goes old line (Ok (record { fed = More; place = new }))
+
 -- the line is no first line of a node on a board of this size
 abbrev pub IsNoHead : Extent → List ℕ → Type 0
 IsNoHead size line = (head : Head) → HeadFits size head → line ≡ head_line head → ⊥

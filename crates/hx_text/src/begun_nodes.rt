@@ -1,7 +1,7 @@
 //! A node whose lines come one by one. It is handed out with its last line, which its first line tells by a count.
 
-ghost use Rattle.std.specs.Prelude.{◌≡◌};
-ghost use Rattle.hx_text.specs.Places.{Goes, BeginsNode, EndsNode, AddsAnswer};
+ghost use Rattle.std.specs.Prelude.{◌≡◌, ◌+◌, ◌<◌, IsTrue, false, vec_len, vec_capacity};
+ghost use Rattle.hx_text.specs.Places.{Goes, GoesOn, BeginsNode, EndsNode, AddsAnswer};
 
 use crate::node_lines::{self, Head, Opening};
 use crate::places::{Fed, Place, SoFar, Step, Stop};
@@ -26,6 +26,15 @@ impl Begun {
         ensures { result ≡ self.now.so_far.size }
     {
         self.so_far.size
+    }
+
+    /// Whether it has room for the next line, and lacks another one then.
+    fn has_room(&self) -> bool
+        ensures room { IsTrue result → vec_len self.now.lines < vec_capacity self.now.lines }
+        ensures lacks { IsTrue result → vec_len self.now.lines + 1 < self.now.wanted }
+    {
+        let count = self.lines.len();
+        count < self.lines.capacity() && count + 1 < self.wanted as usize
     }
 }
 
@@ -67,6 +76,23 @@ fn begin_all(alloc: Global, so_far: SoFar, heading: Heading, wanted: u32) -> Res
         fed: Fed::More,
         place: Place::Inside(begun),
     })
+}
+
+/// Takes a line after the first that more lines follow, and says whether it did. Where it did not, the node is as it was.
+pub(crate) fn goes_on(begun: &mut Begun, line: &[u8]) -> bool
+    ensures yes { IsTrue result → GoesOn (Place.Inside begun.old) line.now (Place.Inside begun.new) }
+    ensures no { result ≡ false → begun.new ≡ begun.old }
+{
+    if !begun.has_room() {
+        return false;
+    }
+    match node_lines::read_answer(begun.size(), line) {
+        Some(answer) => {
+            begun.lines.push_reserved(answer);
+            true
+        }
+        None => false,
+    }
 }
 
 /// Takes a line of a node after its first.

@@ -1,11 +1,13 @@
-//! What a tree's text tells. The calls do nothing; what they say stands in their contracts.
+//! What texts tell. The calls do nothing; what they say stands in their contracts.
 
 ghost use Rattle.std.specs.Prelude.{◌≡◌, ℕ, List, length};
 ghost use Rattle.hx_board.specs.declared.colours.Colour.{Colour as Winner};
 ghost use Rattle.hx_board.specs.Cells.{Extent, IsExtent};
 ghost use Rattle.hx_tree.specs.declared.nodes.Node.{Node as TreeNode};
 ghost use Rattle.hx_text.specs.Words.{IsNumber};
-ghost use Rattle.hx_text.specs.TreeTexts.{IsTreeText, EachNodeFits, IsRootWinner, written_tree};
+ghost use Rattle.hx_text.specs.Grammars.{IsFaultyLine};
+ghost use Rattle.hx_text.specs.PositionTexts.{ArePositionLines};
+ghost use Rattle.hx_text.specs.TreeTexts.{AreTreeLines, IsTreeText, EachNodeFits, IsRootWinner, written_tree};
 
 /// A text tells its nodes: two lists of nodes with the same text are the same.
 pub fn text_tells_nodes()
@@ -21,4 +23,10 @@ pub fn written_is_text()
     ensures read_back { (size : Extent) (nodes read : List TreeNode) (winner : Winner) → IsExtent size.rows size.cols
         → EachNodeFits size nodes → IsRootWinner nodes winner → IsNumber (length nodes)
         → IsTreeText (written_tree size nodes winner) read → read ≡ nodes }
+{}
+
+/// Bytes have one faulty line at the most, as the text of a tree and as the text of a position.
+pub fn one_faulty_line()
+    ensures trees { (bytes : List ℕ) (a b : ℕ) → IsFaultyLine AreTreeLines bytes a → IsFaultyLine AreTreeLines bytes b → a ≡ b }
+    ensures positions { (bytes : List ℕ) (a b : ℕ) → IsFaultyLine ArePositionLines bytes a → IsFaultyLine ArePositionLines bytes b → a ≡ b }
 {}

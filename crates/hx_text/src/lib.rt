@@ -13,7 +13,7 @@ mod values;
 mod words;
 mod writer;
 
-pub use laws::{text_tells_nodes, written_is_text};
+pub use laws::{one_faulty_line, text_tells_nodes, written_is_text};
 pub use places::{Fed, TreeFault};
 pub use positions::{TextFault, read_position};
 pub use reader::TreeReader;

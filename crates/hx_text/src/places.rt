@@ -1,8 +1,8 @@
 //! The places in the text of a tree, and what one more line does at each. A place holds all that the next line is
-//! judged by, so no line is read twice.
+//! judged by, so no earlier line is read again.
 
-ghost use Rattle.std.specs.Prelude.{◌≡◌, ◌↔◌, IsTrue};
-ghost use Rattle.hx_text.specs.Places.{Goes, IsNoHead};
+ghost use Rattle.std.specs.Prelude.{◌≡◌, ◌↔◌, IsTrue, false};
+ghost use Rattle.hx_text.specs.Places.{Goes, GoesOn, IsNoHead};
 
 use crate::begun_nodes::{self, Begun};
 use crate::{lines, node_lines};
@@ -89,6 +89,17 @@ pub(crate) fn advance(alloc: Global, place: Place, line: &[u8]) -> Result<Step, 
         Place::Inside(begun) => begun_nodes::inside(begun, line),
         Place::After => Err(Stop::Wrong),
         Place::Failed(_) => Err(Stop::Wrong),
+    }
+}
+
+/// Takes a line of a node that more lines of it follow, and says whether it did. Where it did not, the place is as it was.
+pub(crate) fn goes_on(place: &mut Place, line: &[u8]) -> bool
+    ensures yes { IsTrue result → GoesOn place.old line.now place.new }
+    ensures no { result ≡ false → place.new ≡ place.old }
+{
+    match place {
+        Place::Inside(begun) => begun_nodes::goes_on(begun, line),
+        _ => false,
     }
 }
 

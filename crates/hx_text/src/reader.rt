@@ -4,8 +4,6 @@
 ghost use Rattle.std.specs.Prelude.{◌≡◌, ◌∷◌, ◌++◌, [], ℕ, List, IfErr, true};
 ghost use Rattle.hx_tree.specs.declared.nodes.Node.{Node as TreeNode};
 ghost use Rattle.hx_text.specs.declared.places.TreeFault.{TreeFault as Fault};
-ghost use Rattle.hx_text.specs.Grammars.{Begins};
-ghost use Rattle.hx_text.specs.TreeTexts.{AreTreeLines};
 ghost use Rattle.hx_text.specs.Places.{Stands, Told, fault_of_stop};
 ghost use Rattle.hx_text.specs.Reader.{HasRead, HasFailed, Says, lines_fed, one_more};
 
@@ -58,6 +56,10 @@ impl TreeReader {
         ensures again { (fault : Fault) → HasFailed self.old fault → result ≡ Err fault }
     {
         self.fed = self.fed.saturating_add(1);
+        // Most lines stand inside nodes. There the node stays where it is.
+        if ended && places::goes_on(&mut self.place, line) {
+            return Ok(Fed::More);
+        }
         let place = mem::replace(&mut self.place, Place::After);
         let Taken { told, place } = take_line(self.alloc, place, line, ended, self.fed);
         self.place = place;

@@ -5,8 +5,8 @@ ghost use Rattle.hx_text.specs.TreeTexts.{ListsFit};
 
 use crate::plain::{plain_position, plain_tree};
 use crate::{
-    Fed, TextFault, TreeFault, TreeReader, cut, read_position, text_tells_nodes, write_end,
-    write_heading, write_node, write_position, written_is_text,
+    Fed, TextFault, TreeFault, TreeReader, cut, one_faulty_line, read_position, text_tells_nodes,
+    write_end, write_heading, write_node, write_position, written_is_text,
 };
 use hx_board::Colour::{Black, White};
 use hx_board::{Colour, Mask, Position, Size};
@@ -388,6 +388,7 @@ fn a_cell_holds_one_stone(rt: HostRuntime) -> Result<(), Fail> {
 
 #[test]
 fn the_laws_of_texts_are_called() {
+    one_faulty_line();
     text_tells_nodes();
     written_is_text();
 }

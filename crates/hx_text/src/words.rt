@@ -13,7 +13,7 @@ use std::marker::Model;
 
 /// The words of a line that are still to be taken, seen as a list of words.
 ///
-/// A word that is taken and is not of the kind asked for is gone: the line is of no use then.
+/// Where the next word is not of the kind asked for, the line is of no use any more.
 #[derive(Drop)]
 pub(crate) struct Words<'a> {
     rest: &'a [u8],
@@ -63,10 +63,27 @@ impl<'a> Words<'a> {
 
     /// Takes a word that has to stand there.
     pub(crate) fn keyword(&mut self, expected: &[u8]) -> Option<()>
+        // A word has no space.
+        requires { Lacks 32 expected.now }
         ensures { Takes (λ _. expected.now) (λ _. Unit {0}) self.old result self.new }
     {
-        let word = self.next()?;
-        if word == expected { Some(()) } else { None }
+        if !self.more {
+            return None;
+        }
+        let after = self.rest.strip_prefix(expected)?;
+        match after.split_first() {
+            None => {
+                self.more = false;
+                Some(())
+            }
+            Some((mark, later)) => {
+                if *mark != b' ' {
+                    return None;
+                }
+                self.rest = later;
+                Some(())
+            }
+        }
     }
 
     /// Takes a number.
@@ -110,6 +127,8 @@ impl<'a> Words<'a> {
 }
 
 /// The bytes before the first mark, and those after it.
+// A call that is not put in place would hand over both parts through memory, word by word.
+#[inline(always)]
 pub fn cut(bytes: &[u8], mark: u8) -> Option<(&[u8], &[u8])>
     ensures { MatchOption result (Lacks mark bytes.now) (λ parts. IsCut mark bytes.now parts.0.now parts.1.now) }
 {

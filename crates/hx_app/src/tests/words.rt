@@ -22,7 +22,10 @@ fn assert_refused(rt: &impl Abort, alloc: Global, words: &[&str]) -> Result<(), 
 #[test]
 fn words_that_are_no_command_read_nothing(rt: HostRuntime) -> Result<(), Fail> {
     assert_refused(&rt, rt.alloc(), &[])?;
+    assert_refused(&rt, rt.alloc(), &["Solve"])?;
+    assert_refused(&rt, rt.alloc(), &["solve", "now"])?;
     assert_refused(&rt, rt.alloc(), &["solve", "--workers", "0"])?;
     assert_refused(&rt, rt.alloc(), &["solve", "--workers", "65"])?;
-    assert_refused(&rt, rt.alloc(), &["check", "now"])
+    assert_refused(&rt, rt.alloc(), &["check", "now"])?;
+    assert_refused(&rt, rt.alloc(), &["check", "solve"])
 }

@@ -1,4 +1,6 @@
-use Rattle.std.proofs.Common.{rules, arith, ap, ◌++◌, ◌∷◌, [], ◌≡◌, ◌<◌, List, ℕ, map, take, drop, subst, length, sym, ◌∙◌, take_all}
+-- What has gone to the sink and what the text holds are the lines so far, before and after each line; where a write fails,
+-- what was taken is a part of them.
+use Rattle.std.proofs.Common.{rules, arith, ap, ◌++◌, map, take, drop, ◌∙◌, take_all}
 use Rattle.hx_io.specs.Sinks.{append, TakesFront}
 use Rattle.hx_text.specs.Grammars.{text_of}
 use Rattle.hx_text.specs.TreeTexts.{answer_line}
@@ -11,18 +13,22 @@ loop-line-init g c = record { out = IsOut-begin (g.K.Sink.taken c.args.sink.now)
 
 pub returns-in_err-write_all-clause-bytes : goal.returns-in_err-write_all-clause-bytes
 returns-in_err-write_all-clause-bytes g c =
-    let cut : TakesFront (g.K.Sink.taken c.loop-line.sink) (g.K.Sink.taken c.write_all.new.sink) c.loop-line.text = rw (← c.bytes.ensures) c.in_err-write_all.ensures.bytes in
-    let all : TakesFront (g.K.Sink.taken c.args.sink.now) (g.K.Sink.taken c.write_all.new.sink) (c.args.text ++ text_of (map answer_line c.args.lines.now)) =
+    let new = g.K.Sink.taken c.write_all.new.sink in
+    let rest = text_of (map answer_line (drop c.loop-line.line-index c.args.lines.now)) in
+    let piece : TakesFront (g.K.Sink.taken c.loop-line.sink) new c.loop-line.text = rw (← c.bytes.ensures) c.in_err-write_all.ensures.bytes in
+    let all : TakesFront (g.K.Sink.taken c.args.sink.now) new (c.args.text ++ text_of (map answer_line c.args.lines.now)) =
     rw (← answers_rest c.args.text c.args.lines.now c.loop-line.line-index)
-    (IsOut-cut _ _ _ _ _ (text_of (map answer_line (drop c.loop-line.line-index c.args.lines.now))) c.loop-line.invariant.out cut) in
+    (IsOut-cut _ _ _ _ _ rest c.loop-line.invariant.out piece) in
     search rules
 
 pub loop-line-preserved : goal.loop-line-preserved
 loop-line-preserved g c =
-    let joined : IsOut (g.K.Sink.taken c.args.sink.now) (g.K.Sink.taken c.if-not-has_room.sink) c.if-not-has_room.text (c.args.text ++ text_of (map answer_line (take c.loop-line.line-index c.args.lines.now))) =
+    let so_far = c.args.text ++ text_of (map answer_line (take c.loop-line.line-index c.args.lines.now)) in
+    let joined : IsOut (g.K.Sink.taken c.args.sink.now) (g.K.Sink.taken c.if-not-has_room.sink) c.if-not-has_room.text so_far =
     elim c.if-not-has_room.branch [
       | then-not-has_room+in_ok-write_all w ↦ rw (w.sink-is, w.text-is, w.new-text.ensures)
-          (IsOut-all _ _ _ _ _ c.loop-line.invariant.out (w.in_ok-write_all.ensures.bytes ∙ ap (append (g.K.Sink.taken c.loop-line.sink)) w.bytes.ensures))
+          (IsOut-all _ _ _ _ _ c.loop-line.invariant.out
+          (w.in_ok-write_all.ensures.bytes ∙ ap (append (g.K.Sink.taken c.loop-line.sink)) w.bytes.ensures))
       | else-not-has_room w ↦ rw (w.sink-is, w.text-is) c.loop-line.invariant.out
     ] in
     record {

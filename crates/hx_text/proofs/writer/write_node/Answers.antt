@@ -1,10 +1,9 @@
 use Rattle.std.proofs.Common.{◌≡◌, ℕ, List, [], ◌∷◌, ◌++◌, map, ap, sym, ◌∙◌, subst, ◌⊎◌, inl, inr, refl, append_assoc}
 use Rattle.hx_io.specs.Sinks.{TakesAll}
-use Rattle.hx_tree.specs.declared.nodes.Line.{Line}
 use Rattle.hx_tree.specs.declared.nodes.Rule.{Rule}
 use Rattle.hx_tree.specs.declared.nodes.Rule.TheVariants.{Chain, Move, All}
 use Rattle.hx_text.specs.Grammars.{text_of}
-use Rattle.hx_text.specs.TreeTexts.{answer_line, rule_lines, node_lines, head_of, head_line}
+use Rattle.hx_text.specs.TreeTexts.{answer_line, rule_lines, head_of, head_line}
 use Rattle.hx_text.proofs.writer.write_node.Goals as goal
 
 -- a line is put into an empty text, and other lines follow
@@ -31,7 +30,8 @@ no_lines (All lines) (inr is) = cc
 pub returns-in-All-clause-bytes : goal.returns-in-All-clause-bytes
 returns-in-All-clause-bytes g c =
     let Took : List ℕ → Type 0 = TakesAll (g.K.Sink.taken c.args.sink.now) (g.K.Sink.taken c.write_answers.new.sink) c.write_answers.result in
-    let lines : map answer_line c.items.result.now ≡ rule_lines c.args.node.now.rule = ap (map answer_line) c.items.ensures ∙ sym (ap rule_lines c.in-All.is) in
+    let lines : map answer_line c.items.result.now ≡ rule_lines c.args.node.now.rule =
+    ap (map answer_line) c.items.ensures ∙ sym (ap rule_lines c.in-All.is) in
     subst Took
     (ap (λ (rest : List (List ℕ)). c.put_head.new.self ++ text_of rest) lines
     ∙ line_then c.new-text.result c.put_head.new.self (head_line (head_of c.args.node.now)) (rule_lines c.args.node.now.rule)

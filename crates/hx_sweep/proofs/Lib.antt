@@ -1,0 +1,3 @@
+pub mod WinCases
+pub mod NodeGrowth
+pub mod AnswerOrder

@@ -1,0 +1,31 @@
+-- A stone leaves one empty cell less; at each position the four functions call one another in the order prove, rule,
+-- answers, after.
+use Rattle.std.proofs.Common.{◌≡◌, ◌+◌, ◌-◌, ◌*◌, length}
+use Rattle.hx_board.specs.Sets.{count_below}
+use Rattle.hx_board.specs.Counts.{empty_count, sweep_size}
+use Rattle.hx_tree.specs.Trees.{headings_of}
+use Rattle.hx_sweep.specs.Growth.{IsGrown}
+use Rattle.hx_sweep.proofs.AnswerOrder.{AreAnswered}
+use Rattle.hx_sweep.proofs.nodes.+nodes.Given as goal
+
+abbrev pub decreases-prove : goal.decreases-prove
+decreases-prove l = 4 * empty_count l.position.now + 3
+
+abbrev pub decreases-rule : goal.decreases-rule
+decreases-rule l = 4 * empty_count l.position.now + 2
+
+abbrev pub decreases-answers : goal.decreases-answers
+decreases-answers l = 4 * empty_count l.position.now + 1
+
+abbrev pub decreases-after : goal.decreases-after
+decreases-after l = 4 * empty_count l.position.now
+
+abbrev pub invariant-answers-loop-cell : goal.invariant-answers-loop-cell
+invariant-answers-loop-cell l = record {
+  kept : l.position ≡ l.fn.position;
+  answered : AreAnswered l.fn.position l.winner l.left (headings_of l.nodes.items) l.lines.items;
+  grown : IsGrown l.fn.position.size (length l.lines.items * sweep_size (empty_count l.fn.position - 1)) l.fn.nodes.items l.nodes.items;
+}
+
+abbrev pub decreases-answers-loop-cell : goal.decreases-answers-loop-cell
+decreases-answers-loop-cell l = count_below 128 l.left
