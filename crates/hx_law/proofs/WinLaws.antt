@@ -10,13 +10,13 @@ use Rattle.hx_board.specs.Graph.{IsOwn, Walk, Joined, HasChain}
 use Rattle.hx_board.specs.Game.{Wins, By_chain, By_move, By_answers}
 use Rattle.hx_law.specs.Laws.{ExtraStone, ExtraMove}
 use Rattle.hx_law.specs.Play.{Plays, By_goal, By_move as Play_move, By_answers as Play_answers}
-use Rattle.hx_law.proofs.PlayLaws.{KeepsStones, keeps_put, as_good_itself, as_good_more, kept}
+use Rattle.hx_law.proofs.PlayLaws.{KeepsStones, keeps_put, IsAsGood, as_good_itself, as_good_more, kept}
 
 module _ (player : Colour) where
   abbrev other : Colour
   other = other_of player
 
-  own_stays : (before after : Board) → KeepsStones player before after → (vertex : Vertex) → IsOwn before player vertex → IsOwn after player vertex
+  pub own_stays : (before after : Board) → KeepsStones player before after → (vertex : Vertex) → IsOwn before player vertex → IsOwn after player vertex
   own_stays before after keeps (Of cell) own = keeps.own cell own
   own_stays before after keeps First own = tt
   own_stays before after keeps Last own = tt
@@ -32,10 +32,10 @@ module _ (player : Colour) where
   pub chain-put : (board : Board) (who : Colour) (cell : ℕ) → HasChain board player → HasChain (put board who cell) player
   chain-put board who cell = joined_stays First Last board (put board who cell) (keeps_put player board who cell)
 
-  abbrev everywhere : ℕ → Bool
+  abbrev pub everywhere : ℕ → Bool
   everywhere cell = true
 
-  abbrev Chain : Board → Type 0
+  abbrev pub Chain : Board → Type 0
   Chain board = HasChain board player
 
   wins-plays : (board : Board) (mover : Colour) → Wins player board mover → Plays player everywhere Chain board mover
@@ -57,3 +57,7 @@ module _ (player : Colour) where
 
   pub extra_move : (board : Board) → ExtraMove board player
   extra_move board win = plays-wins board player ((kept player Chain (joined_stays First Last) everywhere board).move_more other refl (wins-plays board other win))
+
+  -- who reaches a chain by moves in a region wins each board that is as good
+  pub region_wins : (region : ℕ → Bool) (before after : Board) (mover : Colour) → IsAsGood player region everywhere before after → Plays player region Chain before mover → Wins player after mover
+  region_wins region before after mover good win = plays-wins after mover ((kept player Chain (joined_stays First Last) everywhere after).better region before mover good win)

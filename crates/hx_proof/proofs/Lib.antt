@@ -1,1 +1,5 @@
 pub mod TreeSoundness
+pub mod LocalGame
+pub mod AndSoundness
+pub mod OrSoundness
+pub mod LinkSoundness

@@ -1,1 +1,3 @@
 pub mod Winners
+pub mod Local
+pub mod Links

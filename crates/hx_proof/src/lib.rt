@@ -2,8 +2,10 @@
 //! what they say stands in their contracts.
 #![tactic(auto)]
 
+mod links;
 mod trees;
 
+pub use links::link_sound;
 pub use trees::{node_sound, tree_sound};
 
 #[cfg(test)]

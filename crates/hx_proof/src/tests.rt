@@ -1,11 +1,16 @@
-//! Callers of the laws on small trees: what the checker says of nodes becomes that their winners win.
+//! Callers of the laws on small trees and on steps for links: what the checker says of nodes becomes that their winners win,
+//! and the links that steps give that the player wins.
 
-ghost use Rattle.std.specs.Prelude.{◌<◌, ◌^◌, length, IsTrue, IfOk};
+ghost use Rattle.std.specs.Prelude.{◌<◌, ◌^◌, ◌↔◌, length, IsTrue, IfOk, IfSome};
+ghost use Rattle.hx_board.specs.Game.{Wins};
+ghost use Rattle.hx_proof.specs.Links.{IsChainLink};
+ghost use Rattle.hx_proof.specs.Local.{mover_for};
 ghost use Rattle.hx_proof.specs.Winners.{HeadingWins, AllWin};
 
 use super::*;
 use hx_board::Colour::{Black, White};
-use hx_board::{Cell, Colour, Mask, Memory, Position, Size};
+use hx_board::{Cell, Colour, Groups, Mask, Memory, Position, Size, Vertex};
+use hx_link::{Kind, Link, Step, result_of};
 use hx_tree::{Heading, Line, Lines, Node, Rule, Verdict, check_node, check_tree};
 use std::alloc::Global;
 use std::test::Fail;
@@ -88,5 +93,78 @@ fn who_answers_each_move_wins(rt: HostRuntime) -> Result<(), Fail> {
         },
     };
     assert!(rt; is_proof(rt.alloc(), &[won, start])?);
+    Ok(())
+}
+
+/// Whether the link joins the two sides.
+fn joins_sides(link: &Link) -> bool
+    ensures { IsTrue result ↔ IsChainLink link.now }
+{
+    link.a == Vertex::First && link.b == Vertex::Last
+}
+
+/// The kind of the last link that three steps give, where it joins the two sides, and so the player wins.
+fn shown_by(
+    position: &Position,
+    colour: Colour,
+    first: Step,
+    second: Step,
+    third: Step,
+) -> Option<Kind>
+    ensures { IfSome result (λ kind. Wins colour position.now (mover_for colour kind)) }
+{
+    let groups = Groups::of(position, colour);
+    let Some(one) = result_of(position, colour, &groups, &[], &first) else {
+        return None;
+    };
+    let before = [one];
+    let Some(two) = result_of(position, colour, &groups, &before, &second) else {
+        return None;
+    };
+    let one = before[0];
+    let before = [one, two];
+    let Some(last) = result_of(position, colour, &groups, &before, &third) else {
+        return None;
+    };
+    let joins = joins_sides(&last);
+    if !joins {
+        return None;
+    }
+    let steps = [first, second, third];
+    link_sound(position, colour, &steps);
+    Some(last.kind)
+}
+
+/// The two steps from the cell to Black's sides.
+fn to_sides(cell: Cell) -> (Step, Step) {
+    let to_first = Step::Base {
+        a: Vertex::First,
+        b: Vertex::Of(cell),
+    };
+    let to_last = Step::Base {
+        a: Vertex::Of(cell),
+        b: Vertex::Last,
+    };
+    (to_first, to_last)
+}
+
+#[test]
+fn steps_that_join_the_sides_win(rt: HostRuntime) -> Result<(), Fail> {
+    let empty = heading(2, 0, 0, Black)?.position;
+    let (to_first, to_last) = to_sides(cell(0)?);
+    let over_cell = Step::AndCell { left: 0, right: 1 };
+    let found = shown_by(&empty, Black, to_first, to_last, over_cell);
+    assert_eq!(rt; found, Some(Kind::Semi));
+
+    let held = heading(2, 1, 2, White)?.position;
+    let (to_first, to_last) = to_sides(cell(0)?);
+    let over_stone = Step::AndStone { left: 0, right: 1 };
+    let found = shown_by(&held, Black, to_first, to_last, over_stone);
+    assert_eq!(rt; found, Some(Kind::Full));
+
+    let (to_first, to_last) = to_sides(cell(1)?);
+    let over_stone = Step::AndStone { left: 0, right: 1 };
+    let found = shown_by(&held, Black, to_first, to_last, over_stone);
+    assert_eq!(rt; found, None);
     Ok(())
 }

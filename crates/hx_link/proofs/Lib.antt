@@ -1,0 +1,3 @@
+pub mod MeetingLaws
+pub mod PartLaws
+pub mod OneLink

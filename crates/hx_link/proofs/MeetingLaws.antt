@@ -1,0 +1,177 @@
+-- How two links meet, and that what the And rules give depends on the meeting alone.
+--
+-- Two links whose ends are given in either order meet at one end at the most (`meets_once`, by the sixteen cases of the
+-- four orders). So two places have one meeting at the most (`met-same`), and what a rule says of some meeting holds of the
+-- one that was found: `stone-from` and `stone-to`, `cell-from` and `cell-to` go from the one to the other and back.
+use Rattle.std.proofs.Common.{◌≡◌, ◌≢◌, ℕ, List, refl, sym, ap, ◌∙◌, subst, inl, inr, Some, None, Option}
+use Rattle.std.specs.Prelude.{slice_get, MatchOption}
+use Rattle.std.proofs.lemmas.Bool.{false≢true}
+use Rattle.hx_board.specs.declared.colours.Colour.{Colour}
+use Rattle.hx_board.specs.declared.vertices.Vertex.{Vertex}
+use Rattle.hx_board.specs.declared.vertices.Vertex.TheVariants.{Of}
+use Rattle.hx_board.specs.Sets.{has, insert, union, intersection}
+use Rattle.hx_board.specs.Positions.{Board}
+use Rattle.hx_board.specs.Graph.{IsOwn}
+use Rattle.hx_board.proofs.SetLaws.{has-empty, has-intersection_left, has-intersection_right, has-intersection_both, same_set, is_false}
+use Rattle.hx_link.specs.declared.links.Kind.TheVariants.{Full, Semi}
+use Rattle.hx_link.specs.declared.links.Link.{Link}
+use Rattle.hx_link.specs.declared.meetings.Meeting.{Meeting}
+use Rattle.hx_link.specs.declared.meetings.Met.{Met}
+use Rattle.hx_link.specs.Steps.{IsLink, HasEnds, AreApart, MeetAt, GivesAndStone, GivesAndCell}
+use Rattle.hx_link.specs.Named.{MeetIn, IsMade, IsMet, IsMiddle}
+
+-- sets share no cell exactly where what they share is empty
+pub apart-intersection : (s t : ℕ) → intersection s t ≡ 0 → AreApart s t
+apart-intersection s t e n h = is_false (has t n) (λ k. false≢true (sym (has-empty n) ∙ (ap (λ x. has x n) (sym e) ∙ has-intersection_both s t n h k)))
+
+pub intersection-apart : (s t : ℕ) → AreApart s t → intersection s t ≡ 0
+intersection-apart s t apart = same_set (intersection s t) 0 (λ n. is_false (has (intersection s t) n) (λ h. false≢true (sym (apart n (has-intersection_left s t n h)) ∙ has-intersection_right s t n h)) ∙ sym (has-empty n))
+
+-- two links share at most one end
+meets_once : (f s : Link) (x z y x' z' y' : Vertex) → HasEnds f x z → HasEnds s z y → x ≢ y → HasEnds f x' z' → HasEnds s z' y' → x' ≢ y' → (x ≡ x') × (z ≡ z') × (y ≡ y')
+meets_once f s x z y x' z' y' (inl a) (inl b) d (inl a') (inl b') d' = (cc, cc, cc)
+meets_once f s x z y x' z' y' (inl a) (inl b) d (inl a') (inr b') d' = (cc, cc, cc)
+meets_once f s x z y x' z' y' (inl a) (inl b) d (inr a') (inl b') d' = (cc, cc, cc)
+meets_once f s x z y x' z' y' (inl a) (inl b) d (inr a') (inr b') d' = absurd (d cc)
+meets_once f s x z y x' z' y' (inl a) (inr b) d (inl a') (inl b') d' = (cc, cc, cc)
+meets_once f s x z y x' z' y' (inl a) (inr b) d (inl a') (inr b') d' = (cc, cc, cc)
+meets_once f s x z y x' z' y' (inl a) (inr b) d (inr a') (inl b') d' = absurd (d cc)
+meets_once f s x z y x' z' y' (inl a) (inr b) d (inr a') (inr b') d' = (cc, cc, cc)
+meets_once f s x z y x' z' y' (inr a) (inl b) d (inl a') (inl b') d' = (cc, cc, cc)
+meets_once f s x z y x' z' y' (inr a) (inl b) d (inl a') (inr b') d' = absurd (d cc)
+meets_once f s x z y x' z' y' (inr a) (inl b) d (inr a') (inl b') d' = (cc, cc, cc)
+meets_once f s x z y x' z' y' (inr a) (inl b) d (inr a') (inr b') d' = (cc, cc, cc)
+meets_once f s x z y x' z' y' (inr a) (inr b) d (inl a') (inl b') d' = absurd (d cc)
+meets_once f s x z y x' z' y' (inr a) (inr b) d (inl a') (inr b') d' = (cc, cc, cc)
+meets_once f s x z y x' z' y' (inr a) (inr b) d (inr a') (inl b') d' = (cc, cc, cc)
+meets_once f s x z y x' z' y' (inr a) (inr b) d (inr a') (inr b') d' = (cc, cc, cc)
+
+some_same : (o : Link) (p : Link) → Some o ≡ Some p → o ≡ p
+some_same o p e = cc
+
+met_eq : (f f' s s' : Link) (x x' z z' y y' : Vertex) → f ≡ f' → s ≡ s' → x ≡ x' → z ≡ z' → y ≡ y' → (let m : Met = record { first = f; second = s; at = record { from = x; middle = z; to = y } } in m) ≡ record { first = f'; second = s'; at = record { from = x'; middle = z'; to = y' } }
+met_eq f f' s s' x x' z z' y y' a b d e g = cc
+
+module _ (before : List Link) (left right : ℕ) where
+  pub met-of : (x z y : Vertex) (f s : Link) → MeetAt before left right x z y f s → IsMet before left right record { first = f; second = s; at = record { from = x; middle = z; to = y } }
+  met-of x z y f s m = record {
+    first_there = m.first_there;
+    second_there = m.second_there;
+    first_full = m.first_full;
+    second_full = m.second_full;
+    meet = record { first_ends = m.first_ends; second_ends = m.second_ends; other_ends_differ = m.other_ends_differ };
+    apart = m.apart;
+  }
+
+  pub meet-of : (m : Met) → IsMet before left right m → MeetAt before left right m.at.from m.at.middle m.at.to m.first m.second
+  meet-of m h = record {
+    first_there = h.first_there;
+    second_there = h.second_there;
+    first_full = h.first_full;
+    second_full = h.second_full;
+    first_ends = h.meet.first_ends;
+    second_ends = h.meet.second_ends;
+    other_ends_differ = h.meet.other_ends_differ;
+    apart = h.apart;
+  }
+
+  -- there is one meeting of two places at most
+  pub met-same : (m n : Met) → IsMet before left right m → IsMet before left right n → m ≡ n
+  met-same m n h k =
+      let first : m.first ≡ n.first = some_same m.first n.first (sym h.first_there ∙ k.first_there) in
+      let second : m.second ≡ n.second = some_same m.second n.second (sym h.second_there ∙ k.second_there) in
+      let once : (m.at.from ≡ n.at.from) × (m.at.middle ≡ n.at.middle) × (m.at.to ≡ n.at.to) =
+      meets_once m.first m.second m.at.from m.at.middle m.at.to n.at.from n.at.middle n.at.to h.meet.first_ends h.meet.second_ends h.meet.other_ends_differ
+      (rw first k.meet.first_ends) (rw second k.meet.second_ends) k.meet.other_ends_differ in
+      met_eq m.first n.first m.second n.second m.at.from n.at.from m.at.middle n.at.middle m.at.to n.at.to first second once.0 once.1 once.2
+
+  module _ (board : Board) (player : Colour) (link : Link) where
+    pub no_stone : ((m : Met) → IsMet before left right m → ⊥) → GivesAndStone board player before left right link → ⊥
+    no_stone none g = none _ (met-of g.from g.middle g.to g.first g.second g.meet)
+
+    pub no_cell : ((m : Met) → IsMet before left right m → ⊥) → GivesAndCell board player before left right link → ⊥
+    no_cell none g = none _ (met-of g.from (Of g.cell) g.to g.first g.second g.meet)
+
+    pub stone-from : (m : Met) (carrier : ℕ) → carrier ≡ union m.first.carrier m.second.carrier → IsMet before left right m → IsOwn board player m.at.middle → IsMade board player Full m.at.from m.at.to carrier link → GivesAndStone board player before left right link × IsLink board player link
+    stone-from m carrier e h own is = (
+      record {
+        from = m.at.from;
+        middle = m.at.middle;
+        to = m.at.to;
+        first = m.first;
+        second = m.second;
+        meet = meet-of m h;
+        own = own;
+        kind = is.kind_is;
+        carrier = is.carrier_is ∙ e;
+        ends = is.ends;
+      },
+      is.link_ok,
+    )
+
+    pub stone-to : (m : Met) (carrier : ℕ) → carrier ≡ union m.first.carrier m.second.carrier → IsMet before left right m → GivesAndStone board player before left right link → IsLink board player link → IsOwn board player m.at.middle × IsMade board player Full m.at.from m.at.to carrier link
+    stone-to m carrier e h g ok =
+        let same : m ≡ record { first = g.first; second = g.second; at = record { from = g.from; middle = g.middle; to = g.to } } = met-same m _ h (met-of g.from g.middle g.to g.first g.second g.meet) in (
+          let P : Met → Type 0 = λ w. IsOwn board player w.at.middle in subst P (sym same) g.own,
+          record {
+            kind_is = g.kind;
+            carrier_is = g.carrier ∙ (ap (λ (w : Met). union w.first.carrier w.second.carrier) (sym same) ∙ sym e);
+            ends = let P : Met → Type 0 = λ w. HasEnds link w.at.from w.at.to in subst P (sym same) g.ends;
+            link_ok = ok;
+          },
+        )
+
+    pub cell-from : (m : Met) (cell carrier : ℕ) → carrier ≡ insert (union m.first.carrier m.second.carrier) cell → IsMet before left right m → IsMiddle board m cell → IsMade board player Semi m.at.from m.at.to carrier link → GivesAndCell board player before left right link × IsLink board player link
+    cell-from m cell carrier e h mid is = (
+      record {
+        from = m.at.from;
+        cell = cell;
+        to = m.at.to;
+        first = m.first;
+        second = m.second;
+        meet = let P : Vertex → Type 0 = λ v. MeetAt before left right m.at.from v m.at.to m.first m.second in subst P mid.is_cell (meet-of m h);
+        empty = mid.empty;
+        outside_first = mid.outside_first;
+        outside_second = mid.outside_second;
+        kind = is.kind_is;
+        carrier = is.carrier_is ∙ e;
+        ends = is.ends;
+      },
+      is.link_ok,
+    )
+
+    pub cell-middle : (m : Met) → IsMet before left right m → GivesAndCell board player before left right link → (cell : ℕ) × IsMiddle board m cell
+    cell-middle m h g =
+        let same : m ≡ record { first = g.first; second = g.second; at = record { from = g.from; middle = Of g.cell; to = g.to } } = met-same m _ h (met-of g.from (Of g.cell) g.to g.first g.second g.meet) in
+        (g.cell, let P : Met → Type 0 = λ w. IsMiddle board w g.cell in subst P (sym same) record { is_cell = refl; empty = g.empty; outside_first = g.outside_first; outside_second = g.outside_second })
+
+    pub cell-to : (m : Met) (cell carrier : ℕ) → carrier ≡ insert (union m.first.carrier m.second.carrier) cell → IsMet before left right m → IsMiddle board m cell → GivesAndCell board player before left right link → IsLink board player link → IsMade board player Semi m.at.from m.at.to carrier link
+    cell-to m cell carrier e h mid g ok =
+        let same : m ≡ record { first = g.first; second = g.second; at = record { from = g.from; middle = Of g.cell; to = g.to } } = met-same m _ h (met-of g.from (Of g.cell) g.to g.first g.second g.meet) in
+        let here : Of g.cell ≡ Of cell = ap (λ (w : Met). w.at.middle) (sym same) ∙ mid.is_cell in
+        let cells : g.cell ≡ cell = cc in
+        record {
+          kind_is = g.kind;
+          carrier_is = g.carrier ∙ (ap (λ (w : Met). insert (union w.first.carrier w.second.carrier) g.cell) (sym same) ∙ (ap (λ n. insert (union m.first.carrier m.second.carrier) n) cells ∙ sym e));
+          ends = let P : Met → Type 0 = λ w. HasEnds link w.at.from w.at.to in subst P (sym same) g.ends;
+          link_ok = ok;
+        }
+
+  pub stone-made : (board : Board) (player : Colour) (m : Met) (carrier : ℕ) (o : Option Link) → carrier ≡ union m.first.carrier m.second.carrier → IsMet before left right m → IsOwn board player m.at.middle
+      → MatchOption o ((link : Link) → IsMade board player Full m.at.from m.at.to carrier link → ⊥) (IsMade board player Full m.at.from m.at.to carrier)
+      → MatchOption o ((link : Link) → GivesAndStone board player before left right link → IsLink board player link → ⊥) (λ link. GivesAndStone board player before left right link × IsLink board player link)
+  stone-made board player m carrier None e h own none = λ link g ok. none link (stone-to board player link m carrier e h g ok).1
+  stone-made board player m carrier (Some link) e h own is = stone-from board player link m carrier e h own is
+
+  pub cell-made : (board : Board) (player : Colour) (m : Met) (cell carrier : ℕ) (o : Option Link) → carrier ≡ insert (union m.first.carrier m.second.carrier) cell → IsMet before left right m → IsMiddle board m cell
+      → MatchOption o ((link : Link) → IsMade board player Semi m.at.from m.at.to carrier link → ⊥) (IsMade board player Semi m.at.from m.at.to carrier)
+      → MatchOption o ((link : Link) → GivesAndCell board player before left right link → IsLink board player link → ⊥) (λ link. GivesAndCell board player before left right link × IsLink board player link)
+  cell-made board player m cell carrier None e h mid none = λ link g ok. none link (cell-to board player link m cell carrier e h mid g ok)
+  cell-made board player m cell carrier (Some link) e h mid is = cell-from board player link m cell carrier e h mid is
+
+-- two links that are there and don't meet
+pub no_meeting : (before : List Link) (left right : ℕ) (f s : Link) → slice_get before left ≡ Some f → slice_get before right ≡ Some s → ((meeting : Meeting) → MeetIn f s meeting → ⊥) → (m : Met) → IsMet before left right m → ⊥
+no_meeting before left right f s there there' none m h =
+    let first : f ≡ m.first = some_same f m.first (sym there ∙ h.first_there) in
+    let second : s ≡ m.second = some_same s m.second (sym there' ∙ h.second_there) in
+    none m.at (rw (first, second) h.meet)

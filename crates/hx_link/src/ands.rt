@@ -1,0 +1,88 @@
+//! Anshelevich's And rule: two links that meet at one end and share no cell lead from the one's other end to the other's.
+//! Over a stone or a side of the player that gives a Full link. Over an empty cell the player first has to move there, and
+//! so that gives a Semi link.
+
+ghost use Rattle.std.specs.Prelude.{◌≡◌, ℕ, MatchOption};
+ghost use Rattle.hx_link.specs.declared.links.Link.{Link};
+ghost use Rattle.hx_link.specs.Steps.{IsLink, GivesAndStone, GivesAndCell};
+ghost use Rattle.hx_link.specs.Named.{IsMiddle};
+
+use crate::links::{Kind, Link, is_own, made};
+use crate::meetings::{Met, met_of};
+use hx_board::{Cell, Colour, Position, Vertex};
+
+/// The Full link over a stone or a side of the player.
+pub(crate) fn and_stone(
+    position: &Position,
+    colour: Colour,
+    before: &[Link],
+    left: u32,
+    right: u32,
+) -> Option<Link>
+    ensures { MatchOption result
+        ((link : Link) → GivesAndStone position.now colour before.now left right link → IsLink position.now colour link → ⊥)
+        (λ link. GivesAndStone position.now colour before.now left right link × IsLink position.now colour link) }
+{
+    let Some(met) = met_of(before, left, right) else {
+        return None;
+    };
+    let carrier = met.first.carrier.union(met.second.carrier);
+    let own = is_own(position, colour, &met.at.middle);
+    if !own {
+        return None;
+    }
+    made(
+        position,
+        colour,
+        Kind::Full,
+        &met.at.from,
+        &met.at.to,
+        carrier,
+    )
+}
+
+/// The empty cell that two links share as an end, where it is in neither carrier.
+fn middle_cell(position: &Position, met: &Met) -> Option<Cell>
+    ensures { MatchOption result ((cell : ℕ) → IsMiddle position.now met.now cell → ⊥) (IsMiddle position.now met.now) }
+{
+    let empties = position.empties();
+    match met.at.middle {
+        Vertex::Of(cell) => {
+            if empties.has(cell) && !met.first.carrier.has(cell) && !met.second.carrier.has(cell) {
+                Some(cell)
+            } else {
+                None
+            }
+        }
+        Vertex::First | Vertex::Last => None,
+    }
+}
+
+/// The Semi link over an empty cell.
+pub(crate) fn and_cell(
+    position: &Position,
+    colour: Colour,
+    before: &[Link],
+    left: u32,
+    right: u32,
+) -> Option<Link>
+    ensures { MatchOption result
+        ((link : Link) → GivesAndCell position.now colour before.now left right link → IsLink position.now colour link → ⊥)
+        (λ link. GivesAndCell position.now colour before.now left right link × IsLink position.now colour link) }
+{
+    let Some(met) = met_of(before, left, right) else {
+        return None;
+    };
+    let Some(cell) = middle_cell(position, &met) else {
+        return None;
+    };
+    let carrier = met.first.carrier.union(met.second.carrier).with(cell);
+    made(
+        position,
+        colour,
+        Kind::Semi,
+        &met.at.from,
+        &met.at.to,
+        carrier,
+    )
+}

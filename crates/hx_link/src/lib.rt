@@ -1,0 +1,24 @@
+//! What link a step makes.
+//!
+//! A link says that a player can join two vertices of the board inside a set of cells, whatever the opponent does. Steps
+//! make links from what is joined and from earlier links. Here a step gives its link, or none; that what it gives is true
+//! is no matter of this crate.
+#![tactic(auto)]
+
+mod ands;
+mod links;
+mod meetings;
+mod ors;
+mod parts;
+mod results;
+mod steps;
+
+pub use links::{Kind, Link};
+pub use parts::Parts;
+pub use results::result_of;
+pub use steps::Step;
+
+#[cfg(test)]
+mod plain;
+#[cfg(test)]
+mod tests;

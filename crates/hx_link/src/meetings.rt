@@ -1,0 +1,111 @@
+//! How two earlier links meet, which both And rules ask first: at exactly one end, and nowhere else.
+
+ghost use Rattle.std.specs.Prelude.{◌≡◌, ◌↔◌, IsTrue, MatchOption, slice_get, Some};
+ghost use Rattle.hx_link.specs.declared.links.Link.{Link};
+ghost use Rattle.hx_link.specs.declared.links.Kind.TheVariants.{Full};
+ghost use Rattle.hx_link.specs.declared.meetings.Meeting.{Meeting};
+ghost use Rattle.hx_link.specs.declared.meetings.Met.{Met};
+ghost use Rattle.hx_link.specs.Steps.{AreApart};
+ghost use Rattle.hx_link.specs.Named.{MeetIn, IsMet};
+
+use crate::links::{Kind, Link};
+use hx_board::{Mask, Vertex};
+
+/// The one end that two links share, between their other ends.
+#[derive(Clone, Copy, PartialEq, Eq, Debug)]
+pub(crate) struct Meeting {
+    pub(crate) from: Vertex,
+    pub(crate) middle: Vertex,
+    pub(crate) to: Vertex,
+}
+
+/// Two links, and how they meet.
+#[derive(Clone, Copy, PartialEq, Eq, Debug)]
+pub(crate) struct Met {
+    pub(crate) first: Link,
+    pub(crate) second: Link,
+    pub(crate) at: Meeting,
+}
+
+/// The one end that two links share. None where they share none or both.
+fn meeting_of(first: &Link, second: &Link) -> Option<Meeting>
+    ensures { MatchOption result ((meeting : Meeting) → MeetIn first.now second.now meeting → ⊥) (MeetIn first.now second.now) }
+{
+    if first.b == second.a && first.a != second.b {
+        return Some(Meeting {
+            from: first.a,
+            middle: first.b,
+            to: second.b,
+        });
+    }
+    if first.b == second.b && first.a != second.a {
+        return Some(Meeting {
+            from: first.a,
+            middle: first.b,
+            to: second.a,
+        });
+    }
+    if first.a == second.a && first.b != second.b {
+        return Some(Meeting {
+            from: first.b,
+            middle: first.a,
+            to: second.b,
+        });
+    }
+    if first.a == second.b && first.b != second.a {
+        return Some(Meeting {
+            from: first.b,
+            middle: first.a,
+            to: second.a,
+        });
+    }
+    None
+}
+
+/// The earlier Full link at a place.
+fn full_at(before: &[Link], place: u32) -> Option<Link>
+    ensures { MatchOption result ((link : Link) → slice_get before.now place ≡ Some link → link.kind ≡ Full → ⊥)
+        (λ link. (slice_get before.now place ≡ Some link) × (link.kind ≡ Full)) }
+{
+    match before.get(place as usize) {
+        None => None,
+        Some(link) => {
+            let link = *link;
+            if link.kind == Kind::Full {
+                Some(link)
+            } else {
+                None
+            }
+        }
+    }
+}
+
+/// Whether two sets share no cell.
+fn are_apart(one: Mask, other: Mask) -> bool
+    ensures { IsTrue result ↔ AreApart one other }
+{
+    let both = one.meet(other);
+    let none = Mask::empty();
+    both == none
+}
+
+/// Two earlier Full links that share exactly one end and no cell of their carriers.
+pub(crate) fn met_of(before: &[Link], left: u32, right: u32) -> Option<Met>
+    ensures { MatchOption result ((met : Met) → IsMet before.now left right met → ⊥) (IsMet before.now left right) }
+{
+    let Some(first) = full_at(before, left) else {
+        return None;
+    };
+    let Some(second) = full_at(before, right) else {
+        return None;
+    };
+    let Some(at) = meeting_of(&first, &second) else {
+        return None;
+    };
+    let is_apart = are_apart(first.carrier, second.carrier);
+    if is_apart {
+        Some(Met { first, second, at })
+    } else {
+        None
+    }
+}

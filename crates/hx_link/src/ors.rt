@@ -1,0 +1,103 @@
+//! Anshelevich's Or rule: where the player, to move, can join two ends in several ways, and no one cell is needed in all of
+//! them, a move of the opponent leaves one way, and so the ends are joined whoever moves first.
+
+ghost use Rattle.std.specs.Prelude.{◌≡◌, MatchOption, slice_get, Some};
+ghost use Rattle.hx_link.specs.declared.links.Link.{Link};
+ghost use Rattle.hx_link.specs.declared.links.Kind.TheVariants.{Semi};
+ghost use Rattle.hx_link.specs.Steps.{IsLink, HasEnds, GivesOr};
+ghost use Rattle.hx_link.specs.Named.{IsSemiAt, ArePartsFrom, PartsSoFar};
+
+use crate::links::{Kind, Link, has_ends, made};
+use hx_board::{Colour, Mask, Position, Vertex};
+
+/// The cells that are in all carriers of the parts, and those that are in some.
+#[derive(Clone, Copy, PartialEq, Eq, Debug)]
+struct Shares {
+    in_all: Mask,
+    in_some: Mask,
+}
+
+/// The carrier of an earlier Semi link of these ends.
+fn semi_at(before: &[Link], place: u32, a: &Vertex, b: &Vertex) -> Option<Mask>
+    ensures { MatchOption result
+        ((link : Link) → slice_get before.now place ≡ Some link → link.kind ≡ Semi → HasEnds link a.now b.now → ⊥)
+        (λ carrier. IsSemiAt before.now place a.now b.now carrier) }
+{
+    match before.get(place as usize) {
+        None => None,
+        Some(link) => {
+            let joins = has_ends(link, a, b);
+            if link.kind == Kind::Semi && joins {
+                Some(link.carrier)
+            } else {
+                None
+            }
+        }
+    }
+}
+
+/// Reads the parts, each of which must be a Semi link of these ends. `start` is the carrier of one of them.
+fn read_parts(
+    before: &[Link],
+    places: &[u32],
+    a: &Vertex,
+    b: &Vertex,
+    start: Mask,
+) -> Option<Shares>
+    ensures { MatchOption result (ArePartsFrom before.now places.now a.now b.now → ⊥)
+        (λ shares. PartsSoFar before.now places.now a.now b.now start shares.in_all shares.in_some) }
+{
+    let mut in_all = start;
+    let mut in_some = Mask::empty();
+    for place in places {
+        let Some(carrier) = semi_at(before, *place, a, b) else {
+            return None;
+        };
+        in_all = in_all.meet(carrier);
+        in_some = in_some.union(carrier);
+    }
+    Some(Shares { in_all, in_some })
+}
+
+/// The earlier link at a place.
+fn link_at(before: &[Link], place: u32) -> Option<Link>
+    ensures { result ≡ slice_get before.now place }
+{
+    before.get(place as usize).copied()
+}
+
+/// The Full link of the ends that the parts share.
+pub(crate) fn or_link(
+    position: &Position,
+    colour: Colour,
+    before: &[Link],
+    places: &[u32],
+) -> Option<Link>
+    ensures { MatchOption result
+        ((link : Link) → GivesOr before.now places.now link → IsLink position.now colour link → ⊥)
+        (λ link. GivesOr before.now places.now link × IsLink position.now colour link) }
+{
+    let count = places.len();
+    if count < 2 || 128 < count {
+        return None;
+    }
+    let Some(first) = link_at(before, places[0]) else {
+        return None;
+    };
+    let Some(shares) = read_parts(before, places, &first.a, &first.b, first.carrier) else {
+        return None;
+    };
+    let none = Mask::empty();
+    let none_shared = shares.in_all == none;
+    if !none_shared {
+        return None;
+    }
+    made(
+        position,
+        colour,
+        Kind::Full,
+        &first.a,
+        &first.b,
+        shares.in_some,
+    )
+}

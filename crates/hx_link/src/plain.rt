@@ -1,0 +1,273 @@
+//! The table of steps once more, said as plainly as it can be, for the tests to compare `result_of` with: joining by walks
+//! from vertex to vertex and not by groups, carriers cell by cell and not by whole sets.
+
+use crate::links::{Kind, Link};
+use crate::steps::Step;
+use hx_board::{Cell, Colour, Mask, Position, Size, Vertex};
+
+/// The link that a step gives after these.
+pub(crate) fn plain_result(
+    position: &Position,
+    player: Colour,
+    before: &[Link],
+    step: &Step,
+) -> Option<Link> {
+    let (kind, x, y, carrier) = match step {
+        Step::Base { a, b } => base(position, player, a, b)?,
+        Step::AndStone { left, right } => and_stone(position, player, before, *left, *right)?,
+        Step::AndCell { left, right } => and_cell(position, before, *left, *right)?,
+        Step::Or { parts } => or(before, parts.items())?,
+    };
+    let is_clear = can_be_end(position, player, &x, carrier)
+        && can_be_end(position, player, &y, carrier);
+    if x == y || !is_clear {
+        return None;
+    }
+    let (a, b) = if comes_before(&x, &y) { (x, y) } else { (y, x) };
+    Some(Link {
+        kind,
+        a,
+        b,
+        carrier,
+    })
+}
+
+/// The kind, the ends and the carrier that a rule gives, before the ends are looked at.
+type Given = (Kind, Vertex, Vertex, Mask);
+
+fn base(position: &Position, player: Colour, a: &Vertex, b: &Vertex) -> Option<Given> {
+    let stones = position.stones(player).count();
+    if a == b || leads(position, player, a, b, stones.saturating_add(2)) {
+        Some((Kind::Full, *a, *b, Mask::empty()))
+    } else {
+        None
+    }
+}
+
+fn and_stone(
+    position: &Position,
+    player: Colour,
+    before: &[Link],
+    left: u32,
+    right: u32,
+) -> Option<Given> {
+    let first = before.get(left as usize)?;
+    let second = before.get(right as usize)?;
+    let middle = shared_end(first, second)?;
+    let are_full = first.kind == Kind::Full && second.kind == Kind::Full;
+    if are_full && is_own(position, player, &middle) && !share_a_cell(first, second) {
+        let carrier = cells_of_either(first.carrier, second.carrier);
+        Some((
+            Kind::Full,
+            other_end(first, &middle),
+            other_end(second, &middle),
+            carrier,
+        ))
+    } else {
+        None
+    }
+}
+
+fn and_cell(position: &Position, before: &[Link], left: u32, right: u32) -> Option<Given> {
+    let first = before.get(left as usize)?;
+    let second = before.get(right as usize)?;
+    let middle = shared_end(first, second)?;
+    let Vertex::Of(cell) = middle else {
+        return None;
+    };
+    let are_full = first.kind == Kind::Full && second.kind == Kind::Full;
+    let is_empty = is_on_board(position.size(), cell) && position.at(cell).is_none();
+    let is_in_one = first.carrier.has(cell) || second.carrier.has(cell);
+    if are_full && is_empty && !is_in_one && !share_a_cell(first, second) {
+        let carrier = cells_of_either(first.carrier, second.carrier).with(cell);
+        Some((
+            Kind::Semi,
+            other_end(first, &middle),
+            other_end(second, &middle),
+            carrier,
+        ))
+    } else {
+        None
+    }
+}
+
+fn or(before: &[Link], places: &[u32]) -> Option<Given> {
+    let first = before.get(*places.first()? as usize)?;
+    let mut carrier = Mask::empty();
+    for place in places {
+        let part = before.get(*place as usize)?;
+        let has_same_ends = is_end_of(&first.a, part) && is_end_of(&first.b, part);
+        if part.kind != Kind::Semi || !has_same_ends {
+            return None;
+        }
+        carrier = cells_of_either(carrier, part.carrier);
+    }
+    let is_shared = some_cell_is_in_all(before, places);
+    if places.len() < 2 || places.len() > 128 || is_shared {
+        return None;
+    }
+    Some((Kind::Full, first.a, first.b, carrier))
+}
+
+/// Whether some cell is in the carriers of all the links at these places.
+fn some_cell_is_in_all(before: &[Link], places: &[u32]) -> bool {
+    for index in 0..121u8 {
+        if let Some(cell) = cell_at(index)
+            && is_in_all(before, places, cell)
+        {
+            return true;
+        }
+    }
+    false
+}
+
+fn is_in_all(before: &[Link], places: &[u32], cell: Cell) -> bool {
+    for place in places {
+        match before.get(*place as usize) {
+            Some(part) if part.carrier.has(cell) => {}
+            _ => return false,
+        }
+    }
+    true
+}
+
+/// The cells that are in one of the two carriers.
+fn cells_of_either(carrier: Mask, other: Mask) -> Mask {
+    let mut cells = Mask::empty();
+    for index in 0..121u8 {
+        if let Some(cell) = cell_at(index)
+            && (carrier.has(cell) || other.has(cell))
+        {
+            cells = cells.with(cell);
+        }
+    }
+    cells
+}
+
+fn share_a_cell(first: &Link, second: &Link) -> bool {
+    for index in 0..121u8 {
+        if let Some(cell) = cell_at(index)
+            && first.carrier.has(cell)
+            && second.carrier.has(cell)
+        {
+            return true;
+        }
+    }
+    false
+}
+
+/// The cell with this index on a board of the largest size.
+fn cell_at(index: u8) -> Option<Cell> {
+    Size::new(11, 11)?.cell(index / 11, index % 11)
+}
+
+fn is_end_of(vertex: &Vertex, link: &Link) -> bool {
+    *vertex == link.a || *vertex == link.b
+}
+
+/// The vertex that is an end of both links, where only one is.
+fn shared_end(first: &Link, second: &Link) -> Option<Vertex> {
+    match (is_end_of(&first.a, second), is_end_of(&first.b, second)) {
+        (true, false) => Some(first.a),
+        (false, true) => Some(first.b),
+        _ => None,
+    }
+}
+
+/// The end of a link that is not this one.
+fn other_end(link: &Link, end: &Vertex) -> Vertex {
+    if link.a == *end { link.b } else { link.a }
+}
+
+/// Whether one vertex comes before another: the cells row by row, then the first side, then the last side.
+fn comes_before(vertex: &Vertex, other: &Vertex) -> bool {
+    match (vertex, other) {
+        (Vertex::Of(cell), Vertex::Of(next)) => {
+            cell.row() < next.row() || (cell.row() == next.row() && cell.col() < next.col())
+        }
+        (Vertex::Of(_), _) => true,
+        (Vertex::First, Vertex::Last) => true,
+        _ => false,
+    }
+}
+
+/// Whether a link on these cells can end here: at a side, at a stone of the player, or at an empty cell that is none of
+/// them.
+fn can_be_end(position: &Position, player: Colour, vertex: &Vertex, carrier: Mask) -> bool {
+    match vertex {
+        Vertex::Of(cell) => match position.at(*cell) {
+            Some(stone) => stone == player,
+            None => is_on_board(position.size(), *cell) && !carrier.has(*cell),
+        },
+        Vertex::First | Vertex::Last => true,
+    }
+}
+
+fn is_on_board(size: Size, cell: Cell) -> bool {
+    cell.row() < size.rows() && cell.col() < size.cols()
+}
+
+fn is_own(position: &Position, player: Colour, vertex: &Vertex) -> bool {
+    match vertex {
+        Vertex::Of(cell) => position.at(*cell) == Some(player),
+        Vertex::First | Vertex::Last => true,
+    }
+}
+
+/// Whether a walk leads from one vertex to another, with so many own vertices in between at the most.
+fn leads(position: &Position, player: Colour, from: &Vertex, to: &Vertex, between: u32) -> bool {
+    if touch(position.size(), player, from, to) {
+        return true;
+    }
+    if between == 0 {
+        return false;
+    }
+    for number in 0..123u8 {
+        let next = vertex_at(number);
+        if touch(position.size(), player, from, &next)
+            && is_own(position, player, &next)
+            && leads(position, player, &next, to, between - 1)
+        {
+            return true;
+        }
+    }
+    false
+}
+
+fn vertex_at(number: u8) -> Vertex {
+    match cell_at(number) {
+        Some(cell) => Vertex::Of(cell),
+        None if number == 121 => Vertex::First,
+        None => Vertex::Last,
+    }
+}
+
+/// Whether two vertices of the player's graph touch. The steps from a cell to those that touch it are one left, one right,
+/// one up, one down, one up and right, one down and left.
+fn touch(size: Size, player: Colour, vertex: &Vertex, other: &Vertex) -> bool {
+    match (vertex, other) {
+        (Vertex::Of(cell), Vertex::Of(next)) => {
+            let down = next.row() as i8 - cell.row() as i8;
+            let right = next.col() as i8 - cell.col() as i8;
+            let is_step = matches!(
+                (down, right),
+                (0, -1) | (0, 1) | (-1, 0) | (1, 0) | (-1, 1) | (1, -1)
+            );
+            is_step && is_on_board(size, *cell) && is_on_board(size, *next)
+        }
+        (Vertex::Of(cell), side) | (side, Vertex::Of(cell)) => is_along(size, player, *cell, side),
+        _ => false,
+    }
+}
+
+/// Whether a cell lies along a side: the top and the bottom are Black's, the left and the right White's.
+fn is_along(size: Size, player: Colour, cell: Cell, side: &Vertex) -> bool {
+    let is_there = match (player, side) {
+        (Colour::Black, Vertex::First) => cell.row() == 0,
+        (Colour::Black, Vertex::Last) => cell.row() + 1 == size.rows(),
+        (Colour::White, Vertex::First) => cell.col() == 0,
+        (Colour::White, Vertex::Last) => cell.col() + 1 == size.cols(),
+        _ => false,
+    };
+    is_there && is_on_board(size, cell)
+}

@@ -1,0 +1,62 @@
+//! The link that a step gives.
+
+ghost use Rattle.std.specs.Prelude.{◌≡◌, MatchOption};
+ghost use Rattle.hx_link.specs.declared.links.Link.{Link};
+ghost use Rattle.hx_link.specs.Steps.{IsLink, GivesBase, StepGives};
+
+use crate::ands::{and_cell, and_stone};
+use crate::links::{Kind, Link, made};
+use crate::ors::or_link;
+use crate::steps::Step;
+use hx_board::{Colour, Groups, Mask, Position, Vertex};
+
+/// The link that a step of the player gives after the links before it. None where it gives none: where it names a place
+/// at which no link stands before it, where the links it names are not as its rule needs them, where an end of the result
+/// is a stone of the opponent or lies off the board, or where the result's carrier has an empty end of it. `groups` must
+/// be those of the position and the player. It takes no memory.
+///
+/// - `Base`, of two ends that are joined: `Full`, on no cell.
+/// - `AndStone`, of two `Full` links that share exactly one end, which is a stone or a side of the player, and no cell of
+///   their carriers: `Full` between their other ends, on both carriers.
+/// - `AndCell`, of two `Full` links that share exactly one end, which is an empty cell in neither carrier, and no cell of
+///   their carriers: `Semi` between their other ends, on both carriers and that cell.
+/// - `Or`, of 2 to 128 `Semi` links of the same ends, such that no cell is in all their carriers: `Full` of these ends, on
+///   all their carriers.
+pub fn result_of(
+    position: &Position,
+    colour: Colour,
+    groups: &Groups,
+    before: &[Link],
+    step: &Step,
+) -> Option<Link>
+    requires { groups.now ≡ record { board = position.now; player = colour } }
+    ensures { MatchOption result ((link : Link) → StepGives position.now colour before.now step.now link → ⊥)
+        (StepGives position.now colour before.now step.now) }
+{
+    match step {
+        Step::Base { a, b } => base_link(position, colour, groups, a, b),
+        Step::AndStone { left, right } => and_stone(position, colour, before, *left, *right),
+        Step::AndCell { left, right } => and_cell(position, colour, before, *left, *right),
+        Step::Or { parts } => or_link(position, colour, before, parts.items()),
+    }
+}
+
+/// The Full link of two vertices that are joined.
+fn base_link(
+    position: &Position,
+    colour: Colour,
+    groups: &Groups,
+    a: &Vertex,
+    b: &Vertex,
+) -> Option<Link>
+    requires { groups.now ≡ record { board = position.now; player = colour } }
+    ensures { MatchOption result
+        ((link : Link) → GivesBase position.now colour a.now b.now link → IsLink position.now colour link → ⊥)
+        (λ link. GivesBase position.now colour a.now b.now link × IsLink position.now colour link) }
+{
+    let Some(link) = made(position, colour, Kind::Full, a, b, Mask::empty()) else {
+        return None;
+    };
+    let joined = groups.joined(*a, *b);
+    if joined { Some(link) } else { None }
+}

@@ -1,0 +1,125 @@
+-- Each link that right steps give holds, by induction on the steps, and in it by the rule of the step. The player wins where
+-- a link between the two sides holds: the local game is play in a region, and the board is as good for play anywhere.
+use Rattle.std.proofs.Common.{◌≡◌, ℕ, zero, suc, List, [], ◌∷◌, ◌++◌, map, true, refl, ◌∙◌, ◌⊎◌, inl, inr, ⊎_elim, Some}
+use Rattle.std.specs.Prelude.{slice_get}
+use Rattle.hx_board.specs.declared.colours.Colour.{Colour}
+use Rattle.hx_board.specs.declared.vertices.Vertex.{Vertex}
+use Rattle.hx_board.specs.declared.vertices.Vertex.TheVariants.{Of}
+use Rattle.hx_board.specs.Sets.{has, insert, union}
+use Rattle.hx_board.specs.Colours.{other_of}
+use Rattle.hx_board.specs.Positions.{Board}
+use Rattle.hx_board.specs.Game.{Wins}
+use Rattle.hx_board.proofs.SetLaws.{has-union_left, has-union_right}
+use Rattle.hx_law.specs.Play.{By_goal}
+use Rattle.hx_law.proofs.PlayLaws.{as_good_itself}
+use Rattle.hx_law.proofs.WinLaws.{region_wins, extra_move}
+use Rattle.hx_link.specs.declared.links.Kind.{Kind}
+use Rattle.hx_link.specs.declared.links.Kind.TheVariants.{Full, Semi}
+use Rattle.hx_link.specs.declared.links.Link.{Link}
+use Rattle.hx_link.specs.declared.steps.Step.{Step}
+use Rattle.hx_link.specs.declared.steps.Step.TheVariants.{Base, AndStone, AndCell, Or}
+use Rattle.hx_link.specs.Steps.{HasEnds, GivesBase, GivesAndStone, GivesAndCell, GivesOr, GivesByRule, IsOneOf, links_at, carriers_of, AreRightSteps}
+use Rattle.hx_proof.specs.Local.{Secures, mover_for, LinkHolds}
+use Rattle.hx_proof.specs.Links.{IsChainLink, EndInChainLink}
+use Rattle.hx_proof.proofs.LocalGame.{secures-sym}
+use Rattle.hx_proof.proofs.AndSoundness.{and_stone_secures, and_cell_secures}
+use Rattle.hx_proof.proofs.OrSoundness.{or_secures}
+
+-- ---- lists of links
+
+-- what an Or names are earlier links
+listed : (before : List Link) (places : List ℕ) (links : List Link) → links_at before places ≡ map (λ (part : Link). Some part) links → (k : ℕ) (part : Link) → slice_get links k ≡ Some part → IsOneOf part before
+listed before [] [] e k part h = cc
+listed before [] (l ∷ ls) e k part h = cc
+listed before (p ∷ ps) [] e k part h = cc
+listed before (p ∷ ps) (l ∷ ls) e zero part h = (p, let there : slice_get before p ≡ Some l = cc in there ∙ h)
+listed before (p ∷ ps) (l ∷ ls) e (suc k) part h = listed before ps ls (cc) k part h
+
+in_carriers : (links : List Link) (k : ℕ) (part : Link) → slice_get links k ≡ Some part → (n : ℕ) → has part.carrier n ≡ true → has (carriers_of links) n ≡ true
+in_carriers [] k part h n w = cc
+in_carriers (l ∷ ls) zero part h n w = let same : l ≡ part = cc in has-union_left l.carrier (carriers_of ls) n (rw same w)
+in_carriers (l ∷ ls) (suc k) part h n w = has-union_right l.carrier (carriers_of ls) n (in_carriers ls k part h n w)
+
+one_of_appended : (links : List Link) (link : Link) (k : ℕ) (part : Link) → slice_get (links ++ link ∷ []) k ≡ Some part → IsOneOf part links ⊎ (link ≡ part)
+one_of_appended [] link zero part h = inr cc
+one_of_appended [] link (suc k) part h = absurd cc
+one_of_appended (l ∷ ls) link zero part h = inl (zero, h)
+one_of_appended (l ∷ ls) link (suc k) part h = ⊎_elim (λ w. inl (suc w.0, w.1)) inr (one_of_appended ls link k part h)
+
+module _ (board : Board) (player : Colour) where
+  -- ---- what a step gives holds
+
+  between : (link : Link) (x y : Vertex) (mover : Colour) → HasEnds link x y → Secures player link.carrier link.a link.b board mover → Secures player link.carrier x y board mover
+  between link x y mover (inl e) s = rw (← e.0, ← e.1) s
+  between link x y mover (inr e) s = rw (← e.0, ← e.1) (secures-sym player link.carrier link.a link.b board mover s)
+
+  named : (link : Link) (carrier : ℕ) (x y : Vertex) (mover : Colour) → HasEnds link x y → Secures player carrier x y board mover → Secures player carrier link.a link.b board mover
+  named link carrier x y mover (inl e) s = rw (e.0, e.1) s
+  named link carrier x y mover (inr e) s = rw (e.0, e.1) (secures-sym player carrier x y board mover s)
+
+  abbrev AllHold : List Link → Type 0
+  AllHold links = (part : Link) → IsOneOf part links → LinkHolds board player part
+
+  module _ (before : List Link) (holds : AllHold before) where
+    full_secures : (place : ℕ) (link : Link) (x y : Vertex) → slice_get before place ≡ Some link → link.kind ≡ Full → HasEnds link x y → Secures player link.carrier x y board (other_of player)
+    full_secures place link x y there kind ends = between link x y (other_of player) ends (rw kind at (holds link (place, there)))
+
+    base_holds : (a b : Vertex) (link : Link) → GivesBase board player a b link → LinkHolds board player link
+    base_holds a b link g = rw (g.kind, g.carrier) (named link 0 a b (other_of player) g.ends (By_goal board (other_of player) g.joined))
+
+    and_stone_holds : (left right : ℕ) (link : Link) → GivesAndStone board player before left right link → LinkHolds board player link
+    and_stone_holds left right link g =
+        rw (g.kind, g.carrier) (named link (union g.first.carrier g.second.carrier) g.from g.to (other_of player) g.ends
+        (and_stone_secures player g.first.carrier g.second.carrier g.from g.to g.meet.apart g.middle board g.own
+        (full_secures left g.first g.from g.middle g.meet.first_there g.meet.first_full g.meet.first_ends)
+        (full_secures right g.second g.middle g.to g.meet.second_there g.meet.second_full g.meet.second_ends)))
+
+    and_cell_holds : (left right : ℕ) (link : Link) → GivesAndCell board player before left right link → LinkHolds board player link
+    and_cell_holds left right link g =
+        rw (g.kind, g.carrier) (named link (insert (union g.first.carrier g.second.carrier) g.cell) g.from g.to player g.ends
+        (and_cell_secures player g.first.carrier g.second.carrier g.from g.to g.meet.apart g.cell board g.empty g.outside_first g.outside_second
+        (full_secures left g.first g.from (Of g.cell) g.meet.first_there g.meet.first_full g.meet.first_ends)
+        (full_secures right g.second (Of g.cell) g.to g.meet.second_there g.meet.second_full g.meet.second_ends)))
+
+    or_holds : (places : List ℕ) (link : Link) → GivesOr before places link → LinkHolds board player link
+    or_holds places link g =
+        rw (g.kind, g.carrier)
+        (or_secures player (carriers_of g.links) link.a link.b (λ c. (part : Link) × (IsOneOf part g.links × (part.carrier ≡ c)))
+        (λ c w n h. in_carriers g.links w.1.0.0 w.0 w.1.0.1 n (rw w.1.1 h))
+        board
+        (λ c w. rw (← w.1.1) (between w.0 link.a link.b player (g.same_ends w.0 w.1.0) (rw (g.semi w.0 w.1.0) at (holds w.0 (listed before places g.links g.there w.1.0.0 w.0 w.1.0.1)))))
+        (λ n. let w = g.none_in_all n in (w.0.carrier, ((w.0, (w.1.0, refl)), w.1.1))))
+
+    step_holds : (step : Step) (link : Link) → GivesByRule board player before step link → LinkHolds board player link
+    step_holds (Base a b) link g = base_holds a b link g
+    step_holds (AndStone left right) link g = and_stone_holds left right link g
+    step_holds (AndCell left right) link g = and_cell_holds left right link g
+    step_holds (Or parts) link g = or_holds parts link g
+
+  links_hold : (before : List Link) (steps : List Step) (links : List Link) → AllHold before → AreRightSteps board player before steps links → AllHold links
+  links_hold before [] links holds g = rw g holds
+  links_hold before (step ∷ steps) links holds g =
+      links_hold (before ++ g.0 ∷ []) steps links
+      (λ part w. ⊎_elim (holds part) (λ e. rw (← e) (step_holds before holds step g.0 g.1.rule)) (one_of_appended before g.0 w.0 part w.1))
+      g.2
+
+  pub right_steps_give_what_holds : (steps : List Step) (links : List Link) → AreRightSteps board player [] steps links → AllHold links
+  right_steps_give_what_holds steps links right = links_hold [] steps links (λ part w. absurd (cc w.1)) right
+
+  -- ---- a link between the sides
+
+  chain_link_wins : (link : Link) → LinkHolds board player link → IsChainLink link → Wins player board (mover_for player link.kind)
+  chain_link_wins link holds joins =
+      region_wins player (has link.carrier) board board (mover_for player link.kind)
+      (record { keeps = (as_good_itself player (has link.carrier) board).keeps; free = λ n free. inl (record { inside = refl; empty = free.empty }) })
+      (rw (joins.first, joins.last) at holds)
+
+  with_the_move : (kind : Kind) → Wins player board (mover_for player kind) → Wins player board player
+  with_the_move Full win = extra_move player board win
+  with_the_move Semi win = win
+
+  pub end_in_chain_link_wins : (kind : Kind) (steps : List Step) → EndInChainLink board player kind steps → Wins player board (mover_for player kind)
+  end_in_chain_link_wins kind steps end = rw end.same_kind at (chain_link_wins end.link (right_steps_give_what_holds steps end.links end.right end.link (_, end.is_last)) end.joins)
+
+  pub end_in_chain_link_wins_with_the_move : (kind : Kind) (steps : List Step) → EndInChainLink board player kind steps → Wins player board player
+  end_in_chain_link_wins_with_the_move kind steps end = with_the_move kind (end_in_chain_link_wins kind steps end)
