@@ -12,7 +12,7 @@ use hx_board::Colour::{Black, White};
 use hx_board::{Colour, Mask, Position, Size};
 use hx_io::MemorySink;
 use hx_tree::{Heading, Line, Lines, Node, Rule};
-use std::alloc::Global;
+use std::alloc::{AllocError, Global};
 use std::process::Abort;
 use std::test::Fail;
 
@@ -244,6 +244,94 @@ fn a_written_tree_is_read_back(rt: HostRuntime) -> Result<(), Fail> {
     let trees = trees_to_read_back(rt.alloc())?;
     for tree in &trees {
         assert_read_back(&rt, rt.alloc(), tree)?;
+    }
+    Ok(())
+}
+
+/// Numbers that look drawn by chance and are the same in each run: Marsaglia's xorshift.
+#[derive(Drop)]
+struct Numbers {
+    state: u64,
+}
+
+impl Numbers {
+    fn next(&mut self) -> u64 {
+        let mut number = self.state;
+        number ^= number << 13;
+        number ^= number >> 7;
+        number ^= number << 17;
+        self.state = number;
+        number
+    }
+
+    /// The number of a child, of 32 binary digits.
+    fn next_child(&mut self) -> u32 {
+        (self.next() % 4_294_967_296) as u32
+    }
+
+    fn next_colour(&mut self) -> Colour {
+        if self.next() % 2 == 0 { Black } else { White }
+    }
+
+    /// A cell of the board of 11 by 11, by its row and its column.
+    fn next_cell(&mut self) -> (u8, u8) {
+        ((self.next() % 11) as u8, (self.next() % 11) as u8)
+    }
+
+    /// A position on 11 by 11, of which a third of the cells is empty.
+    fn next_position(&mut self, size: Size) -> Option<Position> {
+        let mut black = Mask::empty();
+        let mut white = Mask::empty();
+        for index in 0..121u8 {
+            if let Some(cell) = size.cell(index / 11, index % 11) {
+                match self.next() % 3 {
+                    0 => black = black.with(cell),
+                    1 => white = white.with(cell),
+                    _ => {}
+                }
+            }
+        }
+        Position::from_masks(size, black, white)
+    }
+
+    /// Up to fifteen answers, by the rows and columns of their cells and by their children.
+    fn next_answers(&mut self, alloc: Global) -> Result<Vec<(u8, u8, u32)>, AllocError> {
+        let mut answers = Vec::new(alloc);
+        for _ in 0..self.next() % 16 {
+            let (row, col) = self.next_cell();
+            answers.push((row, col, self.next_child()))?;
+        }
+        Ok(answers)
+    }
+
+    /// A node by one of the three rules. Nothing of it need be right.
+    fn next_node(&mut self, alloc: Global, size: Size) -> Result<Node, Fail> {
+        let position = self.next_position(size).ok_or("stones")?;
+        let winner = self.next_colour();
+        match self.next() % 3 {
+            0 => Ok(by_chain(position, self.next_colour(), winner)),
+            1 => {
+                let (row, col) = self.next_cell();
+                by_move(position, winner, row, col, self.next_child())
+            }
+            _ => {
+                let answers = self.next_answers(alloc)?;
+                by_all(alloc, position, winner, &answers)
+            }
+        }
+    }
+}
+
+#[test]
+fn seeded_trees_are_read_back(rt: HostRuntime) -> Result<(), Fail> {
+    let size = Size::new(11, 11).ok_or("size")?;
+    for seed in 1..=20u64 {
+        let mut numbers = Numbers { state: seed };
+        let mut tree = Vec::new(rt.alloc());
+        for _ in 0..8 {
+            tree.push(numbers.next_node(rt.alloc(), size)?)?;
+        }
+        assert_read_back(&rt, rt.alloc(), &tree)?;
     }
     Ok(())
 }
