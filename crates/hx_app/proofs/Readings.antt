@@ -1,6 +1,6 @@
 -- An input is read in one way alone, so at most one of the answers fits it. Two ways to cut the same bytes into lines
 -- agree as far as both go, and the lines of a text tell its nodes.
-use Rattle.std.proofs.Common.{◌≡◌, ℕ, ◌<◌, ◌≤◌, List, [], ◌∷◌, ◌++◌, length, refl, sym, ap, ◌∙◌, subst, arith, append_assoc, length-append}
+use Rattle.std.proofs.Common.{◌≡◌, ℕ, ◌<◌, ◌≤◌, List, [], ◌∷◌, ◌++◌, length, map, refl, sym, ap, ◌∙◌, subst, arith, append_assoc, length-append}
 use Rattle.std.proofs.lemmas.List.{append-nil}
 use Rattle.std.specs.Prelude.{flat_map}
 use Rattle.hx_board.specs.declared.colours.Colour.{Colour}
@@ -10,7 +10,8 @@ use Rattle.hx_tree.specs.Trees.{IsValidTree, IsLeastWrong}
 use Rattle.hx_tree.proofs.TreeGrowth.{least_wrong-append, right_at-append}
 use Rattle.hx_text.specs.Words.{IsNumber}
 use Rattle.hx_text.specs.Grammars.{text_of, IsFaultyLine}
-use Rattle.hx_text.specs.TreeTexts.{AreTreeLines, AreTreeLinesOf, IsTreeText, EachNodeFits, NodeFits, front_lines, head_of, head_line, rule_lines, node_lines, end_line, tree_lines}
+use Rattle.hx_text.specs.Entries.{entry_line, entries_of}
+use Rattle.hx_text.specs.TreeTexts.{AreTreeLines, AreTreeLinesOf, IsTreeText, EachNodeFits, NodeFits, front_lines, head_of, head_line, node_lines, end_line, tree_lines}
 use Rattle.hx_text.specs.Places.{most_nodes}
 use Rattle.hx_app.specs.Judging.{EndedIn, Before_size, Among_nodes, Inside_node, After_end, IsNoText, IsNoNode, IsTooManyNodes}
 use Rattle.hx_text.proofs.Alignment.{aligned}
@@ -139,7 +140,7 @@ all_of many = many.nodes ++ many.next ∷ []
 
 -- and the lines with which a text of theirs goes on
 many_rest : {input : List ℕ} → IsTooManyNodes input → List (List ℕ)
-many_rest many = rule_lines many.next.rule ++ end_line (length (many.nodes ++ many.next ∷ [])) many.next.heading.winner ∷ []
+many_rest many = map entry_line (entries_of many.next.rule) ++ end_line (length (many.nodes ++ many.next ∷ [])) many.next.heading.winner ∷ []
 
 many_are : {input : List ℕ} (many : IsTooManyNodes input)
     → many_lines many ++ many_rest many ≡ tree_lines many.size (all_of many) many.next.heading.winner

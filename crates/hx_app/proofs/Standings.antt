@@ -19,7 +19,8 @@ ended_in Size nodes lines stands few = Before_size stands.0 (omega (arith, ap le
 ended_in (Between so_far) nodes lines stands few = Among_nodes so_far.size stands.is_size stands.each few stands.same
 ended_in (Inside begun) nodes lines stands few =
     let ends : EndsInNode begun.so_far.size nodes lines = inside_begins_node begun nodes lines stands in
-    Inside_node begun.so_far.size stands.stands.is_size stands.stands.each (omega (arith, stands.room, stands.stands.count)) ends.node ends.fits
+    let so = stands.begun_so in
+    Inside_node begun.so_far.size so.stands.is_size so.stands.each (omega (arith, so.room, so.stands.count)) ends.node ends.fits
     ends.part ends.rest ends.parts ends.lacks ends.same
 ended_in After nodes lines stands few = After_end stands.0 stands.1 stands.2 few
 ended_in (Failed fault) nodes lines stands few = absurd stands
@@ -29,7 +30,7 @@ pub few_nodes : (place : Place) (nodes : List Node) (lines : List (List â„•)) â†
 few_nodes Title nodes lines other stands = omega (arith, ap length stands.0)
 few_nodes Size nodes lines other stands = omega (arith, ap length stands.0)
 few_nodes (Between so_far) nodes lines other stands = omega (arith, stands.room, stands.count)
-few_nodes (Inside begun) nodes lines other stands = omega (arith, stands.room, stands.stands.count)
+few_nodes (Inside begun) nodes lines other stands = omega (arith, stands.begun_so.room, stands.begun_so.stands.count)
 few_nodes After nodes lines other stands = absurd (other refl)
 few_nodes (Failed fault) nodes lines other stands = absurd stands
 
@@ -58,6 +59,6 @@ not_whole (Between so_far) nodes lines other stands are =
     (subst (AreTreeLinesOf are.size are.nodes are.winner) (sym (append-nil lines)) are.are) in
     no_end_line on.on.more _ on.on.rest_is
 not_whole (Inside begun) nodes lines other stands are =
-    in_node_not_whole begun.so_far.size nodes lines stands.stands.is_size stands.stands.each (inside_begins_node begun nodes lines stands) are
+    in_node_not_whole begun.so_far.size nodes lines stands.begun_so.stands.is_size stands.begun_so.stands.each (inside_begins_node begun nodes lines stands) are
 not_whole After nodes lines other stands are = other refl
 not_whole (Failed fault) nodes lines other stands are = stands

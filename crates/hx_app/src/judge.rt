@@ -81,7 +81,8 @@ fn add_node(headings: &mut Vec<Heading>, node: &Node) -> Result<(), NodeFault>
     ensures not_right { IsErrOf result NodeFault.NotRight → IsRightNode headings.old.items node.now → ⊥ }
     ensures unchanged { OnErr result (headings.new.items ≡ headings.old.items) }
 {
-    match check_node(headings.as_slice(), node) {
+    let alloc = *headings.allocator();
+    match check_node(alloc, headings.as_slice(), node) {
         Ok(true) => {}
         Ok(false) => return Err(NodeFault::NotRight),
         Err(Memory) => return Err(NodeFault::Memory),

@@ -4,6 +4,7 @@ mod answered;
 mod damage;
 mod faults;
 mod limits;
+mod links;
 mod solve;
 mod trees;
 mod words;
@@ -107,4 +108,19 @@ fn assert_answer(
     assert_eq!(rt; output, answer, "{trial:?}");
     assert_eq!(rt; outcome.status, status, "{trial:?}");
     Ok(outcome)
+}
+
+/// Each change of the text is found. It is what stands there, what is put in its first place, and the answer.
+fn assert_found(
+    rt: &impl Abort,
+    alloc: Global,
+    text: &str,
+    changes: &[(&str, &str, &str)],
+) -> Result<(), Fail> {
+    for (old, new, answer) in changes {
+        let (before, after) = text.split_once(*old).ok_or("not in the text")?;
+        let changed = format!(in alloc; "{before}{new}{after}")?;
+        let _ = assert_answer(rt, alloc, check_of(changed.as_str(), 4096), 1, answer)?;
+    }
+    Ok(())
 }

@@ -12,21 +12,6 @@ use Rattle.hx_board.specs.Counts.{is_empty, empty_below, empty_count, sweep_size
 use Rattle.hx_board.proofs.SetLaws.{has-insert, has-insert_same, and_both, is_false}
 use Rattle.hx_board.proofs.CellLaws.{on_board-small}
 use Rattle.hx_board.proofs.Tallies.{share, tally, tally-same, tally-one_less, tally-none, count_below-tally}
-use Rattle.hx_board.proofs.PositionLaws.{black-is_position, white-is_position}
-
--- ---- the board with one stone more
-
-pub put-is_board : (board : Board) (colour : Colour) (cell : ℕ) → IsBoard board → IsEmpty board cell → IsBoard (put board colour cell)
-put-is_board board Black cell is e = (is.0, black-is_position board cell is.1 e)
-put-is_board board White cell is e = (is.0, white-is_position board cell is.1 e)
-
-pub put-is_held : (board : Board) (colour : Colour) (cell : ℕ) → IsHeld (put board colour cell) cell
-put-is_held board Black cell = inl (has-insert_same board.black cell)
-put-is_held board White cell = inr (has-insert_same board.white cell)
-
-pub put-same_size : (board : Board) (colour : Colour) (cell : ℕ) → (put board colour cell).size ≡ board.size
-put-same_size board Black cell = refl
-put-same_size board White cell = refl
 
 -- ---- the test of one cell
 

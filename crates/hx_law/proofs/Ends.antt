@@ -6,7 +6,7 @@ use Rattle.hx_board.specs.declared.colours.Colour.{Colour}
 use Rattle.hx_board.specs.Sets.{has}
 use Rattle.hx_board.specs.Cells.{row_of, col_of}
 use Rattle.hx_board.specs.Positions.{Board, IsEmpty, put}
-use Rattle.hx_law.proofs.StoneLaws.{size-put, empty-put}
+use Rattle.hx_board.proofs.StoneLaws.{size-put, empty-put}
 
 -- play on a board ends
 pub data Ends : Board → Type 0 where

@@ -1,10 +1,8 @@
-pub mod ColourLaws
 pub mod Points
 pub mod Depths
 pub mod Triangle
 pub mod BoardInTriangle
 pub mod ChainLaws
-pub mod StoneLaws
 pub mod Ends
 pub mod PlayLaws
 pub mod WinLaws

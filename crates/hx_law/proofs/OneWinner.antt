@@ -10,8 +10,8 @@ use Rattle.hx_board.specs.Positions.{Board, IsBoard, IsEmpty, put}
 use Rattle.hx_board.specs.Graph.{HasChain}
 use Rattle.hx_board.specs.Game.{Wins, By_chain, By_move, By_answers}
 use Rattle.hx_law.specs.Laws.{OneWinner}
-use Rattle.hx_law.proofs.ColourLaws.{other-other, other-differs, one_or_other}
-use Rattle.hx_law.proofs.StoneLaws.{board-put}
+use Rattle.hx_board.proofs.ColourLaws.{other-other, other-differs, one_or_other}
+use Rattle.hx_board.proofs.StoneLaws.{board-put}
 use Rattle.hx_law.proofs.Ends.{Ends, After, ends, some_or_all, some_or_none}
 use Rattle.hx_law.proofs.ChainLaws.{never_both, always_one}
 use Rattle.hx_law.proofs.WinLaws.{chain-put}

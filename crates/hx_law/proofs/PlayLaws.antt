@@ -10,8 +10,9 @@ use Rattle.hx_board.specs.Sets.{has}
 use Rattle.hx_board.specs.Colours.{other_of}
 use Rattle.hx_board.specs.Positions.{Board, IsEmpty, put, stones_of}
 use Rattle.hx_law.specs.Play.{IsFree, Plays, By_goal, By_move, By_answers}
-use Rattle.hx_law.proofs.ColourLaws.{other-differs}
-use Rattle.hx_law.proofs.StoneLaws.{size-put, stones-put, empty-put}
+use Rattle.hx_board.proofs.ColourLaws.{other-differs}
+use Rattle.hx_board.proofs.StoneLaws.{size-put, stones-put, empty-put}
+use Rattle.hx_board.proofs.KeptStones.{KeepsStones}
 use Rattle.hx_law.proofs.Ends.{Ends, After, ends, is_empty, some_or_all}
 
 -- ---- free cells
@@ -40,17 +41,9 @@ module _ (player : Colour) where
   abbrev other : Colour
   other = other_of player
 
-  -- no stone of the player is lost
-  pub record KeepsStones (before after : Board) : Type 0 where
-    pub same_size : after.size ≡ before.size
-    pub own : (n : ℕ) → has (stones_of before player) n ≡ true → has (stones_of after player) n ≡ true
-
-  pub keeps_put : (board : Board) (who : Colour) (cell : ℕ) → KeepsStones board (put board who cell)
-  keeps_put board who cell = record { same_size = size-put board who cell; own = λ n h. (stones-put board who player cell n).1 (inr h) }
-
   -- the board after, with the larger region, is at least as good for the player
   pub record IsAsGood (region larger : ℕ → Bool) (before after : Board) : Type 0 where
-    pub keeps : KeepsStones before after
+    pub keeps : KeepsStones player before after
     pub free : (n : ℕ) → IsFree region before n → IsFree larger after n ⊎ (has (stones_of after player) n ≡ true)
 
   pub as_good_itself : (region : ℕ → Bool) (board : Board) → IsAsGood region region board board
@@ -95,7 +88,7 @@ module _ (player : Colour) where
         at n h (no differ) (inl free) = inl ((free-put larger after who cell n).1 (free, differ))
         at n h (no differ) (inr own) = inr ((stones-put after who player cell n).1 (inr own))
 
-  module _ (Goal : Board → Type 0) (stays : (before after : Board) → KeepsStones before after → Goal before → Goal after) (larger : ℕ → Bool) where
+  module _ (Goal : Board → Type 0) (stays : (before after : Board) → KeepsStones player before after → Goal before → Goal after) (larger : ℕ → Bool) where
     abbrev InReach : Board → Colour → Type 0
     InReach board mover = Plays player larger Goal board mover
 

@@ -1,36 +1,23 @@
 -- A stone more and a move more keep a win: the game is play on the whole board with a chain as the goal, and a chain stays
 -- when the player gets stones.
-use Rattle.std.proofs.Common.{ℕ, List, [], ◌∷◌, Bool, true, refl, inl, inr}
+use Rattle.std.proofs.Common.{ℕ, Bool, true, refl, inl}
 use Rattle.hx_board.specs.declared.colours.Colour.{Colour}
-use Rattle.hx_board.specs.declared.vertices.Vertex.{Vertex}
-use Rattle.hx_board.specs.declared.vertices.Vertex.TheVariants.{Of, First, Last}
+use Rattle.hx_board.specs.declared.vertices.Vertex.TheVariants.{First, Last}
 use Rattle.hx_board.specs.Colours.{other_of}
 use Rattle.hx_board.specs.Positions.{Board, put}
-use Rattle.hx_board.specs.Graph.{IsOwn, Walk, Joined, HasChain}
+use Rattle.hx_board.specs.Graph.{HasChain}
 use Rattle.hx_board.specs.Game.{Wins, By_chain, By_move, By_answers}
+use Rattle.hx_board.proofs.KeptStones.{keeps_put, joined_stays}
 use Rattle.hx_law.specs.Laws.{ExtraStone, ExtraMove}
 use Rattle.hx_law.specs.Play.{Plays, By_goal, By_move as Play_move, By_answers as Play_answers}
-use Rattle.hx_law.proofs.PlayLaws.{KeepsStones, keeps_put, IsAsGood, as_good_itself, as_good_more, kept}
+use Rattle.hx_law.proofs.PlayLaws.{IsAsGood, as_good_itself, as_good_more, kept}
 
 module _ (player : Colour) where
   abbrev other : Colour
   other = other_of player
 
-  pub own_stays : (before after : Board) → KeepsStones player before after → (vertex : Vertex) → IsOwn before player vertex → IsOwn after player vertex
-  own_stays before after keeps (Of cell) own = keeps.own cell own
-  own_stays before after keeps First own = tt
-  own_stays before after keeps Last own = tt
-
-  walk_stays : (before after : Board) → KeepsStones player before after → (from : Vertex) (inner : List Vertex) (to : Vertex) → Walk before player from inner to → Walk after player from inner to
-  walk_stays before after keeps from [] to touch = rw keeps.same_size touch
-  walk_stays before after keeps from (next ∷ rest) to walk = (rw keeps.same_size walk.0, own_stays before after keeps next walk.1, walk_stays before after keeps next rest to walk.2)
-
-  pub joined_stays : (from to : Vertex) (before after : Board) → KeepsStones player before after → Joined before player from to → Joined after player from to
-  joined_stays from to before after keeps (inl same) = inl same
-  joined_stays from to before after keeps (inr walk) = inr (walk.0, walk_stays before after keeps from walk.0 to walk.1)
-
   pub chain-put : (board : Board) (who : Colour) (cell : ℕ) → HasChain board player → HasChain (put board who cell) player
-  chain-put board who cell = joined_stays First Last board (put board who cell) (keeps_put player board who cell)
+  chain-put board who cell = joined_stays player First Last board (put board who cell) (keeps_put player board who cell)
 
   abbrev pub everywhere : ℕ → Bool
   everywhere cell = true
@@ -53,11 +40,11 @@ module _ (player : Colour) where
   pub extra_stone : (board : Board) (mover : Colour) (cell : ℕ) → ExtraStone board mover player cell
   extra_stone board mover cell win =
       let good = as_good_more player everywhere everywhere board board (as_good_itself player everywhere board) player cell (inl refl) in
-      plays-wins (put board player cell) mover ((kept player Chain (joined_stays First Last) everywhere (put board player cell)).better everywhere board mover good (wins-plays board mover win))
+      plays-wins (put board player cell) mover ((kept player Chain (joined_stays player First Last) everywhere (put board player cell)).better everywhere board mover good (wins-plays board mover win))
 
   pub extra_move : (board : Board) → ExtraMove board player
-  extra_move board win = plays-wins board player ((kept player Chain (joined_stays First Last) everywhere board).move_more other refl (wins-plays board other win))
+  extra_move board win = plays-wins board player ((kept player Chain (joined_stays player First Last) everywhere board).move_more other refl (wins-plays board other win))
 
   -- who reaches a chain by moves in a region wins each board that is as good
   pub region_wins : (region : ℕ → Bool) (before after : Board) (mover : Colour) → IsAsGood player region everywhere before after → Plays player region Chain before mover → Wins player after mover
-  region_wins region before after mover good win = plays-wins after mover ((kept player Chain (joined_stays First Last) everywhere after).better region before mover good win)
+  region_wins region before after mover good win = plays-wins after mover ((kept player Chain (joined_stays player First Last) everywhere after).better region before mover good win)

@@ -40,6 +40,11 @@ pub record IsLink (board : Board) (player : Colour) (link : Link) : Type 0 where
 abbrev pub HasEnds : Link → Vertex → Vertex → Type 0
 HasEnds link x y = ((link.a ≡ x) × (link.b ≡ y)) ⊎ ((link.a ≡ y) × (link.b ≡ x))
 
+-- the link joins the player's two sides
+pub record IsChainLink (link : Link) : Type 0 where
+  pub first : link.a ≡ First
+  pub last : link.b ≡ Last
+
 -- two sets that share no cell
 abbrev pub AreApart : ℕ → ℕ → Type 0
 AreApart set other = (cell : ℕ) → has set cell ≡ true → has other cell ≡ false

@@ -7,7 +7,7 @@ ghost use Rattle.std.specs.Prelude.{◌≡◌, ◌<◌, ◌↔◌, IsTrue, Match
 ghost use Rattle.hx_board.specs.Floods.{code_of};
 ghost use Rattle.hx_board.specs.Graph.{IsOwn};
 ghost use Rattle.hx_link.specs.declared.links.Link.{Link};
-ghost use Rattle.hx_link.specs.Steps.{IsEnd, IsOutside, IsLink, HasEnds};
+ghost use Rattle.hx_link.specs.Steps.{IsEnd, IsOutside, IsLink, HasEnds, IsChainLink};
 ghost use Rattle.hx_link.specs.Named.{IsMade};
 
 use hx_board::{Colour, Mask, Position, Vertex};
@@ -30,6 +30,15 @@ pub struct Link {
     pub a: Vertex,
     pub b: Vertex,
     pub carrier: Mask,
+}
+
+impl Link {
+    /// Whether it joins the player's two sides.
+    pub fn joins_sides(&self) -> bool
+        ensures { IsTrue result ↔ IsChainLink self.now }
+    {
+        self.a == Vertex::First && self.b == Vertex::Last
+    }
 }
 
 /// The place of a vertex in vertex order.

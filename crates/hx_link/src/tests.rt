@@ -384,3 +384,15 @@ fn parts_are_their_items(rt: HostRuntime) -> Result<(), Fail> {
     assert_eq!(rt; Parts::new(back), two);
     Ok(())
 }
+
+#[test]
+fn links_between_the_sides(rt: HostRuntime) -> Result<(), Fail> {
+    let (b1, b2) = (of(B1)?, of(B2)?);
+    let chain = semi(First, Last, B2);
+    let to_first = full(b1, First, 0);
+    let to_last = full(b2, Last, 0);
+    assert!(rt; chain.joins_sides());
+    assert!(rt; !to_first.joins_sides());
+    assert!(rt; !to_last.joins_sides());
+    Ok(())
+}

@@ -14,10 +14,10 @@ use Rattle.hx_board.specs.Graph.{IsOwn, Joined}
 use Rattle.hx_board.proofs.SetLaws.{has-insert_same, has-insert_other, has-union_cases, has-union_left, has-union_right}
 use Rattle.hx_board.proofs.Joins.{joined-over_own}
 use Rattle.hx_law.specs.Play.{Plays, By_goal, By_move, By_answers}
-use Rattle.hx_law.proofs.ColourLaws.{other-differs}
-use Rattle.hx_law.proofs.StoneLaws.{stones-put}
+use Rattle.hx_board.proofs.ColourLaws.{other-differs}
+use Rattle.hx_board.proofs.StoneLaws.{stones-put}
 use Rattle.hx_law.proofs.Ends.{Ends, After, ends}
-use Rattle.hx_law.proofs.WinLaws.{own_stays, joined_stays}
+use Rattle.hx_board.proofs.KeptStones.{own_stays, joined_stays}
 use Rattle.hx_link.specs.Steps.{AreApart}
 use Rattle.hx_proof.specs.Local.{IsJoined, Secures}
 use Rattle.hx_proof.proofs.LocalGame.{Goal, Stays, in_reach_in_more_room, in_reach_with_the_move, in_reach_after_stone_outside, in_reach_beside_reached}

@@ -3,3 +3,4 @@ pub mod LocalGame
 pub mod AndSoundness
 pub mod OrSoundness
 pub mod LinkSoundness
+pub mod ThreatSoundness

@@ -1,27 +1,33 @@
 -- Each link that right steps give holds, by induction on the steps, and in it by the rule of the step. The player wins where
--- a link between the two sides holds: the local game is play in a region, and the board is as good for play anywhere.
+-- a link between the two sides holds: the local game is play in a region, and the board is as good for play anywhere. What
+-- holds with the opponent to move does so with the move too, so a Full link wins whoever is to move.
 use Rattle.std.proofs.Common.{◌≡◌, ℕ, zero, suc, List, [], ◌∷◌, ◌++◌, map, true, refl, ◌∙◌, ◌⊎◌, inl, inr, ⊎_elim, Some}
 use Rattle.std.specs.Prelude.{slice_get}
 use Rattle.hx_board.specs.declared.colours.Colour.{Colour}
 use Rattle.hx_board.specs.declared.vertices.Vertex.{Vertex}
-use Rattle.hx_board.specs.declared.vertices.Vertex.TheVariants.{Of}
+use Rattle.hx_board.specs.declared.vertices.Vertex.TheVariants.{Of, First, Last}
 use Rattle.hx_board.specs.Sets.{has, insert, union}
 use Rattle.hx_board.specs.Colours.{other_of}
 use Rattle.hx_board.specs.Positions.{Board}
 use Rattle.hx_board.specs.Game.{Wins}
 use Rattle.hx_board.proofs.SetLaws.{has-union_left, has-union_right}
 use Rattle.hx_law.specs.Play.{By_goal}
+use Rattle.hx_board.proofs.ColourLaws.{one_or_other}
 use Rattle.hx_law.proofs.PlayLaws.{as_good_itself}
-use Rattle.hx_law.proofs.WinLaws.{region_wins, extra_move}
+use Rattle.hx_board.proofs.KeptStones.{joined_stays}
+use Rattle.hx_law.proofs.WinLaws.{region_wins}
 use Rattle.hx_link.specs.declared.links.Kind.{Kind}
 use Rattle.hx_link.specs.declared.links.Kind.TheVariants.{Full, Semi}
 use Rattle.hx_link.specs.declared.links.Link.{Link}
 use Rattle.hx_link.specs.declared.steps.Step.{Step}
 use Rattle.hx_link.specs.declared.steps.Step.TheVariants.{Base, AndStone, AndCell, Or}
-use Rattle.hx_link.specs.Steps.{HasEnds, GivesBase, GivesAndStone, GivesAndCell, GivesOr, GivesByRule, IsOneOf, links_at, carriers_of, AreRightSteps}
-use Rattle.hx_proof.specs.Local.{Secures, mover_for, LinkHolds}
-use Rattle.hx_proof.specs.Links.{IsChainLink, EndInChainLink}
-use Rattle.hx_proof.proofs.LocalGame.{secures-sym}
+use Rattle.hx_link.specs.Steps.{HasEnds, GivesBase, GivesAndStone, GivesAndCell, GivesOr, GivesByRule, IsOneOf, links_at, carriers_of, AreRightSteps, IsChainLink}
+use Rattle.hx_tree.specs.declared.nodes.Heading.{Heading}
+use Rattle.hx_tree.specs.Steps.{AreRightLinks}
+use Rattle.hx_proof.specs.Local.{IsJoined, Secures, mover_for, LinkHolds}
+use Rattle.hx_proof.specs.Links.{EndInChainLink}
+use Rattle.hx_proof.specs.Winners.{HeadingWins}
+use Rattle.hx_proof.proofs.LocalGame.{in_reach_with_the_move, secures-sym}
 use Rattle.hx_proof.proofs.AndSoundness.{and_stone_secures, and_cell_secures}
 use Rattle.hx_proof.proofs.OrSoundness.{or_secures}
 
@@ -57,7 +63,7 @@ module _ (board : Board) (player : Colour) where
   named link carrier x y mover (inl e) s = rw (e.0, e.1) s
   named link carrier x y mover (inr e) s = rw (e.0, e.1) (secures-sym player carrier x y board mover s)
 
-  abbrev AllHold : List Link → Type 0
+  abbrev pub AllHold : List Link → Type 0
   AllHold links = (part : Link) → IsOneOf part links → LinkHolds board player part
 
   module _ (before : List Link) (holds : AllHold before) where
@@ -106,20 +112,44 @@ module _ (board : Board) (player : Colour) where
   pub right_steps_give_what_holds : (steps : List Step) (links : List Link) → AreRightSteps board player [] steps links → AllHold links
   right_steps_give_what_holds steps links right = links_hold [] steps links (λ part w. absurd (cc w.1)) right
 
+  -- ---- a link holds with the move
+
+  with_the_move : (link : Link) (kind : Kind) → Secures player link.carrier link.a link.b board (mover_for player kind) → Secures player link.carrier link.a link.b board player
+  with_the_move link Full secured = in_reach_with_the_move player (IsJoined player link.a link.b) (joined_stays player link.a link.b) (has link.carrier) board secured
+  with_the_move link Semi secured = secured
+
+  pub link_secures_with_the_move : (link : Link) → LinkHolds board player link → Secures player link.carrier link.a link.b board player
+  link_secures_with_the_move link holds = with_the_move link link.kind holds
+
   -- ---- a link between the sides
 
-  chain_link_wins : (link : Link) → LinkHolds board player link → IsChainLink link → Wins player board (mover_for player link.kind)
-  chain_link_wins link holds joins =
-      region_wins player (has link.carrier) board board (mover_for player link.kind)
-      (record { keeps = (as_good_itself player (has link.carrier) board).keeps; free = λ n free. inl (record { inside = refl; empty = free.empty }) })
-      (rw (joins.first, joins.last) at holds)
+  pub who_secures_the_sides_wins : (carrier : ℕ) (mover : Colour) → Secures player carrier First Last board mover → Wins player board mover
+  who_secures_the_sides_wins carrier mover secured =
+      region_wins player (has carrier) board board mover
+      (record { keeps = (as_good_itself player (has carrier) board).keeps; free = λ n free. inl (record { inside = refl; empty = free.empty }) })
+      secured
 
-  with_the_move : (kind : Kind) → Wins player board (mover_for player kind) → Wins player board player
-  with_the_move Full win = extra_move player board win
-  with_the_move Semi win = win
+  chain_link_wins : (link : Link) → LinkHolds board player link → IsChainLink link → Wins player board (mover_for player link.kind)
+  chain_link_wins link holds joins = who_secures_the_sides_wins link.carrier (mover_for player link.kind) (rw (joins.first, joins.last) at holds)
+
+  chain_link_wins_with_the_move : (link : Link) → LinkHolds board player link → IsChainLink link → Wins player board player
+  chain_link_wins_with_the_move link holds joins = who_secures_the_sides_wins link.carrier player (rw (joins.first, joins.last) at (link_secures_with_the_move link holds))
+
+  chain_link_wins_in_time : (link : Link) → LinkHolds board player link → IsChainLink link → (mover : Colour) → (link.kind ≡ Full) ⊎ (mover ≡ player) → Wins player board mover
+  chain_link_wins_in_time link holds joins mover (inl full) =
+      ⊎_elim (λ own. rw own (chain_link_wins_with_the_move link holds joins)) (λ others. rw others (rw full at (chain_link_wins link holds joins))) (one_or_other mover player)
+  chain_link_wins_in_time link holds joins mover (inr own) = rw own (chain_link_wins_with_the_move link holds joins)
+
+  -- ---- right steps that end in a link between the sides
 
   pub end_in_chain_link_wins : (kind : Kind) (steps : List Step) → EndInChainLink board player kind steps → Wins player board (mover_for player kind)
   end_in_chain_link_wins kind steps end = rw end.same_kind at (chain_link_wins end.link (right_steps_give_what_holds steps end.links end.right end.link (_, end.is_last)) end.joins)
 
   pub end_in_chain_link_wins_with_the_move : (kind : Kind) (steps : List Step) → EndInChainLink board player kind steps → Wins player board player
-  end_in_chain_link_wins_with_the_move kind steps end = with_the_move kind (end_in_chain_link_wins kind steps end)
+  end_in_chain_link_wins_with_the_move kind steps end = chain_link_wins_with_the_move end.link (right_steps_give_what_holds steps end.links end.right end.link (_, end.is_last)) end.joins
+
+pub right_links_win : (heading : Heading) (steps : List Step) → AreRightLinks heading steps → HeadingWins heading
+right_links_win heading steps right =
+    chain_link_wins_in_time heading.position heading.winner right.shown.last
+    (right_steps_give_what_holds heading.position heading.winner steps right.links right.steps_right.right right.shown.last (_, right.shown.is_last))
+    right.shown.joins heading.to_move right.shown.in_time

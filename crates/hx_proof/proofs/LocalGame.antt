@@ -9,7 +9,8 @@ use Rattle.hx_board.specs.Colours.{other_of}
 use Rattle.hx_board.specs.Positions.{Board, put}
 use Rattle.hx_board.proofs.Joins.{joined-sym}
 use Rattle.hx_law.specs.Play.{Plays, By_goal, By_move, By_answers}
-use Rattle.hx_law.proofs.PlayLaws.{KeepsStones, keeps_put, as_good_itself, as_good_more, kept}
+use Rattle.hx_board.proofs.KeptStones.{KeepsStones, keeps_put}
+use Rattle.hx_law.proofs.PlayLaws.{as_good_itself, as_good_more, kept}
 use Rattle.hx_proof.specs.Local.{IsJoined, Secures}
 
 abbrev pub Goal : Type 1

@@ -8,8 +8,8 @@ use Rattle.hx_board.specs.Sets.{has, IsSubset}
 use Rattle.hx_board.specs.Colours.{other_of}
 use Rattle.hx_board.specs.Positions.{Board, put}
 use Rattle.hx_law.specs.Play.{By_goal, By_move, By_answers}
-use Rattle.hx_law.proofs.ColourLaws.{other-differs}
-use Rattle.hx_law.proofs.WinLaws.{joined_stays}
+use Rattle.hx_board.proofs.ColourLaws.{other-differs}
+use Rattle.hx_board.proofs.KeptStones.{joined_stays}
 use Rattle.hx_proof.specs.Local.{IsJoined, Secures}
 use Rattle.hx_proof.proofs.LocalGame.{in_reach_in_more_room, in_reach_after_stone_outside}
 

@@ -1,25 +1,29 @@
 -- The winner of a right node wins, where the winners before it do, by the rule of the game tree that its own rule stands
 -- for. So the winner of each node of a valid tree wins, by induction on its place. The other player does not, since one
 -- player wins each position.
-use Rattle.std.proofs.Common.{◌≡◌, ℕ, zero, suc, ◌<◌, List, [], ◌∷◌, take, length, get_or, Option, Some, None, arith}
+use Rattle.std.proofs.Common.{◌≡◌, ℕ, zero, suc, ◌<◌, List, [], ◌∷◌, take, length, get_or, ⊎_elim, Option, Some, None, arith}
 use Rattle.std.specs.Prelude.{slice_get, IfSome, IsSomeAnd}
 use Rattle.hx_board.specs.declared.colours.Colour.{Colour}
 use Rattle.hx_board.specs.Colours.{other_of}
 use Rattle.hx_board.specs.Positions.{Board, put}
 use Rattle.hx_board.specs.Game.{Wins, By_chain, By_move, By_answers}
 use Rattle.hx_law.proofs.OneWinner.{not_both_win}
+use Rattle.hx_link.specs.declared.steps.Step.{Step}
 use Rattle.hx_tree.specs.declared.nodes.Heading.{Heading}
 use Rattle.hx_tree.specs.declared.nodes.Line.{Line}
 use Rattle.hx_tree.specs.declared.nodes.Line.TheVariants.{Child}
 use Rattle.hx_tree.specs.declared.nodes.Node.{Node}
 use Rattle.hx_tree.specs.declared.nodes.Rule.{Rule}
-use Rattle.hx_tree.specs.declared.nodes.Rule.TheVariants.{Chain, Move, All}
+use Rattle.hx_tree.specs.declared.nodes.Rule.TheVariants.{Chain, Links, Move, All}
 use Rattle.hx_tree.specs.Headings.{IsHeading}
-use Rattle.hx_tree.specs.Answers.{cell_of, cells_of, IsRightLine}
+use Rattle.hx_tree.specs.Steps.{IsInEachThreat}
+use Rattle.hx_tree.specs.Answers.{cell_of, cells_of, IsRightLine, IsRightAll}
 use Rattle.hx_tree.specs.Rules.{IsRightRule, IsRightNode}
 use Rattle.hx_tree.specs.Trees.{headings_of, AreRight, IsValidTree, IsRoot}
 use Rattle.hx_tree.proofs.TreeGrowth.{slice_get-append_seam}
 use Rattle.hx_proof.specs.Winners.{HeadingWins, OnlyWinner, AllWin}
+use Rattle.hx_proof.proofs.LinkSoundness.{right_steps_give_what_holds, right_links_win}
+use Rattle.hx_proof.proofs.ThreatSoundness.{LeavesWhole, shared_or_whole, threat_left_whole_wins}
 
 -- who an earlier heading says wins does win
 child_wins : (child : Option Heading) (board : Board) (mover winner : Colour) → IfSome child HeadingWins → IsSomeAnd child (IsHeading board mover winner) → Wins winner board mover
@@ -37,13 +41,24 @@ answer_wins before heading wins [] k cell less is right = absurd (omega arith)
 answer_wins before heading wins (line ∷ lines) zero cell less is right = rw is at (line_wins before heading wins line right)
 answer_wins before heading wins (line ∷ lines) (suc k) cell less is right = answer_wins before heading wins lines k cell (omega arith) is right
 
+-- the opponent's move is in all threats, and has a line, or leaves one of them whole
+all_wins : (before : List Heading) (heading : Heading) (steps : List Step) (threats : List ℕ) (lines : List Line) → ((k : ℕ) → IfSome (slice_get before k) HeadingWins)
+    → IsRightAll before heading steps threats lines → HeadingWins heading
+all_wins before heading steps threats lines wins right =
+    By_answers heading.position heading.to_move right.some right.mover right.some_empty
+    (λ cell empty. ⊎_elim
+    (λ (shared : IsInEachThreat right.links threats cell). let found = right.answered.cells.each cell (record { empty = empty; shared = shared }) in
+    answer_wins before heading wins lines found.0 cell found.1 found.2 (right.answered.lines_right found.0))
+    (λ (whole : LeavesWhole right.links cell). threat_left_whole_wins heading.position heading.winner right.links
+    (right_steps_give_what_holds heading.position heading.winner steps right.links right.steps_right.right) cell whole)
+    (shared_or_whole right.links threats cell right.answered.threats_right.each))
+
 rule_wins : (before : List Heading) (heading : Heading) (rule : Rule) → ((k : ℕ) → IfSome (slice_get before k) HeadingWins) → IsRightRule before heading rule → HeadingWins heading
 rule_wins before heading Chain wins right = By_chain heading.position heading.to_move right
+rule_wins before heading (Links steps) wins right = right_links_win heading steps right
 rule_wins before heading (Move cell child) wins right =
     By_move heading.position heading.to_move cell right.mover right.empty (child_wins _ _ _ _ (wins child) right.leads)
-rule_wins before heading (All lines) wins right =
-    By_answers heading.position heading.to_move right.some right.mover right.some_empty
-    (λ cell empty. let found = right.answered.each cell empty in answer_wins before heading wins lines found.0 cell found.1 found.2 (right.lines_right found.0))
+rule_wins before heading (All steps threats lines) wins right = all_wins before heading steps threats lines wins right
 
 pub node_wins : (before : List Heading) (node : Node) → ((k : ℕ) → IfSome (slice_get before k) HeadingWins) → IsRightNode before node → HeadingWins node.heading
 node_wins before node wins right = rule_wins before node.heading node.rule wins right.rule

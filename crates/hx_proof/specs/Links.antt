@@ -2,17 +2,11 @@
 use Rattle.std.specs.Prelude.{◌≡◌, List, [], length, slice_get, ◌-◌}
 use Rattle.std.specs.declared.option.Option.TheVariants.{Some}
 use Rattle.hx_board.specs.declared.colours.Colour.{Colour}
-use Rattle.hx_board.specs.declared.vertices.Vertex.TheVariants.{First, Last}
 use Rattle.hx_board.specs.Positions.{Board}
 use Rattle.hx_link.specs.declared.links.Kind.{Kind}
 use Rattle.hx_link.specs.declared.links.Link.{Link}
 use Rattle.hx_link.specs.declared.steps.Step.{Step}
-use Rattle.hx_link.specs.Steps.{AreRightSteps}
-
--- the link joins the player's two sides
-pub record IsChainLink (link : Link) : Type 0 where
-  pub first : link.a ≡ First
-  pub last : link.b ≡ Last
+use Rattle.hx_link.specs.Steps.{AreRightSteps, IsChainLink}
 
 -- right steps, of which the last gives a link of this kind between the player's two sides
 pub record EndInChainLink (board : Board) (player : Colour) (kind : Kind) (steps : List Step) : Type 0 where

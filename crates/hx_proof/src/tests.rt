@@ -1,17 +1,16 @@
 //! Callers of the laws on small trees and on steps for links: what the checker says of nodes becomes that their winners win,
 //! and the links that steps give that the player wins.
 
-ghost use Rattle.std.specs.Prelude.{◌<◌, ◌^◌, ◌↔◌, length, IsTrue, IfOk, IfSome};
+ghost use Rattle.std.specs.Prelude.{◌<◌, ◌^◌, length, IsTrue, IfOk, IfSome};
 ghost use Rattle.hx_board.specs.Game.{Wins};
-ghost use Rattle.hx_proof.specs.Links.{IsChainLink};
 ghost use Rattle.hx_proof.specs.Local.{mover_for};
 ghost use Rattle.hx_proof.specs.Winners.{HeadingWins, AllWin};
 
 use super::*;
 use hx_board::Colour::{Black, White};
 use hx_board::{Cell, Colour, Groups, Mask, Memory, Position, Size, Vertex};
-use hx_link::{Kind, Link, Step, result_of};
-use hx_tree::{Heading, Line, Lines, Node, Rule, Verdict, check_node, check_tree};
+use hx_link::{Kind, Step, result_of};
+use hx_tree::{Heading, Line, Lines, Node, Rule, Steps, Threats, Verdict, check_node, check_tree};
 use std::alloc::Global;
 use std::test::Fail;
 
@@ -30,10 +29,10 @@ fn is_proof(alloc: Global, nodes: &[Node]) -> Result<bool, Memory>
 }
 
 /// Whether the node is right with no node before it, and so its winner wins.
-fn is_leaf(node: &Node) -> Result<bool, Memory>
+fn is_leaf(alloc: Global, node: &Node) -> Result<bool, Memory>
     ensures { IfOk result (λ answer. IsTrue answer → HeadingWins node.now.heading) }
 {
-    let is_right = check_node(&[], node)?;
+    let is_right = check_node(alloc, &[], node)?;
     if is_right {
         node_sound(&[], node);
     }
@@ -70,8 +69,8 @@ fn winners_win(rt: HostRuntime) -> Result<(), Fail> {
             child: 0,
         },
     };
-    assert!(rt; is_leaf(&won)?);
-    assert!(rt; !is_leaf(&start)?);
+    assert!(rt; is_leaf(rt.alloc(), &won)?);
+    assert!(rt; !is_leaf(rt.alloc(), &start)?);
     assert!(rt; is_proof(rt.alloc(), &[won, start])?);
     Ok(())
 }
@@ -89,6 +88,8 @@ fn who_answers_each_move_wins(rt: HostRuntime) -> Result<(), Fail> {
     let start = Node {
         heading: heading(2, 1, 0, White)?,
         rule: Rule::All {
+            steps: Steps::new(Vec::new(rt.alloc())),
+            threats: Threats::new(Vec::new(rt.alloc())),
             lines: Lines::new(vec![in rt.alloc(); line]?),
         },
     };
@@ -96,11 +97,58 @@ fn who_answers_each_move_wins(rt: HostRuntime) -> Result<(), Fail> {
     Ok(())
 }
 
-/// Whether the link joins the two sides.
-fn joins_sides(link: &Link) -> bool
-    ensures { IsTrue result ↔ IsChainLink link.now }
-{
-    link.a == Vertex::First && link.b == Vertex::Last
+/// The steps of a Semi link between Black's sides by the cell.
+fn by_cell(alloc: Global, cell: Cell) -> Result<Steps, Fail> {
+    let (to_first, to_last) = to_sides(cell);
+    let over_cell = Step::AndCell { left: 0, right: 1 };
+    Ok(Steps::new(vec![in alloc; to_first, to_last, over_cell]?))
+}
+
+#[test]
+fn a_link_with_the_move_wins(rt: HostRuntime) -> Result<(), Fail> {
+    let linked = Node {
+        heading: heading(2, 0, 0, Black)?,
+        rule: Rule::Links {
+            steps: by_cell(rt.alloc(), cell(0)?)?,
+        },
+    };
+    assert!(rt; is_leaf(rt.alloc(), &linked)?);
+    let without_move = Node {
+        heading: heading(2, 0, 0, White)?,
+        rule: linked.rule,
+    };
+    assert!(rt; !is_leaf(rt.alloc(), &without_move)?);
+    Ok(())
+}
+
+/// White's move to the first cell has a line, and his move to the second leaves the link by the first whole.
+#[test]
+fn a_threat_answers_the_moves_that_leave_it_whole(rt: HostRuntime) -> Result<(), Fail> {
+    let won = Node {
+        heading: heading(2, 2, 1, White)?,
+        rule: Rule::Chain,
+    };
+    let answer = Node {
+        heading: heading(2, 0, 1, Black)?,
+        rule: Rule::Move {
+            cell: cell(1)?,
+            child: 0,
+        },
+    };
+    let line = Line::Child {
+        cell: cell(0)?,
+        child: 1,
+    };
+    let start = Node {
+        heading: heading(2, 0, 0, White)?,
+        rule: Rule::All {
+            steps: by_cell(rt.alloc(), cell(0)?)?,
+            threats: Threats::new(vec![in rt.alloc(); 2]?),
+            lines: Lines::new(vec![in rt.alloc(); line]?),
+        },
+    };
+    assert!(rt; is_proof(rt.alloc(), &[won, answer, start])?);
+    Ok(())
 }
 
 /// The kind of the last link that three steps give, where it joins the two sides, and so the player wins.
@@ -126,7 +174,7 @@ fn shown_by(
     let Some(last) = result_of(position, colour, &groups, &before, &third) else {
         return None;
     };
-    let joins = joins_sides(&last);
+    let joins = last.joins_sides();
     if !joins {
         return None;
     }

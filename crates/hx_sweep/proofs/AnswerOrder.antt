@@ -21,8 +21,9 @@ use Rattle.hx_tree.specs.declared.nodes.Node.{Node}
 use Rattle.hx_tree.specs.declared.nodes.Line.{Line}
 use Rattle.hx_tree.specs.declared.nodes.Line.TheVariants.{Child}
 use Rattle.hx_tree.specs.Headings.{IsHeading}
-use Rattle.hx_tree.specs.Answers.{AreInOrder, IsRightLine, cell_of, cells_of}
+use Rattle.hx_tree.specs.Answers.{AreInOrder, IsToAnswer, IsRightLine, IsRightAll, cell_of, cells_of}
 use Rattle.hx_tree.specs.Trees.{headings_of}
+use Rattle.hx_tree.proofs.CellOrder.{same_kind}
 use Rattle.hx_tree.proofs.TreeGrowth.{headings_of-append}
 use Rattle.hx_sweep.specs.Growth.{heading_of, IsProved}
 use Rattle.hx_sweep.proofs.NodeGrowth.{some_and-append, proved_leads}
@@ -159,4 +160,27 @@ all_answered board winner left headings lines before none = record {
   each = λ cell empty. before.in_order.each cell (empty, none cell empty.on_board);
   only = λ k d less. (before.in_order.only k d less).0;
   in_order = before.in_order.in_order;
+}
+
+-- ---- a node of lines alone
+
+-- where there is no threat, each empty cell is to be answered
+all_to_answer : (board : Board) (cell : ℕ) → IsEmpty board cell ↔ IsToAnswer board [] [] cell
+all_to_answer board cell = (λ empty. record { empty = empty; shared = λ k. tt }, λ is. is.empty)
+
+-- lines for all moves need no steps and no threats
+pub right_by_lines : (headings : List Heading) (board : Board) (winner : Colour) (lines : List Line) (some : ℕ) → IsEmpty board some → AreInOrder (IsEmpty board) (cells_of lines)
+    → ((k : ℕ) → IfSome (slice_get lines k) (IsRightLine headings (heading_of board (other_of winner) winner)))
+    → IsRightAll headings (heading_of board (other_of winner) winner) [] [] lines
+right_by_lines headings board winner lines some empty in_order right = record {
+  mover = refl;
+  some = some;
+  some_empty = empty;
+  links = [];
+  steps_right = record { few = omega arith; right = refl };
+  answered = record {
+    threats_right = record { few = omega arith; each = λ k. tt };
+    cells = same_kind (IsEmpty board) (IsToAnswer board [] []) (cells_of lines) (all_to_answer board) in_order;
+    lines_right = right;
+  };
 }

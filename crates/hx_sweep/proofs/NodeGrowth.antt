@@ -10,7 +10,8 @@ use Rattle.hx_board.specs.declared.colours.Colour.{Colour}
 use Rattle.hx_board.specs.Cells.{Extent}
 use Rattle.hx_board.specs.Positions.{Board, IsBoard, IsEmpty, put}
 use Rattle.hx_board.specs.Counts.{empty_count, sweep_size}
-use Rattle.hx_board.proofs.EmptyCells.{put-is_board, put-same_size, empty_count-put, some_empty-count, sweep_size-suc, sweep_size-positive}
+use Rattle.hx_board.proofs.StoneLaws.{size-put, board-put}
+use Rattle.hx_board.proofs.EmptyCells.{empty_count-put, some_empty-count, sweep_size-suc, sweep_size-positive}
 use Rattle.hx_tree.specs.declared.nodes.Heading.{Heading}
 use Rattle.hx_tree.specs.declared.nodes.Node.{Node}
 use Rattle.hx_tree.specs.declared.nodes.Rule.{Rule}
@@ -71,16 +72,16 @@ count_after board stone cell valid empty = omega (arith, empty_count-put board s
 pub begun_after : (board : Board) (stone : Colour) (cell limit : ℕ) (before after : List Node) → IsBegun board before → IsGrown board.size limit before after
     → IsEmpty board cell → limit + sweep_size (empty_count board - 1) ≤ sweep_size (empty_count board) → IsBegun (put board stone cell) after
 begun_after board stone cell limit before after begun grown empty enough = record {
-  valid = put-is_board board stone cell begun.valid empty;
+  valid = board-put board stone cell begun.valid empty;
   right = grown.right;
-  of_size = rw (put-same_size board stone cell) grown.of_size;
+  of_size = rw (size-put board stone cell) grown.of_size;
   room = rw (count_after board stone cell begun.valid empty) (omega (arith, ap length grown.same, length-append before grown.more, grown.few, begun.room));
 }
 
 pub grown_after : (board : Board) (stone mover winner : Colour) (cell number : ℕ) (before after : List Node) → IsBoard board → IsEmpty board cell
     → IsProved (put board stone cell) mover winner before after number → IsGrown board.size (sweep_size (empty_count board - 1)) before after
 grown_after board stone mover winner cell number before after valid empty proved =
-    rw (put-same_size board stone cell, count_after board stone cell valid empty) at proved.grown
+    rw (size-put board stone cell, count_after board stone cell valid empty) at proved.grown
 
 -- ---- the node of a position
 

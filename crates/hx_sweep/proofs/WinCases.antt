@@ -9,8 +9,8 @@ use Rattle.hx_board.specs.Colours.{other_of}
 use Rattle.hx_board.specs.Positions.{Board, IsBoard, IsEmpty, put}
 use Rattle.hx_board.specs.Graph.{HasChain}
 use Rattle.hx_board.specs.Game.{Wins, By_chain, By_move, By_answers}
-use Rattle.hx_board.proofs.EmptyCells.{put-is_board}
-use Rattle.hx_law.proofs.ColourLaws.{other-other, other-differs}
+use Rattle.hx_board.proofs.StoneLaws.{board-put}
+use Rattle.hx_board.proofs.ColourLaws.{other-other, other-differs}
 use Rattle.hx_law.proofs.Ends.{some_or_none}
 use Rattle.hx_law.proofs.ChainLaws.{always_one}
 use Rattle.hx_law.proofs.OneWinner.{not_both_win}
@@ -41,5 +41,5 @@ pub not_all_refuted : (board : Board) (winner mover : Colour) → mover ≡ winn
     → ((cell : ℕ) → IsEmpty board cell → IsRefuted board winner cell) → ⊥
 not_all_refuted board winner mover own is none (By_chain _ _ chain) refuted = none chain
 not_all_refuted board winner mover own is none (By_move _ _ cell _ empty wins) refuted =
-    not_both_win (put board winner cell) (put-is_board board winner cell is empty) winner (other_of winner) wins (refuted cell empty)
+    not_both_win (put board winner cell) (board-put board winner cell is empty) winner (other_of winner) wins (refuted cell empty)
 not_all_refuted board winner mover own is none (By_answers _ _ _ others _ _) refuted = other-differs winner (sym own ∙ others)

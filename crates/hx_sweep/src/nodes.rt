@@ -4,7 +4,7 @@
 //! are tried, but without nodes. So no node is ever taken back or moved, and its number stays what it was when it was
 //! made.
 
-ghost use Rattle.std.specs.Prelude.{◌≡◌, ◌-◌, IfOk};
+ghost use Rattle.std.specs.Prelude.{◌≡◌, ◌-◌, IfOk, []};
 ghost use Rattle.hx_board.specs.Colours.{other_of};
 ghost use Rattle.hx_board.specs.Counts.{empty_count, sweep_size};
 ghost use Rattle.hx_board.specs.Positions.{IsBoard, IsEmpty, put};
@@ -17,7 +17,7 @@ ghost use Rattle.hx_sweep.specs.Growth.{heading_of, IsBegun, IsGrown, IsProved};
 
 use crate::winners::winning_move;
 use hx_board::{Cell, Colour, Memory, Position, chain};
-use hx_tree::{Heading, Line, Lines, Node, Rule};
+use hx_tree::{Heading, Line, Lines, Node, Rule, Steps, Threats};
 
 /// Adds the nodes of a proof that the winner wins the position with this mover, and tells the number of the last, which
 /// is the node of the position. The position is kept, as it is by each function here, also where memory is wanting.
@@ -63,7 +63,10 @@ fn rule(
     }
     if to_move != winner {
         let lines = answers(nodes, position, winner)?;
+        let alloc = *nodes.allocator();
         return Ok(Rule::All {
+            steps: Steps::new(Vec::new(alloc)),
+            threats: Threats::new(Vec::new(alloc)),
             lines: Lines::new(lines),
         });
     }
@@ -89,7 +92,7 @@ fn answers(
     requires begun { IsBegun position.old nodes.old.items }
     ensures kept { position.new ≡ position.old }
     ensures grown { IfOk result (λ lines. IsGrown position.old.size (sweep_size (empty_count position.old) - 1) nodes.old.items nodes.new.items) }
-    ensures right { IfOk result (λ lines. IsRightAll (headings_of nodes.new.items) (heading_of position.old (other_of winner) winner) lines.items) }
+    ensures right { IfOk result (λ lines. IsRightAll (headings_of nodes.new.items) (heading_of position.old (other_of winner) winner) [] [] lines.items) }
 {
     let size = position.size();
     let mut lines = Vec::new(*nodes.allocator());

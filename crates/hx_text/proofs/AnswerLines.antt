@@ -8,7 +8,7 @@ use Rattle.hx_tree.specs.declared.nodes.Line.{Line}
 use Rattle.hx_tree.specs.declared.nodes.Line.TheVariants.{Child}
 use Rattle.hx_tree.specs.Answers.{cell_of}
 use Rattle.hx_text.specs.Words.{cell_word, words_in, IsNumber}
-use Rattle.hx_text.specs.TreeTexts.{answer_words, answer_line, AnswerFits}
+use Rattle.hx_text.specs.Entries.{answer_words, answer_line, AnswerFits}
 use Rattle.hx_text.proofs.Spacing.{words_in-spaced}
 use Rattle.hx_text.proofs.HighBytes.{AllHigh, is_high, IsHigh-test, IsHigh-decimal, IsHigh-cell_word, IsLine-high}
 

@@ -1,26 +1,31 @@
--- A node that lacks some of its lines is the front of a whole node: of the one that has the line of the cell a1 and the child
--- 0 in place of each line that it lacks. So the lines so far are those of whole nodes, and a front of one node's lines. They
--- are no whole text, since no front of a node's lines is a list of whole nodes' lines and a last line.
-use Rattle.std.proofs.Common.{◌≡◌, ◌≢◌, ℕ, zero, suc, ◌-◌, List, [], ◌∷◌, ◌++◌, length, map, refl, ap, ◌∙◌, subst, arith, replicate, append_assoc, length-append}
+-- A node that lacks some of its entries is the front of a whole node: of the one that has the base of the first side with
+-- itself, the threat 0, or the answer by the child 0 at the cell a1 in place of each entry that it lacks. So the lines so far are
+-- those of whole nodes, and a front of one node's lines. They are no whole text, since no front of a node's lines is a list of
+-- whole nodes' lines and a last line.
+use Rattle.std.proofs.Common.{◌≡◌, ◌≢◌, ℕ, zero, suc, ◌+◌, ◌-◌, ◌<◌, ◌≤◌, List, [], ◌∷◌, ◌++◌, length, map, refl, sym, ap, ◌∙◌, subst, arith, replicate, append_assoc, length-append, ⊎_elim}
+use Rattle.std.proofs.lemmas.Bool.{cases_lt}
 use Rattle.std.proofs.lemmas.List.{append-nil, map-append, length-map, length-replicate}
 use Rattle.std.specs.Prelude.{flat_map}
 use Rattle.hx_board.specs.declared.colours.Colour.{Colour}
+use Rattle.hx_board.specs.declared.vertices.Vertex.TheVariants.{First}
 use Rattle.hx_board.specs.Cells.{Extent, IsExtent}
+use Rattle.hx_link.specs.declared.steps.Step.{Step}
+use Rattle.hx_link.specs.declared.steps.Step.TheVariants.{Base}
 use Rattle.hx_tree.specs.declared.nodes.Line.{Line}
 use Rattle.hx_tree.specs.declared.nodes.Line.TheVariants.{Child}
-use Rattle.hx_tree.specs.declared.nodes.Rule.TheVariants.{Chain, Move, All}
 use Rattle.hx_tree.specs.declared.nodes.Node.{Node}
+use Rattle.hx_text.specs.declared.entries.Entry.{Entry}
 use Rattle.hx_text.specs.declared.begun_nodes.Begun.{Begun}
 use Rattle.hx_text.specs.declared.node_lines.Head.{Head}
 use Rattle.hx_text.specs.declared.node_lines.Opening.{Opening}
-use Rattle.hx_text.specs.declared.node_lines.Opening.TheVariants.{Chain as Chain_opening, Move as Move_opening, All as All_opening}
-use Rattle.hx_tree.specs.declared.nodes.Heading.{Heading}
 use Rattle.hx_text.specs.Words.{IsNumber}
-use Rattle.hx_text.specs.TreeTexts.{AreTreeLines, AreTreeLinesOf, NodeFits, EachNodeFits, HeadFits, AnswerFits, EachAnswerFits, head_of, head_line, answer_line, node_lines, front_lines, end_line}
-use Rattle.hx_text.specs.Places.{StandsInside}
+use Rattle.hx_text.specs.Entries.{entry_line, EachEntryFits, entries_for, entries_of, steps_told, threats_told, answers_told, rule_for}
+use Rattle.hx_text.specs.TreeTexts.{AreTreeLines, AreTreeLinesOf, NodeFits, EachNodeFits, HeadFits, head_of, head_line, node_lines, front_lines, end_line}
+use Rattle.hx_text.specs.Places.{entries_in, IsInOrder, StandsInside}
+use Rattle.hx_text.proofs.EntryLists.{step_entry, threat_entry, answer_entry, nil_of_length, EachEntryFits-append, length-entries_for, steps_more, threats_more, answers_more, opening_of-rule_for, entries_of-rule_for}
 use Rattle.hx_text.proofs.NodeInjective.{head_not_end, node_cancel}
 use Rattle.hx_text.proofs.Alignment.{aligned}
-use Rattle.hx_text.proofs.BegunSteps.{all_head, EachAnswerFits-append}
+use Rattle.hx_text.proofs.BegunSteps.{no_threats_yet, no_answers_before_steps, no_answers_before_threats}
 
 -- the lines are those of these nodes, and then some lines of one node, and not all of them
 pub record EndsInNode (size : Extent) (nodes : List Node) (lines : List (List ℕ)) : Type 0 where
@@ -33,49 +38,184 @@ pub record EndsInNode (size : Extent) (nodes : List Node) (lines : List (List �
   pub parts : node_lines node ≡ part ++ rest
   pub same : lines ≡ (front_lines size ++ flat_map node_lines nodes) ++ part
 
-abbrev any_answer : Line
+-- what stands in for an entry that is missing
+any_step : Step
+any_step = Base First First
+
+any_answer : Line
 any_answer = Child 0 0
 
-any_answer_fits : (size : Extent) → IsExtent size.rows size.cols → AnswerFits size any_answer
-any_answer_fits size extent = (record { row = omega (arith, extent); col = omega (arith, extent) }, omega arith)
+-- so many of each
+record Fills : Type 0 where
+  steps : List Step
+  threats : List ℕ
+  lines : List Line
 
-fills : ℕ → List Line
-fills n = replicate n any_answer
+fills : Begun → Fills
+fills begun = record {
+  steps = replicate (steps_told begun.head.opening - length begun.steps.items) any_step;
+  threats = replicate (threats_told begun.head.opening - length begun.threats.items) 0;
+  lines = replicate (answers_told begun.head.opening - length begun.lines.items) any_answer;
+}
 
-fills_fit : (size : Extent) (n : ℕ) → IsExtent size.rows size.cols → EachAnswerFits size (fills n)
-unfolding fills
-fills_fit size zero extent = tt
-fills_fit size (suc n) extent = (any_answer_fits size extent, fills_fit size n extent)
+steps_fit : (size : Extent) (n : ℕ) → EachEntryFits size (map step_entry (replicate n any_step))
+unfolding any_step
+steps_fit size zero = tt
+steps_fit size (suc n) = ((tt, tt), steps_fit size n)
 
--- how many lines the node lacks
-abbrev lacking : Begun → ℕ
-lacking begun = begun.wanted - length begun.lines.items
+threats_fit : (size : Extent) (n : ℕ) → EachEntryFits size (map threat_entry (replicate n 0))
+threats_fit size zero = tt
+threats_fit size (suc n) = (omega arith, threats_fit size n)
 
-abbrev filled : Begun → Node
-filled begun = record { heading = begun.heading; rule = All (begun.lines.items ++ fills (lacking begun)) }
+answers_fit : (size : Extent) (n : ℕ) → IsExtent size.rows size.cols → EachEntryFits size (map answer_entry (replicate n any_answer))
+unfolding any_answer
+answers_fit size zero extent = tt
+answers_fit size (suc n) extent = ((record { row = omega (arith, extent); col = omega (arith, extent) }, omega arith), answers_fit size n extent)
+
+-- the entries that are missing, where so many of each kind came
+rest_of : Begun → List Entry
+rest_of begun = entries_for (fills begun).steps (fills begun).threats (fills begun).lines
+
+rest_fits : (begun : Begun) (size : Extent) → IsExtent size.rows size.cols → EachEntryFits size (rest_of begun)
+unfolding rest_of fills
+rest_fits begun size extent =
+    EachEntryFits-append size (map step_entry (fills begun).steps ++ map threat_entry (fills begun).threats) (map answer_entry (fills begun).lines)
+    (EachEntryFits-append size (map step_entry (fills begun).steps) (map threat_entry (fills begun).threats)
+    (steps_fit size (steps_told begun.head.opening - length begun.steps.items)) (threats_fit size (threats_told begun.head.opening - length begun.threats.items)))
+    (answers_fit size (answers_told begun.head.opening - length begun.lines.items) extent)
+
+rest_missing : (begun : Begun) → IsInOrder begun → length (rest_of begun) ≡ begun.missing
+unfolding rest_of fills
+rest_missing begun order =
+    omega (
+      arith,
+      length-entries_for (fills begun).steps (fills begun).threats (fills begun).lines,
+      length-replicate (steps_told begun.head.opening - length begun.steps.items) any_step,
+      length-replicate {A = ℕ} (threats_told begun.head.opening - length begun.threats.items) 0,
+      length-replicate (answers_told begun.head.opening - length begun.lines.items) any_answer,
+      order.missing,
+      order.steps,
+      order.threats,
+      order.answers,
+    )
+
+abbrev all_steps : Begun → List Step
+all_steps begun = begun.steps.items ++ (fills begun).steps
+
+abbrev all_threats : Begun → List ℕ
+all_threats begun = begun.threats.items ++ (fills begun).threats
+
+abbrev all_lines : Begun → List Line
+all_lines begun = begun.lines.items ++ (fills begun).lines
+
+-- the entries that came, and then those that are missing
+module _ (begun : Begun) (order : IsInOrder begun) where
+  abbrev told_steps : ℕ
+  told_steps = steps_told begun.head.opening
+
+  abbrev told_threats : ℕ
+  told_threats = threats_told begun.head.opening
+
+  abbrev AreWhole : Type 0
+  AreWhole = entries_for (all_steps begun) (all_threats begun) (all_lines begun) ≡ entries_in begun ++ rest_of begun
+
+  lacks_steps : length begun.steps.items < told_steps → AreWhole
+  unfolding rest_of
+  lacks_steps less =
+      let no_threats = no_threats_yet begun order less in
+      let no_lines = no_answers_before_steps begun order less in
+      ap (λ (ts : List ℕ). entries_for (all_steps begun) (ts ++ (fills begun).threats) (all_lines begun)) no_threats
+      ∙ ap (λ (ls : List Line). entries_for (all_steps begun) (fills begun).threats (ls ++ (fills begun).lines)) no_lines
+      ∙ steps_more begun.steps.items (fills begun).steps (fills begun).threats (fills begun).lines
+      ∙ ap (λ (ts : List ℕ). entries_for begun.steps.items ts [] ++ rest_of begun) (sym no_threats)
+      ∙ ap (λ (ls : List Line). entries_for begun.steps.items begun.threats.items ls ++ rest_of begun) (sym no_lines)
+
+  no_more_steps : told_steps ≤ length begun.steps.items → (fills begun).steps ≡ []
+  unfolding fills
+  no_more_steps past = nil_of_length (fills begun).steps (omega (arith, length-replicate (told_steps - length begun.steps.items) any_step, past))
+
+  no_more_threats : told_threats ≤ length begun.threats.items → (fills begun).threats ≡ []
+  unfolding fills
+  no_more_threats past = nil_of_length (fills begun).threats (omega (arith, length-replicate {A = ℕ} (told_threats - length begun.threats.items) 0, past))
+
+  lacks_threats : told_steps ≤ length begun.steps.items → length begun.threats.items < told_threats → AreWhole
+  unfolding rest_of
+  lacks_threats past less =
+      let no_steps = no_more_steps past in
+      let no_lines = no_answers_before_threats begun order less in
+      ap (λ (ss : List Step). entries_for (begun.steps.items ++ ss) (all_threats begun) (all_lines begun)) no_steps
+      ∙ ap (λ (ss : List Step). entries_for ss (all_threats begun) (all_lines begun)) (append-nil begun.steps.items)
+      ∙ ap (λ (ls : List Line). entries_for begun.steps.items (all_threats begun) (ls ++ (fills begun).lines)) no_lines
+      ∙ threats_more begun.steps.items begun.threats.items (fills begun).threats (fills begun).lines
+      ∙ ap (λ (ls : List Line). entries_for begun.steps.items begun.threats.items ls ++ entries_for [] (fills begun).threats (fills begun).lines) (sym no_lines)
+      ∙ ap (λ (ss : List Step). entries_in begun ++ entries_for ss (fills begun).threats (fills begun).lines) (sym no_steps)
+
+  lacks_answers : told_steps ≤ length begun.steps.items → told_threats ≤ length begun.threats.items → AreWhole
+  unfolding rest_of
+  lacks_answers past later =
+      let no_steps = no_more_steps past in
+      let no_threats = no_more_threats later in
+      ap (λ (ss : List Step). entries_for (begun.steps.items ++ ss) (all_threats begun) (all_lines begun)) no_steps
+      ∙ ap (λ (ss : List Step). entries_for ss (all_threats begun) (all_lines begun)) (append-nil begun.steps.items)
+      ∙ ap (λ (ts : List ℕ). entries_for begun.steps.items (begun.threats.items ++ ts) (all_lines begun)) no_threats
+      ∙ ap (λ (ts : List ℕ). entries_for begun.steps.items ts (all_lines begun)) (append-nil begun.threats.items)
+      ∙ answers_more begun.steps.items begun.threats.items begun.lines.items (fills begun).lines
+      ∙ ap (λ (ss : List Step). entries_in begun ++ entries_for ss [] (fills begun).lines) (sym no_steps)
+      ∙ ap (λ (ts : List ℕ). entries_in begun ++ entries_for (fills begun).steps ts (fills begun).lines) (sym no_threats)
+
+  whole_entries : AreWhole
+  whole_entries =
+      ⊎_elim lacks_steps (λ past. ⊎_elim (lacks_threats past) (lacks_answers past) (cases_lt (length begun.threats.items) told_threats))
+      (cases_lt (length begun.steps.items) told_steps)
+
+-- a head and a rule for it whose lists are as long as it tells
+module _ (size : Extent) (head : Head) (steps : List Step) (threats : List ℕ) (lines : List Line) (fits : HeadFits size head)
+    (s : length steps ≡ steps_told head.opening) (t : length threats ≡ threats_told head.opening) (l : length lines ≡ answers_told head.opening) where
+  node_for : Node
+  node_for = record { heading = head.heading; rule = rule_for head.opening steps threats lines }
+
+  head_of-node_for : head_of node_for ≡ head
+  unfolding node_for
+  head_of-node_for = ap (λ (o : Opening). let h : Head = record { heading = head.heading; opening = o } in h) (opening_of-rule_for head.opening steps threats lines s t l)
+
+  entries_of-node_for : entries_of node_for.rule ≡ entries_for steps threats lines
+  unfolding node_for
+  entries_of-node_for = entries_of-rule_for head.opening steps threats lines s t l
+
+  node_for-fits : EachEntryFits size (entries_for steps threats lines) → NodeFits size node_for
+  node_for-fits each = record { head = rw head_of-node_for fits; entries = rw entries_of-node_for each }
+
+  node_lines-node_for : node_lines node_for ≡ head_line head ∷ map entry_line (entries_for steps threats lines)
+  node_lines-node_for = ap (λ (h : Head). head_line h ∷ map entry_line (entries_of node_for.rule)) head_of-node_for
+      ∙ ap (λ (es : List Entry). head_line head ∷ map entry_line es) entries_of-node_for
 
 pub inside_begins_node : (begun : Begun) (nodes : List Node) (lines : List (List ℕ)) → StandsInside begun nodes lines
     → EndsInNode begun.so_far.size nodes lines
 unfolding fills
-inside_begins_node begun nodes lines stands =
-    let head : ℕ → List ℕ = λ (n : ℕ). head_line (all_head begun.heading n) in
-    let more : List Line = fills (lacking begun) in
-    let all : length (begun.lines.items ++ more) ≡ begun.wanted =
-    omega (arith, length-append begun.lines.items more, length-replicate (lacking begun) any_answer, stands.lacks) in
+inside_begins_node begun nodes lines inside =
+    let stands = inside.begun_so in
+    let order = stands.in_order in
+    let size : Extent = begun.so_far.size in
+    let s : length (all_steps begun) ≡ steps_told begun.head.opening =
+    omega (arith, length-append begun.steps.items (fills begun).steps, length-replicate (steps_told begun.head.opening - length begun.steps.items) any_step, order.steps) in
+    let t : length (all_threats begun) ≡ threats_told begun.head.opening =
+    omega (arith, length-append begun.threats.items (fills begun).threats, length-replicate {A = ℕ} (threats_told begun.head.opening - length begun.threats.items) 0, order.threats) in
+    let l : length (all_lines begun) ≡ answers_told begun.head.opening =
+    omega (arith, length-append begun.lines.items (fills begun).lines, length-replicate (answers_told begun.head.opening - length begun.lines.items) any_answer, order.answers) in
+    let each : EachEntryFits size (entries_for (all_steps begun) (all_threats begun) (all_lines begun)) =
+    subst (EachEntryFits size) (sym (whole_entries begun order))
+    (EachEntryFits-append size (entries_in begun) (rest_of begun) stands.each (rest_fits begun size stands.stands.is_size)) in
     record {
-      node = filled begun;
-      fits = record {
-        head = record { heading = stands.heading; opening = omega (arith, all, stands.few) };
-        lines = EachAnswerFits-append begun.so_far.size begun.lines.items more stands.each
-            (fills_fit begun.so_far.size (lacking begun) stands.stands.is_size);
-      };
-      part = head begun.wanted ∷ map answer_line begun.lines.items;
-      rest = map answer_line more;
+      node = node_for size begun.head (all_steps begun) (all_threats begun) (all_lines begun) stands.head s t l;
+      fits = node_for-fits size begun.head (all_steps begun) (all_threats begun) (all_lines begun) stands.head s t l each;
+      part = head_line begun.head ∷ map entry_line (entries_in begun);
+      rest = map entry_line (rest_of begun);
       begun = λ none. cc;
-      lacks = λ none. absurd (omega (arith, ap length none, length-map more answer_line, length-replicate (lacking begun) any_answer, stands.lacks));
-      parts = ap (λ (n : ℕ). head n ∷ map answer_line (begun.lines.items ++ more)) all
-          ∙ ap (λ (ls : List (List ℕ)). head begun.wanted ∷ ls) (map-append answer_line begun.lines.items more);
-      same = stands.same ∙ ap (λ (ls : List (List ℕ)). ls ++ head begun.wanted ∷ map answer_line begun.lines.items) stands.stands.same;
+      lacks = λ none. absurd (omega (arith, ap length none, length-map (rest_of begun) entry_line, rest_missing begun order, inside.lacks));
+      parts = node_lines-node_for size begun.head (all_steps begun) (all_threats begun) (all_lines begun) stands.head s t l
+          ∙ ap (λ (es : List Entry). head_line begun.head ∷ map entry_line es) (whole_entries begun order)
+          ∙ ap (λ (ls : List (List ℕ)). head_line begun.head ∷ ls) (map-append entry_line (entries_in begun) (rest_of begun));
+      same = stands.same ∙ ap (λ (ls : List (List ℕ)). ls ++ head_line begun.head ∷ map entry_line (entries_in begun)) stands.stands.same;
     }
 
 -- no front of a node's lines is that of whole nodes and a last line
@@ -108,19 +248,18 @@ in_node_not_whole size nodes lines extent each ends are =
 -- each first line that fits is that of some node that fits
 pub node_of_head : (size : Extent) (head : Head) → IsExtent size.rows size.cols → HeadFits size head
     → (node : Node) × NodeFits size node × (head_of node ≡ head)
-unfolding fills
-node_of_head size head extent fits = node_of_opening size head.heading head.opening extent fits
-  where
-    node_of_opening : (size : Extent) (heading : Heading) (opening : Opening) → IsExtent size.rows size.cols
-        → HeadFits size (record { heading = heading; opening = opening })
-        → (node : Node) × NodeFits size node × (head_of node ≡ record { heading = heading; opening = opening })
-    node_of_opening size heading Chain_opening extent fits =
-        (record { heading = heading; rule = Chain }, record { head = fits; lines = tt }, refl)
-    node_of_opening size heading (Move_opening cell child) extent fits =
-        (record { heading = heading; rule = Move cell child }, record { head = fits; lines = tt }, refl)
-    node_of_opening size heading (All_opening lines) extent fits =
-        let same : length (fills lines) ≡ lines = length-replicate lines any_answer in (
-          record { heading = heading; rule = All (fills lines) },
-          record { head = record { heading = fits.heading; opening = omega (arith, same, fits.opening) }; lines = fills_fit size lines extent },
-          ap (λ (n : ℕ). record { heading = heading; opening = All_opening n }) same,
-        )
+node_of_head size head extent fits =
+    let steps : List Step = replicate (steps_told head.opening) any_step in
+    let threats : List ℕ = replicate (threats_told head.opening) 0 in
+    let lines : List Line = replicate (answers_told head.opening) any_answer in
+    let s : length steps ≡ steps_told head.opening = length-replicate (steps_told head.opening) any_step in
+    let t : length threats ≡ threats_told head.opening = length-replicate {A = ℕ} (threats_told head.opening) 0 in
+    let l : length lines ≡ answers_told head.opening = length-replicate (answers_told head.opening) any_answer in
+    let each : EachEntryFits size (entries_for steps threats lines) =
+    EachEntryFits-append size (map step_entry steps ++ map threat_entry threats) (map answer_entry lines)
+    (EachEntryFits-append size (map step_entry steps) (map threat_entry threats) (steps_fit size (steps_told head.opening)) (threats_fit size (threats_told head.opening)))
+    (answers_fit size (answers_told head.opening) extent) in (
+      node_for size head steps threats lines fits s t l,
+      node_for-fits size head steps threats lines fits s t l each,
+      head_of-node_for size head steps threats lines fits s t l,
+    )

@@ -1,93 +1,240 @@
--- One more line of a node whose lines come one by one. A line that answers a move is one line more of the node, and with the
--- last of them the node is whole; a node of no further line is whole with its first.
-use Rattle.std.proofs.Common.{◌≡◌, ℕ, zero, suc, ◌+◌, ◌<◌, ◌≤◌, List, [], ◌∷◌, ◌++◌, length, map, sym, ap, ◌∙◌, subst, arith, append_assoc, length-append, false}
-use Rattle.std.proofs.lemmas.Bool.{false≢true}
-use Rattle.std.proofs.lemmas.List.{map-append}
-use Rattle.std.specs.Bool.{if◌then◌else◌}
-use Rattle.std.specs.Result.{is_err, is_ok}
-use Rattle.std.specs.declared.result.Result.{Result}
-use Rattle.std.specs.declared.result.Result.TheVariants.{Ok, Err}
+-- One more entry of a node whose entries come one by one. It is of the kind that is due, so the lists after its own are empty,
+-- and it comes at the end of the entries. When none is missing, the node is whole.
+use Rattle.std.proofs.Common.{◌≡◌, ℕ, zero, suc, ◌+◌, ◌-◌, ◌<◌, ◌≤◌, Bool, true, false, List, [], ◌∷◌, ◌++◌, length, map, refl, sym, ap, ◌∙◌, subst, arith, append_assoc, length-append, nat_lt, ⊎_elim}
+use Rattle.std.specs.Prelude.{if◌then◌else◌}
+use Rattle.std.proofs.lemmas.Bool.{cases_lt, lt-ltb, le-ltb}
+use Rattle.std.proofs.lemmas.Bool.Decides.{nat_tests}
+use Rattle.std.proofs.lemmas.List.{append-nil, map-append}
 use Rattle.hx_board.specs.Cells.{Extent}
-use Rattle.hx_tree.specs.declared.nodes.Heading.{Heading}
+use Rattle.hx_link.specs.declared.steps.Step.{Step as Link_step}
 use Rattle.hx_tree.specs.declared.nodes.Line.{Line}
-use Rattle.hx_tree.specs.declared.nodes.Rule.TheVariants.{All}
 use Rattle.hx_tree.specs.declared.nodes.Node.{Node}
-use Rattle.hx_text.specs.declared.node_lines.Opening.TheVariants.{All as All_opening}
+use Rattle.hx_text.specs.declared.entries.Entry.{Entry}
+use Rattle.hx_text.specs.declared.entries.Entry.TheVariants.{Step as Step_entry, Threat as Threat_entry, Answer as Answer_entry}
+use Rattle.hx_text.specs.declared.entries.EntryKind.{EntryKind}
+use Rattle.hx_text.specs.declared.entries.EntryKind.TheVariants.{Step as Step_kind, Threat as Threat_kind, Answer as Answer_kind}
 use Rattle.hx_text.specs.declared.node_lines.Head.{Head}
 use Rattle.hx_text.specs.declared.begun_nodes.Begun.{Begun}
-use Rattle.hx_text.specs.declared.places.SoFar.{SoFar}
 use Rattle.hx_text.specs.declared.places.Step.{Step}
-use Rattle.hx_text.specs.TreeTexts.{NodeFits, AnswerFits, EachAnswerFits, head_line, answer_line, node_lines}
-use Rattle.hx_text.specs.Places.{StandsInside, BeginsNode, EndsNode, AddsAnswer, Brings}
+use Rattle.hx_text.specs.Entries.{entry_line, kind_of, EntryFits, EachEntryFits, IsEntry, entries_for, entries_of, opening_of, steps_told, threats_told, answers_told, entries_told, kind_at, rule_for}
+use Rattle.hx_text.specs.TreeTexts.{HeadFits, NodeFits, head_of, head_line, node_lines}
+use Rattle.hx_text.specs.Places.{most_nodes, StandsSoFar, entries_in, IsInOrder, StandsBegun, StandsInside, kind_due, IsAdded, IsWithEntry, SettlesNode, EndsNode, Brings}
+use Rattle.hx_text.proofs.EntryLists.{nil_of_length, zero_unless_some, EachEntryFits-append, length-entries_for, kind_among_step, kind_among_threat, kind_among_answer, steps_more, threats_more, answers_more, opening_of-rule_for, entries_of-rule_for}
 
-abbrev all_node : Heading → List Line → Node
-all_node heading lines = record { heading = heading; rule = All lines }
+-- ---- which kind is due
 
--- the first line of a node that so many lines follow
-abbrev pub all_head : Heading → ℕ → Head
-all_head heading lines = record { heading = heading; opening = All_opening lines }
+steps_due : (a b c d : ℕ) → (if nat_lt a b then Step_kind else if nat_lt c d then Threat_kind else Answer_kind) ≡ Step_kind → a < b
+steps_due a b c d e = cases (nat_lt a b) (nat_lt c d) refl e
+  where
+    cases : (one two : Bool) → nat_lt a b ≡ one → (if one then Step_kind else if two then Threat_kind else Answer_kind) ≡ Step_kind → a < b
+    cases true two is e = grind (arith, nat_tests)
+    cases false true is e = cc
+    cases false false is e = cc
 
--- a node of no further line is whole with its first line
-pub begin_none : (so_far : SoFar) (heading : Heading) (wanted : ℕ) (none : List Line) (step : Step) → wanted ≡ 0 → none ≡ []
-    → EndsNode so_far (all_node heading none) step → BeginsNode so_far (all_head heading wanted) (Ok step)
-begin_none so_far heading zero [] step is_zero is_none ends =
-    λ nodes lines stands room fits. ends nodes lines stands room (record { head = fits; lines = tt })
-begin_none so_far heading zero (line ∷ more) step is_zero is_none ends = cc
-begin_none so_far heading (suc wanted) none step is_zero is_none ends = absurd (omega arith)
+threats_due : (a b c d : ℕ) → (if nat_lt a b then Step_kind else if nat_lt c d then Threat_kind else Answer_kind) ≡ Threat_kind → (b ≤ a) × (c < d)
+threats_due a b c d e = cases (nat_lt a b) (nat_lt c d) refl refl e
+  where
+    cases : (one two : Bool) → nat_lt a b ≡ one → nat_lt c d ≡ two → (if one then Step_kind else if two then Threat_kind else Answer_kind) ≡ Threat_kind → (b ≤ a) × (c < d)
+    cases true two is also e = cc
+    cases false true is also e = (grind (arith, nat_tests), grind (arith, nat_tests))
+    cases false false is also e = cc
 
-pub EachAnswerFits-append : (size : Extent) (a b : List Line) → EachAnswerFits size a → EachAnswerFits size b → EachAnswerFits size (a ++ b)
-EachAnswerFits-append size [] b each_a each_b = each_b
-EachAnswerFits-append size (line ∷ a) b each_a each_b = (each_a.0, EachAnswerFits-append size a b each_a.1 each_b)
+answers_due : (a b c d : ℕ) → (if nat_lt a b then Step_kind else if nat_lt c d then Threat_kind else Answer_kind) ≡ Answer_kind → (b ≤ a) × (d ≤ c)
+answers_due a b c d e = cases (nat_lt a b) (nat_lt c d) refl refl e
+  where
+    cases : (one two : Bool) → nat_lt a b ≡ one → nat_lt c d ≡ two → (if one then Step_kind else if two then Threat_kind else Answer_kind) ≡ Answer_kind → (b ≤ a) × (d ≤ c)
+    cases true two is also e = cc
+    cases false true is also e = cc
+    cases false false is also e = (grind (arith, nat_tests), grind (arith, nat_tests))
 
-each_now : (size : Extent) (line : Line) (now before : List Line) → now ≡ before ++ line ∷ [] → EachAnswerFits size before
-    → AnswerFits size line → EachAnswerFits size now
-each_now size line now before is each fits =
-    subst (EachAnswerFits size) (sym is) (EachAnswerFits-append size before (line ∷ []) each (fits, tt))
+module _ (begun : Begun) (order : IsInOrder begun) where
+  pub step_due : kind_due begun ≡ Step_kind → length begun.steps.items < steps_told begun.head.opening
+  step_due e = steps_due _ _ _ _ e
 
--- the lines with one more line of the node
-lines_now : (begun : Begun) (line : Line) (now : List Line) (nodes : List Node) (lines : List (List ℕ))
-    (stands : StandsInside begun nodes lines) → now ≡ begun.lines.items ++ line ∷ []
-    → lines ++ answer_line line ∷ [] ≡ stands.before ++ head_line (all_head begun.heading begun.wanted) ∷ map answer_line now
-lines_now begun line now nodes lines stands is =
-    let head : List ℕ = head_line (all_head begun.heading begun.wanted) in
-    ap (λ (ls : List (List ℕ)). ls ++ answer_line line ∷ []) stands.same
-    ∙ append_assoc stands.before (head ∷ map answer_line begun.lines.items) (answer_line line ∷ [])
-    ∙ ap (λ (ls : List (List ℕ)). stands.before ++ head ∷ ls) (sym (map-append answer_line begun.lines.items (line ∷ [])))
-    ∙ ap (λ (answers : List Line). stands.before ++ head ∷ map answer_line answers) (sym is)
+  pub no_threats_yet : length begun.steps.items < steps_told begun.head.opening → begun.threats.items ≡ []
+  no_threats_yet less = nil_of_length begun.threats.items (zero_unless_some _ (λ some. omega (arith, order.threats_after_steps some)))
 
--- a line that is not the last of its node
-pub stands_inside_more : (begun new : Begun) (line : Line) (nodes : List Node) (lines : List (List ℕ)) → new.so_far ≡ begun.so_far
-    → new.heading ≡ begun.heading → new.wanted ≡ begun.wanted → new.lines.items ≡ begun.lines.items ++ line ∷ []
-    → length new.lines.items < new.wanted → StandsInside begun nodes lines → AnswerFits begun.so_far.size line
-    → StandsInside new nodes (lines ++ answer_line line ∷ [])
-stands_inside_more begun new line nodes lines same_so_far same_heading same_wanted is less stands fits = record {
-  before = stands.before;
-  stands = rw same_so_far stands.stands;
-  room = rw same_so_far stands.room;
-  heading = rw (same_so_far, same_heading) stands.heading;
-  few = rw same_wanted stands.few;
-  lacks = less;
-  each = rw same_so_far (each_now begun.so_far.size line new.lines.items begun.lines.items is stands.each fits);
-  same = rw (same_heading, same_wanted) (lines_now begun line new.lines.items nodes lines stands is);
-}
+  pub no_answers_before_steps : length begun.steps.items < steps_told begun.head.opening → begun.lines.items ≡ []
+  no_answers_before_steps less = nil_of_length begun.lines.items (zero_unless_some _ (λ some. omega (arith, order.answers_after_steps some)))
 
--- the last line of a node
-pub last_answer : (begun : Begun) (line : Line) (now : List Line) (step : Step) → EndsNode begun.so_far (all_node begun.heading now) step
-    → now ≡ begun.lines.items ++ line ∷ [] → begun.wanted ≤ length now → AddsAnswer begun line (Ok step)
-last_answer begun line now step ends is full = λ nodes lines stands fits.
-    let one_more : length now ≡ length begun.lines.items + 1 = ap length is ∙ length-append begun.lines.items (line ∷ []) in
-    let all : length now ≡ begun.wanted = omega (arith, one_more, stands.lacks, full) in
-    let whole : NodeFits begun.so_far.size (all_node begun.heading now) = record {
-      head = record { heading = stands.heading; opening = omega (arith, all, stands.few) };
-      lines = each_now begun.so_far.size line now begun.lines.items is stands.each fits;
-    } in
-    let same : lines ++ answer_line line ∷ [] ≡ stands.before ++ node_lines (all_node begun.heading now) =
-    lines_now begun line now nodes lines stands is
-    ∙ ap (λ (n : ℕ). stands.before ++ head_line (all_head begun.heading n) ∷ map answer_line now) (sym all) in
-    subst (Brings step.fed step.place nodes) (sym same) (ends nodes stands.before stands.stands stands.room whole)
+  pub threat_due : kind_due begun ≡ Threat_kind → (steps_told begun.head.opening ≤ length begun.steps.items) × (length begun.threats.items < threats_told begun.head.opening)
+  threat_due e = threats_due _ _ _ _ e
 
--- after a push that went well
-pub pushed : {E : Type 0} {now more : List Line} (same : List Line) (result : Result (Unit {0}) E) → false ≡ is_err result
-    → now ≡ (if is_ok result then more else same) → now ≡ more
-pushed same (Ok done) fine e = e
-pushed same (Err error) fine e = absurd (false≢true fine)
+  pub no_answers_before_threats : length begun.threats.items < threats_told begun.head.opening → begun.lines.items ≡ []
+  no_answers_before_threats less = nil_of_length begun.lines.items (zero_unless_some _ (λ some. omega (arith, order.answers_after_threats some)))
+
+  pub answer_due : kind_due begun ≡ Answer_kind → (steps_told begun.head.opening ≤ length begun.steps.items) × (threats_told begun.head.opening ≤ length begun.threats.items)
+  answer_due e = answers_due _ _ _ _ e
+
+-- it is the kind of the place after the entries so far
+pub kind_due-at : (begun : Begun) → IsInOrder begun → kind_due begun ≡ kind_at begun.head.opening (length (entries_in begun))
+kind_due-at begun order = ⊎_elim at_step after_steps (cases_lt (length begun.steps.items) told_steps)
+  where
+    told_steps : ℕ
+    told_steps = steps_told begun.head.opening
+
+    told_threats : ℕ
+    told_threats = threats_told begun.head.opening
+
+    count : length (entries_in begun) ≡ length begun.steps.items + length begun.threats.items + length begun.lines.items
+    count = length-entries_for begun.steps.items begun.threats.items begun.lines.items
+
+    at_step : length begun.steps.items < told_steps → kind_due begun ≡ kind_at begun.head.opening (length (entries_in begun))
+    at_step less =
+        let none : length begun.threats.items ≡ 0 = ap length (no_threats_yet begun order less) in
+        let nor : length begun.lines.items ≡ 0 = ap length (no_answers_before_steps begun order less) in
+        rw (lt-ltb (length begun.steps.items) told_steps less) (sym (kind_among_step told_steps told_threats _ (omega (arith, count, none, nor))))
+
+    at_threat : told_steps ≤ length begun.steps.items → length begun.threats.items < told_threats → kind_due begun ≡ kind_at begun.head.opening (length (entries_in begun))
+    at_threat past less =
+        let nor : length begun.lines.items ≡ 0 = ap length (no_answers_before_threats begun order less) in
+        rw (le-ltb (length begun.steps.items) told_steps past, lt-ltb (length begun.threats.items) told_threats less)
+        (sym (kind_among_threat told_steps told_threats _ (omega (arith, count, nor, past)) (omega (arith, count, nor, less, order.steps))))
+
+    at_answer : told_steps ≤ length begun.steps.items → told_threats ≤ length begun.threats.items → kind_due begun ≡ kind_at begun.head.opening (length (entries_in begun))
+    at_answer past later =
+        rw (le-ltb (length begun.steps.items) told_steps past, le-ltb (length begun.threats.items) told_threats later)
+        (sym (kind_among_answer told_steps told_threats _ (omega (arith, count, past, later))))
+
+    after_steps : told_steps ≤ length begun.steps.items → kind_due begun ≡ kind_at begun.head.opening (length (entries_in begun))
+    after_steps past = ⊎_elim (at_threat past) (at_answer past) (cases_lt (length begun.threats.items) told_threats)
+
+-- ---- one more entry
+
+entries_same : (s s' : List Link_step) (t t' : List ℕ) (l l' : List Line) → s ≡ s' → t ≡ t' → l ≡ l' → entries_for s t l ≡ entries_for s' t' l'
+entries_same s s' t t' l l' e f g = ap (λ x. entries_for x t l) e ∙ ap (λ x. entries_for s' x l) f ∙ ap (λ x. entries_for s' t' x) g
+
+module _ (old new : Begun) (order : IsInOrder old) (lacks : 0 < old.missing) where
+  entries_now : (entry : Entry) → IsAdded old entry new → kind_of entry ≡ kind_due old → entries_in new ≡ entries_in old ++ entry ∷ []
+  entries_now (Step_entry step) added kind =
+      let less = step_due old order (sym kind) in
+      let none = no_threats_yet old order less in
+      let nor = no_answers_before_steps old order less in
+      entries_same _ _ _ _ _ _ added.0 (added.1 ∙ none) (added.2 ∙ nor) ∙ steps_more old.steps.items (step ∷ []) [] []
+      ∙ ap (λ (front : List Entry). front ++ Step_entry step ∷ []) (entries_same _ _ _ _ _ _ refl (sym none) (sym nor))
+  entries_now (Threat_entry place) added kind =
+      let nor = no_answers_before_threats old order (threat_due old order (sym kind)).1 in
+      entries_same _ _ _ _ _ _ added.0 added.1 (added.2 ∙ nor) ∙ threats_more old.steps.items old.threats.items (place ∷ []) []
+      ∙ ap (λ (front : List Entry). front ++ Threat_entry place ∷ []) (entries_same _ _ _ _ _ _ refl refl (sym nor))
+  entries_now (Answer_entry line) added kind =
+      entries_same _ _ _ _ _ _ added.0 added.1 added.2 ∙ answers_more old.steps.items old.threats.items old.lines.items (line ∷ [])
+
+  module _ (head : new.head ≡ old.head) (fewer : new.missing ≡ old.missing - 1) where
+    in_order_by : (s t l : ℕ) → length new.steps.items ≡ s → length new.threats.items ≡ t → length new.lines.items ≡ l
+        → s ≤ steps_told old.head.opening → t ≤ threats_told old.head.opening → l ≤ answers_told old.head.opening
+        → (0 < t → s ≡ steps_told old.head.opening) → (0 < l → s ≡ steps_told old.head.opening) → (0 < l → t ≡ threats_told old.head.opening)
+        → s + t + l ≡ length old.steps.items + length old.threats.items + length old.lines.items + 1 → IsInOrder new
+    in_order_by s t l es et el ls lt ll ats aas aat all =
+        let told_s = ap (λ (h : Head). steps_told h.opening) head in
+        let told_t = ap (λ (h : Head). threats_told h.opening) head in
+        let told_l = ap (λ (h : Head). answers_told h.opening) head in
+        record {
+          steps = rw (es, told_s) ls;
+          threats = rw (et, told_t) lt;
+          answers = rw (el, told_l) ll;
+          threats_after_steps = rw (es, et, told_s) ats;
+          answers_after_steps = rw (es, el, told_s) aas;
+          answers_after_threats = rw (et, el, told_t) aat;
+          missing = omega (arith, es, et, el, told_s, told_t, told_l, fewer, all, lacks, order.missing);
+        }
+
+    in_order_now : (entry : Entry) → IsAdded old entry new → kind_of entry ≡ kind_due old → IsInOrder new
+    in_order_now (Step_entry step) added kind =
+        let less = step_due old order (sym kind) in
+        let t : length old.threats.items ≡ 0 = ap length (no_threats_yet old order less) in
+        let l : length old.lines.items ≡ 0 = ap length (no_answers_before_steps old order less) in
+        in_order_by (length old.steps.items + 1) 0 0 (ap length added.0 ∙ length-append old.steps.items (step ∷ []))
+        (ap length added.1 ∙ t) (ap length added.2 ∙ l) (omega arith) (omega arith) (omega arith)
+        (λ h. absurd (omega arith)) (λ h. absurd (omega arith)) (λ h. absurd (omega arith)) (omega arith)
+    in_order_now (Threat_entry place) added kind =
+        let due = threat_due old order (sym kind) in
+        let l : length old.lines.items ≡ 0 = ap length (no_answers_before_threats old order due.1) in
+        in_order_by (length old.steps.items) (length old.threats.items + 1) 0 (ap length added.0)
+        (ap length added.1 ∙ length-append old.threats.items (place ∷ [])) (ap length added.2 ∙ l) order.steps (omega arith) (omega arith)
+        (λ h. omega (arith, order.steps, due)) (λ h. absurd (omega arith)) (λ h. absurd (omega arith)) (omega arith)
+    in_order_now (Answer_entry line) added kind =
+        let due = answer_due old order (sym kind) in
+        in_order_by (length old.steps.items) (length old.threats.items) (length old.lines.items + 1) (ap length added.0) (ap length added.1)
+        (ap length added.2 ∙ length-append old.lines.items (line ∷ [])) order.steps order.threats
+        (omega (arith, order.missing, order.steps, order.threats, order.answers, lacks, due))
+        (λ h. omega (arith, order.steps, due)) (λ h. omega (arith, order.steps, due)) (λ h. omega (arith, order.threats, due)) (omega arith)
+
+-- the lines with one entry more
+pub stands_with_entry : (old new : Begun) (entry : Entry) (nodes : List Node) (lines : List (List ℕ)) → IsWithEntry old entry new
+    → StandsInside old nodes lines → IsEntry old.so_far.size (kind_due old) entry → StandsBegun new nodes (lines ++ entry_line entry ∷ [])
+stands_with_entry old new entry nodes lines now stands fits =
+    let so = stands.begun_so in
+    let are : entries_in new ≡ entries_in old ++ entry ∷ [] = entries_now old new so.in_order stands.lacks entry now.added fits.1 in
+    let all : EachEntryFits old.so_far.size (entries_in new) =
+    rw are (EachEntryFits-append old.so_far.size (entries_in old) (entry ∷ []) so.each (fits.0, tt)) in
+    record {
+      before = so.before;
+      stands = rw now.same_so_far so.stands;
+      room = rw now.same_so_far so.room;
+      head = rw (now.same_so_far, now.same_head) so.head;
+      in_order = in_order_now old new so.in_order stands.lacks now.same_head now.missing entry now.added fits.1;
+      each = rw now.same_so_far all;
+      same = ap (λ (ls : List (List ℕ)). ls ++ entry_line entry ∷ []) so.same
+          ∙ append_assoc so.before (head_line old.head ∷ map entry_line (entries_in old)) (entry_line entry ∷ [])
+          ∙ ap (λ (ls : List (List ℕ)). so.before ++ head_line old.head ∷ ls) (sym (map-append entry_line (entries_in old) (entry ∷ [])))
+          ∙ ap (λ (es : List Entry). so.before ++ head_line old.head ∷ map entry_line es) (sym are)
+          ∙ ap (λ (h : Head). so.before ++ head_line h ∷ map entry_line (entries_in new)) (sym now.same_head);
+    }
+
+-- ---- the whole node
+
+abbrev node_with : Head → List Link_step → List ℕ → List Line → Node
+node_with head steps threats lines = record { heading = head.heading; rule = rule_for head.opening steps threats lines }
+
+abbrev pub node_of : Begun → Node
+node_of begun = node_with begun.head begun.steps.items begun.threats.items begun.lines.items
+
+pub whole_node : (begun : Begun) (nodes : List Node) (lines : List (List ℕ)) → begun.missing ≡ 0 → (stands : StandsBegun begun nodes lines)
+    → NodeFits begun.so_far.size (node_of begun) × (lines ≡ stands.before ++ node_lines (node_of begun))
+whole_node begun nodes lines none stands =
+    let order = stands.in_order in
+    let s : length begun.steps.items ≡ steps_told begun.head.opening = omega (arith, order.steps, order.threats, order.answers, order.missing, none) in
+    let t : length begun.threats.items ≡ threats_told begun.head.opening = omega (arith, order.steps, order.threats, order.answers, order.missing, none) in
+    let l : length begun.lines.items ≡ answers_told begun.head.opening = omega (arith, order.steps, order.threats, order.answers, order.missing, none) in
+    let head : head_of (node_of begun) ≡ begun.head =
+    ap (λ o. let h : Head = record { heading = begun.head.heading; opening = o } in h) (opening_of-rule_for begun.head.opening _ _ _ s t l) in
+    let entries : entries_of (node_of begun).rule ≡ entries_in begun = entries_of-rule_for begun.head.opening _ _ _ s t l in (
+      record { head = rw head stands.head; entries = rw entries stands.each },
+      stands.same ∙ ap (λ (h : Head). stands.before ++ head_line h ∷ map entry_line (entries_in begun)) (sym head)
+          ∙ ap (λ (es : List Entry). stands.before ++ head_line (head_of (node_of begun)) ∷ map entry_line es) (sym entries),
+    )
+
+pub settled_whole : (begun : Begun) (node : Node) (step : Step) → begun.missing ≡ 0 → node ≡ node_of begun → EndsNode begun.so_far node step → SettlesNode begun step
+settled_whole begun node step none is ends = λ nodes lines stands.
+    let whole = whole_node begun nodes lines none stands in
+    let P : Node → Type 0 = λ n. NodeFits begun.so_far.size n in
+    let Q : List (List ℕ) → Type 0 = Brings step.fed step.place nodes in
+    subst Q (sym (whole.1 ∙ ap (λ (n : Node). stands.before ++ node_lines n) (sym is)))
+    (ends nodes stands.before stands.stands stands.room (subst P (sym is) whole.0))
+
+-- a node of which no entry came yet
+pub begun_with_head : (begun : Begun) (nodes : List Node) (before : List (List ℕ)) → begun.steps.items ≡ [] → begun.threats.items ≡ [] → begun.lines.items ≡ []
+    → begun.missing ≡ entries_told begun.head.opening → StandsSoFar begun.so_far nodes before → begun.so_far.count < most_nodes
+    → HeadFits begun.so_far.size begun.head → StandsBegun begun nodes (before ++ head_line begun.head ∷ [])
+begun_with_head begun nodes before no_steps no_threats no_lines all stands room fits =
+    let none : entries_in begun ≡ [] = entries_same _ _ _ _ _ _ no_steps no_threats no_lines in
+    let s : length begun.steps.items ≡ 0 = ap length no_steps in
+    let t : length begun.threats.items ≡ 0 = ap length no_threats in
+    let l : length begun.lines.items ≡ 0 = ap length no_lines in
+    record {
+      before = before;
+      stands = stands;
+      room = room;
+      head = fits;
+      in_order = record {
+        steps = omega arith;
+        threats = omega arith;
+        answers = omega arith;
+        threats_after_steps = λ h. absurd (omega arith);
+        answers_after_steps = λ h. absurd (omega arith);
+        answers_after_threats = λ h. absurd (omega arith);
+        missing = omega (arith, all);
+      };
+      each = rw none tt;
+      same = sym (ap (λ (es : List Entry). before ++ head_line begun.head ∷ map entry_line es) none);
+    }

@@ -66,7 +66,7 @@ plain size = record { heading = record { position = record { size = size; black 
 plain_fits : (size : Extent) → IsExtent size.rows size.cols → NodeFits size (plain size)
 plain_fits size extent = record {
   head = record { heading = record { size_is = refl; board = (extent, empty-is_position size) }; opening = tt };
-  lines = tt;
+  entries = tt;
 }
 
 -- the text goes on with the lines that a node lacks
@@ -109,8 +109,8 @@ Begins-stands (Between so_far) nodes lines stands = (
       (plain_fits so_far.size stands.is_size) (omega (arith, stands.room, stands.count)) refl,
 )
 Begins-stands (Inside begun) nodes lines stands =
-    Begins-in_node begun.so_far.size nodes lines stands.stands.is_size stands.stands.each
-    (omega (arith, stands.stands.room, stands.stands.count)) (inside_begins_node begun nodes lines stands)
+    let so = stands.begun_so.stands in
+    Begins-in_node begun.so_far.size nodes lines so.is_size so.each (omega (arith, so.room, so.count)) (inside_begins_node begun nodes lines stands)
 Begins-stands After nodes lines stands = (
   [],
   subst AreTreeLines (sym (append-nil lines))

@@ -1,6 +1,7 @@
 -- What a cursor over the words of a line has left, and what it says of a line that its words were taken one after the
 -- other: the words that were taken are the first words of the line.
-use Rattle.std.proofs.Common.{◌≡◌, ℕ, List, [], ◌∷◌, ap, ◌∙◌, Bool, true, false}
+use Rattle.std.proofs.Common.{◌≡◌, ◌≢◌, ℕ, List, [], ◌∷◌, sym, ap, ◌∙◌, Bool, true, false}
+use Rattle.std.specs.Option.{MatchOption, is_some}
 use Rattle.std.specs.declared.option.Option.{Option}
 use Rattle.std.specs.declared.option.Option.TheVariants.{None, Some}
 use Rattle.std.proofs.lemmas.Bool.{false≢true}
@@ -40,3 +41,14 @@ rest_same {a} {b} {old} {new} {rest} e f = cc
 -- a word, and then these words
 pub word_then : {word : List ℕ} {old new rest : List (List ℕ)} → old ≡ word ∷ new → new ≡ rest → old ≡ word ∷ rest
 word_then {word} {old} {new} {rest} e f = cc
+
+-- whether a word is left, from what the look for the end found
+pub ends_here : {words : List (List ℕ)} (found : Option (Unit {0})) → MatchOption found (words ≢ []) (λ _. words ≡ [])
+    → true ≡ is_some found → words ≡ []
+ends_here (Some done) is test = is
+ends_here None is test = absurd (false≢true (sym test))
+
+pub goes_on_here : {words : List (List ℕ)} (found : Option (Unit {0})) → MatchOption found (words ≢ []) (λ _. words ≡ [])
+    → false ≡ is_some found → words ≢ []
+goes_on_here (Some done) is test = absurd (false≢true test)
+goes_on_here None is test = is

@@ -8,7 +8,7 @@ use Rattle.hx_board.specs.Positions.{Board, IsPosition}
 use Rattle.hx_board.proofs.PositionLaws.{board-small}
 use Rattle.hx_tree.specs.declared.nodes.Heading.{Heading}
 use Rattle.hx_text.specs.declared.node_lines.Opening.{Opening}
-use Rattle.hx_text.specs.declared.node_lines.Opening.TheVariants.{Chain, Move, All}
+use Rattle.hx_text.specs.declared.node_lines.Opening.TheVariants.{Chain, Links, Move, All}
 use Rattle.hx_text.specs.declared.node_lines.Head.{Head}
 use Rattle.hx_text.specs.Words.{mask_word, colour_word, words_in, spaced, IsSet}
 use Rattle.hx_text.specs.TreeTexts.{opening_words, OpeningFits, head_words, head_line, HeadingFits, HeadFits}
@@ -20,12 +20,16 @@ AllHigh-opening_words : (size : Extent) (opening : Opening) → size.rows ≤ 11
     → AllHigh (opening_words opening)
 unfolding is_high
 AllHigh-opening_words size Chain few fits = (IsHigh-test (codes "chain") refl, tt)
+AllHigh-opening_words size (Links steps) few fits = (IsHigh-test (codes "links") refl, (IsHigh-decimal steps (omega (arith, fits)), tt))
 AllHigh-opening_words size (Move cell child) few fits =
     let on : OnBoard size cell = fits.0 in
     (IsHigh-test (codes "move") refl, (IsHigh-cell_word cell (omega (arith, on.row)), (IsHigh-decimal child fits.1, tt)))
-AllHigh-opening_words size (All lines) few fits = (
+AllHigh-opening_words size (All steps threats lines) few fits = (
   IsHigh-test (codes "all") refl,
-  (IsHigh-test (codes "0") refl, (IsHigh-test (codes "0") refl, (IsHigh-decimal lines (omega (arith, fits)), tt))),
+  (
+    IsHigh-decimal steps (omega (arith, fits.0)),
+    (IsHigh-decimal threats (omega (arith, fits.1)), (IsHigh-decimal lines (omega (arith, fits.2)), tt)),
+  ),
 )
 
 pub AllHigh-head_words : (size : Extent) (head : Head) → size.rows ≤ 11 → OpeningFits size head.opening → AllHigh (head_words head)

@@ -11,7 +11,12 @@ pub mod LineWords
 pub mod SizeReads
 pub mod HeadLines
 pub mod AnswerLines
+pub mod StepWords
+pub mod OrWords
+pub mod FirstWords
 pub mod Injective
+pub mod EntryInjective
+pub mod EntryLists
 pub mod NodeInjective
 pub mod Alignment
 pub mod Steps

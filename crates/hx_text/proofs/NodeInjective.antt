@@ -1,49 +1,63 @@
--- Different nodes have different lines. A first line is that of one head alone, and is no last line; the line of an answer
--- is that of one answer alone. Of two nodes with which the same lines begin the first lines are the same, hence the numbers
--- of the lines that follow, and hence these.
-use Rattle.std.proofs.Common.{◌≡◌, ℕ, ◌≤◌, List, [], ◌∷◌, ◌++◌, length, map, refl, sym, ap, ◌∙◌, arith}
+-- Different nodes have different lines. A first line is that of one head alone, and is no last line. Of two nodes with which
+-- the same lines begin the first lines are the same, hence the numbers of the steps, threats and answers that follow, and
+-- hence these.
+use Rattle.std.proofs.Common.{◌≡◌, ℕ, zero, suc, ◌+◌, ◌<◌, ◌≤◌, List, [], ◌∷◌, ◌++◌, length, map, refl, sym, ap, ◌∙◌, subst, arith, ◌⊎◌, inl, inr, append_assoc, length-append}
+use Rattle.std.proofs.lemmas.List.{append-nil, length-map}
+use Rattle.std.proofs.lemmas.Bool.{lt-ltb, le-ltb}
+use Rattle.std.specs.Prelude.{slice_get, nat_lt, if◌then◌else◌}
 use Rattle.std.specs.Fmt.{decimal}
+use Rattle.std.specs.declared.option.Option.TheVariants.{Some}
 use Rattle.hx_board.specs.declared.colours.Colour.{Colour}
 use Rattle.hx_board.specs.Cells.{Extent, IsExtent}
 use Rattle.hx_board.specs.Positions.{Board}
+use Rattle.hx_link.specs.declared.steps.Step.{Step}
 use Rattle.hx_tree.specs.declared.nodes.Heading.{Heading}
 use Rattle.hx_tree.specs.declared.nodes.Line.{Line}
-use Rattle.hx_tree.specs.declared.nodes.Line.TheVariants.{Child}
 use Rattle.hx_tree.specs.declared.nodes.Rule.{Rule}
-use Rattle.hx_tree.specs.declared.nodes.Rule.TheVariants.{Chain, Move, All}
+use Rattle.hx_tree.specs.declared.nodes.Rule.TheVariants.{Chain, Links, Move, All}
 use Rattle.hx_tree.specs.declared.nodes.Node.{Node}
 use Rattle.hx_text.specs.declared.node_lines.Opening.{Opening}
-use Rattle.hx_text.specs.declared.node_lines.Opening.TheVariants.{Chain as Chain_opening, Move as Move_opening, All as All_opening}
+use Rattle.hx_text.specs.declared.node_lines.Opening.TheVariants.{Chain as Chain_opening, Links as Links_opening, Move as Move_opening, All as All_opening}
 use Rattle.hx_text.specs.declared.node_lines.Head.{Head}
+use Rattle.hx_text.specs.declared.entries.Entry.{Entry}
+use Rattle.hx_text.specs.declared.entries.Entry.TheVariants.{Step as Step_entry, Threat as Threat_entry, Answer as Answer_entry}
+use Rattle.hx_text.specs.declared.entries.EntryKind.{EntryKind}
+use Rattle.hx_text.specs.declared.entries.EntryKind.TheVariants.{Step as Step_kind, Threat as Threat_kind, Answer as Answer_kind}
 use Rattle.hx_text.specs.Words.{mask_word, colour_word, cell_word, IsNumber}
-use Rattle.hx_text.specs.TreeTexts.{opening_of, opening_words, OpeningFits, head_of, head_words, head_line, HeadFits, answer_line, AnswerFits, EachAnswerFits, LinesFit, rule_lines, node_lines, NodeFits, end_line}
+use Rattle.hx_text.specs.StepTexts.{step_line, threat_line, StepFits}
+use Rattle.hx_text.specs.Entries.{answer_line, AnswerFits, entry_line, kind_of, EntryFits, EachEntryFits, entries_for, entries_of, opening_of, entries_told, kind_at}
+use Rattle.hx_text.specs.TreeTexts.{opening_words, OpeningFits, head_of, head_words, head_line, HeadFits, node_lines, NodeFits, end_line}
 use Rattle.hx_text.proofs.Spacing.{spaced_injective}
 use Rattle.hx_text.proofs.Masks.{mask_injective}
 use Rattle.hx_text.proofs.LineWords.{end_words, words_in-end_line}
 use Rattle.hx_text.proofs.HeadLines.{IsLine-head_words, words_in-head_line, black_small, white_small}
-use Rattle.hx_text.proofs.AnswerLines.{child_words, words_in-answer_line}
 use Rattle.hx_text.proofs.Injective.{number_injective, colour_injective, cell_injective, board_same}
+use Rattle.hx_text.proofs.EntryLists.{step_entry, threat_entry, answer_entry, entries_for-parts}
+use Rattle.hx_text.proofs.EntryInjective.{step_injective, threat_injective, answer_injective}
 
 -- ---- first lines
 
 opening_injective : (size : Extent) (a b : Opening) → size.rows ≤ 11 → OpeningFits size a → OpeningFits size b
     → opening_words a ≡ opening_words b → a ≡ b
 opening_injective size Chain_opening Chain_opening few fits_a fits_b e = refl
+opening_injective size (Links_opening a) (Links_opening b) few fits_a fits_b e =
+    let numbers : decimal a ≡ decimal b = cc in
+    ap (λ (steps : ℕ). Links_opening steps) (number_injective a b (omega (arith, fits_a)) (omega (arith, fits_b)) numbers)
 opening_injective size (Move_opening a k) (Move_opening b j) few fits_a fits_b e =
     let cells : cell_word a ≡ cell_word b = cc in
     let numbers : decimal k ≡ decimal j = cc in
     let same_cell : a ≡ b = cell_injective size a b few fits_a.0 fits_b.0 cells in
     let same_child : k ≡ j = number_injective k j fits_a.1 fits_b.1 numbers in
     cc
-opening_injective size (All_opening a) (All_opening b) few fits_a fits_b e =
-    let numbers : decimal a ≡ decimal b = cc in
-    ap (λ (lines : ℕ). All_opening lines) (number_injective a b (omega (arith, fits_a)) (omega (arith, fits_b)) numbers)
-opening_injective size Chain_opening (Move_opening b j) few fits_a fits_b e = cc
-opening_injective size Chain_opening (All_opening b) few fits_a fits_b e = cc
-opening_injective size (Move_opening a k) Chain_opening few fits_a fits_b e = cc
-opening_injective size (Move_opening a k) (All_opening b) few fits_a fits_b e = cc
-opening_injective size (All_opening a) Chain_opening few fits_a fits_b e = cc
-opening_injective size (All_opening a) (Move_opening b j) few fits_a fits_b e = cc
+opening_injective size (All_opening s t l) (All_opening p q r) few fits_a fits_b e =
+    let steps : decimal s ≡ decimal p = cc in
+    let threats : decimal t ≡ decimal q = cc in
+    let lines : decimal l ≡ decimal r = cc in
+    let same_steps : s ≡ p = number_injective s p (omega (arith, fits_a.0)) (omega (arith, fits_b.0)) steps in
+    let same_threats : t ≡ q = number_injective t q (omega (arith, fits_a.1)) (omega (arith, fits_b.1)) threats in
+    let same_lines : l ≡ r = number_injective l r (omega (arith, fits_a.2)) (omega (arith, fits_b.2)) lines in
+    cc
+opening_injective size a b few fits_a fits_b e = cc
 
 abbrev heading_of : Board → Colour → Colour → Heading
 heading_of position to_move winner = record { position = position; to_move = to_move; winner = winner }
@@ -88,51 +102,87 @@ head_not_end size head count winner extent fits small e =
     ∙ words_in-end_line (head_line head) count winner small e in
     cc
 
--- ---- lines of answers
+-- ---- a rule is told by its opening and its entries' lines
 
-answer_injective : (size : Extent) (a b : Line) → IsExtent size.rows size.cols → AnswerFits size a → AnswerFits size b
-    → answer_line a ≡ answer_line b → a ≡ b
-answer_injective size (Child a k) (Child b j) extent fits_a fits_b e =
-    let words : child_words a k ≡ child_words b j =
-    sym (words_in-answer_line size (answer_line (Child a k)) (Child a k) extent fits_a refl)
-    ∙ words_in-answer_line size (answer_line (Child a k)) (Child b j) extent fits_b e in
-    let cells : cell_word a ≡ cell_word b = cc in
-    let numbers : decimal k ≡ decimal j = cc in
-    let same_cell : a ≡ b = cell_injective size a b extent.1 fits_a.0 fits_b.0 cells in
-    let same_child : k ≡ j = number_injective k j fits_a.1 fits_b.1 numbers in
-    cc
+-- a front of entries that are made of as many values, of which each is told by its line
+front_cancel : {X : Type 0} (size : Extent) (entry_for : X → Entry) (a b : List X) (after_a after_b : List Entry) (xs ys : List (List ℕ))
+    → ((x y : X) → EntryFits size (entry_for x) → EntryFits size (entry_for y) → entry_line (entry_for x) ≡ entry_line (entry_for y) → x ≡ y)
+    → EachEntryFits size (map entry_for a ++ after_a) → EachEntryFits size (map entry_for b ++ after_b) → length a ≡ length b
+    → map entry_line (map entry_for a ++ after_a) ++ xs ≡ map entry_line (map entry_for b ++ after_b) ++ ys
+    → (a ≡ b) × EachEntryFits size after_a × EachEntryFits size after_b × (map entry_line after_a ++ xs ≡ map entry_line after_b ++ ys)
+front_cancel size entry_for [] [] after_a after_b xs ys told fits_a fits_b same e = (refl, fits_a, fits_b, e)
+front_cancel size entry_for [] (b ∷ later) after_a after_b xs ys told fits_a fits_b same e = absurd (omega arith)
+front_cancel size entry_for (a ∷ more) [] after_a after_b xs ys told fits_a fits_b same e = absurd (omega arith)
+front_cancel {X} size entry_for (a ∷ more) (b ∷ later) after_a after_b xs ys told fits_a fits_b same e =
+    let firsts : entry_line (entry_for a) ≡ entry_line (entry_for b) = cc in
+    let tails : map entry_line (map entry_for more ++ after_a) ++ xs ≡ map entry_line (map entry_for later ++ after_b) ++ ys = cc in
+    let rest = front_cancel size entry_for more later after_a after_b xs ys told fits_a.1 fits_b.1 (omega arith) tails in
+    let first : a ≡ b = told a b fits_a.0 fits_b.0 firsts in
+    (ap (λ (h : X). h ∷ more) first ∙ ap (λ (t : List X). b ∷ t) rest.0, rest.1, rest.2, rest.3)
 
-answers_cancel : (size : Extent) (a b : List Line) (xs ys : List (List ℕ)) → IsExtent size.rows size.cols → EachAnswerFits size a
-    → EachAnswerFits size b → length a ≡ length b → map answer_line a ++ xs ≡ map answer_line b ++ ys → (a ≡ b) × (xs ≡ ys)
-answers_cancel size [] [] xs ys extent fits_a fits_b same e = (refl, e)
-answers_cancel size [] (b ∷ later) xs ys extent fits_a fits_b same e = absurd (omega arith)
-answers_cancel size (a ∷ more) [] xs ys extent fits_a fits_b same e = absurd (omega arith)
-answers_cancel size (a ∷ more) (b ∷ later) xs ys extent fits_a fits_b same e =
-    let firsts : answer_line a ≡ answer_line b = cc in
-    let tails : map answer_line more ++ xs ≡ map answer_line later ++ ys = cc in
-    let rest = answers_cancel size more later xs ys extent fits_a.1 fits_b.1 (omega arith) tails in
-    let first : a ≡ b = answer_injective size a b extent fits_a.0 fits_b.0 firsts in
-    (ap (λ (h : Line). h ∷ more) first ∙ ap (λ (t : List Line). b ∷ t) rest.0, rest.1)
+answers_cancel : (size : Extent) (a b : List Line) (xs ys : List (List ℕ)) → IsExtent size.rows size.cols
+    → EachEntryFits size (map answer_entry a) → EachEntryFits size (map answer_entry b) → length a ≡ length b
+    → map entry_line (map answer_entry a) ++ xs ≡ map entry_line (map answer_entry b) ++ ys → (a ≡ b) × (xs ≡ ys)
+answers_cancel size a b xs ys extent fits_a fits_b same e =
+    let all_a : map answer_entry a ≡ map answer_entry a ++ [] = sym (append-nil (map answer_entry a)) in
+    let all_b : map answer_entry b ≡ map answer_entry b ++ [] = sym (append-nil (map answer_entry b)) in
+    let whole = front_cancel size answer_entry a b [] [] xs ys
+    (λ (x y : Line) (fits_x : AnswerFits size x) (fits_y : AnswerFits size y) (l : answer_line x ≡ answer_line y). answer_injective size x y extent fits_x fits_y l)
+    (subst (EachEntryFits size) all_a fits_a) (subst (EachEntryFits size) all_b fits_b) same
+    (ap (λ (es : List Entry). map entry_line es ++ xs) (sym all_a) ∙ e ∙ ap (λ (es : List Entry). map entry_line es ++ ys) all_b) in
+    (whole.0, whole.3)
 
--- ---- nodes
+-- the three lists of two rules
+record SameLists (steps_a steps_b : List Step) (threats_a threats_b : List ℕ) (lines_a lines_b : List Line) (xs ys : List (List ℕ)) : Type 0 where
+  steps : steps_a ≡ steps_b
+  threats : threats_a ≡ threats_b
+  lines : lines_a ≡ lines_b
+  rest : xs ≡ ys
 
-rule_cancel : (size : Extent) (a b : Rule) (xs ys : List (List ℕ)) → IsExtent size.rows size.cols → LinesFit size a → LinesFit size b
-    → opening_of a ≡ opening_of b → rule_lines a ++ xs ≡ rule_lines b ++ ys → (a ≡ b) × (xs ≡ ys)
+lists_cancel : (size : Extent) (steps_a steps_b : List Step) (threats_a threats_b : List ℕ) (lines_a lines_b : List Line)
+    (xs ys : List (List ℕ)) → IsExtent size.rows size.cols → EachEntryFits size (entries_for steps_a threats_a lines_a)
+    → EachEntryFits size (entries_for steps_b threats_b lines_b) → length steps_a ≡ length steps_b → length threats_a ≡ length threats_b
+    → length lines_a ≡ length lines_b
+    → map entry_line (entries_for steps_a threats_a lines_a) ++ xs ≡ map entry_line (entries_for steps_b threats_b lines_b) ++ ys
+    → SameLists steps_a steps_b threats_a threats_b lines_a lines_b xs ys
+lists_cancel size steps_a steps_b threats_a threats_b lines_a lines_b xs ys extent fits_a fits_b as_many_steps as_many_threats as_many_lines e =
+    let parts_a = entries_for-parts steps_a threats_a lines_a in
+    let parts_b = entries_for-parts steps_b threats_b lines_b in
+    let steps = front_cancel size step_entry steps_a steps_b (map threat_entry threats_a ++ map answer_entry lines_a)
+    (map threat_entry threats_b ++ map answer_entry lines_b) xs ys
+    (λ (x y : Step) (fits_x : StepFits size x) (fits_y : StepFits size y) (l : step_line x ≡ step_line y). step_injective size x y extent fits_x fits_y l)
+    (subst (EachEntryFits size) parts_a fits_a) (subst (EachEntryFits size) parts_b fits_b) as_many_steps
+    (ap (λ (es : List Entry). map entry_line es ++ xs) (sym parts_a) ∙ e ∙ ap (λ (es : List Entry). map entry_line es ++ ys) parts_b) in
+    let threats = front_cancel size threat_entry threats_a threats_b (map answer_entry lines_a) (map answer_entry lines_b) xs ys
+    (λ (x y : ℕ) (fits_x : IsNumber x) (fits_y : IsNumber y) (l : threat_line x ≡ threat_line y). threat_injective x y fits_x fits_y l)
+    steps.1 steps.2 as_many_threats steps.3 in
+    let lines = answers_cancel size lines_a lines_b xs ys extent threats.1 threats.2 as_many_lines threats.3 in
+    record { steps = steps.0; threats = threats.0; lines = lines.0; rest = lines.1 }
+
+pub rule_cancel : (size : Extent) (a b : Rule) (xs ys : List (List ℕ)) → IsExtent size.rows size.cols → EachEntryFits size (entries_of a)
+    → EachEntryFits size (entries_of b) → opening_of a ≡ opening_of b
+    → map entry_line (entries_of a) ++ xs ≡ map entry_line (entries_of b) ++ ys → (a ≡ b) × (xs ≡ ys)
 rule_cancel size Chain Chain xs ys extent fits_a fits_b o e = (refl, e)
+rule_cancel size (Links a) (Links b) xs ys extent fits_a fits_b o e =
+    let same : length a ≡ length b = cc in
+    let rest = lists_cancel size a b [] [] [] [] xs ys extent fits_a fits_b same refl refl e in
+    (ap (λ (steps : List Step). Links steps) rest.steps, rest.rest)
 rule_cancel size (Move a k) (Move b j) xs ys extent fits_a fits_b o e =
     let cells : a ≡ b = cc in
     let children : k ≡ j = cc in
     (cc, e)
-rule_cancel size (All a) (All b) xs ys extent fits_a fits_b o e =
-    let same : length a ≡ length b = cc in
-    let rest = answers_cancel size a b xs ys extent fits_a fits_b same e in
-    (ap (λ (lines : List Line). All lines) rest.0, rest.1)
-rule_cancel size Chain (Move b j) xs ys extent fits_a fits_b o e = cc
-rule_cancel size Chain (All b) xs ys extent fits_a fits_b o e = cc
-rule_cancel size (Move a k) Chain xs ys extent fits_a fits_b o e = cc
-rule_cancel size (Move a k) (All b) xs ys extent fits_a fits_b o e = cc
-rule_cancel size (All a) Chain xs ys extent fits_a fits_b o e = cc
-rule_cancel size (All a) (Move b j) xs ys extent fits_a fits_b o e = cc
+rule_cancel size (All s t l) (All p q r) xs ys extent fits_a fits_b o e =
+    let steps : length s ≡ length p = cc in
+    let threats : length t ≡ length q = cc in
+    let lines : length l ≡ length r = cc in
+    let rest = lists_cancel size s p t q l r xs ys extent fits_a fits_b steps threats lines e in
+    let same_steps : s ≡ p = rest.steps in
+    let same_threats : t ≡ q = rest.threats in
+    let same_lines : l ≡ r = rest.lines in
+    (cc, rest.rest)
+rule_cancel size a b xs ys extent fits_a fits_b o e = cc
+
+-- ---- nodes
 
 abbrev node_of : Heading → Rule → Node
 node_of heading rule = record { heading = heading; rule = rule }
@@ -144,7 +194,7 @@ pub node_cancel : (size : Extent) (a b : Node) (xs ys : List (List ℕ)) → IsE
     → NodeFits size b → node_lines a ++ xs ≡ node_lines b ++ ys → (a ≡ b) × (xs ≡ ys)
 node_cancel size a b xs ys extent fits_a fits_b e =
     let firsts : head_line (head_of a) ≡ head_line (head_of b) = cc in
-    let tails : rule_lines a.rule ++ xs ≡ rule_lines b.rule ++ ys = cc in
+    let tails : map entry_line (entries_of a.rule) ++ xs ≡ map entry_line (entries_of b.rule) ++ ys = cc in
     let heads : head_of a ≡ head_of b = head_injective size (head_of a) (head_of b) extent fits_a.head fits_b.head firsts in
-    let rules = rule_cancel size a.rule b.rule xs ys extent fits_a.lines fits_b.lines (ap (λ (h : Head). h.opening) heads) tails in
+    let rules = rule_cancel size a.rule b.rule xs ys extent fits_a.entries fits_b.entries (ap (λ (h : Head). h.opening) heads) tails in
     (node_same a b (ap (λ (h : Head). h.heading) heads) rules.0, rules.1)

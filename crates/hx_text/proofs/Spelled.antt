@@ -1,24 +1,34 @@
 -- Lines in the parts that are put one after the other, and how long these are. The digits of a mask are put from the most
 -- significant down, each the remainder of what is above its place.
-use Rattle.std.proofs.Common.{◌≡◌, ℕ, suc, ◌+◌, ◌*◌, ◌-◌, ◌/◌, ◌%◌, ◌<◌, ◌≤◌, ◌^◌, List, [], ◌∷◌, ◌++◌, length, refl, sym, ap, ◌∙◌, arith, append_assoc, length-append}
-use Rattle.std.specs.Prelude.{codes}
+use Rattle.std.proofs.Common.{◌≡◌, ℕ, suc, ◌+◌, ◌*◌, ◌-◌, ◌/◌, ◌%◌, ◌<◌, ◌≤◌, ◌^◌, List, [], ◌∷◌, ◌++◌, length, refl, sym, ap, ◌∙◌, map, arith, append_assoc, length-append}
+use Rattle.std.specs.Prelude.{codes, flat_map}
 use Rattle.std.specs.Fmt.{decimal}
 use Rattle.std.proofs.lemmas.Fmt.{length-decimal-le}
 use Rattle.std.proofs.lemmas.List.{append-nil}
+use Rattle.std.proofs.lemmas.List.Folds.{flat_map-map}
+use Rattle.std.proofs.lemmas.Grind.{flat_map-append}
 use Rattle.std.proofs.lemmas.Nat.{pow-add}
 use Rattle.std.proofs.Math.Nat.{div-div-eq-div-mul}
 use Rattle.hx_board.specs.declared.colours.Colour.{Colour}
 use Rattle.hx_board.specs.declared.colours.Colour.TheVariants.{Black, White}
+use Rattle.hx_board.specs.declared.vertices.Vertex.{Vertex}
 use Rattle.hx_board.specs.Cells.{Extent}
 use Rattle.hx_board.specs.Positions.{Board}
+use Rattle.hx_link.specs.declared.steps.Step.{Step}
+use Rattle.hx_link.specs.declared.steps.Step.TheVariants.{Base, AndStone, AndCell, Or}
+use Rattle.hx_tree.specs.declared.nodes.Line.{Line}
 use Rattle.hx_tree.specs.declared.nodes.Line.TheVariants.{Child}
+use Rattle.hx_tree.specs.declared.nodes.Node.{Node}
 use Rattle.hx_text.specs.declared.node_lines.Opening.{Opening}
-use Rattle.hx_text.specs.declared.node_lines.Opening.TheVariants.{Chain, Move, All}
+use Rattle.hx_text.specs.declared.node_lines.Opening.TheVariants.{Chain, Links, Move, All}
 use Rattle.hx_text.specs.declared.node_lines.Head.{Head}
 use Rattle.hx_text.specs.Words.{hex, hex_digit, spaced, colour_word, mask_word, cell_word}
 use Rattle.hx_text.specs.Grammars.{text_of}
 use Rattle.hx_text.specs.PositionTexts.{size_line, stones_line, move_line, position_text}
-use Rattle.hx_text.specs.TreeTexts.{opening_words, head_line, answer_line, front_lines, end_line}
+use Rattle.hx_text.specs.StepTexts.{vertex_word, step_line, threat_line}
+use Rattle.hx_text.specs.Entries.{answer_line, entry_line, entries_for, entries_of}
+use Rattle.hx_text.specs.TreeTexts.{opening_words, head_of, head_line, node_lines, front_lines, end_line}
+use Rattle.hx_text.specs.Spelling.{each_line, parts_text}
 use Rattle.hx_text.proofs.Masks.{length-hex}
 
 pub length-colour_word : (colour : Colour) → length (colour_word colour) ≡ 5
@@ -70,9 +80,53 @@ pub winning_spelled : (old : List ℕ) (cell child : ℕ)
 unfolding spaced
 winning_spelled old cell child = simp append_assoc
 
-pub all_spelled : (old : List ℕ) (lines : ℕ) → (old ++ codes "all 0 0 ") ++ decimal lines ≡ old ++ spaced (opening_words (All lines))
+pub links_spelled : (old : List ℕ) (steps : ℕ) → (old ++ codes "links ") ++ decimal steps ≡ old ++ spaced (opening_words (Links steps))
 unfolding spaced
-all_spelled old lines = append_assoc old (codes "all 0 0 ") (decimal lines)
+links_spelled old steps = append_assoc old (codes "links ") (decimal steps)
+
+pub all_spelled : (old : List ℕ) (steps threats lines : ℕ)
+    → (((((old ++ codes "all ") ++ decimal steps) ++ codes " ") ++ decimal threats) ++ codes " ") ++ decimal lines
+    ≡ old ++ spaced (opening_words (All steps threats lines))
+unfolding spaced
+all_spelled old steps threats lines = simp append_assoc
+
+pub base_spelled : (old : List ℕ) (a b : Vertex)
+    → ((((old ++ codes "base ") ++ vertex_word a) ++ codes " ") ++ vertex_word b) ++ codes "\n" ≡ old ++ (step_line (Base a b) ++ 10 ∷ [])
+unfolding spaced
+base_spelled old a b = simp append_assoc
+
+-- the line of an And rule, whose word goes with the space after it
+pub and_spelled : (old word : List ℕ) (left right : ℕ)
+    → ((((old ++ word) ++ decimal left) ++ codes " ") ++ decimal right) ++ codes "\n" ≡ old ++ (word ++ decimal left ++ 32 ∷ decimal right ++ 10 ∷ [])
+and_spelled old word left right = simp append_assoc
+
+pub stone_spelled : (left right : ℕ)
+    → codes "stone " ++ decimal left ++ 32 ∷ decimal right ++ 10 ∷ [] ≡ step_line (AndStone left right) ++ 10 ∷ []
+unfolding spaced
+stone_spelled left right = simp append_assoc
+
+pub cell_spelled : (left right : ℕ)
+    → codes "cell " ++ decimal left ++ 32 ∷ decimal right ++ 10 ∷ [] ≡ step_line (AndCell left right) ++ 10 ∷ []
+unfolding spaced
+cell_spelled left right = simp append_assoc
+
+-- words that follow a word, each with the space before it
+spaced_after : (word : List ℕ) (words : List (List ℕ)) → spaced (word ∷ words) ≡ word ++ flat_map (λ (next : List ℕ). 32 ∷ next) words
+unfolding spaced
+spaced_after word [] = sym (append-nil word)
+spaced_after word (next ∷ words) = ap (λ (rest : List ℕ). word ++ 32 ∷ rest) (spaced_after next words)
+
+-- the line of an Or: its word, each of its parts with the space before it, and the end of the line
+pub or_spelled : (parts : List ℕ) → step_line (Or parts) ++ 10 ∷ [] ≡ codes "or" ++ (parts_text parts ++ 10 ∷ [])
+or_spelled parts =
+    ap (λ (line : List ℕ). line ++ 10 ∷ [])
+    (spaced_after (codes "or") (map decimal parts)
+    ∙ ap (λ (rest : List ℕ). codes "or" ++ rest) (flat_map-map (λ (next : List ℕ). 32 ∷ next) decimal parts))
+
+pub threat_spelled : (old : List ℕ) (place : ℕ)
+    → ((old ++ codes "threat ") ++ decimal place) ++ codes "\n" ≡ old ++ (threat_line place ++ 10 ∷ [])
+unfolding spaced
+threat_spelled old place = simp append_assoc
 
 pub child_spelled : (old : List ℕ) (cell child : ℕ)
     → ((((old ++ codes "line ") ++ cell_word cell) ++ codes " child ") ++ decimal child) ++ codes "\n"
@@ -84,6 +138,19 @@ pub end_spelled : (old : List ℕ) (count : ℕ) (winner : Colour)
     → ((((old ++ codes "end ") ++ decimal count) ++ codes " ") ++ colour_word winner) ++ codes "\n" ≡ old ++ text_of (end_line count winner ∷ [])
 unfolding spaced text_of
 end_spelled old count winner = simp append_assoc
+
+lines_end : (lines : List (List ℕ)) → text_of lines ≡ each_line (λ (line : List ℕ). line) lines
+unfolding text_of
+lines_end [] = refl
+lines_end (line ∷ lines) =
+    ap (λ (rest : List ℕ). line ++ 10 ∷ rest) (lines_end lines)
+    ∙ sym (append_assoc line (10 ∷ []) (each_line (λ (next : List ℕ). next) lines))
+
+-- the lines of the steps, then those of the threats, then those of the answers
+pub entries_spelled : (steps : List Step) (threats : List ℕ) (lines : List Line)
+    → text_of (map entry_line (entries_for steps threats lines))
+    ≡ each_line step_line steps ++ (each_line threat_line threats ++ each_line answer_line lines)
+entries_spelled steps threats lines = simp (lines_end, flat_map-map, flat_map-append, append_assoc)
 
 -- the parts that a node's first line is put in are those of the line, whatever stands for the space
 in_parts : (old word black white mover winner opening gap end : List ℕ)
@@ -98,10 +165,12 @@ line_spelled : (old black white mover winner : List ℕ) (opening : Opening)
 unfolding spaced
 line_spelled old black white mover winner Chain =
     in_parts old (codes "node ") black white mover winner (spaced (opening_words Chain)) (32 ∷ []) (10 ∷ [])
+line_spelled old black white mover winner (Links steps) =
+    in_parts old (codes "node ") black white mover winner (spaced (opening_words (Links steps))) (32 ∷ []) (10 ∷ [])
 line_spelled old black white mover winner (Move cell child) =
     in_parts old (codes "node ") black white mover winner (spaced (opening_words (Move cell child))) (32 ∷ []) (10 ∷ [])
-line_spelled old black white mover winner (All lines) =
-    in_parts old (codes "node ") black white mover winner (spaced (opening_words (All lines))) (32 ∷ []) (10 ∷ [])
+line_spelled old black white mover winner (All steps threats lines) =
+    in_parts old (codes "node ") black white mover winner (spaced (opening_words (All steps threats lines))) (32 ∷ []) (10 ∷ [])
 
 pub head_spelled : (old : List ℕ) (head : Head)
     → ((((old ++ codes "node ")
@@ -111,6 +180,15 @@ pub head_spelled : (old : List ℕ) (head : Head)
 head_spelled old head =
     line_spelled old (mask_word head.heading.position.black) (mask_word head.heading.position.white) (colour_word head.heading.to_move)
     (colour_word head.heading.winner) head.opening
+
+-- the first line of a node is put into an empty text, and the lines of its entries follow
+pub node_spelled : (empty text : List ℕ) (node : Node) → empty ≡ [] → text ≡ empty ++ (head_line (head_of node) ++ 10 ∷ [])
+    → text ++ text_of (map entry_line (entries_of node.rule)) ≡ text_of (node_lines node)
+unfolding text_of
+node_spelled empty text node none is =
+    let lines = text_of (map entry_line (entries_of node.rule)) in
+    ap (λ (t : List ℕ). t ++ lines) (is ∙ ap (λ (t : List ℕ). t ++ (head_line (head_of node) ++ 10 ∷ [])) none)
+    ∙ append_assoc (head_line (head_of node)) (10 ∷ []) lines
 
 -- the digits of a mask down to a place
 pub hex_none : (old : List ℕ) (bits : ℕ) → old ≡ old ++ hex 0 bits

@@ -4,33 +4,34 @@ use Rattle.std.proofs.Common.{ℕ, ◌≤◌, List, [], ◌∷◌, ◌++◌, len
 use Rattle.std.specs.Prelude.{flat_map}
 use Rattle.hx_board.specs.declared.colours.Colour.{Colour}
 use Rattle.hx_board.specs.Cells.{Extent, IsExtent}
-use Rattle.hx_tree.specs.declared.nodes.Line.{Line}
-use Rattle.hx_tree.specs.declared.nodes.Rule.{Rule}
-use Rattle.hx_tree.specs.declared.nodes.Rule.TheVariants.{Chain, Move, All}
 use Rattle.hx_tree.specs.declared.nodes.Node.{Node}
+use Rattle.hx_text.specs.declared.entries.Entry.{Entry}
+use Rattle.hx_text.specs.declared.entries.Entry.TheVariants.{Step as Step_entry, Threat as Threat_entry, Answer as Answer_entry}
 use Rattle.hx_text.specs.Words.{Lacks, IsNumber}
 use Rattle.hx_text.specs.Grammars.{Begins}
-use Rattle.hx_text.specs.TreeTexts.{AreTreeLines, EachNodeFits, NodeFits, EachAnswerFits, LinesFit, head_of, head_words, answer_words, answer_line, rule_lines, node_lines, front_lines, tree_lines, end_line}
+use Rattle.hx_text.specs.StepTexts.{step_words}
+use Rattle.hx_text.specs.Entries.{answer_words, entry_line, EntryFits, EachEntryFits, entries_of}
+use Rattle.hx_text.specs.TreeTexts.{AreTreeLines, EachNodeFits, NodeFits, head_of, head_words, node_lines, front_lines, tree_lines, end_line}
 use Rattle.hx_text.proofs.Cuts.{AllLack, Lacks-middle, AllLack-append, AllLack-front}
 use Rattle.hx_text.proofs.HighBytes.{Lacks-spaced}
 use Rattle.hx_text.proofs.LineWords.{title_words, AllHigh-title_words, size_words, AllHigh-size_words, end_words, AllHigh-end_words}
 use Rattle.hx_text.proofs.HeadLines.{AllHigh-head_words}
+use Rattle.hx_text.proofs.StepWords.{AllHigh-step_words, threat_words, AllHigh-threat_words}
 use Rattle.hx_text.proofs.AnswerLines.{AllHigh-answer_words}
 
-AllLack-answers : (size : Extent) (lines : List Line) → size.rows ≤ 11 → EachAnswerFits size lines → AllLack (map answer_line lines)
-AllLack-answers size [] few each = tt
-AllLack-answers size (line ∷ lines) few each =
-    (Lacks-spaced (answer_words line) (AllHigh-answer_words size line few each.0), AllLack-answers size lines few each.1)
+Lacks-entry_line : (size : Extent) (entry : Entry) → size.rows ≤ 11 → EntryFits size entry → Lacks 10 (entry_line entry)
+Lacks-entry_line size (Step_entry step) few fits = Lacks-spaced (step_words step) (AllHigh-step_words size step few fits)
+Lacks-entry_line size (Threat_entry place) few fits = Lacks-spaced (threat_words place) (AllHigh-threat_words place fits)
+Lacks-entry_line size (Answer_entry line) few fits = Lacks-spaced (answer_words line) (AllHigh-answer_words size line few fits)
 
-AllLack-rule_lines : (size : Extent) (rule : Rule) → size.rows ≤ 11 → LinesFit size rule → AllLack (rule_lines rule)
-AllLack-rule_lines size Chain few fits = tt
-AllLack-rule_lines size (Move cell child) few fits = tt
-AllLack-rule_lines size (All lines) few fits = AllLack-answers size lines few fits
+AllLack-entries : (size : Extent) (entries : List Entry) → size.rows ≤ 11 → EachEntryFits size entries → AllLack (map entry_line entries)
+AllLack-entries size [] few each = tt
+AllLack-entries size (entry ∷ entries) few each = (Lacks-entry_line size entry few each.0, AllLack-entries size entries few each.1)
 
 AllLack-node : (size : Extent) (node : Node) → size.rows ≤ 11 → NodeFits size node → AllLack (node_lines node)
 AllLack-node size node few fits = (
   Lacks-spaced (head_words (head_of node)) (AllHigh-head_words size (head_of node) few fits.head.opening),
-  AllLack-rule_lines size node.rule few fits.lines,
+  AllLack-entries size (entries_of node.rule) few fits.entries,
 )
 
 AllLack-nodes : (size : Extent) (nodes : List Node) → size.rows ≤ 11 → EachNodeFits size nodes → AllLack (flat_map node_lines nodes)

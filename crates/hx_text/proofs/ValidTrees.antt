@@ -1,25 +1,39 @@
 -- The nodes of a valid tree on boards of one size, of no more nodes than a text may have, are within the limits of a text:
--- each cell is on the board, a child is an earlier node, and as each empty cell has one line there are at most 121 lines.
-use Rattle.std.proofs.Common.{◌≡◌, ℕ, zero, suc, ◌<◌, ◌≤◌, List, [], ◌∷◌, length, take, get_or, arith, Option, Some, None}
+-- each cell is on the board, a child is an earlier node, what a step or a threat names is an earlier link, and as each cell to
+-- answer has one line there are at most 121 lines.
+use Rattle.std.proofs.Common.{◌≡◌, ℕ, zero, suc, ◌+◌, ◌<◌, ◌≤◌, List, [], ◌∷◌, ◌++◌, length, map, take, get_or, ap, arith, Option, Some, None, ◌⊎◌, inl, inr, length-append}
 use Rattle.std.specs.Prelude.{slice_get, IfSome, IsSomeAnd}
 use Rattle.std.specs.List.{All as EachItem}
 use Rattle.std.proofs.lemmas.List.{length-map}
+use Rattle.std.proofs.lemmas.Option.{slice_get_within}
 use Rattle.std.proofs.lemmas.Map.Keys.{sorted_from_strictly_increasing}
 use Rattle.std.proofs.lemmas.Map.Views.{length-le_from_below}
+use Rattle.hx_board.specs.declared.colours.Colour.{Colour}
+use Rattle.hx_board.specs.declared.vertices.Vertex.{Vertex}
+use Rattle.hx_board.specs.declared.vertices.Vertex.TheVariants.{Of, First, Last}
 use Rattle.hx_board.specs.Cells.{Extent, IsExtent, OnBoard}
-use Rattle.hx_board.specs.Positions.{IsEmpty}
+use Rattle.hx_board.specs.Graph.{IsVertex}
+use Rattle.hx_board.specs.Positions.{Board, IsEmpty}
 use Rattle.hx_board.proofs.CellLaws.{on_board-small}
+use Rattle.hx_link.specs.declared.links.Link.{Link}
+use Rattle.hx_link.specs.declared.steps.Step.{Step}
+use Rattle.hx_link.specs.declared.steps.Step.TheVariants.{Base, AndStone, AndCell, Or}
+use Rattle.hx_link.specs.Steps.{IsEnd, IsLink, HasEnds, StepGives, AreRightSteps, links_at}
 use Rattle.hx_tree.specs.declared.nodes.Heading.{Heading}
 use Rattle.hx_tree.specs.declared.nodes.Line.{Line}
 use Rattle.hx_tree.specs.declared.nodes.Line.TheVariants.{Child}
 use Rattle.hx_tree.specs.declared.nodes.Node.{Node}
 use Rattle.hx_tree.specs.declared.nodes.Rule.{Rule}
-use Rattle.hx_tree.specs.declared.nodes.Rule.TheVariants.{Chain, Move, All}
-use Rattle.hx_tree.specs.Answers.{AreInOrder, cell_of, cells_of, IsRightLine}
+use Rattle.hx_tree.specs.declared.nodes.Rule.TheVariants.{Chain, Links, Move, All}
+use Rattle.hx_tree.specs.Steps.{IsThreat, most_steps}
+use Rattle.hx_tree.specs.Answers.{AreInOrder, IsToAnswer, cell_of, cells_of, IsRightLine}
 use Rattle.hx_tree.specs.Rules.{IsRightRule, IsRightNode}
 use Rattle.hx_tree.specs.Trees.{headings_of, AreRight}
-use Rattle.hx_text.specs.TreeTexts.{most_answers, opening_of, OpeningFits, AnswerFits, EachAnswerFits, LinesFit, NodeFits, EachNodeFits, ListsFit}
+use Rattle.hx_text.specs.StepTexts.{StepFits, AreNumbers}
+use Rattle.hx_text.specs.Entries.{most_answers, AnswerFits, EachEntryFits, entries_of, opening_of}
+use Rattle.hx_text.specs.TreeTexts.{OpeningFits, NodeFits, EachNodeFits, ListsFit}
 use Rattle.hx_text.specs.Places.{most_nodes}
+use Rattle.hx_text.proofs.EntryLists.{step_entry, threat_entry, answer_entry, EachEntryFits-append}
 
 -- a heading that is there is at a place below the length
 place_below : (P : Heading → Type 0) (before : List Heading) (k : ℕ) → IsSomeAnd (slice_get before k) P → k < length before
@@ -39,12 +53,83 @@ line_fits : (size : Extent) (before : List Heading) (heading : Heading) (line : 
 line_fits size before heading (Child cell child) same few on right = let below : child < length before = place_below _ before child right in (on, omega arith)
 
 lines_fit : (size : Extent) (before : List Heading) (heading : Heading) (lines : List Line) → heading.position.size ≡ size → length before ≤ most_nodes
-    → EachItem (OnBoard size) (cells_of lines) → ((k : ℕ) → IfSome (slice_get lines k) (IsRightLine before heading)) → EachAnswerFits size lines
+    → EachItem (OnBoard size) (cells_of lines) → ((k : ℕ) → IfSome (slice_get lines k) (IsRightLine before heading)) → EachEntryFits size (map answer_entry lines)
 lines_fit size before heading [] same few on right = tt
 lines_fit size before heading (line ∷ lines) same few on right = (
   line_fits size before heading line same few (on 0 0 (omega arith)) (right 0),
   lines_fit size before heading lines same few (λ k d less. on (suc k) d (omega arith)) (λ k. right (suc k)),
 )
+
+-- ---- steps
+
+-- an earlier link is at a place below their number
+link_below : (links : List Link) (place : ℕ) (link : Link) → slice_get links place ≡ Some link → place < length links
+link_below links place link there = slice_get_within links place link there
+
+vertex_of_end : (board : Board) (player : Colour) (vertex : Vertex) → IsEnd board player vertex → IsVertex board.size vertex
+vertex_of_end board player (Of cell) is = is.0
+vertex_of_end board player First is = tt
+vertex_of_end board player Last is = tt
+
+base_fits : (board : Board) (player : Colour) (a b : Vertex) (link : Link) → IsLink board player link → HasEnds link a b → IsVertex board.size a × IsVertex board.size b
+base_fits board player a b link ok (inl ends) =
+    (rw ends.0 at (vertex_of_end board player link.a ok.a_end), rw ends.1 at (vertex_of_end board player link.b ok.b_end))
+base_fits board player a b link ok (inr ends) =
+    (rw ends.1 at (vertex_of_end board player link.b ok.b_end), rw ends.0 at (vertex_of_end board player link.a ok.a_end))
+
+parts_fit : (before : List Link) (places : List ℕ) (links : List Link) → length before ≤ most_steps
+    → links_at before places ≡ map (λ (part : Link). Some part) links → AreNumbers places
+parts_fit before [] links few there = tt
+parts_fit before (place ∷ places) [] few there = cc
+parts_fit before (place ∷ places) (link ∷ links) few there =
+    let here : slice_get before place ≡ Some link = cc in
+    let later : links_at before places ≡ map (λ (part : Link). Some part) links = cc in
+    let below : place < length before = link_below before place link here in
+    (omega arith, parts_fit before places links few later)
+
+step_fits : (board : Board) (player : Colour) (before : List Link) (step : Step) (link : Link) → length before ≤ most_steps
+    → StepGives board player before step link → StepFits board.size step
+step_fits board player before (Base a b) link few gives = base_fits board player a b link gives.link_ok gives.rule.ends
+step_fits board player before (AndStone left right) link few gives =
+    let first : left < length before = link_below before left gives.rule.first gives.rule.meet.first_there in
+    let second : right < length before = link_below before right gives.rule.second gives.rule.meet.second_there in
+    (omega arith, omega arith)
+step_fits board player before (AndCell left right) link few gives =
+    let first : left < length before = link_below before left gives.rule.first gives.rule.meet.first_there in
+    let second : right < length before = link_below before right gives.rule.second gives.rule.meet.second_there in
+    (omega arith, omega arith)
+step_fits board player before (Or parts) link few gives = (gives.rule.few, parts_fit before parts gives.rule.links few gives.rule.there)
+
+steps_fit : (board : Board) (player : Colour) (before : List Link) (steps : List Step) (links : List Link) → length before + length steps ≤ most_steps
+    → AreRightSteps board player before steps links → EachEntryFits board.size (map step_entry steps)
+steps_fit board player before [] links few right = tt
+steps_fit board player before (step ∷ steps) links few right = (
+  step_fits board player before step right.0 (omega arith) right.1,
+  steps_fit board player (before ++ right.0 ∷ []) steps links (omega (arith, length-append before (right.0 ∷ []))) right.2,
+)
+
+as_many_links : (board : Board) (player : Colour) (before : List Link) (steps : List Step) (links : List Link)
+    → AreRightSteps board player before steps links → length links ≡ length before + length steps
+as_many_links board player before [] links right = omega (arith, ap length right)
+as_many_links board player before (step ∷ steps) links right =
+    let later = as_many_links board player (before ++ right.0 ∷ []) steps links right.2 in
+    omega (arith, later, length-append before (right.0 ∷ []))
+
+-- ---- threats
+
+threat_below : (P : Link → Type 0) (links : List Link) (place : ℕ) → IsSomeAnd (slice_get links place) P → place < length links
+threat_below P [] place there = absurd there
+threat_below P (first ∷ links) zero there = omega arith
+threat_below P (first ∷ links) (suc place) there = omega (arith, threat_below P links place there)
+
+threats_fit : (size : Extent) (links : List Link) (threats : List ℕ) → length links ≤ most_steps → ((k : ℕ) → IfSome (slice_get threats k) (IsThreat links))
+    → EachEntryFits size (map threat_entry threats)
+threats_fit size links [] few each = tt
+threats_fit size links (place ∷ threats) few each =
+    let below : place < length links = threat_below _ links place (each 0) in
+    (omega arith, threats_fit size links threats few (λ k. each (suc k)))
+
+-- ---- rules
 
 -- the empty cells of a position of this size are on its board
 on_this : (size : Extent) (heading : Heading) → heading.position.size ≡ size → (cell : ℕ) → IsEmpty heading.position cell → OnBoard size cell
@@ -53,19 +138,31 @@ on_this size heading same cell empty = rw same at empty.on_board
 opening_fits : (size : Extent) (before : List Heading) (heading : Heading) (rule : Rule) → heading.position.size ≡ size → IsExtent size.rows size.cols
     → length before ≤ most_nodes → IsRightRule before heading rule → OpeningFits size (opening_of rule)
 opening_fits size before heading Chain same extent few right = tt
+opening_fits size before heading (Links steps) same extent few right = right.steps_right.few
 opening_fits size before heading (Move cell child) same extent few right =
     let below : child < length before = place_below _ before child right.leads in (on_this size heading same cell right.empty, omega arith)
-opening_fits size before heading (All lines) same extent few right =
-    let count = few_cells size (cells_of lines) (IsEmpty heading.position) extent (on_this size heading same) right.answered in
-    omega (arith, count, length-map lines cell_of)
+opening_fits size before heading (All steps threats lines) same extent few right =
+    let count = few_cells size (cells_of lines) (IsToAnswer heading.position right.links threats) extent (λ cell is. on_this size heading same cell is.empty)
+    right.answered.cells in
+    (right.steps_right.few, right.answered.threats_right.few, omega (arith, count, length-map lines cell_of))
 
 rule_fits : (size : Extent) (before : List Heading) (heading : Heading) (rule : Rule) → heading.position.size ≡ size
-    → length before ≤ most_nodes → IsRightRule before heading rule → LinesFit size rule
+    → length before ≤ most_nodes → IsRightRule before heading rule → EachEntryFits size (entries_of rule)
 rule_fits size before heading Chain same few right = tt
+rule_fits size before heading (Links steps) same few right =
+    let each : EachEntryFits heading.position.size (map step_entry steps) =
+    steps_fit heading.position heading.winner [] steps right.links (omega (arith, right.steps_right.few)) right.steps_right.right in
+    EachEntryFits-append size (map step_entry steps ++ []) [] (EachEntryFits-append size (map step_entry steps) [] (rw same at each) tt) tt
 rule_fits size before heading (Move cell child) same few right = tt
-rule_fits size before heading (All lines) same few right =
-    lines_fit size before heading lines same few
-    (λ k d less. on_this size heading same (get_or (cells_of lines) k d) (right.answered.only k d less)) right.lines_right
+rule_fits size before heading (All steps threats lines) same few right =
+    let each : EachEntryFits heading.position.size (map step_entry steps) =
+    steps_fit heading.position heading.winner [] steps right.links (omega (arith, right.steps_right.few)) right.steps_right.right in
+    let count : length right.links ≡ length steps = omega (arith, as_many_links heading.position heading.winner [] steps right.links right.steps_right.right) in
+    EachEntryFits-append size (map step_entry steps ++ map threat_entry threats) (map answer_entry lines)
+    (EachEntryFits-append size (map step_entry steps) (map threat_entry threats) (rw same at each)
+    (threats_fit size right.links threats (omega (arith, count, right.steps_right.few)) right.answered.threats_right.each))
+    (lines_fit size before heading lines same few
+    (λ k d less. on_this size heading same (get_or (cells_of lines) k d) (right.answered.cells.only k d less).empty) right.answered.lines_right)
 
 node_fits : (size : Extent) (before : List Heading) (node : Option Node) → length before ≤ most_nodes → IfSome node (IsRightNode before)
     → IfSome node (λ n. n.heading.position.size ≡ size) → IfSome node (NodeFits size)
@@ -77,7 +174,7 @@ node_fits size before (Some node) few right same =
         heading = record { size_is = same; board = right.board };
         opening = opening_fits size before node.heading node.rule same extent few right.rule;
       };
-      lines = rule_fits size before node.heading node.rule same few right.rule;
+      entries = rule_fits size before node.heading node.rule same few right.rule;
     }
 
 each_from_places : (size : Extent) (nodes : List Node) → ((k : ℕ) → IfSome (slice_get nodes k) (NodeFits size)) → EachNodeFits size nodes
@@ -112,8 +209,9 @@ right_nodes_fit size nodes right few same =
 -- what fits can be written
 lists_fit : (size : Extent) (rule : Rule) → OpeningFits size (opening_of rule) → ListsFit rule
 lists_fit size Chain fits = tt
+lists_fit size (Links steps) fits = fits
 lists_fit size (Move cell child) fits = tt
-lists_fit size (All lines) fits = fits
+lists_fit size (All steps threats lines) fits = fits
 
 pub each_lists_fit : (size : Extent) (nodes : List Node) → EachNodeFits size nodes → EachItem (λ node. ListsFit node.rule) nodes
 each_lists_fit size [] each k d less = absurd (omega arith)

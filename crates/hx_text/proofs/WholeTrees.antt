@@ -1,5 +1,5 @@
 -- A text tells its nodes, and what is written piece by piece is the text of the nodes.
-use Rattle.std.proofs.Common.{◌≡◌, ℕ, List, [], ◌∷◌, ◌++◌, length, refl, sym, ap, ◌∙◌, subst}
+use Rattle.std.proofs.Common.{◌≡◌, ℕ, List, [], ◌∷◌, ◌++◌, length, map, refl, sym, ap, ◌∙◌, subst}
 use Rattle.std.proofs.lemmas.List.{append-nil}
 use Rattle.std.specs.Prelude.{flat_map}
 use Rattle.hx_board.specs.declared.colours.Colour.{Colour}
@@ -7,7 +7,8 @@ use Rattle.hx_board.specs.Cells.{Extent, IsExtent}
 use Rattle.hx_tree.specs.declared.nodes.Node.{Node}
 use Rattle.hx_text.specs.Words.{IsNumber}
 use Rattle.hx_text.specs.Grammars.{text_of}
-use Rattle.hx_text.specs.TreeTexts.{AreTreeLinesOf, IsTreeText, EachNodeFits, IsRootWinner, rule_lines, node_lines, front_lines, end_line, tree_lines, written_tree}
+use Rattle.hx_text.specs.Entries.{entry_line, entries_of}
+use Rattle.hx_text.specs.TreeTexts.{AreTreeLinesOf, IsTreeText, EachNodeFits, IsRootWinner, node_lines, front_lines, end_line, tree_lines, written_tree}
 use Rattle.hx_text.proofs.Ends.{push-some}
 use Rattle.hx_text.proofs.Cuts.{text_injective, text_of-append}
 use Rattle.hx_text.proofs.TreeLacks.{AllLack-tree_lines}
@@ -16,7 +17,7 @@ use Rattle.hx_text.proofs.Alignment.{Aligned, aligned}
 no_more : (more : List Node) (end last : List ℕ) → end ∷ [] ≡ flat_map node_lines more ++ last ∷ [] → more ≡ []
 no_more [] end last e = refl
 no_more (node ∷ more) end last e =
-    let later : List (List ℕ) = rule_lines node.rule ++ flat_map node_lines more in
+    let later : List (List ℕ) = map entry_line (entries_of node.rule) ++ flat_map node_lines more in
     let none : later ++ last ∷ [] ≡ [] = cc in
     absurd (push-some later last none)
 

@@ -2,6 +2,9 @@ pub mod Words
 pub mod Grammars
 pub mod PositionTexts
 pub mod PositionReads
+pub mod Spelling
+pub mod StepTexts
+pub mod Entries
 pub mod TreeTexts
 pub mod Places
 pub mod Reader

@@ -1,5 +1,5 @@
 -- The places in a tree's text: what each says of the lines and nodes before it, and what one more line does there.
-use Rattle.std.specs.Prelude.{◌≡◌, ◌≢◌, ℕ, ◌<◌, ◌≤◌, List, [], ◌∷◌, ◌++◌, length, map, flat_map, Bool, IsTrue}
+use Rattle.std.specs.Prelude.{◌≡◌, ◌≢◌, ℕ, ◌+◌, ◌-◌, ◌<◌, ◌≤◌, nat_lt, if◌then◌else◌, List, [], ◌∷◌, ◌++◌, length, map, flat_map, Bool, IsTrue}
 use Rattle.std.specs.declared.option.Option.{Option}
 use Rattle.std.specs.declared.option.Option.TheVariants.{None, Some}
 use Rattle.std.specs.declared.result.Result.{Result}
@@ -7,9 +7,11 @@ use Rattle.std.specs.declared.result.Result.TheVariants.{Ok, Err}
 use Rattle.hx_board.specs.declared.colours.Colour.{Colour}
 use Rattle.hx_board.specs.Cells.{Extent, IsExtent}
 use Rattle.hx_tree.specs.declared.nodes.Node.{Node}
-use Rattle.hx_tree.specs.declared.nodes.Line.{Line}
 use Rattle.hx_text.specs.declared.node_lines.Head.{Head}
-use Rattle.hx_text.specs.declared.node_lines.Opening.TheVariants.{All}
+use Rattle.hx_text.specs.declared.entries.Entry.{Entry}
+use Rattle.hx_text.specs.declared.entries.Entry.TheVariants.{Step as Step_entry, Threat as Threat_entry, Answer as Answer_entry}
+use Rattle.hx_text.specs.declared.entries.EntryKind.{EntryKind}
+use Rattle.hx_text.specs.declared.entries.EntryKind.TheVariants.{Step as Step_kind, Threat as Threat_kind, Answer as Answer_kind}
 use Rattle.hx_text.specs.declared.begun_nodes.Begun.{Begun}
 use Rattle.hx_text.specs.declared.places.SoFar.{SoFar}
 use Rattle.hx_text.specs.declared.places.Fed.{Fed}
@@ -22,7 +24,8 @@ use Rattle.hx_text.specs.declared.places.TreeFault.TheVariants.{Text, TooMany as
 use Rattle.hx_text.specs.declared.places.Stop.{Stop}
 use Rattle.hx_text.specs.declared.places.Stop.TheVariants.{Wrong, TooMany, Memory}
 use Rattle.hx_text.specs.Grammars.{Begins}
-use Rattle.hx_text.specs.TreeTexts.{AreTreeLines, AreTreeLinesOf, EachNodeFits, NodeFits, IsRootWinner, HeadingFits, HeadFits, AnswerFits, EachAnswerFits, most_answers, title_line, front_lines, head_line, answer_line, node_lines}
+use Rattle.hx_text.specs.Entries.{EachEntryFits, IsEntry, entries_for, entry_line, steps_told, threats_told, answers_told, entries_told}
+use Rattle.hx_text.specs.TreeTexts.{AreTreeLines, AreTreeLinesOf, EachNodeFits, NodeFits, IsRootWinner, HeadFits, title_line, front_lines, head_line, node_lines}
 
 -- the most nodes of a text
 abbrev pub most_nodes : ℕ
@@ -42,16 +45,34 @@ pub record StandsSoFar (so_far : SoFar) (nodes : List Node) (lines : List (List 
   pub room : so_far.count ≤ most_nodes
   pub same : lines ≡ front_lines so_far.size ++ flat_map node_lines nodes
 
--- the lines so far are those of these nodes, and then of a node that has not all of its lines
-pub record StandsInside (begun : Begun) (nodes : List Node) (lines : List (List ℕ)) : Type 0 where
+-- the entries of a begun node
+abbrev pub entries_in : Begun → List Entry
+entries_in begun = entries_for begun.steps.items begun.threats.items begun.lines.items
+
+-- how many entries there are of each kind, and that no kind began before the one before it was whole
+pub record IsInOrder (begun : Begun) : Type 0 where
+  pub steps : length begun.steps.items ≤ steps_told begun.head.opening
+  pub threats : length begun.threats.items ≤ threats_told begun.head.opening
+  pub answers : length begun.lines.items ≤ answers_told begun.head.opening
+  pub threats_after_steps : 0 < length begun.threats.items → length begun.steps.items ≡ steps_told begun.head.opening
+  pub answers_after_steps : 0 < length begun.lines.items → length begun.steps.items ≡ steps_told begun.head.opening
+  pub answers_after_threats : 0 < length begun.lines.items → length begun.threats.items ≡ threats_told begun.head.opening
+  pub missing : length begun.steps.items + length begun.threats.items + length begun.lines.items + begun.missing ≡ entries_told begun.head.opening
+
+-- the lines so far are those of these nodes, and then of a node of which the entries that are missing may be none
+pub record StandsBegun (begun : Begun) (nodes : List Node) (lines : List (List ℕ)) : Type 0 where
   pub before : List (List ℕ)
   pub stands : StandsSoFar begun.so_far nodes before
   pub room : begun.so_far.count < most_nodes
-  pub heading : HeadingFits begun.so_far.size begun.heading
-  pub few : begun.wanted ≤ most_answers
-  pub lacks : length begun.lines.items < begun.wanted
-  pub each : EachAnswerFits begun.so_far.size begun.lines.items
-  pub same : lines ≡ before ++ head_line (record { heading = begun.heading; opening = All begun.wanted }) ∷ map answer_line begun.lines.items
+  pub head : HeadFits begun.so_far.size begun.head
+  pub in_order : IsInOrder begun
+  pub each : EachEntryFits begun.so_far.size (entries_in begun)
+  pub same : lines ≡ before ++ head_line begun.head ∷ map entry_line (entries_in begun)
+
+-- the lines so far are those of these nodes, and then of a node that has not all of its lines
+pub record StandsInside (begun : Begun) (nodes : List Node) (lines : List (List ℕ)) : Type 0 where
+  pub begun_so : StandsBegun begun nodes lines
+  pub lacks : 0 < begun.missing
 
 -- the lines so far are those of these nodes, at this place in the text
 abbrev pub Stands : Place → List Node → List (List ℕ) → Type 0
@@ -107,11 +128,37 @@ EndsNode so_far node step =
     (nodes : List Node) (lines : List (List ℕ)) → StandsSoFar so_far nodes lines → so_far.count < most_nodes → NodeFits so_far.size node
     → Brings step.fed step.place nodes (lines ++ node_lines node)
 
--- what comes after a line that answers a move
-abbrev pub AddsAnswer : Begun → Line → Result Step Stop → Type 0
-AddsAnswer begun line result =
-    (nodes : List Node) (lines : List (List ℕ)) → StandsInside begun nodes lines → AnswerFits begun.so_far.size line
-    → Follows (Inside begun) nodes (answer_line line) (lines ++ answer_line line ∷ []) result
+-- the kind of the entry that is due
+abbrev pub kind_due : Begun → EntryKind
+kind_due begun =
+    if nat_lt (length begun.steps.items) (steps_told begun.head.opening) then Step_kind else
+    if nat_lt (length begun.threats.items) (threats_told begun.head.opening) then Threat_kind else Answer_kind
+
+-- the entry is added to the list of its kind
+abbrev pub IsAdded : Begun → Entry → Begun → Type 0
+IsAdded old (Step_entry step) new =
+    (new.steps.items ≡ old.steps.items ++ step ∷ []) × (new.threats.items ≡ old.threats.items) × (new.lines.items ≡ old.lines.items)
+IsAdded old (Threat_entry place) new =
+    (new.steps.items ≡ old.steps.items) × (new.threats.items ≡ old.threats.items ++ place ∷ []) × (new.lines.items ≡ old.lines.items)
+IsAdded old (Answer_entry line) new =
+    (new.steps.items ≡ old.steps.items) × (new.threats.items ≡ old.threats.items) × (new.lines.items ≡ old.lines.items ++ line ∷ [])
+
+-- the begun node with one more entry
+pub record IsWithEntry (old : Begun) (entry : Entry) (new : Begun) : Type 0 where
+  pub same_so_far : new.so_far ≡ old.so_far
+  pub same_head : new.head ≡ old.head
+  pub missing : new.missing ≡ old.missing - 1
+  pub added : IsAdded old entry new
+
+-- what comes after the lines of a begun node
+abbrev pub SettlesNode : Begun → Step → Type 0
+SettlesNode begun step = (nodes : List Node) (lines : List (List ℕ)) → StandsBegun begun nodes lines → Brings step.fed step.place nodes lines
+
+-- what comes after an entry
+abbrev pub AddsEntry : Begun → Entry → Result Step Stop → Type 0
+AddsEntry begun entry result =
+    (nodes : List Node) (lines : List (List ℕ)) → StandsInside begun nodes lines → IsEntry begun.so_far.size (kind_due begun) entry
+    → Follows (Inside begun) nodes (entry_line entry) (lines ++ entry_line entry ∷ []) result
 
 -- what a reader says of one more line: old and new are the places before and after it, lines the lines with it
 abbrev pub Told : Place → List ℕ → Bool → ℕ → List Node → List (List ℕ) → Place → Result Fed TreeFault → Type 0

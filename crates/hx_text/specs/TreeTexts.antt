@@ -6,32 +6,23 @@ use Rattle.hx_board.specs.Cells.{Extent, IsExtent, OnBoard}
 use Rattle.hx_board.specs.Positions.{IsBoard}
 use Rattle.hx_tree.specs.declared.nodes.Heading.{Heading}
 use Rattle.hx_tree.specs.declared.nodes.Rule.{Rule}
-use Rattle.hx_tree.specs.declared.nodes.Rule.TheVariants.{Chain, Move, All}
-use Rattle.hx_tree.specs.declared.nodes.Line.{Line}
-use Rattle.hx_tree.specs.declared.nodes.Line.TheVariants.{Child}
+use Rattle.hx_tree.specs.declared.nodes.Rule.TheVariants.{Chain, Links, Move, All}
 use Rattle.hx_tree.specs.declared.nodes.Node.{Node}
+use Rattle.hx_tree.specs.Steps.{most_steps, most_threats}
 use Rattle.hx_tree.specs.Trees.{IsRoot}
 use Rattle.hx_text.specs.declared.node_lines.Opening.{Opening}
-use Rattle.hx_text.specs.declared.node_lines.Opening.TheVariants.{Chain as Chain_opening, Move as Move_opening, All as All_opening}
+use Rattle.hx_text.specs.declared.node_lines.Opening.TheVariants.{Chain as Chain_opening, Links as Links_opening, Move as Move_opening, All as All_opening}
 use Rattle.hx_text.specs.declared.node_lines.Head.{Head}
 use Rattle.hx_text.specs.Words.{spaced, mask_word, colour_word, cell_word, IsNumber}
 use Rattle.hx_text.specs.Grammars.{text_of}
 use Rattle.hx_text.specs.PositionTexts.{size_line}
-
--- the most lines that answer the opponent's moves
-abbrev pub most_answers : ℕ
-most_answers = 121
-
--- what a node's first line tells of its rule
-abbrev pub opening_of : Rule → Opening
-opening_of Chain = Chain_opening
-opening_of (Move cell child) = Move_opening cell child
-opening_of (All lines) = All_opening (length lines)
+use Rattle.hx_text.specs.Entries.{most_answers, entry_line, entries_of, opening_of, EachEntryFits}
 
 abbrev pub opening_words : Opening → List (List ℕ)
 opening_words Chain_opening = codes "chain" ∷ []
+opening_words (Links_opening steps) = codes "links" ∷ decimal steps ∷ []
 opening_words (Move_opening cell child) = codes "move" ∷ cell_word cell ∷ decimal child ∷ []
-opening_words (All_opening lines) = codes "all" ∷ codes "0" ∷ codes "0" ∷ decimal lines ∷ []
+opening_words (All_opening steps threats lines) = codes "all" ∷ decimal steps ∷ decimal threats ∷ decimal lines ∷ []
 
 -- the first line of a node
 abbrev pub head_of : Node → Head
@@ -45,22 +36,9 @@ head_words head =
 abbrev pub head_line : Head → List ℕ
 head_line head = spaced (head_words head)
 
--- the line of an answer to a move of the opponent
-abbrev pub answer_words : Line → List (List ℕ)
-answer_words (Child cell child) = codes "line" ∷ cell_word cell ∷ codes "child" ∷ decimal child ∷ []
-
-abbrev pub answer_line : Line → List ℕ
-answer_line line = spaced (answer_words line)
-
--- the lines of a node after the first
-abbrev pub rule_lines : Rule → List (List ℕ)
-rule_lines Chain = []
-rule_lines (Move cell child) = []
-rule_lines (All lines) = map answer_line lines
-
 -- the lines of a node
 abbrev pub node_lines : Node → List (List ℕ)
-node_lines node = head_line (head_of node) ∷ rule_lines node.rule
+node_lines node = head_line (head_of node) ∷ map entry_line (entries_of node.rule)
 
 abbrev pub title_line : List ℕ
 title_line = spaced (codes "hextree" ∷ codes "1" ∷ [])
@@ -82,36 +60,26 @@ pub record HeadingFits (size : Extent) (heading : Heading) : Type 0 where
 
 abbrev pub OpeningFits : Extent → Opening → Type 0
 OpeningFits size Chain_opening = Unit {0}
+OpeningFits size (Links_opening steps) = steps ≤ most_steps
 OpeningFits size (Move_opening cell child) = OnBoard size cell × IsNumber child
-OpeningFits size (All_opening lines) = lines ≤ most_answers
+OpeningFits size (All_opening steps threats lines) = (steps ≤ most_steps) × (threats ≤ most_threats) × (lines ≤ most_answers)
 
 -- a first line of a node on a board of this size
 pub record HeadFits (size : Extent) (head : Head) : Type 0 where
   pub heading : HeadingFits size head.heading
   pub opening : OpeningFits size head.opening
 
-abbrev pub AnswerFits : Extent → Line → Type 0
-AnswerFits size (Child cell child) = OnBoard size cell × IsNumber child
-
-abbrev pub EachAnswerFits : Extent → List Line → Type 0
-EachAnswerFits size [] = Unit {0}
-EachAnswerFits size (line ∷ lines) = AnswerFits size line × EachAnswerFits size lines
-
-abbrev pub LinesFit : Extent → Rule → Type 0
-LinesFit size Chain = Unit {0}
-LinesFit size (Move cell child) = Unit {0}
-LinesFit size (All lines) = EachAnswerFits size lines
-
--- a node on a board of this size, with no more lines than a text may have
+-- a node on a board of this size, with no more entries than a text may have
 pub record NodeFits (size : Extent) (node : Node) : Type 0 where
   pub head : HeadFits size (head_of node)
-  pub lines : LinesFit size node.rule
+  pub entries : EachEntryFits size (entries_of node.rule)
 
 -- the lists of a rule are no longer than a text may have them
 abbrev pub ListsFit : Rule → Type 0
 ListsFit Chain = Unit {0}
+ListsFit (Links steps) = length steps ≤ most_steps
 ListsFit (Move cell child) = Unit {0}
-ListsFit (All lines) = length lines ≤ most_answers
+ListsFit (All steps threats lines) = (length steps ≤ most_steps) × (length threats ≤ most_threats) × (length lines ≤ most_answers)
 
 abbrev pub EachNodeFits : Extent → List Node → Type 0
 EachNodeFits size [] = Unit {0}

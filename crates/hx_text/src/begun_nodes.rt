@@ -1,22 +1,29 @@
-//! A node whose lines come one by one. It is handed out with its last line, which its first line tells by a count.
+//! A node whose lines come one by one. Its first line tells how many entries of each kind follow, and it is handed out with
+//! the last of them.
 
-ghost use Rattle.std.specs.Prelude.{◌≡◌, ◌+◌, ◌<◌, IsTrue, false, vec_len, vec_capacity};
-ghost use Rattle.hx_text.specs.Places.{Goes, GoesOn, BeginsNode, EndsNode, AddsAnswer};
+ghost use Rattle.std.specs.Prelude.{◌≡◌, ◌↔◌, ◌≤◌, IsTrue, false};
+ghost use Rattle.hx_text.specs.Entries.{rule_for};
+ghost use Rattle.hx_text.specs.Places.{Goes, GoesOn, BeginsNode, EndsNode, AddsEntry, SettlesNode, IsWithEntry, kind_due};
 
-use crate::node_lines::{self, Head, Opening};
+use crate::entries::{Entry, EntryKind, read_entry};
+use crate::node_lines::{Head, Opening};
 use crate::places::{Fed, Place, SoFar, Step, Stop};
-use hx_board::Size;
-use hx_tree::{Heading, Line, Lines, Node, Rule};
+use hx_board::{Memory, Size};
+use hx_link::Step as LinkStep;
+use hx_tree::{Line, Lines, Node, Rule, Steps, Threats};
 use std::alloc::Global;
 
-/// A node that lacks some of its lines, and what the nodes before it have said.
+/// A node that lacks some of its entries, and what the nodes before it have said.
 #[derive(Debug, Drop)]
 pub struct Begun {
     pub so_far: SoFar,
-    pub heading: Heading,
-    /// How many lines the node has in all.
-    pub wanted: u32,
-    /// The lines that came.
+    /// The node's first line.
+    pub head: Head,
+    /// How many entries are still to come.
+    pub missing: u64,
+    /// The entries that came.
+    pub steps: Vec<LinkStep>,
+    pub threats: Vec<u32>,
     pub lines: Vec<Line>,
 }
 
@@ -28,17 +35,54 @@ impl Begun {
         self.so_far.size
     }
 
-    /// Whether it has room for the next line, and lacks another one then.
-    fn has_room(&self) -> bool
-        ensures room { IsTrue result → vec_len self.now.lines < vec_capacity self.now.lines }
-        ensures lacks { IsTrue result → vec_len self.now.lines + 1 < self.now.wanted }
+    /// Which kind of entry is due.
+    #[inline(always)]
+    fn kind_due(&self) -> EntryKind
+        ensures { result ≡ kind_due self.now }
     {
-        let count = self.lines.len();
-        count < self.lines.capacity() && count + 1 < self.wanted as usize
+        let opening = &self.head.opening;
+        if self.steps.len() < opening.steps() as usize {
+            EntryKind::Step
+        } else if self.threats.len() < opening.threats() as usize {
+            EntryKind::Threat
+        } else {
+            EntryKind::Answer
+        }
+    }
+
+    /// Takes one more entry, where its list has room, and says whether it did. The lists were made with room for all
+    /// entries.
+    #[inline(always)]
+    fn takes(&mut self, entry: Entry) -> bool
+        ensures yes { IsTrue result → IsWithEntry self.old entry self.new }
+        ensures no { result ≡ false → self.new ≡ self.old }
+    {
+        match entry {
+            Entry::Step(step) => {
+                if self.steps.len() == self.steps.capacity() {
+                    return false;
+                }
+                self.steps.push_reserved(step);
+            }
+            Entry::Threat(place) => {
+                if self.threats.len() == self.threats.capacity() {
+                    return false;
+                }
+                self.threats.push_reserved(place);
+            }
+            Entry::Answer(line) => {
+                if self.lines.len() == self.lines.capacity() {
+                    return false;
+                }
+                self.lines.push_reserved(line);
+            }
+        }
+        self.missing = self.missing.saturating_sub(1);
+        true
     }
 }
 
-/// The step over a node's first line.
+/// The step over a node's first line. Most nodes have no entry, and are whole at once.
 pub(crate) fn begin(alloc: Global, so_far: SoFar, head: Head) -> Result<Step, Stop>
     ensures { BeginsNode so_far head result }
 {
@@ -52,77 +96,110 @@ pub(crate) fn begin(alloc: Global, so_far: SoFar, head: Head) -> Result<Step, St
             let rule = Rule::Move { cell, child };
             Ok(with_node(so_far, Node { heading, rule }))
         }
-        Opening::All { lines } => begin_all(alloc, so_far, heading, lines),
+        Opening::Links { steps } => {
+            let opening = Opening::Links { steps };
+            begin_lists(alloc, so_far, Head { heading, opening })
+        }
+        Opening::All {
+            steps,
+            threats,
+            lines,
+        } => {
+            let opening = Opening::All {
+                steps,
+                threats,
+                lines,
+            };
+            begin_lists(alloc, so_far, Head { heading, opening })
+        }
     }
 }
 
-/// The step over the first line of a node that so many lines follow.
-fn begin_all(alloc: Global, so_far: SoFar, heading: Heading, wanted: u32) -> Result<Step, Stop>
-    ensures { BeginsNode so_far (record { heading = heading; opening = Opening.All wanted }) result }
+/// The step over the first line of a node that as many entries follow as the line tells.
+fn begin_lists(alloc: Global, so_far: SoFar, head: Head) -> Result<Step, Stop>
+    ensures { BeginsNode so_far head result }
 {
-    let lines = Vec::with_capacity(alloc, wanted as usize).map_err(|_| Stop::Memory)?;
-    if wanted == 0 {
-        let lines = Lines::new(lines);
-        let rule = Rule::All { lines };
-        return Ok(with_node(so_far, Node { heading, rule }));
-    }
+    let opening = &head.opening;
+    let steps = opening.steps();
+    let threats = opening.threats();
+    let answers = opening.answers();
     let begun = Begun {
         so_far,
-        heading,
-        wanted,
-        lines,
+        head,
+        missing: u64::from(steps) + u64::from(threats) + u64::from(answers),
+        steps: Vec::with_capacity(alloc, steps as usize).map_err(|_| Stop::Memory)?,
+        threats: Vec::with_capacity(alloc, threats as usize).map_err(|_| Stop::Memory)?,
+        lines: Vec::with_capacity(alloc, answers as usize).map_err(|_| Stop::Memory)?,
     };
-    Ok(Step {
-        fed: Fed::More,
-        place: Place::Inside(begun),
-    })
+    Ok(settled(begun))
 }
 
-/// Takes a line after the first that more lines follow, and says whether it did. Where it did not, the node is as it was.
-pub(crate) fn goes_on(begun: &mut Begun, line: &[u8]) -> bool
+/// Takes an entry that more entries follow, and says whether it did. Where it did not, the node is as it was.
+pub(crate) fn goes_on(alloc: Global, begun: &mut Begun, line: &[u8]) -> bool
     ensures yes { IsTrue result → GoesOn (Place.Inside begun.old) line.now (Place.Inside begun.new) }
     ensures no { result ≡ false → begun.new ≡ begun.old }
 {
-    if !begun.has_room() {
+    if begun.missing < 2 {
         return false;
     }
-    match node_lines::read_answer(begun.size(), line) {
-        Some(answer) => {
-            begun.lines.push_reserved(answer);
-            true
-        }
-        None => false,
+    match read_entry(alloc, begun.size(), begun.kind_due(), line) {
+        Ok(Some(entry)) => begun.takes(entry),
+        Ok(None) | Err(Memory) => false,
     }
 }
 
 /// Takes a line of a node after its first.
-pub(crate) fn inside(begun: Begun, line: &[u8]) -> Result<Step, Stop>
+pub(crate) fn inside(alloc: Global, begun: Begun, line: &[u8]) -> Result<Step, Stop>
     ensures { Goes (Place.Inside begun) line.now result }
 {
-    let size = begun.size();
-    match node_lines::read_answer(size, line) {
-        Some(answer) => add_answer(begun, answer),
-        None => Err(Stop::Wrong),
+    match read_entry(alloc, begun.size(), begun.kind_due(), line) {
+        Ok(Some(entry)) => add_entry(begun, entry),
+        Ok(None) => Err(Stop::Wrong),
+        Err(Memory) => Err(Stop::Memory),
     }
 }
 
-/// The step over a line that answers a move.
-fn add_answer(mut begun: Begun, answer: Line) -> Result<Step, Stop>
-    ensures { AddsAnswer begun answer result }
+/// The step over an entry.
+fn add_entry(mut begun: Begun, entry: Entry) -> Result<Step, Stop>
+    ensures { AddsEntry begun entry result }
 {
-    if begun.lines.push(answer).is_err() {
-        return Err(Stop::Memory);
+    if begun.takes(entry) {
+        Ok(settled(begun))
+    } else {
+        Err(Stop::Memory)
     }
-    if begun.lines.len() < begun.wanted as usize {
-        return Ok(Step {
+}
+
+/// The step to a node that may have all of its entries.
+fn settled(begun: Begun) -> Step
+    ensures { SettlesNode begun result }
+{
+    if begun.missing > 0 {
+        return Step {
             fed: Fed::More,
             place: Place::Inside(begun),
-        });
+        };
     }
-    let heading = begun.heading;
-    let lines = Lines::new(begun.lines);
-    let rule = Rule::All { lines };
-    Ok(with_node(begun.so_far, Node { heading, rule }))
+    let heading = begun.head.heading;
+    let rule = rule_of(begun.head.opening, begun.steps, begun.threats, begun.lines);
+    with_node(begun.so_far, Node { heading, rule })
+}
+
+/// The rule that begins so and has these entries.
+fn rule_of(opening: Opening, steps: Vec<LinkStep>, threats: Vec<u32>, lines: Vec<Line>) -> Rule
+    ensures { result ≡ rule_for opening steps.items threats.items lines.items }
+{
+    let steps = Steps::new(steps);
+    match opening {
+        Opening::Chain => Rule::Chain,
+        Opening::Links { .. } => Rule::Links { steps },
+        Opening::Move { cell, child } => Rule::Move { cell, child },
+        Opening::All { .. } => Rule::All {
+            steps,
+            threats: Threats::new(threats),
+            lines: Lines::new(lines),
+        },
+    }
 }
 
 /// The step over a node's last line.

@@ -2,6 +2,7 @@
 #![tactic(auto)]
 
 mod begun_nodes;
+mod entries;
 mod laws;
 mod lines;
 mod node_lines;
@@ -9,6 +10,7 @@ mod places;
 mod positions;
 mod reader;
 mod spelling;
+mod step_lines;
 mod values;
 mod words;
 mod writer;

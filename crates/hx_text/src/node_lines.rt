@@ -1,11 +1,13 @@
-//! The lines of a node. Its first line tells its position, its mover, its winner and how its rule begins; the lines that
-//! answer the opponent's moves follow, as many as the first line says.
+//! A node's first line, which tells its position, its mover, its winner, how its rule begins and how many entries follow;
+//! and the line of an answer to a move of the opponent.
 
 ghost use Rattle.std.specs.Prelude.{◌≡◌, ◌≢◌, ℕ, ◌≤◌, ◌∷◌, [], codes, IfSome, IfNone, MatchOption};
 ghost use Rattle.std.specs.Fmt.{decimal};
 ghost use Rattle.hx_board.specs.Cells.{OnBoard};
+ghost use Rattle.hx_tree.specs.Steps.{most_steps, most_threats};
 ghost use Rattle.hx_text.specs.Words.{Reads, IsNumber, cell_word};
-ghost use Rattle.hx_text.specs.TreeTexts.{most_answers, opening_words, OpeningFits, head_line, HeadFits, answer_line, AnswerFits};
+ghost use Rattle.hx_text.specs.Entries.{most_answers, answer_line, AnswerFits, steps_told, threats_told, answers_told};
+ghost use Rattle.hx_text.specs.TreeTexts.{opening_words, OpeningFits, head_line, HeadFits};
 
 use crate::words::Words;
 use hx_board::{Cell, Position, Size};
@@ -15,9 +17,52 @@ use hx_tree::{Heading, Line};
 #[derive(Clone, Copy, PartialEq, Eq, Debug)]
 pub enum Opening {
     Chain,
-    Move { cell: Cell, child: u32 },
-    /// So many lines follow.
-    All { lines: u32 },
+    /// So many steps follow.
+    Links {
+        steps: u32,
+    },
+    Move {
+        cell: Cell,
+        child: u32,
+    },
+    /// So many steps, then threats, then answers follow.
+    All {
+        steps: u32,
+        threats: u32,
+        lines: u32,
+    },
+}
+
+impl Opening {
+    /// How many steps follow.
+    pub(crate) fn steps(&self) -> u32
+        ensures { result ≡ steps_told self.now }
+    {
+        match self {
+            Opening::Chain | Opening::Move { .. } => 0,
+            Opening::Links { steps } | Opening::All { steps, .. } => *steps,
+        }
+    }
+
+    /// How many threats follow them.
+    pub(crate) fn threats(&self) -> u32
+        ensures { result ≡ threats_told self.now }
+    {
+        match self {
+            Opening::Chain | Opening::Links { .. } | Opening::Move { .. } => 0,
+            Opening::All { threats, .. } => *threats,
+        }
+    }
+
+    /// How many answers follow those.
+    pub(crate) fn answers(&self) -> u32
+        ensures { result ≡ answers_told self.now }
+    {
+        match self {
+            Opening::Chain | Opening::Links { .. } | Opening::Move { .. } => 0,
+            Opening::All { lines, .. } => *lines,
+        }
+    }
 }
 
 /// The first line of a node.
@@ -26,6 +71,12 @@ pub struct Head {
     pub heading: Heading,
     pub opening: Opening,
 }
+
+/// The most steps of a node.
+const MOST_STEPS: u32 = 8192;
+
+/// The most threats of a node.
+const MOST_THREATS: u32 = 128;
 
 /// The most lines that answer the opponent's moves: a board has no more cells.
 const MOST_ANSWERS: u32 = 121;
@@ -59,6 +110,7 @@ fn read_opening(size: Size, words: &mut Words<'_>) -> Option<Opening>
     let word = words.next()?;
     match word {
         b"chain" => read_chain(words),
+        b"links" => read_links(words),
         b"move" => read_move(size, words),
         b"all" => read_all(words),
         _ => None,
@@ -86,21 +138,33 @@ fn read_move(size: Size, words: &mut Words<'_>) -> Option<Opening>
     Some(Opening::Move { cell, child })
 }
 
-/// The rest of the opening `all`: the words `0 0 LINES`.
-fn read_all(words: &mut Words<'_>) -> Option<Opening>
-    ensures some { IfSome result (λ opening. (lines : ℕ) × (opening ≡ Opening.All lines) × (lines ≤ most_answers)
-        × (words.old ≡ codes "0" ∷ codes "0" ∷ decimal lines ∷ [])) }
-    ensures none { IfNone result ((lines : ℕ) → lines ≤ most_answers → words.old ≡ codes "0" ∷ codes "0" ∷ decimal lines ∷ [] → ⊥) }
+/// The rest of the opening `links`: the word `STEPS`.
+fn read_links(words: &mut Words<'_>) -> Option<Opening>
+    ensures some { IfSome result (λ opening. (steps : ℕ) × (opening ≡ Opening.Links steps) × (steps ≤ most_steps) × (words.old ≡ decimal steps ∷ [])) }
+    ensures none { IfNone result ((steps : ℕ) → steps ≤ most_steps → words.old ≡ decimal steps ∷ [] → ⊥) }
 {
-    words.keyword(b"0")?;
-    words.keyword(b"0")?;
-    let lines = words.number()?;
+    let steps = words.count(MOST_STEPS)?;
     words.end()?;
-    if lines <= MOST_ANSWERS {
-        Some(Opening::All { lines })
-    } else {
-        None
-    }
+    Some(Opening::Links { steps })
+}
+
+/// The rest of the opening `all`: the words `STEPS THREATS LINES`.
+fn read_all(words: &mut Words<'_>) -> Option<Opening>
+    ensures some { IfSome result (λ opening. (steps threats lines : ℕ) × (opening ≡ Opening.All steps threats lines)
+        × (steps ≤ most_steps) × (threats ≤ most_threats) × (lines ≤ most_answers)
+        × (words.old ≡ decimal steps ∷ decimal threats ∷ decimal lines ∷ [])) }
+    ensures none { IfNone result ((steps threats lines : ℕ) → steps ≤ most_steps → threats ≤ most_threats → lines ≤ most_answers
+        → words.old ≡ decimal steps ∷ decimal threats ∷ decimal lines ∷ [] → ⊥) }
+{
+    let steps = words.count(MOST_STEPS)?;
+    let threats = words.count(MOST_THREATS)?;
+    let lines = words.count(MOST_ANSWERS)?;
+    words.end()?;
+    Some(Opening::All {
+        steps,
+        threats,
+        lines,
+    })
 }
 
 /// The line of an answer to a move of the opponent, `line CELL child NUMBER`.

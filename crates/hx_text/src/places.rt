@@ -86,19 +86,19 @@ pub(crate) fn advance(alloc: Global, place: Place, line: &[u8]) -> Result<Step, 
         Place::Title => at_title(line),
         Place::Size => at_size(line),
         Place::Between(so_far) => between(alloc, so_far, line),
-        Place::Inside(begun) => begun_nodes::inside(begun, line),
+        Place::Inside(begun) => begun_nodes::inside(alloc, begun, line),
         Place::After => Err(Stop::Wrong),
         Place::Failed(_) => Err(Stop::Wrong),
     }
 }
 
 /// Takes a line of a node that more lines of it follow, and says whether it did. Where it did not, the place is as it was.
-pub(crate) fn goes_on(place: &mut Place, line: &[u8]) -> bool
+pub(crate) fn goes_on(alloc: Global, place: &mut Place, line: &[u8]) -> bool
     ensures yes { IsTrue result → GoesOn place.old line.now place.new }
     ensures no { result ≡ false → place.new ≡ place.old }
 {
     match place {
-        Place::Inside(begun) => begun_nodes::goes_on(begun, line),
+        Place::Inside(begun) => begun_nodes::goes_on(alloc, begun, line),
         _ => false,
     }
 }

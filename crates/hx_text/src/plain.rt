@@ -1,7 +1,8 @@
 //! The texts of positions and trees once more, spelled as plainly as the words of the format say it, for the tests to
 //! compare the program with. Nothing here is shared with what the program reads and writes by.
 
-use hx_board::{Cell, Colour, Position, Size};
+use hx_board::{Cell, Colour, Position, Size, Vertex};
+use hx_link::Step;
 use hx_tree::{Line, Node, Rule};
 use std::alloc::{AllocError, Global};
 
@@ -34,8 +35,8 @@ pub(crate) fn plain_tree(
     for node in nodes {
         let line = plain_head(alloc, node)?;
         text.push_str(line.as_str())?;
-        let answers = plain_answers(alloc, &node.rule)?;
-        text.push_str(answers.as_str())?;
+        let entries = plain_entries(alloc, &node.rule)?;
+        text.push_str(entries.as_str())?;
     }
     let count = nodes.len();
     let last = plain_colour(winner);
@@ -54,30 +55,86 @@ fn plain_head(alloc: Global, node: &Node) -> Result<String, AllocError> {
     format!(in alloc; "node {black:032x} {white:032x} {mover} {winner} {rule}\n")
 }
 
+/// The last words of a node's first line.
 fn plain_rule(alloc: Global, rule: &Rule) -> Result<String, AllocError> {
     match rule {
         Rule::Chain => String::from_str(alloc, "chain"),
-        Rule::Move { cell, child } => {
-            let column = plain_letter(*cell);
-            let row = cell.row() + 1;
-            format!(in alloc; "move {column}{row} {child}")
+        Rule::Links { steps } => {
+            let steps = steps.items().len();
+            format!(in alloc; "links {steps}")
         }
-        Rule::All { lines } => {
-            let count = lines.items().len();
-            format!(in alloc; "all 0 0 {count}")
+        Rule::Move { cell, child } => {
+            let cell = plain_cell(alloc, *cell)?;
+            format!(in alloc; "move {cell} {child}")
+        }
+        Rule::All {
+            steps,
+            threats,
+            lines,
+        } => {
+            let steps = steps.items().len();
+            let threats = threats.items().len();
+            let lines = lines.items().len();
+            format!(in alloc; "all {steps} {threats} {lines}")
         }
     }
 }
 
 /// The lines of a node after its first.
-fn plain_answers(alloc: Global, rule: &Rule) -> Result<String, AllocError> {
-    let mut text = String::new(alloc);
-    if let Rule::All { lines } = rule {
-        for line in lines.items() {
-            let answer = plain_answer(alloc, *line)?;
-            text.push_str(answer.as_str())?;
+fn plain_entries(alloc: Global, rule: &Rule) -> Result<String, AllocError> {
+    match rule {
+        Rule::Chain | Rule::Move { .. } => Ok(String::new(alloc)),
+        Rule::Links { steps } => plain_steps(alloc, steps.items()),
+        Rule::All {
+            steps,
+            threats,
+            lines,
+        } => {
+            let mut text = plain_steps(alloc, steps.items())?;
+            for place in threats.items() {
+                let threat = format!(in alloc; "threat {place}\n")?;
+                text.push_str(threat.as_str())?;
+            }
+            for line in lines.items() {
+                let answer = plain_answer(alloc, *line)?;
+                text.push_str(answer.as_str())?;
+            }
+            Ok(text)
         }
     }
+}
+
+/// The lines of these steps.
+fn plain_steps(alloc: Global, steps: &[Step]) -> Result<String, AllocError> {
+    let mut text = String::new(alloc);
+    for step in steps {
+        let line = plain_step(alloc, step)?;
+        text.push_str(line.as_str())?;
+    }
+    Ok(text)
+}
+
+fn plain_step(alloc: Global, step: &Step) -> Result<String, AllocError> {
+    match step {
+        Step::Base { a, b } => {
+            let a = plain_vertex(alloc, a)?;
+            let b = plain_vertex(alloc, b)?;
+            format!(in alloc; "base {a} {b}\n")
+        }
+        Step::AndStone { left, right } => format!(in alloc; "stone {left} {right}\n"),
+        Step::AndCell { left, right } => format!(in alloc; "cell {left} {right}\n"),
+        Step::Or { parts } => plain_or(alloc, parts.items()),
+    }
+}
+
+/// The line of an Or of the links at these places, of which there may be none.
+fn plain_or(alloc: Global, places: &[u32]) -> Result<String, AllocError> {
+    let mut text = String::from_str(alloc, "or")?;
+    for place in places {
+        let part = format!(in alloc; " {place}")?;
+        text.push_str(part.as_str())?;
+    }
+    text.push('\n')?;
     Ok(text)
 }
 
@@ -85,16 +142,25 @@ fn plain_answers(alloc: Global, rule: &Rule) -> Result<String, AllocError> {
 fn plain_answer(alloc: Global, line: Line) -> Result<String, AllocError> {
     match line {
         Line::Child { cell, child } => {
-            let column = plain_letter(cell);
-            let row = cell.row() + 1;
-            format!(in alloc; "line {column}{row} child {child}\n")
+            let cell = plain_cell(alloc, cell)?;
+            format!(in alloc; "line {cell} child {child}\n")
         }
     }
 }
 
-/// The letter of a cell's column.
-fn plain_letter(cell: Cell) -> char {
-    (b'a' + cell.col()) as char
+fn plain_vertex(alloc: Global, vertex: &Vertex) -> Result<String, AllocError> {
+    match vertex {
+        Vertex::Of(cell) => plain_cell(alloc, *cell),
+        Vertex::First => String::from_str(alloc, "first"),
+        Vertex::Last => String::from_str(alloc, "last"),
+    }
+}
+
+/// The letter of a cell's column and the number of its row, counted from 1.
+fn plain_cell(alloc: Global, cell: Cell) -> Result<String, AllocError> {
+    let column = (b'a' + cell.col()) as char;
+    let row = cell.row() + 1;
+    format!(in alloc; "{column}{row}")
 }
 
 fn plain_colour(colour: Colour) -> &'static str {

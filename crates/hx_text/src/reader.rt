@@ -57,7 +57,7 @@ impl TreeReader {
     {
         self.fed = self.fed.saturating_add(1);
         // Most lines stand inside nodes. There the node stays where it is.
-        if ended && places::goes_on(&mut self.place, line) {
+        if ended && places::goes_on(self.alloc, &mut self.place, line) {
             return Ok(Fed::More);
         }
         let place = mem::replace(&mut self.place, Place::After);

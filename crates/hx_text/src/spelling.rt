@@ -1,25 +1,30 @@
 //! Spelling the texts that go out. A text is put together in place, so that it needs no memory and can be written at
-//! once. The longest that goes out as a whole is that of a position, with 109 bytes; a node with many lines goes out in
-//! pieces.
+//! once. The longest that is put in as a whole is the first line of a node, with 120 bytes; a node with many lines goes out
+//! in pieces.
 
 ghost use Rattle.std.specs.Prelude.{◌≡◌, ◌+◌, ◌≤◌, ◌++◌, ◌<◌, ◌∷◌, [], length, ◌↔◌, IsTrue};
 ghost use Rattle.std.specs.Fmt.{decimal};
 ghost use Rattle.hx_tree.specs.declared.nodes.Line.TheVariants.{Child};
-ghost use Rattle.hx_text.specs.declared.node_lines.Opening.TheVariants.{Move, All};
+ghost use Rattle.hx_link.specs.declared.steps.Step.TheVariants.{Base};
+ghost use Rattle.hx_text.specs.declared.node_lines.Opening.TheVariants.{Links, Move, All};
 ghost use Rattle.hx_text.specs.Words.{hex_digit, mask_word, colour_word, cell_word, spaced};
 ghost use Rattle.hx_text.specs.Grammars.{text_of};
 ghost use Rattle.hx_text.specs.PositionTexts.{size_line, stones_line, move_line, position_text};
-ghost use Rattle.hx_text.specs.TreeTexts.{ListsFit, opening_of, opening_words, head_of, head_line, answer_line, front_lines, end_line};
+ghost use Rattle.hx_text.specs.StepTexts.{IsShortStep, vertex_word, step_line, threat_line};
+ghost use Rattle.hx_text.specs.Entries.{opening_of, answer_line};
+ghost use Rattle.hx_text.specs.Spelling.{part_text};
+ghost use Rattle.hx_text.specs.TreeTexts.{ListsFit, opening_words, head_of, head_line, front_lines, end_line};
 
 use crate::values;
 use arrayvec::ArrayVec;
-use hx_board::{Cell, Colour, Mask, Position, Size};
+use hx_board::{Cell, Colour, Mask, Position, Size, Vertex};
+use hx_link::Step;
 use hx_tree::{Line, Node, Rule};
 use itoa::Buffer;
 use std::marker::Model;
 
 /// The most bytes of a text. Each new text is filled with as many zeros, so more of them make short texts slower.
-const ROOM: usize = 512;
+pub(crate) const ROOM: usize = 512;
 
 /// How many digits a mask has.
 const MASK_DIGITS: u8 = 32;
@@ -159,7 +164,7 @@ impl Text {
 
     /// Puts the first line of a node.
     pub(crate) fn put_head(&mut self, node: &Node)
-        requires room { length self.old + 103 ≤ ROOM }
+        requires room { length self.old + 120 ≤ ROOM }
         requires lists { ListsFit node.now.rule }
         ensures { self.new ≡ self.old ++ (head_line (head_of node.now) ++ 10 ∷ []) }
     {
@@ -178,6 +183,77 @@ impl Text {
         match line {
             Line::Child { cell, child } => self.put_child(*cell, *child),
         }
+    }
+
+    /// Puts the line of a step that is no Or. That of an Or is longer than a text may be, and goes out in pieces.
+    pub(crate) fn put_step(&mut self, step: &Step)
+        requires room { length self.old + 28 ≤ ROOM }
+        requires short { IsShortStep step.now }
+        ensures { self.new ≡ self.old ++ (step_line step.now ++ 10 ∷ []) }
+    {
+        match step {
+            Step::Base { a, b } => self.put_base(*a, *b),
+            Step::AndStone { left, right } => self.put_and(b"stone ", *left, *right),
+            Step::AndCell { left, right } => self.put_and(b"cell ", *left, *right),
+            Step::Or { .. } => {}
+        }
+    }
+
+    /// Puts the line of a step over what is joined.
+    fn put_base(&mut self, a: Vertex, b: Vertex)
+        requires { length self.old + 28 ≤ ROOM }
+        ensures { self.new ≡ self.old ++ (step_line (Base a b) ++ 10 ∷ []) }
+    {
+        self.put(b"base ");
+        self.put_vertex(a);
+        self.put(b" ");
+        self.put_vertex(b);
+        self.put(b"\n");
+    }
+
+    /// Puts the line of a step by an And rule, which begins with this word and the space after it.
+    fn put_and(&mut self, word: &[u8], left: u32, right: u32)
+        requires room { length self.old + 28 ≤ ROOM }
+        requires short { length word.now ≤ 6 }
+        ensures { self.new ≡ self.old ++ (word.now ++ decimal left ++ 32 ∷ decimal right ++ 10 ∷ []) }
+    {
+        self.put(word);
+        self.put_index(left);
+        self.put(b" ");
+        self.put_index(right);
+        self.put(b"\n");
+    }
+
+    /// Puts the word of a vertex.
+    fn put_vertex(&mut self, vertex: Vertex)
+        requires { length self.old + 5 ≤ ROOM }
+        ensures text { self.new ≡ self.old ++ vertex_word vertex }
+        ensures short { length self.new ≤ length self.old + 5 }
+    {
+        match vertex {
+            Vertex::Of(cell) => self.put_cell(cell),
+            Vertex::First => self.put(b"first"),
+            Vertex::Last => self.put(b"last"),
+        }
+    }
+
+    /// Puts one more part of an Or: a space and the number.
+    pub(crate) fn put_part(&mut self, place: u32)
+        requires { length self.old + 11 ≤ ROOM }
+        ensures { self.new ≡ self.old ++ part_text place }
+    {
+        self.put(b" ");
+        self.put_index(place);
+    }
+
+    /// Puts the line of a threat.
+    pub(crate) fn put_threat(&mut self, place: u32)
+        requires { length self.old + 18 ≤ ROOM }
+        ensures { self.new ≡ self.old ++ (threat_line place ++ 10 ∷ []) }
+    {
+        self.put(b"threat ");
+        self.put_index(place);
+        self.put(b"\n");
     }
 
     /// Puts the line of an answer by a child.
@@ -230,25 +306,48 @@ impl Text {
 
     /// Puts the words of a rule that end its node's first line.
     fn put_opening(&mut self, rule: &Rule)
-        requires room { length self.old + 19 ≤ ROOM }
+        requires room { length self.old + 36 ≤ ROOM }
         requires lists { ListsFit rule.now }
         ensures text { self.new ≡ self.old ++ spaced (opening_words (opening_of rule.now)) }
-        ensures short { length self.new ≤ length self.old + 19 }
+        ensures short { length self.new ≤ length self.old + 36 }
     {
         match rule {
             Rule::Chain => self.put(b"chain"),
+            Rule::Links { steps } => self.put_links(steps.items().len() as u32),
             Rule::Move { cell, child } => self.put_winning(*cell, *child),
-            Rule::All { lines } => self.put_all(lines.items().len() as u32),
+            Rule::All {
+                steps,
+                threats,
+                lines,
+            } => self.put_all(
+                steps.items().len() as u32,
+                threats.items().len() as u32,
+                lines.items().len() as u32,
+            ),
         }
     }
 
-    /// Puts the words of a rule that answers each move, with so many lines.
-    fn put_all(&mut self, lines: u32)
-        requires { length self.old + 19 ≤ ROOM }
-        ensures text { self.new ≡ self.old ++ spaced (opening_words (All lines)) }
-        ensures short { length self.new ≤ length self.old + 19 }
+    /// Puts the words of a rule of so many steps.
+    fn put_links(&mut self, steps: u32)
+        requires { length self.old + 36 ≤ ROOM }
+        ensures text { self.new ≡ self.old ++ spaced (opening_words (Links steps)) }
+        ensures short { length self.new ≤ length self.old + 36 }
     {
-        self.put(b"all 0 0 ");
+        self.put(b"links ");
+        self.put_index(steps);
+    }
+
+    /// Puts the words of a rule that answers each move, with so many steps, threats and lines.
+    fn put_all(&mut self, steps: u32, threats: u32, lines: u32)
+        requires { length self.old + 36 ≤ ROOM }
+        ensures text { self.new ≡ self.old ++ spaced (opening_words (All steps threats lines)) }
+        ensures short { length self.new ≤ length self.old + 36 }
+    {
+        self.put(b"all ");
+        self.put_index(steps);
+        self.put(b" ");
+        self.put_index(threats);
+        self.put(b" ");
         self.put_index(lines);
     }
 

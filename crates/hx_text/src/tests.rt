@@ -3,6 +3,9 @@
 ghost use Rattle.std.specs.Prelude.{IsTrue};
 ghost use Rattle.hx_text.specs.TreeTexts.{ListsFit};
 
+mod entries;
+mod seeded;
+
 use crate::plain::{plain_position, plain_tree};
 use crate::{
     Fed, TextFault, TreeFault, TreeReader, cut, one_faulty_line, read_position, text_tells_nodes,
@@ -11,7 +14,9 @@ use crate::{
 use hx_board::Colour::{Black, White};
 use hx_board::{Colour, Mask, Position, Size};
 use hx_io::MemorySink;
-use hx_tree::{Heading, Line, Lines, Node, Rule};
+use hx_link::{Parts, Step};
+use hx_tree::{Heading, Line, Lines, Node, Rule, Steps, Threats};
+use smallvec::SmallVec;
 use std::alloc::{AllocError, Global};
 use std::process::Abort;
 use std::test::Fail;
@@ -79,30 +84,69 @@ fn by_move(position: Position, winner: Colour, row: u8, col: u8, child: u32) -> 
     Ok(Node { heading, rule })
 }
 
-/// The opponent is to move, and each of his moves that is given by row and column is answered by a child.
+/// The last of these steps joins the winner's sides.
+fn by_links(position: Position, to_move: Colour, winner: Colour, steps: Vec<Step>) -> Node {
+    let heading = Heading {
+        position,
+        to_move,
+        winner,
+    };
+    let steps = Steps::new(steps);
+    let rule = Rule::Links { steps };
+    Node { heading, rule }
+}
+
+/// An Or of the links at these places.
+fn or_of(alloc: Global, places: &[u32]) -> Result<Step, AllocError> {
+    let parts = Parts::new(SmallVec::from_slice(alloc, places)?);
+    Ok(Step::Or { parts })
+}
+
+/// The opponent is to move, and these steps, threats and lines say why the winner wins.
 fn by_all(
-    alloc: Global,
     position: Position,
     winner: Colour,
-    answers: &[(u8, u8, u32)],
-) -> Result<Node, Fail> {
-    let mut lines = Vec::new(alloc);
-    for (row, col, child) in answers {
-        let cell = position.size().cell(*row, *col).ok_or("cell")?;
-        lines.push(Line::Child {
-            cell,
-            child: *child,
-        })?;
-    }
+    steps: Vec<Step>,
+    threats: Vec<u32>,
+    lines: Vec<Line>,
+) -> Node {
     let heading = Heading {
         position,
         to_move: winner.other(),
         winner,
     };
     let rule = Rule::All {
+        steps: Steps::new(steps),
+        threats: Threats::new(threats),
         lines: Lines::new(lines),
     };
-    Ok(Node { heading, rule })
+    Node { heading, rule }
+}
+
+/// The lines that answer moves to these cells of the board of 11 by 11, given by row and column, by these children.
+fn lines_of(alloc: Global, answers: &[(u8, u8, u32)]) -> Result<Vec<Line>, Fail> {
+    let size = Size::new(11, 11).ok_or("size")?;
+    let mut lines = Vec::new(alloc);
+    for (row, col, child) in answers {
+        let cell = size.cell(*row, *col).ok_or("cell")?;
+        lines.push(Line::Child {
+            cell,
+            child: *child,
+        })?;
+    }
+    Ok(lines)
+}
+
+/// The opponent is to move, and each of his moves that is given by row and column is answered by a child.
+fn by_answers(
+    alloc: Global,
+    position: Position,
+    winner: Colour,
+    answers: &[(u8, u8, u32)],
+) -> Result<Node, Fail> {
+    let lines = lines_of(alloc, answers)?;
+    let none = Vec::new(alloc);
+    Ok(by_all(position, winner, Vec::new(alloc), none, lines))
 }
 
 /// Black wins the empty board of 11 by 11, and each of the 121 moves has its answer.
@@ -112,7 +156,7 @@ fn by_all_cells(alloc: Global) -> Result<Node, Fail> {
     for index in 0..121u8 {
         answers.push((index / 11, index % 11, 4294967295 - u32::from(index)))?;
     }
-    by_all(alloc, drawn(size, "")?, Black, &answers)
+    by_answers(alloc, drawn(size, "")?, Black, &answers)
 }
 
 /// The plain text of these nodes is read as these nodes, and the position of the last is written as the plain one.
@@ -144,14 +188,23 @@ fn lists_fit(rule: &Rule) -> bool
 {
     match rule {
         Rule::Chain | Rule::Move { .. } => true,
-        Rule::All { lines } => lines.items().len() <= 121,
+        Rule::Links { steps } => steps.items().len() <= 8192,
+        Rule::All {
+            steps,
+            threats,
+            lines,
+        } => {
+            steps.items().len() <= 8192
+                && threats.items().len() <= 128
+                && lines.items().len() <= 121
+        }
     }
 }
 
 /// A sink that took these nodes, with the lines before and after them, a few bytes at a time.
 fn written(rt: &impl Abort, alloc: Global, nodes: &[Node]) -> Result<MemorySink, Fail> {
     let root = nodes.last().ok_or("no node")?.heading;
-    let mut sink = MemorySink::new(alloc, 8192, 7, Vec::new(alloc))?;
+    let mut sink = MemorySink::new(alloc, 16_384, 7, Vec::new(alloc))?;
     assert_eq!(rt; write_heading(&mut sink, root.position.size()), Ok(()));
     for node in nodes {
         assert!(rt; lists_fit(&node.rule));
@@ -213,7 +266,7 @@ fn a_tree_is_written(rt: HostRuntime) -> Result<(), Fail> {
     let by_black = by_chain(drawn(size, "W.BWWB..B")?, White, Black);
     let by_white = by_move(drawn(size, "B.WB..W..")?, White, 9, 10, 4294967295)?;
     let few = [(0, 0, 0), (10, 9, 1), (3, 10, 4294967295)];
-    let few = by_all(alloc, drawn(size, "WB.")?, White, &few)?;
+    let few = by_answers(alloc, drawn(size, "WB.")?, White, &few)?;
     // It is longer than a text has room.
     let many = by_all_cells(alloc)?;
     let last = by_move(drawn(size, "BW..")?, Black, 0, 0, 0)?;
@@ -226,14 +279,14 @@ fn trees_to_read_back(alloc: Global) -> Result<Vec<Vec<Node>>, Fail> {
     let size = Size::new(1, 1).ok_or("size")?;
     let chain = by_chain(drawn(size, "B")?, White, Black);
     trees.push(vec![in alloc; chain]?)?;
-    let none = by_all(alloc, drawn(size, "W")?, White, &[])?;
+    let none = by_answers(alloc, drawn(size, "W")?, White, &[])?;
     trees.push(vec![in alloc; none]?)?;
     let size = Size::new(1, 2).ok_or("size")?;
     let right_stone = by_chain(drawn(size, "WB")?, White, Black);
     let right_move = by_move(drawn(size, "W.")?, Black, 0, 1, 0)?;
     let left_stone = by_chain(drawn(size, "BW")?, White, Black);
     let left_move = by_move(drawn(size, ".W")?, Black, 0, 0, 2)?;
-    let both = by_all(alloc, drawn(size, "..")?, Black, &[(0, 0, 1), (0, 1, 3)])?;
+    let both = by_answers(alloc, drawn(size, "..")?, Black, &[(0, 0, 1), (0, 1, 3)])?;
     trees.push(vec![in alloc; right_stone, right_move, left_stone, left_move, both]?)?;
     trees.push(vec![in alloc; by_all_cells(alloc)?]?)?;
     Ok(trees)
@@ -244,94 +297,6 @@ fn a_written_tree_is_read_back(rt: HostRuntime) -> Result<(), Fail> {
     let trees = trees_to_read_back(rt.alloc())?;
     for tree in &trees {
         assert_read_back(&rt, rt.alloc(), tree)?;
-    }
-    Ok(())
-}
-
-/// Numbers that look drawn by chance and are the same in each run: Marsaglia's xorshift.
-#[derive(Drop)]
-struct Numbers {
-    state: u64,
-}
-
-impl Numbers {
-    fn next(&mut self) -> u64 {
-        let mut number = self.state;
-        number ^= number << 13;
-        number ^= number >> 7;
-        number ^= number << 17;
-        self.state = number;
-        number
-    }
-
-    /// The number of a child, of 32 binary digits.
-    fn next_child(&mut self) -> u32 {
-        (self.next() % 4_294_967_296) as u32
-    }
-
-    fn next_colour(&mut self) -> Colour {
-        if self.next() % 2 == 0 { Black } else { White }
-    }
-
-    /// A cell of the board of 11 by 11, by its row and its column.
-    fn next_cell(&mut self) -> (u8, u8) {
-        ((self.next() % 11) as u8, (self.next() % 11) as u8)
-    }
-
-    /// A position on 11 by 11, of which a third of the cells is empty.
-    fn next_position(&mut self, size: Size) -> Option<Position> {
-        let mut black = Mask::empty();
-        let mut white = Mask::empty();
-        for index in 0..121u8 {
-            if let Some(cell) = size.cell(index / 11, index % 11) {
-                match self.next() % 3 {
-                    0 => black = black.with(cell),
-                    1 => white = white.with(cell),
-                    _ => {}
-                }
-            }
-        }
-        Position::from_masks(size, black, white)
-    }
-
-    /// Up to fifteen answers, by the rows and columns of their cells and by their children.
-    fn next_answers(&mut self, alloc: Global) -> Result<Vec<(u8, u8, u32)>, AllocError> {
-        let mut answers = Vec::new(alloc);
-        for _ in 0..self.next() % 16 {
-            let (row, col) = self.next_cell();
-            answers.push((row, col, self.next_child()))?;
-        }
-        Ok(answers)
-    }
-
-    /// A node by one of the three rules. Nothing of it need be right.
-    fn next_node(&mut self, alloc: Global, size: Size) -> Result<Node, Fail> {
-        let position = self.next_position(size).ok_or("stones")?;
-        let winner = self.next_colour();
-        match self.next() % 3 {
-            0 => Ok(by_chain(position, self.next_colour(), winner)),
-            1 => {
-                let (row, col) = self.next_cell();
-                by_move(position, winner, row, col, self.next_child())
-            }
-            _ => {
-                let answers = self.next_answers(alloc)?;
-                by_all(alloc, position, winner, &answers)
-            }
-        }
-    }
-}
-
-#[test]
-fn seeded_trees_are_read_back(rt: HostRuntime) -> Result<(), Fail> {
-    let size = Size::new(11, 11).ok_or("size")?;
-    for seed in 1..=20u64 {
-        let mut numbers = Numbers { state: seed };
-        let mut tree = Vec::new(rt.alloc());
-        for _ in 0..8 {
-            tree.push(numbers.next_node(rt.alloc(), size)?)?;
-        }
-        assert_read_back(&rt, rt.alloc(), &tree)?;
     }
     Ok(())
 }
@@ -378,14 +343,11 @@ end 5 black
 #[test]
 fn the_lines_of_a_node_are_read(rt: HostRuntime) -> Result<(), Fail> {
     let alloc = rt.alloc();
-    let size = Size::new(1, 2).ok_or("size")?;
-    let mut lines = Vec::new(alloc);
-    for (col, child) in [(0, 1), (1, 3)] {
-        let cell = size.cell(0, col).ok_or("cell")?;
-        lines.push(Line::Child { cell, child })?;
-    }
+    let answers = lines_of(alloc, &[(0, 0, 1), (0, 1, 3)])?;
     let rule = Rule::All {
-        lines: Lines::new(lines),
+        steps: Steps::new(Vec::new(alloc)),
+        threats: Threats::new(Vec::new(alloc)),
+        lines: Lines::new(answers),
     };
     let mut reader = TreeReader::new(alloc);
     let reading = reading_of(alloc, &mut reader, BOTH_MOVES.as_bytes())?;
@@ -396,12 +358,14 @@ fn the_lines_of_a_node_are_read(rt: HostRuntime) -> Result<(), Fail> {
 }
 
 /// What stands in that text, what is put in its place there, and the line that is wrong then.
-const CHANGES_OF_LINES: [(&str, &str, u64); 12] = [
+const CHANGES_OF_LINES: [(&str, &str, u64); 13] = [
     ("all 0 0 2", "all 0 0", 7),
     ("all 0 0 2", "all 0 0 02", 7),
     ("all 0 0 2", "all 0 0 122", 7),
-    ("all 0 0 2", "all 0 1 2", 7),
-    ("all 0 0 2", "all 0 1 0", 7),
+    // A threat or a step is due after the first line.
+    ("all 0 0 2", "all 0 1 2", 8),
+    ("all 0 0 2", "all 0 1 0", 8),
+    ("all 0 0 2", "all 1 0 2", 8),
     ("all 0 0 2", "all 0 0 0", 8),
     ("all 0 0 2", "all 0 0 1", 9),
     ("all 0 0 2", "all 0 0 3", 10),
@@ -411,17 +375,27 @@ const CHANGES_OF_LINES: [(&str, &str, u64); 12] = [
     ("end", "line a1 child 0\nend", 10),
 ];
 
-#[test]
-fn each_wrong_line_of_a_node_is_named(rt: HostRuntime) -> Result<(), Fail> {
-    let alloc = rt.alloc();
-    for (old, new, line) in CHANGES_OF_LINES {
-        let (before, after) = BOTH_MOVES.split_once(old).ok_or("not in the text")?;
-        let text = format!(in alloc; "{before}{new}{after}")?;
+/// With each change of the text the reader names the line that is wrong.
+fn assert_named(
+    rt: &impl Abort,
+    alloc: Global,
+    text: &str,
+    changes: &[(&str, &str, u64)],
+) -> Result<(), Fail> {
+    for (old, new, line) in changes {
+        let line = *line;
+        let (before, after) = text.split_once(*old).ok_or("not in the text")?;
+        let changed = format!(in alloc; "{before}{new}{after}")?;
         let mut reader = TreeReader::new(alloc);
-        let reading = reading_of(alloc, &mut reader, text.as_bytes())?;
-        assert_eq!(rt; reading.last, Err(TreeFault::Text { line }), "{text}");
+        let reading = reading_of(alloc, &mut reader, changed.as_bytes())?;
+        assert_eq!(rt; reading.last, Err(TreeFault::Text { line }), "{changed}");
     }
     Ok(())
+}
+
+#[test]
+fn each_wrong_line_of_a_node_is_named(rt: HostRuntime) -> Result<(), Fail> {
+    assert_named(&rt, rt.alloc(), BOTH_MOVES, &CHANGES_OF_LINES)
 }
 
 /// The empty board of one cell, with Black to move.

@@ -5,9 +5,11 @@ ghost use Rattle.std.specs.Prelude.{◌≡◌, ◌+◌, ◌<◌, ◌≤◌, ◌^
 ghost use Rattle.std.specs.Fmt.{decimal};
 ghost use Rattle.std.specs.Str.Parse.{AllDigits, digits_value};
 ghost use Rattle.hx_board.specs.Cells.{OnBoard, row_of, col_of};
+ghost use Rattle.hx_board.specs.Graph.{IsVertex};
+ghost use Rattle.hx_text.specs.StepTexts.{vertex_word};
 ghost use Rattle.hx_text.specs.Words.{Reads, IsNumber, IsSet, hex, hex_digit, IsCanonical, mask_word, colour_word, cell_word};
 
-use hx_board::{Cell, Colour, Mask, Size};
+use hx_board::{Cell, Colour, Mask, Size, Vertex};
 
 /// A number below 2 to the power of 32, in decimal digits without a leading zero.
 pub(crate) fn number(word: &[u8]) -> Option<u32>
@@ -112,6 +114,20 @@ pub(crate) fn colour_word(colour: Colour) -> &'static [u8]
     match colour {
         Colour::Black => b"black",
         Colour::White => b"white",
+    }
+}
+
+/// A vertex of a player's graph on a board of this size: a side, or a cell.
+pub(crate) fn vertex(size: Size, word: &[u8]) -> Option<Vertex>
+    ensures { Reads vertex_word (IsVertex size) word.now result }
+{
+    match word {
+        b"first" => Some(Vertex::First),
+        b"last" => Some(Vertex::Last),
+        _ => match cell(size, word) {
+            Some(cell) => Some(Vertex::Of(cell)),
+            None => None,
+        },
     }
 }
 

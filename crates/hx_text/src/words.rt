@@ -1,13 +1,15 @@
 //! The words of a line, taken one after the other. Words are separated by exactly one space, so two spaces have an
 //! empty word between them, and a line begins and ends with a word.
 
-ghost use Rattle.std.specs.Prelude.{◌≡◌, ◌≢◌, ◌∷◌, [], MatchOption};
+ghost use Rattle.std.specs.Prelude.{◌≡◌, ◌≢◌, ◌≤◌, ◌∷◌, [], MatchOption};
 ghost use Rattle.std.specs.Fmt.{decimal};
 ghost use Rattle.hx_board.specs.Cells.{OnBoard};
+ghost use Rattle.hx_board.specs.Graph.{IsVertex};
+ghost use Rattle.hx_text.specs.StepTexts.{vertex_word};
 ghost use Rattle.hx_text.specs.Words.{Takes, IsNumber, IsSet, IsCut, Lacks, words_in, mask_word, colour_word, cell_word};
 
 use crate::values;
-use hx_board::{Cell, Colour, Mask, Size};
+use hx_board::{Cell, Colour, Mask, Size, Vertex};
 use memchr::memchr;
 use std::marker::Model;
 
@@ -94,6 +96,14 @@ impl<'a> Words<'a> {
         values::number(word)
     }
 
+    /// Takes a number that is no larger than this.
+    pub(crate) fn count(&mut self, most: u32) -> Option<u32>
+        ensures { Takes decimal (λ n. n ≤ most) self.old result self.new }
+    {
+        let number = self.number()?;
+        if number <= most { Some(number) } else { None }
+    }
+
     /// Takes a set of cells.
     pub(crate) fn mask(&mut self) -> Option<Mask>
         ensures { Takes mask_word IsSet self.old result self.new }
@@ -116,6 +126,14 @@ impl<'a> Words<'a> {
     {
         let word = self.next()?;
         values::cell(size, word)
+    }
+
+    /// Takes a vertex of a board of this size.
+    pub(crate) fn vertex(&mut self, size: Size) -> Option<Vertex>
+        ensures { Takes vertex_word (IsVertex size) self.old result self.new }
+    {
+        let word = self.next()?;
+        values::vertex(size, word)
     }
 
     /// Nothing where no word is left.

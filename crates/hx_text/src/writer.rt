@@ -1,16 +1,31 @@
-//! The writer of texts to a sink. A piece of a text is spelled whole and then written at once, so it takes no memory.
+//! The writer of texts to a sink. What is spelled waits in a text of fixed size, and goes out when the next piece might not
+//! fit in it. So it takes no memory, and few calls of the sink.
 
-ghost use Rattle.std.specs.Prelude.{◌++◌, ◌∷◌, [], map};
+ghost use Rattle.std.specs.Prelude.{◌+◌, ◌≤◌, ◌++◌, ◌∷◌, [], map, length, OnOk};
+ghost use Rattle.hx_link.specs.declared.steps.Step.TheVariants.{Or as Or_of};
 ghost use Rattle.hx_io.specs.Causes.{HasCause};
 ghost use Rattle.hx_io.specs.Sinks.{TakesAll};
 ghost use Rattle.hx_text.specs.Grammars.{text_of};
 ghost use Rattle.hx_text.specs.PositionTexts.{position_text};
-ghost use Rattle.hx_text.specs.TreeTexts.{ListsFit, front_lines, node_lines, answer_line, end_line};
+ghost use Rattle.hx_text.specs.StepTexts.{step_line, threat_line};
+ghost use Rattle.hx_text.specs.Entries.{answer_line, entry_line, entries_for, entries_of};
+ghost use Rattle.hx_text.specs.Spelling.{Spells, each_line, part_text, parts_text};
+ghost use Rattle.hx_text.specs.TreeTexts.{ListsFit, front_lines, node_lines, end_line};
 
-use crate::spelling::Text;
+use crate::spelling::{ROOM, Text};
 use hx_board::{Colour, Position, Size};
 use hx_io::{Failed, Sink, write_all};
+use hx_link::Step;
 use hx_tree::{Line, Node, Rule};
+
+/// No line of a step is longer, with its LF, but for that of an Or.
+const STEP_BYTES: usize = 28;
+
+/// No part of an Or is longer, with the space before it.
+const PART_BYTES: usize = 11;
+
+/// No line of a threat is longer, with its LF.
+const THREAT_BYTES: usize = 18;
 
 /// No line of an answer is longer, with its LF.
 const ANSWER_BYTES: usize = 26;
@@ -44,32 +59,172 @@ pub fn write_heading<K: Sink>(sink: &mut K, size: Size) -> Result<(), Failed>
 /// Writes the lines of a node, each with its LF. After `Failed` the sink has taken no more than a part of them, from their
 /// beginning.
 pub fn write_node<K: Sink>(sink: &mut K, node: &Node) -> Result<(), Failed>
-    // A text has at most 121 lines of a node.
+    // A text has no more entries of a node.
     requires { ListsFit node.now.rule }
     ensures bytes { TakesAll (K.taken sink.old) (K.taken sink.new) result (text_of (node_lines node.now)) }
     ensures cause { HasCause (K.faults sink.old) (K.faults sink.new) result }
 {
     let mut text = Text::new();
     text.put_head(node);
-    match &node.rule {
-        Rule::Chain | Rule::Move { .. } => write_all(sink, text.bytes()),
-        Rule::All { lines } => write_answers(sink, text, lines.items()),
+    write_rule(sink, &mut text, &node.rule)?;
+    write_all(sink, text.bytes())
+}
+
+/// Spells the lines of a node after the first.
+#[tactic(auto, unfolding(crate::specs::Grammars::text_of))]
+fn write_rule<K: Sink>(sink: &mut K, text: &mut Text, rule: &Rule) -> Result<(), Failed>
+    ensures bytes { Spells (K.taken sink.old) text.old (K.taken sink.new) text.new result (text_of (map entry_line (entries_of rule.now))) }
+    ensures cause { HasCause (K.faults sink.old) (K.faults sink.new) result }
+{
+    match rule {
+        Rule::Chain | Rule::Move { .. } => Ok(()),
+        Rule::Links { steps } => write_entries(sink, text, steps.items(), &[], &[]),
+        Rule::All {
+            steps,
+            threats,
+            lines,
+        } => write_entries(sink, text, steps.items(), threats.items(), lines.items()),
     }
 }
 
-/// Writes a text and then each of these lines. What is spelled goes out together, whenever the next line might not fit.
-fn write_answers<K: Sink>(sink: &mut K, mut text: Text, lines: &[Line]) -> Result<(), Failed>
-    ensures bytes { TakesAll (K.taken sink.old) (K.taken sink.new) result (text ++ text_of (map answer_line lines.now)) }
+/// Spells the lines of these steps, threats and answers.
+fn write_entries<K: Sink>(
+    sink: &mut K,
+    text: &mut Text,
+    steps: &[Step],
+    threats: &[u32],
+    lines: &[Line],
+) -> Result<(), Failed>
+    ensures bytes { Spells (K.taken sink.old) text.old (K.taken sink.new) text.new result (text_of (map entry_line (entries_for steps.now threats.now lines.now))) }
+    ensures cause { HasCause (K.faults sink.old) (K.faults sink.new) result }
+{
+    write_steps(sink, text, steps)?;
+    write_threats(sink, text, threats)?;
+    write_answers(sink, text, lines)
+}
+
+/// Spells the line of each step.
+fn write_steps<K: Sink>(sink: &mut K, text: &mut Text, steps: &[Step]) -> Result<(), Failed>
+    ensures bytes { Spells (K.taken sink.old) text.old (K.taken sink.new) text.new result (each_line step_line steps.now) }
+    ensures cause { HasCause (K.faults sink.old) (K.faults sink.new) result }
+{
+    for step in steps {
+        write_step(sink, text, step)?;
+    }
+    Ok(())
+}
+
+/// Spells the line of a step.
+fn write_step<K: Sink>(sink: &mut K, text: &mut Text, step: &Step) -> Result<(), Failed>
+    ensures bytes { Spells (K.taken sink.old) text.old (K.taken sink.new) text.new result (step_line step.now ++ 10 ∷ []) }
+    ensures cause { HasCause (K.faults sink.old) (K.faults sink.new) result }
+{
+    match step {
+        Step::Or { parts } => write_or(sink, text, parts.items()),
+        _ => {
+            make_room(sink, text, STEP_BYTES)?;
+            text.put_step(step);
+            Ok(())
+        }
+    }
+}
+
+/// Spells the line of an Or, part by part.
+fn write_or<K: Sink>(sink: &mut K, text: &mut Text, parts: &[u32]) -> Result<(), Failed>
+    ensures bytes { Spells (K.taken sink.old) text.old (K.taken sink.new) text.new result (step_line (Or_of parts.now) ++ 10 ∷ []) }
+    ensures cause { HasCause (K.faults sink.old) (K.faults sink.new) result }
+{
+    write_bytes(sink, text, b"or")?;
+    write_parts(sink, text, parts)?;
+    write_bytes(sink, text, b"\n")
+}
+
+/// Spells the parts of an Or, each with the space before it.
+fn write_parts<K: Sink>(sink: &mut K, text: &mut Text, parts: &[u32]) -> Result<(), Failed>
+    ensures bytes { Spells (K.taken sink.old) text.old (K.taken sink.new) text.new result (parts_text parts.now) }
+    ensures cause { HasCause (K.faults sink.old) (K.faults sink.new) result }
+{
+    for part in parts {
+        write_part(sink, text, *part)?;
+    }
+    Ok(())
+}
+
+/// Spells one more part of an Or.
+fn write_part<K: Sink>(sink: &mut K, text: &mut Text, part: u32) -> Result<(), Failed>
+    ensures bytes { Spells (K.taken sink.old) text.old (K.taken sink.new) text.new result (part_text part) }
+    ensures cause { HasCause (K.faults sink.old) (K.faults sink.new) result }
+{
+    make_room(sink, text, PART_BYTES)?;
+    text.put_part(part);
+    Ok(())
+}
+
+/// Spells the line of each threat.
+fn write_threats<K: Sink>(sink: &mut K, text: &mut Text, threats: &[u32]) -> Result<(), Failed>
+    ensures bytes { Spells (K.taken sink.old) text.old (K.taken sink.new) text.new result (each_line threat_line threats.now) }
+    ensures cause { HasCause (K.faults sink.old) (K.faults sink.new) result }
+{
+    for place in threats {
+        write_threat(sink, text, *place)?;
+    }
+    Ok(())
+}
+
+/// Spells the line of a threat.
+fn write_threat<K: Sink>(sink: &mut K, text: &mut Text, place: u32) -> Result<(), Failed>
+    ensures bytes { Spells (K.taken sink.old) text.old (K.taken sink.new) text.new result (threat_line place ++ 10 ∷ []) }
+    ensures cause { HasCause (K.faults sink.old) (K.faults sink.new) result }
+{
+    make_room(sink, text, THREAT_BYTES)?;
+    text.put_threat(place);
+    Ok(())
+}
+
+/// Spells the line of each answer.
+fn write_answers<K: Sink>(sink: &mut K, text: &mut Text, lines: &[Line]) -> Result<(), Failed>
+    ensures bytes { Spells (K.taken sink.old) text.old (K.taken sink.new) text.new result (each_line answer_line lines.now) }
     ensures cause { HasCause (K.faults sink.old) (K.faults sink.new) result }
 {
     for line in lines {
-        if !text.has_room(ANSWER_BYTES) {
-            write_all(sink, text.bytes())?;
-            text = Text::new();
-        }
-        text.put_answer(line);
+        write_answer(sink, text, line)?;
     }
-    write_all(sink, text.bytes())
+    Ok(())
+}
+
+/// Spells the line of an answer.
+fn write_answer<K: Sink>(sink: &mut K, text: &mut Text, line: &Line) -> Result<(), Failed>
+    ensures bytes { Spells (K.taken sink.old) text.old (K.taken sink.new) text.new result (answer_line line.now ++ 10 ∷ []) }
+    ensures cause { HasCause (K.faults sink.old) (K.faults sink.new) result }
+{
+    make_room(sink, text, ANSWER_BYTES)?;
+    text.put_answer(line);
+    Ok(())
+}
+
+/// Spells these bytes.
+fn write_bytes<K: Sink>(sink: &mut K, text: &mut Text, bytes: &[u8]) -> Result<(), Failed>
+    requires { length bytes.now ≤ ROOM }
+    ensures bytes { Spells (K.taken sink.old) text.old (K.taken sink.new) text.new result bytes.now }
+    ensures cause { HasCause (K.faults sink.old) (K.faults sink.new) result }
+{
+    make_room(sink, text, bytes.len())?;
+    text.put(bytes);
+    Ok(())
+}
+
+/// Writes what waits in the text where so many bytes more might not fit.
+fn make_room<K: Sink>(sink: &mut K, text: &mut Text, bytes: usize) -> Result<(), Failed>
+    requires { bytes ≤ ROOM }
+    ensures room { OnOk result (length text.new + bytes ≤ ROOM) }
+    ensures bytes { Spells (K.taken sink.old) text.old (K.taken sink.new) text.new result [] }
+    ensures cause { HasCause (K.faults sink.old) (K.faults sink.new) result }
+{
+    if !text.has_room(bytes) {
+        write_all(sink, text.bytes())?;
+        *text = Text::new();
+    }
+    Ok(())
 }
 
 /// Writes the last line of a tree's text, which says how many nodes came before it and who wins the last one's

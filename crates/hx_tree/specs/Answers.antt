@@ -1,13 +1,16 @@
--- When each move of the opponent is answered.
+-- When each move of the opponent's is answered that a node has to answer.
 use Rattle.std.specs.Prelude.{ℕ, List, map, slice_get, IsSomeAnd, IfSome, Contains, ◌≡◌}
 use Rattle.std.specs.List.{All}
 use Rattle.std.specs.List.Sorted.{IsStrictlyIncreasing}
 use Rattle.hx_board.specs.Colours.{other_of}
-use Rattle.hx_board.specs.Positions.{IsEmpty, put}
+use Rattle.hx_board.specs.Positions.{Board, IsEmpty, put}
+use Rattle.hx_link.specs.declared.links.Link.{Link}
+use Rattle.hx_link.specs.declared.steps.Step.{Step}
 use Rattle.hx_tree.specs.declared.nodes.Heading.{Heading}
 use Rattle.hx_tree.specs.declared.nodes.Line.{Line}
 use Rattle.hx_tree.specs.declared.nodes.Line.TheVariants.{Child}
 use Rattle.hx_tree.specs.Headings.{IsHeading}
+use Rattle.hx_tree.specs.Steps.{GiveLinks, AreThreats, IsInEachThreat}
 
 -- the cell that a line answers
 abbrev pub cell_of : Line → ℕ
@@ -22,15 +25,28 @@ pub record AreInOrder (Kind : ℕ → Type 0) (cells : List ℕ) : Type 0 where
   pub only : All Kind cells
   pub in_order : IsStrictlyIncreasing cells
 
+-- a move that breaks all threats: an empty cell in the carriers of them all, and so any empty cell where there is no threat
+pub record IsToAnswer (board : Board) (links : List Link) (threats : List ℕ) (cell : ℕ) : Type 0 where
+  pub empty : IsEmpty board cell
+  pub shared : IsInEachThreat links threats cell
+
 -- a child goes on from the opponent's stone on the line's cell
 abbrev pub IsRightLine : List Heading → Heading → Line → Type 0
 IsRightLine before heading (Child cell child) =
     IsSomeAnd (slice_get before child) (IsHeading (put heading.position (other_of heading.winner) cell) heading.winner heading.winner)
 
--- the opponent is to move and has a move, each empty cell has exactly one line, in cell order, and each line is right
-pub record IsRightAll (before : List Heading) (heading : Heading) (lines : List Line) : Type 0 where
+-- the threats are links of these; each cell to answer has exactly one line, in cell order, and there is no other line; and
+-- each line is right
+pub record AreAnswered (before : List Heading) (heading : Heading) (links : List Link) (threats : List ℕ) (lines : List Line) : Type 0 where
+  pub threats_right : AreThreats links threats
+  pub cells : AreInOrder (IsToAnswer heading.position links threats) (cells_of lines)
+  pub lines_right : (k : ℕ) → IfSome (slice_get lines k) (IsRightLine before heading)
+
+-- the opponent is to move and has a move, the steps are right, and his moves are answered by threats and lines
+pub record IsRightAll (before : List Heading) (heading : Heading) (steps : List Step) (threats : List ℕ) (lines : List Line) : Type 0 where
   pub mover : heading.to_move ≡ other_of heading.winner
   pub some : ℕ
   pub some_empty : IsEmpty heading.position some
-  pub answered : AreInOrder (IsEmpty heading.position) (cells_of lines)
-  pub lines_right : (k : ℕ) → IfSome (slice_get lines k) (IsRightLine before heading)
+  pub links : List Link
+  pub steps_right : GiveLinks heading.position heading.winner steps links
+  pub answered : AreAnswered before heading links threats lines

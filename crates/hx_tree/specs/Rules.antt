@@ -1,13 +1,15 @@
 -- When a node is right.
-use Rattle.std.specs.Prelude.{◌≡◌, ℕ, List, slice_get, IsSomeAnd}
+use Rattle.std.specs.Prelude.{◌≡◌, ℕ, List, [], slice_get, IsSomeAnd}
 use Rattle.hx_board.specs.Colours.{other_of}
 use Rattle.hx_board.specs.Positions.{IsBoard, IsEmpty, put}
 use Rattle.hx_board.specs.Graph.{HasChain}
+use Rattle.hx_link.specs.declared.steps.Step.{Step}
 use Rattle.hx_tree.specs.declared.nodes.Heading.{Heading}
 use Rattle.hx_tree.specs.declared.nodes.Node.{Node}
 use Rattle.hx_tree.specs.declared.nodes.Rule.{Rule}
-use Rattle.hx_tree.specs.declared.nodes.Rule.TheVariants.{Chain, Move, All}
+use Rattle.hx_tree.specs.declared.nodes.Rule.TheVariants.{Chain, Links, Move, All}
 use Rattle.hx_tree.specs.Headings.{IsHeading}
+use Rattle.hx_tree.specs.Steps.{AreRightLinks}
 use Rattle.hx_tree.specs.Answers.{IsRightAll}
 
 -- the winner moves to an empty cell, and an earlier heading says that it wins the position after that
@@ -19,10 +21,18 @@ pub record IsRightMove (before : List Heading) (heading : Heading) (cell child :
 -- the rule shows that the heading's winner wins, where the winners of the headings before it do
 abbrev pub IsRightRule : List Heading → Heading → Rule → Type 0
 IsRightRule before heading Chain = HasChain heading.position heading.winner
+IsRightRule before heading (Links steps) = AreRightLinks heading steps
 IsRightRule before heading (Move cell child) = IsRightMove before heading cell child
-IsRightRule before heading (All lines) = IsRightAll before heading lines
+IsRightRule before heading (All steps threats lines) = IsRightAll before heading steps threats lines
 
 -- a node is right after these headings: its board has a position on it, and its rule is right
 pub record IsRightNode (before : List Heading) (node : Node) : Type 0 where
   pub board : IsBoard node.heading.position
   pub rule : IsRightRule before node.heading node.rule
+
+-- the steps of a rule
+abbrev pub steps_of : Rule → List Step
+steps_of Chain = []
+steps_of (Links steps) = steps
+steps_of (Move cell child) = []
+steps_of (All steps threats lines) = steps

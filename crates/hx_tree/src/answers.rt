@@ -1,23 +1,68 @@
-//! The checker of a node that answers each move of the opponent.
+//! The checker of a node that answers the moves of the opponent.
 
-ghost use Rattle.std.specs.Prelude.{◌≡◌, ◌↔◌, IsTrue, ℕ, true, slice_get, IfSome};
+ghost use Rattle.std.specs.Prelude.{◌≡◌, ◌↔◌, IsTrue, IfOk, IsOk, ℕ, [], true, slice_get, IfSome};
 ghost use Rattle.std.specs.List.{All};
 ghost use Rattle.hx_board.specs.Sets.{has};
 ghost use Rattle.hx_board.specs.Positions.{IsEmpty};
-ghost use Rattle.hx_tree.specs.Answers.{AreInOrder, IsRightAll, IsRightLine, cell_of, cells_of};
+ghost use Rattle.hx_tree.specs.Answers.{AreInOrder, AreAnswered, IsRightAll, IsRightLine, cell_of, cells_of};
 
 use crate::headings::leads;
+use crate::lists::{Lines, Steps, Threats};
 use crate::nodes::{Heading, Line};
-use hx_board::Mask;
+use crate::steps::{cells_to_answer, links_of};
+use hx_board::{Mask, Memory, Position};
+use hx_link::Link;
+use std::alloc::Global;
 
-/// Whether the opponent of the winner is to move and has a move, and each of his moves is answered by a right line.
-pub(crate) fn check_all(before: &[Heading], heading: &Heading, lines: &[Line]) -> bool
-    ensures { IsTrue result ↔ IsRightAll before.now heading.now lines.now }
+/// Whether the opponent of the winner is to move and has a move, and each of his moves is answered: by a threat that it
+/// leaves whole, or by a right line.
+pub(crate) fn check_all(
+    alloc: Global,
+    before: &[Heading],
+    heading: &Heading,
+    steps: &Steps,
+    threats: &Threats,
+    lines: &Lines,
+) -> Result<bool, Memory>
+    ensures answers { steps.now ≡ [] → IsOk result }
+    ensures right { IfOk result (λ answer. IsTrue answer ↔ IsRightAll before.now heading.now steps.now threats.now lines.now) }
 {
-    if heading.to_move != heading.winner.other() || lines.is_empty() {
-        return false;
+    if heading.to_move != heading.winner.other() || !has_move(&heading.position) {
+        return Ok(false);
     }
-    if !are_lines_of(heading.position.empties(), lines) {
+    match links_of(alloc, &heading.position, heading.winner, steps.items())? {
+        Some(links) => Ok(check_answers(
+            before,
+            heading,
+            links.as_slice(),
+            threats.items(),
+            lines.items(),
+        )),
+        None => Ok(false),
+    }
+}
+
+/// Whether some cell is empty.
+fn has_move(position: &Position) -> bool
+    ensures { IsTrue result ↔ ((some : ℕ) × IsEmpty position.now some) }
+{
+    position.empties().least(position.size()).is_some()
+}
+
+/// Whether the lines are right, and are those of the moves that break all threats.
+fn check_answers(
+    before: &[Heading],
+    heading: &Heading,
+    links: &[Link],
+    threats: &[u32],
+    lines: &[Line],
+) -> bool
+    ensures { IsTrue result ↔ AreAnswered before.now heading.now links.now threats.now lines.now }
+{
+    let Some(cells) = cells_to_answer(&heading.position, links, threats) else {
+        return false;
+    };
+    if !are_lines_of(cells, lines) {
         return false;
     }
     are_right(before, heading, lines)

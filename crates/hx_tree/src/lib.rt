@@ -6,9 +6,10 @@ mod headings;
 mod lists;
 mod nodes;
 mod rules;
+mod steps;
 mod trees;
 
-pub use lists::Lines;
+pub use lists::{Lines, Steps, Threats};
 pub use nodes::{Heading, Line, Node, Rule};
 pub use rules::check_node;
 pub use trees::{Verdict, check_tree};

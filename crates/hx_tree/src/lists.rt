@@ -1,12 +1,119 @@
 //! The lists that a rule holds. Contracts see each as the list of its items.
 
-ghost use Rattle.std.specs.Prelude.{◌≡◌};
-ghost use Rattle.std.specs.Cmp.Lexicographic.{pointwise, lists_per, lists_equiv};
+ghost use Rattle.std.specs.Prelude.{◌≡◌, nat_eq};
+ghost use Rattle.std.specs.Cmp.{partial_equiv_from_equiv};
+ghost use Rattle.std.specs.Cmp.Lexicographic.{pointwise, lists_per, lists_equiv, nat_list_eq_equiv};
+ghost use Rattle.hx_link.specs.contracts.steps.StepPartialEq.TheImpl.Laws.{laws-law as step_per};
+ghost use Rattle.hx_link.specs.contracts.steps.StepEq.TheImpl.Laws.{laws-law as step_equiv};
 ghost use Rattle.hx_tree.specs.contracts.nodes.LinePartialEq.TheImpl.Laws.{laws-law as line_per};
 ghost use Rattle.hx_tree.specs.contracts.nodes.LineEq.TheImpl.Laws.{laws-law as line_equiv};
 
 use crate::nodes::Line;
+use hx_link::Step;
 use std::marker::Model;
+
+/// The steps of a node, in the order in which they are given.
+#[derive(Debug, Drop)]
+pub struct Steps {
+    items: Vec<Step>,
+}
+
+impl Model for Steps {
+    ghost use Rattle.std.specs.Prelude.{List};
+    ghost use Rattle.hx_link.specs.declared.steps.Step.{Step};
+
+    ghost Value = { List Step };
+
+    ghost view = { λ s. s.items.items };
+}
+
+impl Steps {
+    /// The list of these steps.
+    pub fn new(items: Vec<Step>) -> Steps
+        ensures { result ≡ items.items }
+    {
+        Steps { items }
+    }
+
+    /// The steps, in their order.
+    pub fn items(&self) -> &[Step]
+        ensures { result.now ≡ self.now }
+    {
+        self.items.as_slice()
+    }
+
+    /// The vector of the steps.
+    pub fn into_inner(self) -> Vec<Step>
+        ensures { result.items ≡ self }
+    {
+        self.items
+    }
+}
+
+impl PartialEq for Steps {
+    ghost eq = { pointwise ⟦<Step as PartialEq>⟧.eq };
+
+    ghost laws = { lists_per step_per };
+
+    fn eq(&self, other: &Steps) -> bool {
+        self.items() == other.items()
+    }
+}
+
+impl Eq for Steps {
+    ghost laws = { lists_equiv step_equiv };
+}
+
+/// The places of a node's threats among its steps, in the order in which they are given.
+#[derive(Debug, Drop)]
+pub struct Threats {
+    places: Vec<u32>,
+}
+
+impl Model for Threats {
+    ghost use Rattle.std.specs.Prelude.{List, ℕ};
+
+    ghost Value = { List ℕ };
+
+    ghost view = { λ t. t.places.items };
+}
+
+impl Threats {
+    /// The list of these places.
+    pub fn new(places: Vec<u32>) -> Threats
+        ensures { result ≡ places.items }
+    {
+        Threats { places }
+    }
+
+    /// The places, in their order.
+    pub fn items(&self) -> &[u32]
+        ensures { result.now ≡ self.now }
+    {
+        self.places.as_slice()
+    }
+
+    /// The vector of the places.
+    pub fn into_inner(self) -> Vec<u32>
+        ensures { result.items ≡ self }
+    {
+        self.places
+    }
+}
+
+impl PartialEq for Threats {
+    ghost eq = { pointwise nat_eq };
+
+    ghost laws = { partial_equiv_from_equiv nat_list_eq_equiv };
+
+    fn eq(&self, other: &Threats) -> bool {
+        self.items() == other.items()
+    }
+}
+
+impl Eq for Threats {
+    ghost laws = { nat_list_eq_equiv };
+}
 
 /// The lines of a node, in the order in which they are given.
 #[derive(Debug, Drop)]

@@ -4,7 +4,7 @@
 ghost use Rattle.std.specs.Prelude.{◌≡◌};
 ghost use Rattle.hx_tree.specs.Answers.{cell_of};
 
-use crate::lists::Lines;
+use crate::lists::{Lines, Steps, Threats};
 use hx_board::{Cell, Colour, Position};
 
 /// What a node says: in this position, with this player to move, this player wins.
@@ -21,12 +21,29 @@ pub enum Rule {
     /// The winner has a chain.
     Chain,
 
-    /// The winner moves to a cell, and wins the position after that move by the child, an earlier node of the tree.
-    Move { cell: Cell, child: u32 },
+    /// The steps, of which there are at most 8,192, make links of the winner's, and the last one joins the winner's two
+    /// sides: a Full link, or a Semi link where the winner is to move.
+    Links {
+        steps: Steps,
+    },
 
-    /// The opponent is to move and has a move, and whichever cell he moves to, the line of that cell says why the winner
-    /// wins after it. The lines stand in cell order.
-    All { lines: Lines },
+    /// The winner moves to a cell, and wins the position after that move by the child, an earlier node of the tree.
+    Move {
+        cell: Cell,
+        child: u32,
+    },
+
+    /// The opponent is to move and has a move, and whichever cell he moves to, the winner wins after it. The threats, of
+    /// which there are at most 128, are places of links that join the winner's two sides. A move that leaves one of them
+    /// whole loses by that link. Each other move is to an empty cell in the carriers of all threats, or, where there is no
+    /// threat, to any empty cell; its line says why the winner wins after it. The lines stand in cell order.
+    ///
+    /// Hayward, van Rijswijck, Arneson and Henderson call the cells that all threats share the mustplay region.
+    All {
+        steps: Steps,
+        threats: Threats,
+        lines: Lines,
+    },
 }
 
 /// Why the winner wins after a move of the opponent.

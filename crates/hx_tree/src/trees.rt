@@ -29,7 +29,7 @@ pub fn check_tree(alloc: Global, nodes: &[Node]) -> Result<Verdict, Memory>
 {
     let mut before: Vec<Heading> = Vec::with_capacity(alloc, nodes.len()).map_err(|_| Memory)?;
     for (place, node) in nodes.iter().enumerate() {
-        if !check_node(before.as_slice(), node)? {
+        if !check_node(alloc, before.as_slice(), node)? {
             return Ok(Verdict::Node(place as u32));
         }
         before.push_reserved(node.heading);

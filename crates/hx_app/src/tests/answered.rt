@@ -1,9 +1,7 @@
 //! Trees with nodes that answer each move, and what becomes of such a node where something in it is changed. The answers
 //! were worked out by hand from the grammar and the rules.
 
-use super::{assert_answer, check_of};
-use std::alloc::Global;
-use std::process::Abort;
+use super::{assert_answer, assert_found, check_of};
 use std::test::Fail;
 
 /// White is to move on an empty row of two cells. Black has the other cell, and so a chain from top to bottom.
@@ -67,28 +65,14 @@ const CHANGES_OF_ONE: [(&str, &str, &str); 15] = [
     ("white black all", "white white all", "no node 1\n"),
     // the words
     ("all 0 0 1", "all 0 0 122", "no text 4\n"),
-    ("all 0 0 1", "all 0 1 1", "no text 4\n"),
+    // A threat is due after the first line.
+    ("all 0 0 1", "all 0 1 1", "no text 5\n"),
     ("all 0 0 1", "all 0 0", "no text 4\n"),
     ("line b1", "line c1", "no text 5\n"),
     ("child 0", "0", "no text 5\n"),
     ("child 0", "child 00", "no text 5\n"),
     ("line b1 child 0\n", "line b1 child 0", "no text 5\n"),
 ];
-
-/// Each change of the text is found.
-fn assert_found(
-    rt: &impl Abort,
-    alloc: Global,
-    text: &str,
-    changes: &[(&str, &str, &str)],
-) -> Result<(), Fail> {
-    for (old, new, answer) in changes {
-        let (before, after) = text.split_once(*old).ok_or("not in the text")?;
-        let changed = format!(in alloc; "{before}{new}{after}")?;
-        let _ = assert_answer(rt, alloc, check_of(changed.as_str(), 4096), 1, answer)?;
-    }
-    Ok(())
-}
 
 #[test]
 fn each_move_is_answered(rt: HostRuntime) -> Result<(), Fail> {

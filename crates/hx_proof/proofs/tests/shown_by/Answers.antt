@@ -6,10 +6,10 @@ use Rattle.hx_link.specs.declared.links.Kind.{Kind}
 use Rattle.hx_link.specs.declared.links.Kind.TheVariants.{Full, Semi}
 use Rattle.hx_link.specs.declared.links.Link.{Link}
 use Rattle.hx_link.specs.declared.steps.Step.{Step}
-use Rattle.hx_link.specs.Steps.{StepGives}
+use Rattle.hx_link.specs.Steps.{StepGives, IsChainLink}
 use Rattle.hx_board.specs.Colours.{other_of}
 use Rattle.hx_proof.specs.Local.{mover_for}
-use Rattle.hx_proof.specs.Links.{IsChainLink, EndInChainLink}
+use Rattle.hx_proof.specs.Links.{EndInChainLink}
 use Rattle.hx_proof.proofs.tests.shown_by.Goals as goal
 
 three_end_in_chain_link : (board : Board) (player : Colour) (first second third : Step) (one two last : Link) → StepGives board player [] first one → StepGives board player (one ∷ []) second two

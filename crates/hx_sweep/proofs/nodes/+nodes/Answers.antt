@@ -5,16 +5,17 @@ use Rattle.hx_board.specs.Colours.{other_of}
 use Rattle.hx_board.specs.Counts.{empty_count}
 use Rattle.hx_board.specs.Positions.{Board}
 use Rattle.hx_board.proofs.CellLaws.{on_board-small}
-use Rattle.hx_board.proofs.EmptyCells.{empty_count-put, put-is_held, empties-count, sweep_size-positive}
+use Rattle.hx_board.proofs.StoneLaws.{held-put}
+use Rattle.hx_board.proofs.EmptyCells.{empty_count-put, empties-count, sweep_size-positive}
 use Rattle.hx_board.proofs.Tallies.{count_below-remove}
-use Rattle.hx_law.proofs.ColourLaws.{other-other}
+use Rattle.hx_board.proofs.ColourLaws.{other-other}
 use Rattle.hx_tree.specs.declared.nodes.Node.{Node}
 use Rattle.hx_tree.specs.declared.nodes.Line.{Line}
 use Rattle.hx_tree.specs.declared.nodes.Line.TheVariants.{Child}
 use Rattle.hx_sweep.specs.Growth.{heading_of}
 use Rattle.hx_sweep.proofs.WinCases.{answers_all, not_all_refuted}
 use Rattle.hx_sweep.proofs.NodeGrowth.{grown_none, grown_less, grown_on, move_room, moves_room, begun_after, grown_after, proved_leads, proved_by}
-use Rattle.hx_sweep.proofs.AnswerOrder.{none_answered, all_answered, answered_on, fewer_answered}
+use Rattle.hx_sweep.proofs.AnswerOrder.{none_answered, all_answered, answered_on, fewer_answered, right_by_lines}
 use Rattle.hx_sweep.proofs.nodes.+nodes.Goals as goal
 
 pub after-prove-child-requires : goal.after-prove-child-requires
@@ -24,7 +25,7 @@ after-prove-child-requires t c =
     (omega arith, rw (c.other.ensures, c.play.ensures) (c.requires.wins, c.requires.begun))
 
 pub after-lift-requires : goal.after-lift-requires
-after-lift-requires t c = rw (c.prove-child.ensures.kept, c.play.ensures) (put-is_held c.args.position.now c.args.stone c.args.cell)
+after-lift-requires t c = rw (c.prove-child.ensures.kept, c.play.ensures) (held-put c.args.position.now c.args.stone c.args.cell)
 
 pub answers-loop-cell-init : goal.answers-loop-cell-init
 answers-loop-cell-init t c = record {
@@ -79,13 +80,8 @@ answers-returns-clause-grown t c =
 pub answers-returns-clause-right : goal.answers-returns-clause-right
 answers-returns-clause-right t c =
     let answered = answers_all c.args.position.now c.args.winner _ refl c.requires.no_chain c.requires.wins in
-    record {
-      mover = refl;
-      some = answered.some;
-      some_empty = answered.some_empty;
-      answered = all_answered _ _ _ _ _ c.loop-cell.invariant.answered (rw c.size-size.ensures.value at c.in_default.ensures);
-      lines_right = c.loop-cell.invariant.answered.lines_right;
-    }
+    right_by_lines _ c.args.position.now c.args.winner _ answered.some answered.some_empty
+    (all_answered _ _ _ _ _ c.loop-cell.invariant.answered (rw c.size-size.ensures.value at c.in_default.ensures)) c.loop-cell.invariant.answered.lines_right
 
 pub prove-overflow_cast-number : goal.prove-overflow_cast-number
 prove-overflow_cast-number t c =

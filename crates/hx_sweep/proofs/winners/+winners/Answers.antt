@@ -4,7 +4,8 @@ use Rattle.hx_board.specs.Counts.{empty_count}
 use Rattle.hx_board.specs.Positions.{Board, put}
 use Rattle.hx_board.specs.Game.{By_chain}
 use Rattle.hx_board.proofs.CellLaws.{on_board-small}
-use Rattle.hx_board.proofs.EmptyCells.{empty_count-put, put-is_held}
+use Rattle.hx_board.proofs.StoneLaws.{held-put}
+use Rattle.hx_board.proofs.EmptyCells.{empty_count-put}
 use Rattle.hx_board.proofs.Tallies.{count_below-remove}
 use Rattle.hx_sweep.proofs.WinCases.{refuted_all, move_wins}
 use Rattle.hx_sweep.proofs.winners.+winners.Goals as goal
@@ -32,7 +33,7 @@ winning_move-winner-found-requires t c =
     (omega arith, tt)
 
 pub winning_move-lift-requires : goal.winning_move-lift-requires
-winning_move-lift-requires t c = rw (c.winner-found.ensures.kept, c.play.ensures) (put-is_held c.loop-cell.position c.args.to_move c.in-Some.cell)
+winning_move-lift-requires t c = rw (c.winner-found.ensures.kept, c.play.ensures) (held-put c.loop-cell.position c.args.to_move c.in-Some.cell)
 
 pub winning_move-loop-cell-smaller : goal.winning_move-loop-cell-smaller
 winning_move-loop-cell-smaller t c =

@@ -1,6 +1,12 @@
+use Rattle.std.proofs.Common.{None}
+use Rattle.hx_text.specs.Words.{Reads}
+use Rattle.hx_text.specs.Entries.{entry_line, IsEntry}
+use Rattle.hx_text.specs.Places.{kind_due}
 use Rattle.hx_text.proofs.BegunFaults.{inside_wrong}
 use Rattle.hx_text.proofs.begun_nodes.inside.Goals as goal
 
-pub returns-in-None : goal.returns-in-None
-returns-in-None c = λ nodes lines stands begins.
-    inside_wrong c.args.begun c.args.line.now nodes lines (rw (← c.size-size.ensures) c.in-None.ensures) stands begins
+pub returns-in-Ok-None : goal.returns-in-Ok-None
+returns-in-Ok-None c = λ nodes lines stands begins.
+    let reads : Reads entry_line (IsEntry c.args.begun.so_far.size (kind_due c.args.begun)) c.args.line.now None =
+    rw (c.in-Ok-None.field-0-is, c.size.ensures, c.kind_due.ensures) at c.in-Ok-None.ensures in
+    inside_wrong c.args.begun c.args.line.now nodes lines reads stands begins

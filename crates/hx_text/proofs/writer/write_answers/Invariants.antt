@@ -1,11 +1,11 @@
-use Rattle.std.proofs.Common.{◌≤◌, ◌++◌, map, take}
-use Rattle.hx_text.specs.Grammars.{text_of}
-use Rattle.hx_text.specs.TreeTexts.{answer_line}
-use Rattle.hx_text.proofs.Pieces.{IsOut}
+use Rattle.std.proofs.Common.{◌≤◌, ◌++◌, take}
+use Rattle.hx_text.specs.Entries.{answer_line}
+use Rattle.hx_text.specs.Spelling.{IsOut, each_line}
 use Rattle.hx_text.proofs.writer.write_answers.Given as goal
 
 abbrev pub invariant-loop-line : goal.invariant-loop-line
 invariant-loop-line g l = record {
-  out : IsOut (g.K.Sink.taken l.initial.sink) (g.K.Sink.taken l.sink) l.text (l.initial.text ++ text_of (map answer_line (take l.line-index l.lines)));
+  out : IsOut (g.K.Sink.taken l.initial.sink) (g.K.Sink.taken l.sink) l.text
+      (l.initial.text ++ each_line answer_line (take l.line-index l.lines));
   later : g.K.Sink.faults l.initial.sink ≤ g.K.Sink.faults l.sink;
 }

@@ -1,32 +1,28 @@
--- The lines are those of the empty cells, so the cell of each line is empty, and that of the first is a move.
-use Rattle.std.proofs.Common.{List, get_or, arith, sym, ◌∙◌, rules}
-use Rattle.std.proofs.lemmas.Bool.{eqb-false}
-use Rattle.std.proofs.lemmas.List.{get_or-map, length-map}
-use Rattle.std.specs.List.{All}
-use Rattle.hx_board.specs.Positions.{Board, IsEmpty}
+-- The steps have one list of links, so the moves are answered by these links, or by none.
+use Rattle.std.proofs.Common.{◌≡◌, ℕ, List, Bool, IsTrue, ◌↔◌, subst, rules}
+use Rattle.hx_board.specs.Colours.{other_of}
+use Rattle.hx_board.specs.Positions.{IsEmpty}
+use Rattle.hx_link.specs.declared.links.Link.{Link}
+use Rattle.hx_link.specs.declared.steps.Step.{Step}
+use Rattle.hx_tree.specs.declared.nodes.Heading.{Heading}
 use Rattle.hx_tree.specs.declared.nodes.Line.{Line}
-use Rattle.hx_tree.specs.Answers.{AreInOrder, cell_of, cells_of}
-use Rattle.hx_tree.proofs.CellOrder.{same_kind}
+use Rattle.hx_tree.specs.Steps.{GiveLinks}
+use Rattle.hx_tree.specs.Answers.{AreAnswered, IsRightAll}
+use Rattle.hx_tree.proofs.StepGrowth.{same_links}
 use Rattle.hx_tree.proofs.answers.check_all.Goals as goal
 
-lines_empty : (board : Board) (lines : List Line) → AreInOrder (IsEmpty board) (cells_of lines) → All (λ line. IsEmpty board (cell_of line)) lines
-lines_empty board lines answered k line less =
-    rw (get_or-map cell_of lines k line 0 less) at (answered.only k 0 (omega (arith, length-map lines cell_of)))
+right_all : (before : List Heading) (heading : Heading) (steps : List Step) (threats : List ℕ) (lines : List Line) (links : List Link) (answer : Bool)
+    → heading.to_move ≡ other_of heading.winner → ((some : ℕ) × IsEmpty heading.position some) → GiveLinks heading.position heading.winner steps links
+    → IsTrue answer ↔ AreAnswered before heading links threats lines → IsTrue answer ↔ IsRightAll before heading steps threats lines
+right_all before heading steps threats lines links answer mover some given answers = (
+  λ yes. record { mover = mover; some = some.0; some_empty = some.1; links = links; steps_right = given; answered = answers.0 yes },
+  λ right. let P : List Link → Type 0 = λ ls. AreAnswered before heading ls threats lines in
+      answers.1 (subst P (same_links heading.position heading.winner steps right.links links right.steps_right given) right.answered),
+)
 
-pub are_right-requires : goal.are_right-requires
-are_right-requires c =
-    lines_empty c.args.heading.now.position c.args.lines.now (same_kind _ _ (cells_of c.args.lines.now) c.empties.ensures (c.are_lines_of.ensures.0 c.if-not-are_lines_of.false))
-
-pub returns : goal.returns
-returns c =
-    let answered : AreInOrder (IsEmpty c.args.heading.now.position) (cells_of c.args.lines.now) =
-    same_kind _ _ (cells_of c.args.lines.now) c.empties.ensures (c.are_lines_of.ensures.0 c.if-not-are_lines_of.false) in (
-      (λ yes. record {
-        mover = search rules;
-        some = get_or (cells_of c.args.lines.now) 0 0;
-        some_empty = answered.only 0 0 (omega (arith, eqb-false _ _ (sym c.is_empty.ensures ∙ c.if-is_empty.false), length-map c.args.lines.now cell_of));
-        answered = answered;
-        lines_right = c.are_right.ensures.0 yes;
-      }),
-      (λ right. c.are_right.ensures.1 right.lines_right),
-    )
+pub returns-in-Some-clause-right : goal.returns-in-Some-clause-right
+returns-in-Some-clause-right c =
+    let given : GiveLinks c.args.heading.now.position c.args.heading.now.winner c.args.steps.now c.in-Some.links.items =
+    rw (c.in-Some.is, c.items.ensures) at c.in_ok-links.ensures.links in
+    right_all c.args.before.now c.args.heading.now c.args.steps.now c.args.threats.now c.args.lines.now c.in-Some.links.items _ (search rules) (search rules) given
+    (rw (c.as_slice.ensures.value, c.items-in-Some.ensures, c.items-in-Some-2.ensures) at c.check_answers.ensures)

@@ -4,7 +4,7 @@ use Rattle.std.proofs.lemmas.Bool.{false≢true, false_from_ne_true}
 use Rattle.hx_board.specs.declared.colours.Colour.{Colour}
 use Rattle.hx_board.specs.declared.colours.Colour.TheVariants.{Black, White}
 use Rattle.hx_board.specs.Sets.{has, insert}
-use Rattle.hx_board.specs.Positions.{Board, IsBoard, IsEmpty, put, stones_of}
+use Rattle.hx_board.specs.Positions.{Board, IsBoard, IsEmpty, IsHeld, put, stones_of}
 use Rattle.hx_board.proofs.SetLaws.{has-insert_cases, has-insert_same, has-insert_other}
 use Rattle.hx_board.proofs.PositionLaws.{black-is_position, white-is_position}
 
@@ -15,6 +15,10 @@ size-put board White cell = refl
 pub board-put : (board : Board) (who : Colour) (cell : ℕ) → IsBoard board → IsEmpty board cell → IsBoard (put board who cell)
 board-put board Black cell is empty = (is.0, black-is_position board cell is.1 empty)
 board-put board White cell is empty = (is.0, white-is_position board cell is.1 empty)
+
+pub held-put : (board : Board) (who : Colour) (cell : ℕ) → IsHeld (put board who cell) cell
+held-put board Black cell = inl (has-insert_same board.black cell)
+held-put board White cell = inr (has-insert_same board.white cell)
 
 has-insert_either : (set cell n : ℕ) → (n ≡ cell) ⊎ (has set n ≡ true) → has (insert set cell) n ≡ true
 has-insert_either set cell n (inl same) = rw same (has-insert_same set cell)

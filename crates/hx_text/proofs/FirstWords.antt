@@ -1,0 +1,124 @@
+-- The first word of a line tells what its other words are: those of a step by `base`, `stone` or `cell`, and those of a rule's
+-- opening by `links`. Where the other words are none of that kind, the line's words are those of no step and of no opening,
+-- since the four first words begin with different letters.
+use Rattle.std.proofs.Common.{◌≡◌, ℕ, zero, suc, ◌+◌, ◌<◌, ◌≤◌, List, [], ◌∷◌, length, get_or, sym, ap, ◌∙◌, arith, add-zero, Option, Some, None, Result, Ok, Err}
+use Rattle.std.proofs.lemmas.Grind.{same_number_lists}
+use Rattle.std.specs.Prelude.{codes}
+use Rattle.std.specs.Option.{MatchOption, IfSome, IfNone}
+use Rattle.std.specs.Result.{IfOk}
+use Rattle.std.specs.Fmt.{decimal}
+use Rattle.hx_board.specs.declared.vertices.Vertex.{Vertex}
+use Rattle.hx_board.specs.Cells.{Extent, IsExtent}
+use Rattle.hx_board.specs.Graph.{IsVertex}
+use Rattle.hx_link.specs.declared.steps.Step.{Step}
+use Rattle.hx_link.specs.declared.steps.Step.TheVariants.{Base, AndStone, AndCell}
+use Rattle.hx_tree.specs.Steps.{most_steps}
+use Rattle.hx_text.specs.declared.node_lines.Opening.{Opening}
+use Rattle.hx_text.specs.declared.node_lines.Opening.TheVariants.{Links}
+use Rattle.hx_text.specs.Words.{Reads, IsNumber, words_in}
+use Rattle.hx_text.specs.StepTexts.{vertex_word, step_words, step_line, StepFits}
+use Rattle.hx_text.specs.TreeTexts.{opening_words, OpeningFits}
+use Rattle.hx_text.proofs.Cursors.{rest_same, word_then}
+use Rattle.hx_text.proofs.Spacing.{line_from_words}
+use Rattle.hx_text.proofs.StepWords.{first_letter, words_in-step_line}
+
+-- ---- a word whose bytes are known
+
+-- these are the bytes from a place on
+abbrev BytesFrom : List ℕ → ℕ → List ℕ → Type 0
+BytesFrom word k [] = length word ≡ k
+BytesFrom word k (byte ∷ bytes) = (get_or word k 0 ≡ byte) × BytesFrom word (k + 1) bytes
+
+length_from : (word : List ℕ) (k : ℕ) (bytes : List ℕ) → BytesFrom word k bytes → length word ≡ k + length bytes
+length_from word k [] are = omega (arith, are)
+length_from word k (byte ∷ bytes) are = omega (arith, length_from word (k + 1) bytes are.1)
+
+byte_at : (word : List ℕ) (k : ℕ) (bytes : List ℕ) (j : ℕ) → j < length bytes → BytesFrom word k bytes
+    → get_or word (k + j) 0 ≡ get_or bytes j 0
+byte_at word k [] j within are = absurd (omega arith)
+byte_at word k (byte ∷ bytes) zero within are = ap (λ (n : ℕ). get_or word n 0) (add-zero k) ∙ are.0
+byte_at word k (byte ∷ bytes) (suc j) within are =
+    let place : k + suc j ≡ k + 1 + j = omega arith in
+    ap (λ (n : ℕ). get_or word n 0) place ∙ byte_at word (k + 1) bytes j (omega arith) are.1
+
+pub bytes_are : (word bytes : List ℕ) → BytesFrom word 0 bytes → word ≡ bytes
+bytes_are word bytes are =
+    same_number_lists word bytes (omega (arith, length_from word 0 bytes are))
+    (λ (k : ℕ) (within : k < length word).
+    let same : get_or word (0 + k) 0 ≡ get_or bytes k 0 = byte_at word 0 bytes k (omega (arith, length_from word 0 bytes are)) are in
+    let place : k ≡ 0 + k = omega arith in
+    ap (λ (n : ℕ). get_or word n 0) place ∙ same)
+
+-- ---- steps
+
+no_base : (size : Extent) (value : Step) (words rest : List (List ℕ)) → words ≡ codes "base" ∷ rest
+    → ((a b : Vertex) → IsVertex size a → IsVertex size b → rest ≡ vertex_word a ∷ vertex_word b ∷ [] → ⊥)
+    → StepFits size value → words ≡ step_words value → ⊥
+no_base size (Base a b) words rest first none fits e = none a b fits.0 fits.1 (rest_same first e)
+no_base size value words rest first none fits e =
+    let letters : first_letter (codes "base" ∷ rest) ≡ first_letter (step_words value) = ap first_letter (sym first ∙ e) in
+    absurd (omega (arith, letters))
+
+pub base_reads : (size : Extent) (words rest : List (List ℕ)) (found : Option Step) → words ≡ codes "base" ∷ rest
+    → MatchOption found
+    ((a b : Vertex) → IsVertex size a → IsVertex size b → rest ≡ vertex_word a ∷ vertex_word b ∷ [] → ⊥)
+    (λ step. (a b : Vertex) × (step ≡ Base a b) × IsVertex size a × IsVertex size b × (rest ≡ vertex_word a ∷ vertex_word b ∷ []))
+    → Reads step_words (StepFits size) words found
+base_reads size words rest (Some step) first is = rw is.2 ((is.3, is.4), word_then first is.5)
+base_reads size words rest None first none = λ value fits e. no_base size value words rest first none fits e
+
+no_stone : (size : Extent) (value : Step) (words rest : List (List ℕ)) → words ≡ codes "stone" ∷ rest
+    → ((left right : ℕ) → IsNumber left → IsNumber right → rest ≡ decimal left ∷ decimal right ∷ [] → ⊥)
+    → StepFits size value → words ≡ step_words value → ⊥
+no_stone size (AndStone left right) words rest first none fits e = none left right fits.0 fits.1 (rest_same first e)
+no_stone size value words rest first none fits e =
+    let letters : first_letter (codes "stone" ∷ rest) ≡ first_letter (step_words value) = ap first_letter (sym first ∙ e) in
+    absurd (omega (arith, letters))
+
+pub stone_reads : (size : Extent) (words rest : List (List ℕ)) (found : Option Step) → words ≡ codes "stone" ∷ rest
+    → MatchOption found
+    ((left right : ℕ) → IsNumber left → IsNumber right → rest ≡ decimal left ∷ decimal right ∷ [] → ⊥)
+    (λ step. (left right : ℕ) × (step ≡ AndStone left right) × IsNumber left × IsNumber right × (rest ≡ decimal left ∷ decimal right ∷ []))
+    → Reads step_words (StepFits size) words found
+stone_reads size words rest (Some step) first is = rw is.2 ((is.3, is.4), word_then first is.5)
+stone_reads size words rest None first none = λ value fits e. no_stone size value words rest first none fits e
+
+no_cell : (size : Extent) (value : Step) (words rest : List (List ℕ)) → words ≡ codes "cell" ∷ rest
+    → ((left right : ℕ) → IsNumber left → IsNumber right → rest ≡ decimal left ∷ decimal right ∷ [] → ⊥)
+    → StepFits size value → words ≡ step_words value → ⊥
+no_cell size (AndCell left right) words rest first none fits e = none left right fits.0 fits.1 (rest_same first e)
+no_cell size value words rest first none fits e =
+    let letters : first_letter (codes "cell" ∷ rest) ≡ first_letter (step_words value) = ap first_letter (sym first ∙ e) in
+    absurd (omega (arith, letters))
+
+pub cell_step_reads : (size : Extent) (words rest : List (List ℕ)) (found : Option Step) → words ≡ codes "cell" ∷ rest
+    → MatchOption found
+    ((left right : ℕ) → IsNumber left → IsNumber right → rest ≡ decimal left ∷ decimal right ∷ [] → ⊥)
+    (λ step. (left right : ℕ) × (step ≡ AndCell left right) × IsNumber left × IsNumber right × (rest ≡ decimal left ∷ decimal right ∷ []))
+    → Reads step_words (StepFits size) words found
+cell_step_reads size words rest (Some step) first is = rw is.2 ((is.3, is.4), word_then first is.5)
+cell_step_reads size words rest None first none = λ value fits e. no_cell size value words rest first none fits e
+
+-- what is read from a line's words is read from the line
+pub step_reads : {E : Type 0} (size : Extent) (line : List ℕ) (words : List (List ℕ)) (found : Result (Option Step) E)
+    → IsExtent size.rows size.cols → words ≡ words_in line → IfOk found (Reads step_words (StepFits size) words)
+    → IfOk found (Reads step_line (StepFits size) line)
+step_reads size line words (Ok (Some step)) extent same reads = (reads.0, line_from_words same reads.1)
+step_reads size line words (Ok None) extent same reads = λ value fits e. reads value fits (same ∙ words_in-step_line size line value extent fits e)
+step_reads size line words (Err error) extent same reads = tt
+
+-- ---- openings
+
+no_links : (size : Extent) (value : Opening) (words rest : List (List ℕ)) → words ≡ codes "links" ∷ rest
+    → ((steps : ℕ) → steps ≤ most_steps → rest ≡ decimal steps ∷ [] → ⊥) → OpeningFits size value → words ≡ opening_words value → ⊥
+no_links size (Links steps) words rest first none fits e = none steps fits (rest_same first e)
+no_links size value words rest first none fits e =
+    let letters : first_letter (codes "links" ∷ rest) ≡ first_letter (opening_words value) = ap first_letter (sym first ∙ e) in
+    absurd (omega (arith, letters))
+
+pub links_reads : (size : Extent) (words rest : List (List ℕ)) (found : Option Opening) → words ≡ codes "links" ∷ rest
+    → IfSome found (λ opening. (steps : ℕ) × (opening ≡ Links steps) × (steps ≤ most_steps) × (rest ≡ decimal steps ∷ []))
+    → IfNone found ((steps : ℕ) → steps ≤ most_steps → rest ≡ decimal steps ∷ [] → ⊥)
+    → Reads opening_words (OpeningFits size) words found
+links_reads size words rest (Some opening) first is none = rw is.1 (is.2, word_then first is.3)
+links_reads size words rest None first is none = λ value fits e. no_links size value words rest first none fits e

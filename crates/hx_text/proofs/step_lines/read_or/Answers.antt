@@ -1,0 +1,44 @@
+use Rattle.std.proofs.Common.{◌≡◌, ◌∙◌, sym, arith, true, Result, Ok, Err}
+use Rattle.std.proofs.lemmas.Bool.{false≢true}
+use Rattle.std.specs.Result.{OnOk, is_ok}
+use Rattle.hx_text.proofs.Cursors.{ends_here, goes_on_here}
+use Rattle.hx_text.proofs.OrWords.{no_parts_taken, part_taken, all_parts_taken, no_part_next, too_many_parts}
+use Rattle.hx_text.proofs.step_lines.read_or.Goals as goal
+
+pub loop-init : goal.loop-init
+loop-init c = no_parts_taken _ _ c.new-items.ensures.items
+
+pub returns-then-is_some : goal.returns-then-is_some
+returns-then-is_some c =
+    let none = ends_here _ c.end.ensures (sym c.if-is_some.true ∙ c.is_some.ensures) in (
+      c.loop.items.items,
+      c.or_of.ensures,
+      omega (arith, c.loop.invariant.count_is),
+      c.loop.invariant.numbers,
+      all_parts_taken c.loop.invariant none,
+    )
+
+pub returns-in_default : goal.returns-in_default
+returns-in_default c = λ parts few small e.
+    no_part_next c.loop.invariant (goes_on_here _ c.end.ensures (sym c.if-is_some.false ∙ c.is_some.ensures)) c.in_default.ensures parts small e
+
+-- what a push that went well says
+at_ok : {T E P : Type 0} (result : Result T E) → true ≡ is_ok result → OnOk result P → P
+at_ok (Ok done) test holds = holds
+at_ok (Err error) test holds = absurd (false≢true (sym test))
+
+pub loop-preserved : goal.loop-preserved
+loop-preserved c =
+    part_taken c.loop.invariant c.in-Some.ensures.0 c.in-Some.ensures.1 (at_ok c.push.result c.in_ok-map_err.ensures.variant c.push.ensures.ok)
+
+pub returns-in-Some-end : goal.returns-in-Some-end
+returns-in-Some-end c = (
+  c.loop.items.items,
+  c.or_of-in-Some-end.ensures,
+  omega (arith, c.loop.invariant.count_is),
+  c.loop.invariant.numbers,
+  all_parts_taken c.loop.invariant c.in-Some-end.ensures,
+)
+
+pub returns-in-None : goal.returns-in-None
+returns-in-None c = λ parts few small e. too_many_parts c.loop.invariant c.in-None.ensures (omega (arith, c.loop-test.false)) parts few small e

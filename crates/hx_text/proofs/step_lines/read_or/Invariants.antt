@@ -1,0 +1,6 @@
+use Rattle.hx_text.proofs.OrWords.{PartsTaken}
+use Rattle.hx_text.proofs.step_lines.read_or.Given as goal
+
+-- the words that were taken are those of the items, of which there is one for each turn
+abbrev pub invariant-loop : goal.invariant-loop
+invariant-loop l = PartsTaken l.fn.words l.words l.items.items l.counter

@@ -1,0 +1,23 @@
+use Rattle.hx_text.specs.StepTexts.{threat_line}
+use Rattle.hx_text.specs.Entries.{answer_line}
+use Rattle.hx_text.specs.Spelling.{each_line}
+use Rattle.hx_text.proofs.Pieces.{first_cut_short, second_cut_short, three_spelled}
+use Rattle.hx_text.proofs.Spelled.{entries_spelled}
+use Rattle.hx_text.proofs.writer.write_entries.Goals as goal
+
+pub returns-in_err-write_steps-clause-bytes : goal.returns-in_err-write_steps-clause-bytes
+returns-in_err-write_steps-clause-bytes g c =
+    rw entries_spelled
+    (first_cut_short _ _ _ _ _ (each_line threat_line c.args.threats.now) (each_line answer_line c.args.lines.now) _ c.from_residual.ensures.0
+    c.in_err-write_steps.ensures.bytes)
+
+pub returns-in_err-write_threats-clause-bytes : goal.returns-in_err-write_threats-clause-bytes
+returns-in_err-write_threats-clause-bytes g c =
+    rw entries_spelled
+    (second_cut_short _ _ _ _ _ _ _ _ _ _ c.from_residual-in_err-write_threats.ensures.0 c.in_ok-write_steps.ensures.bytes
+    c.in_err-write_threats.ensures.bytes)
+
+pub returns-clause-bytes : goal.returns-clause-bytes
+returns-clause-bytes g c =
+    rw entries_spelled
+    (three_spelled _ _ _ _ _ _ _ _ _ _ _ _ c.in_ok-write_steps.ensures.bytes c.in_ok-write_threats.ensures.bytes c.write_answers.ensures.bytes)

@@ -1,0 +1,52 @@
+-- The lines of a node's steps and of its threats.
+use Rattle.std.specs.Prelude.{ℕ, ◌≤◌, List, [], ◌∷◌, length, map, codes}
+use Rattle.std.specs.Fmt.{decimal}
+use Rattle.hx_board.specs.declared.vertices.Vertex.{Vertex}
+use Rattle.hx_board.specs.declared.vertices.Vertex.TheVariants.{Of, First, Last}
+use Rattle.hx_board.specs.Cells.{Extent}
+use Rattle.hx_board.specs.Graph.{IsVertex}
+use Rattle.hx_link.specs.declared.steps.Step.{Step}
+use Rattle.hx_link.specs.declared.steps.Step.TheVariants.{Base, AndStone, AndCell, Or}
+use Rattle.hx_text.specs.Words.{spaced, cell_word, IsNumber}
+
+-- the most links that an Or names
+abbrev pub most_parts : ℕ
+most_parts = 128
+
+abbrev pub vertex_word : Vertex → List ℕ
+vertex_word (Of cell) = cell_word cell
+vertex_word First = codes "first"
+vertex_word Last = codes "last"
+
+abbrev pub step_words : Step → List (List ℕ)
+step_words (Base a b) = codes "base" ∷ vertex_word a ∷ vertex_word b ∷ []
+step_words (AndStone left right) = codes "stone" ∷ decimal left ∷ decimal right ∷ []
+step_words (AndCell left right) = codes "cell" ∷ decimal left ∷ decimal right ∷ []
+step_words (Or parts) = codes "or" ∷ map decimal parts
+
+-- the line of a step
+abbrev pub step_line : Step → List ℕ
+step_line step = spaced (step_words step)
+
+-- the line of a threat
+abbrev pub threat_line : ℕ → List ℕ
+threat_line place = spaced (codes "threat" ∷ decimal place ∷ [])
+
+abbrev pub AreNumbers : List ℕ → Type 0
+AreNumbers [] = Unit {0}
+AreNumbers (n ∷ numbers) = IsNumber n × AreNumbers numbers
+
+-- a step whose vertices are on a board of this size, with no more parts than a text may have; the links that it names need
+-- not be there
+abbrev pub StepFits : Extent → Step → Type 0
+StepFits size (Base a b) = IsVertex size a × IsVertex size b
+StepFits size (AndStone left right) = IsNumber left × IsNumber right
+StepFits size (AndCell left right) = IsNumber left × IsNumber right
+StepFits size (Or parts) = (length parts ≤ most_parts) × AreNumbers parts
+
+-- a step that is no Or
+abbrev pub IsShortStep : Step → Type 0
+IsShortStep (Base a b) = Unit {0}
+IsShortStep (AndStone left right) = Unit {0}
+IsShortStep (AndCell left right) = Unit {0}
+IsShortStep (Or parts) = ⊥

@@ -1,0 +1,85 @@
+-- Threats that are read one after the other: the cells that are kept are the empty ones that all threats so far share.
+use Rattle.std.proofs.Common.{◌≡◌, ℕ, ◌+◌, ◌<◌, ◌≤◌, true, List, length, get_or, sym, ap, ◌∙◌, subst, arith, ◌↔◌, ⊎_elim, Option, Some}
+use Rattle.std.specs.Prelude.{slice_get, IfSome, IsSomeAnd}
+use Rattle.std.proofs.lemmas.Bool.{cases_lt}
+use Rattle.std.proofs.lemmas.Option.{slice_get-get_or, slice_get_past}
+use Rattle.hx_board.specs.Sets.{has, intersection}
+use Rattle.hx_board.specs.Positions.{Board, IsEmpty}
+use Rattle.hx_board.proofs.SetLaws.{has-intersection_left, has-intersection_right, has-intersection_both}
+use Rattle.hx_link.specs.declared.links.Link.{Link}
+use Rattle.hx_tree.specs.Steps.{IsThreat, IsThreatOn, AreThreats, most_threats}
+use Rattle.hx_tree.specs.Answers.{IsToAnswer}
+
+module _ (board : Board) (links : List Link) (threats : List ℕ) where
+  -- the cell is in the carrier of the link at a place
+  abbrev IsIn : ℕ → ℕ → Type 0
+  IsIn cell place = IsSomeAnd (slice_get links place) (λ link. has link.carrier cell ≡ true)
+
+  abbrev pub InFirst : ℕ → ℕ → Type 0
+  InFirst count cell = (k : ℕ) → k < count → IfSome (slice_get threats k) (IsIn cell)
+
+  -- the first threats are threats, and the set has the empty cells that they share
+  pub record AreShared (count shared : ℕ) : Type 0 where
+    pub each : (k : ℕ) → k < count → IfSome (slice_get threats k) (IsThreat links)
+    pub cells : (cell : ℕ) → (has shared cell ≡ true) ↔ (IsEmpty board cell × InFirst count cell)
+
+  pub none_shared : (empties : ℕ) → ((cell : ℕ) → (has empties cell ≡ true) ↔ IsEmpty board cell) → AreShared 0 empties
+  none_shared empties are = record {
+    each = λ k less. absurd (omega arith);
+    cells = λ cell. (λ member. ((are cell).0 member, λ k less. absurd (omega arith)), λ both. (are cell).1 both.0);
+  }
+
+  at_place : (P : ℕ → Type 0) (k place : ℕ) → k < length threats → get_or threats k place ≡ place → P place → IfSome (slice_get threats k) P
+  at_place P k place less is holds = let Q : Option ℕ → Type 0 = λ o. IfSome o P in
+      subst Q (sym (slice_get-get_or threats k place less ∙ ap Some is)) holds
+
+  from_place : (P : ℕ → Type 0) (k place : ℕ) → k < length threats → get_or threats k place ≡ place → IfSome (slice_get threats k) P → P place
+  from_place P k place less is holds = let Q : Option ℕ → Type 0 = λ o. IfSome o P in
+      subst Q (slice_get-get_or threats k place less ∙ ap Some is) holds
+
+  more : (P : ℕ → Type 0) (count place : ℕ) → count < length threats → place ≡ get_or threats count place → ((k : ℕ) → k < count → IfSome (slice_get threats k) P) → P place
+      → (k : ℕ) → k < count + 1 → IfSome (slice_get threats k) P
+  more P count place less is before holds k within =
+      ⊎_elim (before k)
+      (λ (from : count ≤ k). let same : count ≡ k = omega arith in let Q : ℕ → Type 0 = λ n. IfSome (slice_get threats n) P in
+      subst Q same (at_place P count place less (sym is) holds))
+      (cases_lt k count)
+
+  module _ (count place carrier shared : ℕ) (less : count < length threats) (is : place ≡ get_or threats count place) (before : AreShared count shared) where
+    pub one_more_shared : IsThreatOn links place carrier → AreShared (count + 1) (intersection shared carrier)
+    one_more_shared threat =
+        let Joins : Option Link → Type 0 = λ o. IsSomeAnd o (λ link. Rattle.hx_link.specs.Steps.IsChainLink link) in
+        let In : ℕ → Option Link → Type 0 = λ cell o. IsSomeAnd o (λ link. has link.carrier cell ≡ true) in
+        record {
+          each = more (IsThreat links) count place less is before.each (subst Joins (sym threat.there) threat.joins);
+          cells = λ cell. (
+            λ member.
+                let was = (before.cells cell).0 (has-intersection_left shared carrier cell member) in
+                let here : has threat.link.carrier cell ≡ true = ap (λ c. has c cell) threat.carrier_is ∙ has-intersection_right shared carrier cell member in
+                (was.0, more (IsIn cell) count place less is was.1 (subst (In cell) (sym threat.there) here)),
+            λ both.
+                let here : has threat.link.carrier cell ≡ true =
+                subst (In cell) threat.there (from_place (IsIn cell) count place less (sym is) (both.1 count (omega arith))) in
+                has-intersection_both shared carrier cell ((before.cells cell).1 (both.0, λ k within. both.1 k (omega arith)))
+                (ap (λ c. has c cell) (sym threat.carrier_is) ∙ here),
+          );
+        }
+
+    pub no_threats : ¬ IsThreat links place → ¬ AreThreats links threats
+    no_threats none are = none (from_place (IsThreat links) count place less (sym is) (are.each count))
+
+  past : (P : ℕ → Type 0) (count : ℕ) → length threats ≤ count → ((k : ℕ) → k < count → IfSome (slice_get threats k) P) → (k : ℕ) → IfSome (slice_get threats k) P
+  past P count end each k =
+      ⊎_elim (each k)
+      (λ (from : count ≤ k). let Q : Option ℕ → Type 0 = λ o. IfSome o P in subst Q (sym (slice_get_past threats k (omega arith))) tt)
+      (cases_lt k count)
+
+  pub all_shared : (count shared : ℕ) → length threats ≤ count → length threats ≤ most_threats → AreShared count shared
+      → AreThreats links threats × ((cell : ℕ) → (has shared cell ≡ true) ↔ IsToAnswer board links threats cell)
+  all_shared count shared end few are = (
+    record { few = few; each = past (IsThreat links) count end are.each },
+    λ cell. (
+      λ member. let both = (are.cells cell).0 member in record { empty = both.0; shared = past (IsIn cell) count end both.1 },
+      λ is. (are.cells cell).1 (is.empty, λ k less. is.shared k),
+    ),
+  )

@@ -1,0 +1,58 @@
+-- The links of a node's steps, and the threats among them.
+use Rattle.std.specs.Prelude.{◌≡◌, ◌-◌, ◌≤◌, ◌⊎◌, true, ℕ, List, [], length, slice_get, IfSome, IsSomeAnd}
+use Rattle.std.specs.declared.option.Option.TheVariants.{Some}
+use Rattle.hx_board.specs.declared.colours.Colour.{Colour}
+use Rattle.hx_board.specs.Sets.{has}
+use Rattle.hx_board.specs.Positions.{Board}
+use Rattle.hx_link.specs.declared.links.Kind.TheVariants.{Full}
+use Rattle.hx_link.specs.declared.links.Link.{Link}
+use Rattle.hx_link.specs.declared.steps.Step.{Step}
+use Rattle.hx_link.specs.Steps.{AreRightSteps, IsChainLink}
+use Rattle.hx_tree.specs.declared.nodes.Heading.{Heading}
+
+-- the most steps of a node
+abbrev pub most_steps : ℕ
+most_steps = 8192
+
+-- the most threats of a node
+abbrev pub most_threats : ℕ
+most_threats = 128
+
+-- not too many steps, each of which gives a link after the links of those before it; these are the links
+pub record GiveLinks (board : Board) (player : Colour) (steps : List Step) (links : List Link) : Type 0 where
+  pub few : length steps ≤ most_steps
+  pub right : AreRightSteps board player [] steps links
+
+-- the last link joins the winner's two sides, and it is Full, or the winner is to move
+pub record ShowWin (heading : Heading) (links : List Link) : Type 0 where
+  pub last : Link
+  pub is_last : slice_get links (length links - 1) ≡ Some last
+  pub joins : IsChainLink last
+  pub in_time : (last.kind ≡ Full) ⊎ (heading.to_move ≡ heading.winner)
+
+-- the steps are right, and the last of their links shows that the winner wins
+pub record AreRightLinks (heading : Heading) (steps : List Step) : Type 0 where
+  pub links : List Link
+  pub steps_right : GiveLinks heading.position heading.winner steps links
+  pub shown : ShowWin heading links
+
+-- a threat is the place of a link that joins the two sides
+abbrev pub IsThreat : List Link → ℕ → Type 0
+IsThreat links place = IsSomeAnd (slice_get links place) IsChainLink
+
+-- not too many threats
+pub record AreThreats (links : List Link) (threats : List ℕ) : Type 0 where
+  pub few : length threats ≤ most_threats
+  pub each : (k : ℕ) → IfSome (slice_get threats k) (IsThreat links)
+
+-- the cell is in the carriers of all threats
+abbrev pub IsInEachThreat : List Link → List ℕ → ℕ → Type 0
+IsInEachThreat links threats cell =
+    (k : ℕ) → IfSome (slice_get threats k) (λ place. IsSomeAnd (slice_get links place) (λ link. has link.carrier cell ≡ true))
+
+-- the place of a link on this carrier that joins the two sides, for the functions inside the crate
+pub record IsThreatOn (links : List Link) (place carrier : ℕ) : Type 0 where
+  pub link : Link
+  pub there : slice_get links place ≡ Some link
+  pub joins : IsChainLink link
+  pub carrier_is : link.carrier ≡ carrier
