@@ -1,0 +1,2 @@
+pub mod Inferior
+pub mod Named

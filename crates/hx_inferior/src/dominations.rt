@@ -1,0 +1,47 @@
+//! Cells that another one is better than, so that a player who moves need not try them.
+//!
+//! Where the mover takes the better cell, the worse one is killed: it is dead for the opponent, who can make nothing of it, or
+//! it is one of a captured pair of the mover. So the better cell gives the mover as much as both, and so at least as much as the
+//! worse one alone. Hayward, van Rijswijck, Arneson and Henderson call the worse cell dominated.
+
+ghost use Rattle.std.specs.Prelude.{◌↔◌, IsTrue};
+ghost use Rattle.hx_inferior.specs.Inferior.{IsKilled, IsDominated};
+
+use crate::dead_cells::dead;
+use crate::moves::after;
+use crate::pairs::pair;
+use hx_board::{Cell, Colour, Position};
+
+/// How a cell is killed by a move of a player.
+#[derive(Clone, Copy, PartialEq, Eq, Debug)]
+pub enum Kill {
+    /// It is dead for the opponent.
+    ByDead,
+
+    /// It and this cell are a captured pair of the player.
+    ByPair(Cell),
+}
+
+/// Whether a cell is killed, on the board after the mover's move.
+fn is_killed(position: &Position, mover: Colour, worse: Cell, kill: &Kill) -> bool
+    ensures { IsTrue result ↔ IsKilled position.now mover worse kill.now }
+{
+    match kill {
+        Kill::ByDead => dead(position, mover.other(), worse),
+        Kill::ByPair(partner) => pair(position, mover, worse, *partner),
+    }
+}
+
+/// Whether the mover need not try the worse cell where it tries the better one: the two are different and empty, and after the
+/// mover takes the better one, the worse one is dead for the opponent or, with the named cell, a pair of the mover.
+pub fn dominates(position: &Position, mover: Colour, better: Cell, worse: Cell, kill: Kill) -> bool
+    ensures { IsTrue result ↔ IsDominated position.now mover better worse kill }
+{
+    let empties = position.empties();
+    let are_empty = empties.has(better) && empties.has(worse);
+    if better == worse || !are_empty {
+        return false;
+    }
+    let next = after(position, mover, better);
+    is_killed(&next, mover, worse, &kill)
+}

@@ -1,0 +1,22 @@
+//! Cells that cannot matter, or matter less than another one, and steps that fill such cells.
+//!
+//! Hayward, van Rijswijck, Arneson and Henderson call them dead cells, captured pairs and dominated cells. Here they are
+//! recognised; that to fill or to leave out such a cell changes no winner is no matter of this crate.
+#![tactic(auto)]
+
+mod dead_cells;
+mod dominations;
+mod fills;
+mod moves;
+mod pairs;
+mod surroundings;
+
+pub use dead_cells::dead;
+pub use dominations::{Kill, dominates};
+pub use fills::{FillStep, fill_one};
+pub use pairs::pair;
+
+#[cfg(test)]
+mod plain;
+#[cfg(test)]
+mod tests;

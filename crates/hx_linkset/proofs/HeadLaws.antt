@@ -1,0 +1,65 @@
+-- The head of a ring fixes the kind and the ends of its links, since each vertex has a number of its own below 123.
+use Rattle.std.proofs.Common.{◌≡◌, ℕ, ◌+◌, ◌*◌, ◌<◌, refl, ap, arith}
+use Rattle.hx_board.specs.declared.colours.Colour.{Colour}
+use Rattle.hx_board.specs.declared.vertices.Vertex.{Vertex}
+use Rattle.hx_board.specs.declared.vertices.Vertex.TheVariants.{Of, First, Last}
+use Rattle.hx_board.specs.Positions.{Board, IsBoard}
+use Rattle.hx_board.specs.Floods.{code_of}
+use Rattle.hx_board.proofs.CellLaws.{on_board-small}
+use Rattle.hx_link.specs.declared.links.Kind.{Kind}
+use Rattle.hx_link.specs.declared.links.Kind.TheVariants.{Full, Semi}
+use Rattle.hx_link.specs.declared.links.Link.{Link}
+use Rattle.hx_link.specs.Steps.{IsEnd}
+use Rattle.hx_linkset.specs.States.{IsLive}
+use Rattle.hx_linkset.specs.Held.{IsSomeVertex, kind_code, head_for, head_of}
+
+pub code-small : (vertex : Vertex) → IsSomeVertex vertex → code_of vertex < 123
+code-small (Of cell) small = omega arith
+code-small First small = omega arith
+code-small Last small = omega arith
+
+code-same : (a b : Vertex) → IsSomeVertex a → IsSomeVertex b → code_of a ≡ code_of b → a ≡ b
+code-same (Of cell) (Of other) h k e = ap Of e
+code-same (Of cell) First h k e = absurd (omega arith)
+code-same (Of cell) Last h k e = absurd (omega arith)
+code-same First (Of other) h k e = absurd (omega arith)
+code-same First First h k e = refl
+code-same First Last h k e = absurd (omega arith)
+code-same Last (Of other) h k e = absurd (omega arith)
+code-same Last First h k e = absurd (omega arith)
+code-same Last Last h k e = refl
+
+-- two digits to the base 123
+digits-same : (row col row' col' : ℕ) → col < 123 → col' < 123 → 123 * row + col ≡ 123 * row' + col' → (row ≡ row') × (col ≡ col')
+digits-same row col row' col' h k e = (omega arith, omega arith)
+
+parts-same : (kind kind' : Kind) (row col row' col' : ℕ) → row < 123 → col < 123 → row' < 123 → col' < 123 → kind_code kind + 123 * row + col ≡ kind_code kind' + 123 * row' + col'
+    → (kind ≡ kind') × (row ≡ row') × (col ≡ col')
+parts-same Full Full row col row' col' r c r' c' e = let both = digits-same row col row' col' c c' (omega arith) in (refl, both.0, both.1)
+parts-same Full Semi row col row' col' r c r' c' e = absurd (omega arith)
+parts-same Semi Full row col row' col' r c r' c' e = absurd (omega arith)
+parts-same Semi Semi row col row' col' r c r' c' e = let both = digits-same row col row' col' c c' (omega arith) in (refl, both.0, both.1)
+
+pub head-same : (kind kind' : Kind) (a b a' b' : Vertex) → IsSomeVertex a → IsSomeVertex b → IsSomeVertex a' → IsSomeVertex b' → head_for kind a b ≡ head_for kind' a' b' → (kind ≡ kind') × (a ≡ a') × (b ≡ b')
+head-same kind kind' a b a' b' ha hb ha' hb' e =
+    let w = parts-same kind kind' (code_of a) (code_of b) (code_of a') (code_of b') (code-small a ha) (code-small b hb) (code-small a' ha') (code-small b' hb') e in
+    (w.0, code-same a a' ha ha' w.1, code-same b b' hb hb' w.2)
+
+pub head-small : (kind : Kind) (a b : Vertex) → IsSomeVertex a → IsSomeVertex b → head_for kind a b < 30258
+head-small Full a b ha hb = omega (arith, code-small a ha, code-small b hb)
+head-small Semi a b ha hb = omega (arith, code-small a ha, code-small b hb)
+
+module _ (board : Board) (is_board : IsBoard board) (player : Colour) where
+  end-some : (vertex : Vertex) → IsEnd board player vertex → IsSomeVertex vertex
+  end-some (Of cell) end = on_board-small board.size cell is_board.0 end.0
+  end-some First end = tt
+  end-some Last end = tt
+
+  pub live-some : (link : Link) → IsLive board player link → IsSomeVertex link.a × IsSomeVertex link.b
+  live-some link live = (end-some link.a live.a_end, end-some link.b live.b_end)
+
+  pub live-small : (link : Link) → IsLive board player link → head_of link < 30258
+  live-small link live = let w = live-some link live in head-small link.kind link.a link.b w.0 w.1
+
+  pub live-same : (link : Link) (kind : Kind) (a b : Vertex) → IsLive board player link → IsSomeVertex a → IsSomeVertex b → head_of link ≡ head_for kind a b → (link.kind ≡ kind) × (link.a ≡ a) × (link.b ≡ b)
+  live-same link kind a b live ha hb e = let w = live-some link live in head-same link.kind kind link.a link.b a b w.0 w.1 ha hb e

@@ -1,0 +1,305 @@
+-- A stone's pass over the rings.
+use Rattle.std.proofs.lemmas.List.{get_or_push, get_or-set_same, get_or-set_other, length-set, take_more, take_all, length-take, drop-append-le, reverse-append, drop_all}
+use Rattle.std.proofs.lemmas.Grind.{reverse_onto, common_steps}
+use Rattle.std.proofs.lemmas.Bool.{false≢true, cases_eq}
+use Rattle.std.proofs.lemmas.Bool.Decides.{nat_tests}
+use Rattle.std.proofs.Common.{◌≡◌, ◌≢◌, ℕ, ◌+◌, ◌-◌, ◌<◌, ◌≤◌, Bool, true, false, List, [], ◌∷◌, ◌++◌, length, reverse, take, drop, set, get_or, refl, sym, ap, ◌∙◌, subst, inl, inr, Some, Option, ◌⊎◌, ⊎_elim, arith, append_assoc, if◌then◌else◌, append-nil, zero, suc, length-append}
+use Rattle.std.specs.Prelude.{slice_get, nat_lt}
+use Rattle.hx_board.specs.declared.colours.Colour.{Colour}
+use Rattle.hx_board.specs.Positions.{Board}
+use Rattle.hx_link.specs.declared.links.Link.{Link}
+use Rattle.hx_linkset.specs.States.{IsLive, IsUntouched}
+use Rattle.hx_linkset.specs.Rings.{AreRings, Rings, unlinked, relinked, grown, IsInside}
+use Rattle.hx_linkset.specs.Held.{head_of, head_or, head_at, IsLinked, RingsHold, relinked_all, CanRelink, IsKeptBelow, IsPassed, LogHolds, IsLiveThere}
+use Rattle.hx_linkset.proofs.RingLaws.{IsBetween, rings-grown, rings-unlinked, after_other, before_other, relinked-unlinked, inside-unlinked}
+use Rattle.hx_linkset.proofs.PlaceLaws.{get-lt, same_some, get-push, get-push_before, get-push_last}
+use Rattle.hx_linkset.proofs.LogLaws.{log-less, log-push, log-room_more}
+
+reverse-first : (x : ℕ) (xs : List ℕ) → reverse (x ∷ xs) ≡ reverse xs ++ x ∷ []
+reverse-first x xs = reverse_onto xs x []
+
+choice : (b : Bool) (x y : ℕ) → b ≡ false → (if b then x else y) ≡ y
+choice true x y e = absurd (false≢true (sym e))
+choice false x y e = refl
+
+not_below : (a b : ℕ) → b ≤ a → nat_lt a b ≡ false
+not_below a b le = grind (arith, nat_tests)
+
+pub head_at-link : (links : List Link) (place : ℕ) (link : Link) → slice_get links place ≡ Some link → head_at links (30258 + place) ≡ head_of link
+unfolding head_at
+head_at-link links place link e =
+    choice (nat_lt (30258 + place) 30258) (30258 + place) _ (not_below (30258 + place) 30258 (omega arith))
+    ∙ ap (λ (o : Option Link). head_or o (30258 + place)) (ap (λ n. slice_get links n) (let same : 30258 + place - 30258 ≡ place = omega arith in same) ∙ e)
+
+-- rings of the same linked nodes
+pub rings-same : (f g h : ℕ → ℕ) (P Q : ℕ → Type 0) → ((v : ℕ) → P v → Q v) → ((v : ℕ) → Q v → P v) → AreRings f g h P → AreRings f g h Q
+rings-same f g h P Q to from r = record {
+  head_linked = λ v k. to (f v) (r.head_linked v (from v k));
+  head_own = λ v k. r.head_own v (from v k);
+  above = λ v k. r.above v (from v k);
+  next_linked = λ v k. to (g v) (r.next_linked v (from v k));
+  previous_linked = λ v k. to (h v) (r.previous_linked v (from v k));
+  same_head = λ v k. r.same_head v (from v k);
+  back = λ v k. r.back v (from v k);
+  forth = λ v k. r.forth v (from v k);
+  clear = λ v u k l same. r.clear v u (from v k) (from u l) same;
+}
+
+module _ (links : List Link) (Has : ℕ → Link → Type 0) where
+  pub linked-small : (v : ℕ) → IsLinked links Has v → v < 30258 + length links
+  linked-small v (inl lt) = omega arith
+  linked-small v (inr w) = omega (arith, w.1.1.0, get-lt links w.0 w.1.0 w.1.1.1.0)
+
+  module _ (rings : Rings) (hold : RingsHold links Has rings) (place : ℕ) (link : Link) (there : slice_get links place ≡ Some link) (has : Has place link) (small : head_of link < 30258) where
+    abbrev node : ℕ
+    node = 30258 + place
+
+    linked : IsLinked links Has node
+    linked = inr (place, (link, (refl, (there, has))))
+
+    inner : head_at links node ≢ node
+    inner e = absurd (omega (arith, head_at-link links place link there, e, small))
+
+    before_less : get_or rings.previous node 0 < 30258 + length links
+    before_less = linked-small _ (hold.rings_ok.previous_linked node linked)
+
+    after_less : get_or rings.next node 0 < 30258 + length links
+    after_less = linked-small _ (hold.rings_ok.next_linked node linked)
+
+    pub node-inside : IsInside rings node
+    node-inside = record {
+      as_long = hold.previous_long ∙ sym hold.next_long;
+      small = omega (arith, hold.next_long, linked-small node linked);
+      before_inside = omega (arith, hold.next_long, before_less);
+      after_inside = omega (arith, hold.next_long, after_less);
+    }
+
+    pub node-between : IsBetween rings node
+    node-between = record {
+      before_small = omega (arith, hold.next_long, before_less);
+      after_small = omega (arith, hold.previous_long, after_less);
+      before_other = before_other _ _ _ _ hold.rings_ok node linked inner;
+      after_other = after_other _ _ _ _ hold.rings_ok node linked inner;
+      next_of_before = hold.rings_ok.forth node linked;
+      previous_of_after = hold.rings_ok.back node linked;
+    }
+
+    pub hold-unlinked : (Less : ℕ → Link → Type 0) → ((v : ℕ) → IsLinked links Less v → v ≢ node) → ((v : ℕ) → IsLinked links Less v → IsLinked links Has v) → ((v : ℕ) → v ≢ node → IsLinked links Has v → IsLinked links Less v) → RingsHold links Less (unlinked rings node)
+    hold-unlinked Less other was stays =
+        let p : ℕ = get_or rings.previous node 0 in
+        let n : ℕ = get_or rings.next node 0 in
+        record {
+          rings_ok = rings-unlinked (head_at links) (λ v. get_or rings.next v 0) (λ v. get_or rings.previous v 0) (IsLinked links Has) hold.rings_ok node linked inner
+              (λ v. get_or (set rings.next p n) v 0) (λ v. get_or (set rings.previous n p) v 0) (IsLinked links Less) other was stays
+              (get_or-set_same rings.next p n 0 (omega (arith, hold.next_long, before_less)))
+              (λ v ne. get_or-set_other rings.next p v n 0 ne)
+              (get_or-set_same rings.previous n p 0 (omega (arith, hold.previous_long, after_less)))
+              (λ v ne. get_or-set_other rings.previous n v p 0 ne);
+          next_long = length-set rings.next p n ∙ hold.next_long;
+          previous_long = length-set rings.previous n p ∙ hold.previous_long;
+        }
+
+module _ (links : List Link) (board : Board) (player colour : Colour) (cell : ℕ) (bound : ℕ) (link : Link) (there : slice_get links bound ≡ Some link) where
+  abbrev Now : ℕ → Link → Type 0
+  Now = IsKeptBelow board player colour cell bound
+
+  abbrev Next : ℕ → Link → Type 0
+  Next = IsKeptBelow board player colour cell (bound + 1)
+
+  less : (place : ℕ) (l : Link) → Next place l → Now place l
+  less place l h = (h.0, λ lt. h.1 (omega arith))
+
+  was : (v : ℕ) → IsLinked links Next v → IsLinked links Now v
+  was v (inl lt) = inl lt
+  was v (inr w) = inr (w.0, (w.1.0, (w.1.1.0, (w.1.1.1.0, (w.1.1.1.1.0, λ lt. w.1.1.1.1.1 (omega arith))))))
+
+  stays_if : (v : ℕ) → ((l : Link) → v ≡ 30258 + bound → l ≡ link → IsLive board player l → IsUntouched player colour cell l) → IsLinked links Now v → IsLinked links Next v
+  stays_if v kept (inl lt) = inl lt
+  stays_if v kept (inr w) = inr (w.0, (w.1.0, (w.1.1.0, (w.1.1.1.0, (w.1.1.1.1.0, λ lt. by_case lt (cases_eq w.0 bound))))))
+    where
+      by_case : w.0 < bound + 1 → (w.0 ≡ bound) ⊎ (w.0 ≡ bound → ⊥) → IsUntouched player colour cell w.1.0
+      by_case lt (inl e) = kept w.1.0 (w.1.1.0 ∙ ap (λ n. 30258 + n) e) (same_some w.1.0 link (sym w.1.1.1.0 ∙ (ap (λ n. slice_get links n) e ∙ there))) w.1.1.1.1.0
+      by_case lt (inr ne) = w.1.1.1.1.1 (omega arith)
+
+  out : (IsUntouched player colour cell link → ⊥) → (v : ℕ) → IsLinked links Next v → v ≢ 30258 + bound
+  out touched v (inl lt) e = absurd (omega arith)
+  out touched v (inr w) e =
+      let here : w.0 ≡ bound = omega (arith, w.1.1.0, e) in
+      let same : w.1.0 ≡ link = same_some w.1.0 link (sym w.1.1.1.0 ∙ (ap (λ n. slice_get links n) here ∙ there)) in
+      let P : Link → Type 0 = λ l. IsUntouched player colour cell l in
+      touched (subst P same (w.1.1.1.1.1 (omega (arith, here))))
+
+  module _ (old new : Rings) (log log' : List ℕ) (p : IsPassed links board player colour cell bound old new log log') where
+    -- a link that is not live or not touched stays as it is
+    pub passed-kept : (IsLive board player link → IsUntouched player colour cell link) → IsPassed links board player colour cell (bound + 1) old new log log'
+    passed-kept kept = record {
+      hold = record {
+        rings_ok = rings-same _ _ _ _ _ (λ v. stays_if v (λ l e same live. (let P : Link → Type 0 = λ x. IsLive board player x in let Q : Link → Type 0 = λ x. IsUntouched player colour cell x in subst Q (sym same) (kept (subst P same live))))) was p.hold.rings_ok;
+        next_long = p.hold.next_long;
+        previous_long = p.hold.previous_long;
+      };
+      log_ok = log-less links Now Next less log' p.log_ok;
+      dropped = p.dropped;
+      logged = p.logged;
+      can = p.can;
+      back = p.back;
+    }
+
+    module _ (live : IsLive board player link) (small : head_of link < 30258) where
+      pub passed-room : length log' < length links
+      passed-room = log-room_more links Now log' p.log_ok bound link there (live, λ lt. absurd (omega arith))
+
+      pub passed-inside : IsInside new (30258 + bound)
+      passed-inside = node-inside links Now new p.hold bound link there (live, λ lt. absurd (omega arith)) small
+
+      -- a live link that is touched is taken out and logged
+      pub passed-dropped : (IsUntouched player colour cell link → ⊥) → IsPassed links board player colour cell (bound + 1) old (unlinked new (30258 + bound)) log (log' ++ bound ∷ [])
+      passed-dropped touched = record {
+        hold = hold-unlinked links Now new p.hold bound link there (live, λ lt. absurd (omega arith)) small Next (out touched) was (λ v ne. stays_if v (λ l e same live'. absurd (ne e)));
+        log_ok = log-push links Now Next less log' p.log_ok bound link there (live, λ lt. absurd (omega arith)) (λ next. touched (next.1 (omega arith)));
+        dropped = bound ∷ p.dropped;
+        logged = ap (λ (xs : List ℕ). xs ++ bound ∷ []) p.logged ∙ (append_assoc log (reverse p.dropped) (bound ∷ []) ∙ ap (λ (xs : List ℕ). log ++ xs) (sym (reverse-first bound p.dropped)));
+        can = (
+          inside-unlinked new (30258 + bound) passed-inside (node-between links Now new p.hold bound link there (live, λ lt. absurd (omega arith)) small),
+          let P : Rings → Type 0 = λ r. CanRelink r p.dropped in
+              subst P (sym (relinked-unlinked new (30258 + bound) (node-between links Now new p.hold bound link there (live, λ lt. absurd (omega arith)) small))) p.can,
+        );
+        back = ap (λ (r : Rings). relinked_all r p.dropped) (relinked-unlinked new (30258 + bound) (node-between links Now new p.hold bound link there (live, λ lt. absurd (omega arith)) small)) ∙ p.back;
+      }
+
+pub passed-none : (links : List Link) (board : Board) (player colour : Colour) (cell : ℕ) (rings : Rings) (log : List ℕ) → RingsHold links (IsLiveThere board player) rings → LogHolds links (IsLiveThere board player) log → IsPassed links board player colour cell 0 rings rings log log
+passed-none links board player colour cell rings log h logged = record {
+  hold = record {
+    rings_ok = rings-same _ _ _ _ _
+        (λ v k. ⊎_elim inl (λ w. inr (w.0, (w.1.0, (w.1.1.0, (w.1.1.1.0, (w.1.1.1.1, λ lt. absurd (omega arith))))))) k)
+        (λ v k. ⊎_elim inl (λ w. inr (w.0, (w.1.0, (w.1.1.0, (w.1.1.1.0, w.1.1.1.1.0))))) k) h.rings_ok;
+    next_long = h.next_long;
+    previous_long = h.previous_long;
+  };
+  log_ok = log-less links (IsLiveThere board player) (IsKeptBelow board player colour cell 0) (λ place l k. k.0) log logged;
+  dropped = [];
+  logged = sym (append-nil log);
+  can = tt;
+  back = refl;
+}
+
+pub passed-all : (links : List Link) (board : Board) (player colour : Colour) (cell bound : ℕ) (old new : Rings) (log log' : List ℕ) → bound ≡ length links → IsPassed links board player colour cell bound old new log log' → IsPassed links board player colour cell (length links) old new log log'
+passed-all links board player colour cell bound old new log log' e p = let P : ℕ → Type 0 = λ n. IsPassed links board player colour cell n old new log log' in subst P e p
+
+-- the last of the log is the first to be put back
+pub last-back : (log : List ℕ) (n last : ℕ) → n ≤ last → last + 1 ≡ length log → reverse (drop n log) ≡ get_or log last 0 ∷ reverse (drop n (take last log))
+last-back log n last le e =
+    let lt : last < length log = omega arith in
+    let whole : take (last + 1) log ≡ log = rw e (take_all (length log) log (omega arith)) in
+    let split : log ≡ take last log ++ get_or log last 0 ∷ [] = sym whole ∙ take_more log last 0 lt in
+    let inside : n ≤ length (take last log) = omega (arith, length-take last log) in
+    ap (λ (xs : List ℕ). reverse (drop n xs)) split
+    ∙ (ap (reverse {A = ℕ}) (drop-append-le n (take last log) (get_or log last 0 ∷ []) inside) ∙ reverse-append (drop n (take last log)) (get_or log last 0 ∷ []))
+
+pub rest-back : (log : List ℕ) (n last : ℕ) → n ≤ last → take n (take last log) ≡ take n log
+rest-back log n last le = grind (arith, common_steps)
+
+pub none-back : (log : List ℕ) (n : ℕ) → length log ≤ n → reverse (drop n log) ≡ []
+none-back log n le = ap (reverse {A = ℕ}) (drop_all n log le)
+
+-- one step of putting back
+pub step-back : (rings : Rings) (log log' : List ℕ) (n last place : ℕ) → n ≤ last → last + 1 ≡ length log → place ≡ get_or log last 0 → log' ≡ take last log → CanRelink rings (reverse (drop n log))
+    → IsInside rings (30258 + place) × CanRelink (relinked rings (30258 + place)) (reverse (drop n log')) × (relinked_all rings (reverse (drop n log)) ≡ relinked_all (relinked rings (30258 + place)) (reverse (drop n log')))
+step-back rings log log' n last place le e f g can =
+    let same : reverse (drop n log) ≡ place ∷ reverse (drop n log') = rw (f, g) (last-back log n last le e) in
+    let P : List ℕ → Type 0 = λ xs. CanRelink rings xs in
+    let h : CanRelink rings (place ∷ reverse (drop n log')) = subst P same can in
+    (h.0, h.1, ap (λ (xs : List ℕ). relinked_all rings xs) same)
+
+-- a link more
+choice-true : (b : Bool) (x y : ℕ) → b ≡ true → (if b then x else y) ≡ x
+choice-true true x y e = refl
+choice-true false x y e = absurd (false≢true e)
+
+below : (a b : ℕ) → a < b → nat_lt a b ≡ true
+below a b lt = grind (arith, nat_tests)
+
+pub head_at-low : (links : List Link) (v : ℕ) → v < 30258 → head_at links v ≡ v
+unfolding head_at
+head_at-low links v lt = choice-true (nat_lt v 30258) v _ (below v 30258 lt)
+
+get-push_other : (xs : List ℕ) (y v : ℕ) → v ≢ length xs → get_or (xs ++ y ∷ []) v 0 ≡ get_or xs v 0
+get-push_other [] y zero ne = absurd (ne refl)
+get-push_other [] y (suc v) ne = refl
+get-push_other (x ∷ xs) y zero ne = refl
+get-push_other (x ∷ xs) y (suc v) ne = get-push_other xs y v (λ e. ne (ap suc e))
+
+rings-heads : (f f' g h : ℕ → ℕ) (P : ℕ → Type 0) → ((v : ℕ) → P v → f' v ≡ f v) → AreRings f g h P → AreRings f' g h P
+rings-heads f f' g h P same r = record {
+  head_linked = λ v k. let Q : ℕ → Type 0 = λ w. P w in subst Q (sym (same v k)) (r.head_linked v k);
+  head_own = λ v k. ap f' (same v k) ∙ (same (f v) (r.head_linked v k) ∙ (r.head_own v k ∙ sym (same v k)));
+  above = λ v k. omega (arith, same v k, r.above v k);
+  next_linked = r.next_linked;
+  previous_linked = r.previous_linked;
+  same_head = λ v k. same (g v) (r.next_linked v k) ∙ (r.same_head v k ∙ sym (same v k));
+  back = r.back;
+  forth = r.forth;
+  clear = λ v u k l e. r.clear v u k l (sym (same u l) ∙ (e ∙ same v k));
+}
+
+module _ (links : List Link) (board : Board) (player : Colour) (rings : Rings) (hold : RingsHold links (IsLiveThere board player) rings) (link : Link) (live : IsLive board player link) (small : head_of link < 30258) where
+  abbrev more : List Link
+  more = links ++ link ∷ []
+
+  abbrev h : ℕ
+  h = head_of link
+
+  abbrev last : ℕ
+  last = get_or rings.previous h 0
+
+  abbrev end : ℕ
+  end = length rings.next
+
+  heads_same : (v : ℕ) → IsLinked links (IsLiveThere board player) v → head_at more v ≡ head_at links v
+  heads_same v (inl lt) = head_at-low more v lt ∙ sym (head_at-low links v lt)
+  heads_same v (inr w) = ap (head_at more) w.1.1.0 ∙ (head_at-link more w.0 w.1.0 (get-push_before links link w.0 w.1.0 w.1.1.1.0) ∙ (sym (head_at-link links w.0 w.1.0 w.1.1.1.0) ∙ ap (head_at links) (sym w.1.1.0)))
+
+  end_is : end ≡ 30258 + length links
+  end_is = hold.next_long
+
+  last_linked : IsLinked links (IsLiveThere board player) last
+  last_linked = hold.rings_ok.previous_linked h (inl small)
+
+  old : (v : ℕ) → v ≢ end → IsLinked more (IsLiveThere board player) v → IsLinked links (IsLiveThere board player) v
+  old v ne (inl lt) = inl lt
+  old v ne (inr w) = ⊎_elim
+      (λ k. inr (w.0, (w.1.0, (w.1.1.0, (k.1, w.1.1.1.1)))))
+      (λ k. absurd (ne (omega (arith, w.1.1.0, k.0, end_is))))
+      (get-push links link w.1.0 w.0 w.1.1.1.0)
+
+  new : (v : ℕ) → IsLinked links (IsLiveThere board player) v → IsLinked more (IsLiveThere board player) v
+  new v (inl lt) = inl lt
+  new v (inr w) = inr (w.0, (w.1.0, (w.1.1.0, (get-push_before links link w.0 w.1.0 w.1.1.1.0, w.1.1.1.1))))
+
+  pub hold-grown : RingsHold more (IsLiveThere board player) (grown rings h)
+  hold-grown =
+      let last_less : last < end = omega (arith, linked-small links (IsLiveThere board player) last last_linked, end_is) in
+      let longer : length (set rings.next last end) ≡ end = length-set rings.next last end in
+      let longer' : length (set rings.previous h end) ≡ end = length-set rings.previous h end ∙ (hold.previous_long ∙ sym end_is) in
+      let other_end : (v : ℕ) → v ≢ end → v ≢ length (set rings.next last end) = λ v ne e. ne (e ∙ longer) in
+      let other_end' : (v : ℕ) → v ≢ end → v ≢ length (set rings.previous h end) = λ v ne e. ne (e ∙ longer') in
+      let h_less : h < length rings.previous = omega (arith, small, hold.previous_long) in
+      let last_other : last ≢ end = λ e. absurd (omega (arith, e, last_less)) in
+      let h_other : h ≢ end = λ e. absurd (omega (arith, e, small, end_is)) in
+      record {
+        rings_ok = rings-grown (head_at more) (λ v. get_or rings.next v 0) (λ v. get_or rings.previous v 0) (IsLinked links (IsLiveThere board player))
+            (rings-heads _ _ _ _ _ heads_same hold.rings_ok) end h (inl small) (head_at-low more h small)
+            (ap (head_at more) end_is ∙ head_at-link more (length links) link (get-push_last links link))
+            (λ k. absurd (omega (arith, linked-small links (IsLiveThere board player) end k, end_is)))
+            (λ v k. omega (arith, linked-small links (IsLiveThere board player) v k, end_is))
+            (λ v. get_or (set rings.next last end ++ h ∷ []) v 0) (λ v. get_or (set rings.previous h end ++ last ∷ []) v 0) (IsLinked more (IsLiveThere board player))
+            (inr (length links, (link, (end_is, (get-push_last links link, live))))) old new
+            (get-push_other (set rings.next last end) h last (other_end last last_other) ∙ get_or-set_same rings.next last end 0 last_less)
+            (get_or_push (set rings.next last end) h 0 end longer)
+            (λ v nt ne. get-push_other (set rings.next last end) h v (other_end v ne) ∙ get_or-set_other rings.next last v end 0 nt)
+            (get-push_other (set rings.previous h end) last h (other_end' h h_other) ∙ get_or-set_same rings.previous h end 0 h_less)
+            (get_or_push (set rings.previous h end) last 0 end longer')
+            (λ v nh ne. get-push_other (set rings.previous h end) last v (other_end' v ne) ∙ get_or-set_other rings.previous h v end 0 nh);
+        next_long = omega (arith, length-append (set rings.next last end) (h ∷ []), longer, end_is, length-append links (link ∷ []));
+        previous_long = omega (arith, length-append (set rings.previous h end) (last ∷ []), longer', end_is, length-append links (link ∷ []));
+      }

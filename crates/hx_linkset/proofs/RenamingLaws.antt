@@ -1,0 +1,81 @@
+-- A step that is renamed gives the same link, where each link that it names stands under its new name.
+use Rattle.std.proofs.lemmas.List.{length-map}
+use Rattle.std.proofs.Common.{◌≡◌, ℕ, suc, List, [], ◌∷◌, map, refl, ◌∙◌, inl, inr, Some, Option}
+use Rattle.std.specs.Prelude.{slice_get}
+use Rattle.hx_board.specs.declared.colours.Colour.{Colour}
+use Rattle.hx_board.specs.declared.vertices.Vertex.{Vertex}
+use Rattle.hx_board.specs.declared.vertices.Vertex.TheVariants.{Of}
+use Rattle.hx_board.specs.Positions.{Board}
+use Rattle.hx_link.specs.declared.links.Link.{Link}
+use Rattle.hx_link.specs.declared.steps.Step.{Step}
+use Rattle.hx_link.specs.declared.steps.Step.TheVariants.{Base, AndStone, AndCell, Or}
+use Rattle.hx_link.specs.Steps.{MeetAt, GivesByRule, StepGives, links_at}
+use Rattle.hx_linkset.specs.States.{Names}
+use Rattle.hx_linkset.specs.Derivations.{renamed}
+
+module _ (name : ℕ → ℕ) (before after : List Link) where
+  both : {x y : Option Link} {xs ys : List (Option Link)} → x ≡ y → xs ≡ ys → x ∷ xs ≡ y ∷ ys
+  both a b = cc
+
+  links_at-renamed : (parts : List ℕ) → ((k place : ℕ) → slice_get parts k ≡ Some place → slice_get after (name place) ≡ slice_get before place)
+      → links_at after (map name parts) ≡ links_at before parts
+  links_at-renamed [] same = refl
+  links_at-renamed (p ∷ ps) same = both (same 0 p refl) (links_at-renamed ps (λ k place h. same (suc k) place h))
+
+  meet-renamed : (left right : ℕ) (from middle to : Vertex) (first second : Link) → slice_get after (name left) ≡ slice_get before left → slice_get after (name right) ≡ slice_get before right
+      → MeetAt before left right from middle to first second → MeetAt after (name left) (name right) from middle to first second
+  meet-renamed left right from middle to first second l r m = record {
+    first_there = l ∙ m.first_there;
+    second_there = r ∙ m.second_there;
+    first_full = m.first_full;
+    second_full = m.second_full;
+    first_ends = m.first_ends;
+    second_ends = m.second_ends;
+    other_ends_differ = m.other_ends_differ;
+    apart = m.apart;
+  }
+
+  rule-renamed : (board : Board) (player : Colour) (step : Step) (link : Link) → ((place : ℕ) → Names step place → slice_get after (name place) ≡ slice_get before place)
+      → GivesByRule board player before step link → GivesByRule board player after (renamed name step) link
+  rule-renamed board player (Base a b) link same g = g
+  rule-renamed board player (AndStone left right) link same g = record {
+    from = g.from;
+    middle = g.middle;
+    to = g.to;
+    first = g.first;
+    second = g.second;
+    meet = meet-renamed left right g.from g.middle g.to g.first g.second (same left (inl refl)) (same right (inr refl)) g.meet;
+    own = g.own;
+    kind = g.kind;
+    carrier = g.carrier;
+    ends = g.ends;
+  }
+  rule-renamed board player (AndCell left right) link same g = record {
+    from = g.from;
+    cell = g.cell;
+    to = g.to;
+    first = g.first;
+    second = g.second;
+    meet = meet-renamed left right g.from (Of g.cell) g.to g.first g.second (same left (inl refl)) (same right (inr refl)) g.meet;
+    empty = g.empty;
+    outside_first = g.outside_first;
+    outside_second = g.outside_second;
+    kind = g.kind;
+    carrier = g.carrier;
+    ends = g.ends;
+  }
+  rule-renamed board player (Or parts) link same g = record {
+    links = g.links;
+    there = links_at-renamed parts (λ k place h. same place (k, h)) ∙ g.there;
+    several = rw length-map g.several;
+    few = rw length-map g.few;
+    semi = g.semi;
+    same_ends = g.same_ends;
+    none_in_all = g.none_in_all;
+    kind = g.kind;
+    carrier = g.carrier;
+  }
+
+  pub gives-renamed : (board : Board) (player : Colour) (step : Step) (link : Link) → ((place : ℕ) → Names step place → slice_get after (name place) ≡ slice_get before place)
+      → StepGives board player before step link → StepGives board player after (renamed name step) link
+  gives-renamed board player step link same g = record { rule = rule-renamed board player step link same g.rule; link_ok = g.link_ok }

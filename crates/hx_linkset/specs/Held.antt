@@ -1,0 +1,100 @@
+-- The rings of the links that a set holds, and the log of those that are out of their rings. The first nodes are the heads,
+-- one for each kind and pair of ends; then comes a node for each link, in the order of the links.
+use Rattle.std.specs.Prelude.{◌≡◌, ℕ, ◌+◌, ◌-◌, ◌*◌, ◌<◌, List, [], ◌∷◌, ◌++◌, length, reverse, slice_get, slice_index, nat_lt, nat_eq, if◌then◌else◌, true, ◌⊎◌}
+use Rattle.std.specs.List.{list_any, IsDistinct}
+use Rattle.std.specs.declared.option.Option.{Option}
+use Rattle.std.specs.declared.option.Option.TheVariants.{None, Some}
+use Rattle.hx_board.specs.declared.colours.Colour.{Colour}
+use Rattle.hx_board.specs.declared.vertices.Vertex.{Vertex}
+use Rattle.hx_board.specs.declared.vertices.Vertex.TheVariants.{Of, First, Last}
+use Rattle.hx_board.specs.Positions.{Board}
+use Rattle.hx_board.specs.Floods.{code_of}
+use Rattle.hx_link.specs.declared.links.Kind.{Kind}
+use Rattle.hx_link.specs.declared.links.Kind.TheVariants.{Full, Semi}
+use Rattle.hx_link.specs.declared.links.Link.{Link}
+use Rattle.hx_linkset.specs.States.{IsLive, IsUntouched}
+use Rattle.hx_linkset.specs.Rings.{AreRings, Rings, relinked, IsInside}
+
+-- a side, or a cell of the largest board
+abbrev pub IsSomeVertex : Vertex → Type 0
+IsSomeVertex (Of cell) = cell < 121
+IsSomeVertex First = Unit {0}
+IsSomeVertex Last = Unit {0}
+
+-- each place of a list has its own number
+pub record LeadToThemselves (size : ℕ) (nodes : List ℕ) : Type 0 where
+  pub long : length nodes ≡ size
+  pub each : (node : ℕ) → node < size → slice_index nodes node ≡ node
+
+-- heads alone, each of an empty ring
+pub record AreHeads (rings : Rings) : Type 0 where
+  pub next : LeadToThemselves 30258 rings.next
+  pub previous : LeadToThemselves 30258 rings.previous
+
+-- a vertex has a number below 123, so each kind has 123 times 123 heads
+abbrev pub kind_code : Kind → ℕ
+kind_code Full = 0
+kind_code Semi = 15129
+
+-- the head of the links of one kind and pair of ends
+abbrev pub head_for : Kind → Vertex → Vertex → ℕ
+head_for kind a b = kind_code kind + 123 * code_of a + code_of b
+
+-- the head of a link's ring
+abbrev pub head_of : Link → ℕ
+head_of link = head_for link.kind link.a link.b
+
+abbrev pub head_or : Option Link → ℕ → ℕ
+head_or None node = node
+head_or (Some link) node = head_of link
+
+-- the head of a node's ring: of a head itself, of another node that of its link
+unfoldable pub head_at : List Link → ℕ → ℕ
+head_at links node = if nat_lt node 30258 then node else head_or (slice_get links (node - 30258)) node
+
+-- a head, or the node of a link that has this property at its place
+abbrev pub IsLinked : List Link → (ℕ → Link → Type 0) → ℕ → Type 0
+IsLinked links Has node = (node < 30258) ⊎ ((place : ℕ) × ((link : Link) × ((node ≡ 30258 + place) × ((slice_get links place ≡ Some link) × Has place link))))
+
+-- the rings hold exactly the links that have the property
+pub record RingsHold (links : List Link) (Has : ℕ → Link → Type 0) (rings : Rings) : Type 0 where
+  pub rings_ok : AreRings (head_at links) (λ node. slice_index rings.next node) (λ node. slice_index rings.previous node) (IsLinked links Has)
+  pub next_long : length rings.next ≡ 30258 + length links
+  pub previous_long : length rings.previous ≡ 30258 + length links
+
+-- the link at a place lacks the property
+pub record IsOut (links : List Link) (Has : ℕ → Link → Type 0) (place : ℕ) : Type 0 where
+  pub inside : place < length links
+  pub lacks : (link : Link) → slice_get links place ≡ Some link → Has place link → ⊥
+
+-- the log names links that lack the property, each once
+pub record LogHolds (links : List Link) (Has : ℕ → Link → Type 0) (log : List ℕ) : Type 0 where
+  pub distinct : IsDistinct nat_eq log
+  pub out : (place : ℕ) → list_any (nat_eq place) log ≡ true → IsOut links Has place
+
+-- the nodes of these places put back, the first of the list first
+abbrev pub relinked_all : Rings → List ℕ → Rings
+relinked_all rings [] = rings
+relinked_all rings (place ∷ places) = relinked_all (relinked rings (30258 + place)) places
+
+-- and each of them can be put back as its turn comes
+abbrev pub CanRelink : Rings → List ℕ → Type 0
+CanRelink rings [] = Unit {0}
+CanRelink rings (place ∷ places) = IsInside rings (30258 + place) × CanRelink (relinked rings (30258 + place)) places
+
+-- a link that is live, wherever it stands
+abbrev pub IsLiveThere : Board → Colour → ℕ → Link → Type 0
+IsLiveThere board player place link = IsLive board player link
+
+-- a live link that a stone leaves alone, as far as the stone's pass over the links has come
+abbrev pub IsKeptBelow : Board → Colour → Colour → ℕ → ℕ → ℕ → Link → Type 0
+IsKeptBelow board player colour cell bound place link = IsLive board player link × (place < bound → IsUntouched player colour cell link)
+
+-- what the pass took out is on the log, and can be put back exactly
+pub record IsPassed (links : List Link) (board : Board) (player colour : Colour) (cell bound : ℕ) (old new : Rings) (log log' : List ℕ) : Type 0 where
+  pub hold : RingsHold links (IsKeptBelow board player colour cell bound) new
+  pub log_ok : LogHolds links (IsKeptBelow board player colour cell bound) log'
+  pub dropped : List ℕ
+  pub logged : log' ≡ log ++ reverse dropped
+  pub can : CanRelink new dropped
+  pub back : relinked_all new dropped ≡ old

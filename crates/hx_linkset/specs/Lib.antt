@@ -1,0 +1,10 @@
+pub mod States
+pub mod Answers
+pub mod Plays
+pub mod Rings
+pub mod Held
+pub mod History
+pub mod LivePairs
+pub mod Marks
+pub mod Derivations
+pub mod LiveOf

@@ -1,0 +1,24 @@
+//! The links of one player on a position, as stones are put and taken back.
+//!
+//! A link stays in the set for as long as it may be wanted: a stone that touches its carrier or takes an end only makes it
+//! dead, and once the stone is taken back it is live again.
+#![tactic(auto)]
+
+mod chains;
+mod derivations;
+mod liveness;
+mod marks;
+mod pairs;
+mod passes;
+mod plays;
+mod renaming;
+mod sets;
+
+pub use derivations::Derived;
+pub use pairs::PairIter;
+pub use sets::{Added, LinkSet, MOST_LINKS};
+
+#[cfg(test)]
+mod plain;
+#[cfg(test)]
+mod tests;

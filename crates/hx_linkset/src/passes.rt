@@ -1,0 +1,72 @@
+//! A stone's pass over the links, and its taking back.
+
+ghost use Rattle.std.specs.Prelude.{◌≡◌, ◌+◌, ◌-◌, ◌<◌, ◌≤◌, length, reverse, take, drop, vec_len, vec_capacity};
+ghost use Rattle.hx_linkset.specs.Rings.{IsInside};
+ghost use Rattle.hx_linkset.specs.Held.{RingsHold, LogHolds, IsPassed, IsLiveThere, CanRelink, relinked_all};
+ghost use Rattle.hx_linkset.specs.History.{CanCut, cut_times};
+
+use crate::chains::{Chains, FIRST_NODE};
+use crate::liveness::is_dropped;
+use hx_board::{Cell, Colour, Position};
+use hx_link::Link;
+
+/// Takes each link out that a stone drops, and logs it. The stone is put afterwards.
+pub(crate) fn drop_touched(
+    chains: &mut Chains,
+    log: &mut Vec<u16>,
+    links: &[Link],
+    position: &Position,
+    player: Colour,
+    colour: Colour,
+    cell: Cell,
+)
+    requires hold { RingsHold links.now (IsLiveThere position.now player) chains.old }
+    requires log_ok { LogHolds links.now (IsLiveThere position.now player) log.old.items }
+    requires few { length links.now ≤ 8192 }
+    requires room { 8192 ≤ vec_capacity log.old }
+    ensures passed { IsPassed links.now position.now player colour cell (length links.now) chains.old chains.new log.old.items log.new.items }
+    ensures room { vec_capacity log.new ≡ vec_capacity log.old }
+{
+    let _size = position.size();
+    for (place, link) in links.iter().enumerate() {
+        let drops = is_dropped(position, player, colour, cell, link);
+        if !drops {
+            continue;
+        }
+        chains.unlink(FIRST_NODE + place as u16);
+        log.push_reserved(place as u16);
+    }
+}
+
+/// Takes the nodes of the last links away, until so many are left.
+pub(crate) fn cut_down(chains: &mut Chains, held: u16, kept: u16)
+    requires few { held ≤ 8192 }
+    requires order { kept ≤ held }
+    requires long { length chains.old.next ≡ 30258 + held }
+    requires can { CanCut (held - kept) chains.old }
+    ensures chains { chains.new ≡ cut_times (held - kept) chains.old }
+    ensures long { length chains.new.next ≡ 30258 + kept }
+{
+    let mut left = held;
+    while kept < left {
+        left -= 1;
+        chains.cut(FIRST_NODE + left);
+    }
+}
+
+/// Puts the links back that the log has above a length, the last first.
+pub(crate) fn put_back(chains: &mut Chains, log: &mut Vec<u16>, kept: usize)
+    requires base { kept ≤ vec_len log.old }
+    requires few { length chains.old.next < 65536 }
+    requires can { CanRelink chains.old (reverse (drop kept log.old.items)) }
+    ensures chains { chains.new ≡ relinked_all chains.old (reverse (drop kept log.old.items)) }
+    ensures log { log.new.items ≡ take kept log.old.items }
+    ensures room { vec_capacity log.new ≡ vec_capacity log.old }
+{
+    while kept < log.len() {
+        let last = log.len() - 1;
+        let place = log[last];
+        log.truncate(last);
+        chains.relink(FIRST_NODE + place);
+    }
+}

@@ -1,0 +1,327 @@
+//! The set of links, and what is kept so that each call looks at few of them.
+//!
+//! Links and steps stand in the order in which they came, and none is taken away before the play that it came after is
+//! taken back. The live ones of each kind and pair of ends are chained, so `add` looks for a cover in one chain alone.
+//! `play` is one pass over all links: it takes those that its stone touches out of their chains and writes them on a log.
+//! `undo` cuts off what came since, and puts the logged ones back in opposite order, which makes the chains what they were.
+//!
+//! Memory is taken by `new` and `add` alone. A board has at most 121 empty cells, so no more plays stand at once; and the
+//! log names each link once at most, since only a live link is dropped, so it needs no more room than there are links.
+
+ghost use Rattle.std.specs.Prelude.{◌≡◌, ◌≢◌, ℕ, ◌+◌, ◌<◌, ◌≤◌, [], ◌∷◌, length, slice_get, IfOk, OnErr, MatchOption};
+ghost use Rattle.hx_board.specs.declared.vertices.Vertex.{Vertex};
+ghost use Rattle.hx_board.specs.Positions.{IsEmpty};
+ghost use Rattle.hx_link.specs.declared.links.Kind.{Kind};
+ghost use Rattle.hx_link.specs.declared.links.Link.{Link};
+ghost use Rattle.hx_linkset.specs.States.{IsLive, IsLiveAt, IsRight, played};
+ghost use Rattle.hx_linkset.specs.Answers.{Gives, Covers, IsUncovered, IsAdded};
+ghost use Rattle.hx_linkset.specs.LiveOf.{IsLiveOf, IsFirstFrom, IsHeadBetween};
+ghost use Rattle.hx_linkset.specs.LivePairs.{AreLivePairs};
+ghost use Rattle.hx_linkset.specs.Marks.{StandsIn};
+ghost use Rattle.hx_linkset.specs.Derivations.{IsDerived};
+
+use crate::chains::{Chains, FIRST_NODE, head_for};
+use crate::derivations::{Derived, derivation_of};
+use crate::liveness::is_live;
+use crate::pairs::{PairIter, in_order};
+use crate::passes::{cut_down, drop_touched, put_back};
+use crate::plays::Play;
+use hx_board::{Cell, Colour, Groups, Memory, Position, Vertex};
+use hx_link::{Kind, Link, Step, result_of};
+use std::alloc::Global;
+use std::marker::Model;
+
+/// The most links that a set holds, live or not.
+pub const MOST_LINKS: usize = 8192;
+
+/// What became of a step.
+#[derive(Clone, Copy, PartialEq, Eq, Debug)]
+pub enum Added {
+    /// Its link is live at this index.
+    New(u32),
+
+    /// The live link at this index has the same kind and ends, and its carrier is inside that of the step's link.
+    Covered(u32),
+
+    /// It gives no link from live links.
+    Refused,
+
+    /// The set holds as many links as it can.
+    Limit,
+}
+
+/// The links of one player on a position, each with the step that gives it. A link keeps its index for as long as it is
+/// held.
+#[derive(Drop)]
+pub struct LinkSet {
+    position: Position,
+    colour: Colour,
+    groups: Groups,
+    pub(crate) links: Vec<Link>,
+    pub(crate) steps: Vec<Step>,
+
+    /// The live links of each kind and pair of ends, in rising order.
+    chains: Chains,
+
+    /// The links that the plays dropped, in the order in which they were dropped.
+    log: Vec<u16>,
+    plays: Vec<Play>,
+}
+
+impl Model for LinkSet {
+    ghost use Rattle.std.specs.Prelude.{vec_capacity};
+    ghost use Rattle.hx_linkset.specs.States.{Standing};
+
+    ghost Value = { Standing };
+
+    ghost use Rattle.hx_linkset.specs.Plays.{standing};
+    ghost use Rattle.hx_linkset.specs.History.{FieldsKeep};
+
+    ghost view = { λ s. standing s.colour record { board = s.position; links = s.links.items; steps = s.steps.items } s.plays.items };
+
+    ghost invariant = { λ s. FieldsKeep s.colour record { board = s.position; links = s.links.items; steps = s.steps.items } s.plays.items
+        s.groups s.chains s.log.items (vec_capacity s.plays) (vec_capacity s.log) };
+}
+
+impl LinkSet {
+    /// No link yet. All that `play` and `undo` will need is taken here.
+    pub fn new(alloc: Global, position: &Position, colour: Colour) -> Result<LinkSet, Memory>
+        ensures { IfOk result (λ set. set ≡ record { player = colour; present = record { board = position.now; links = []; steps = [] }; past = [] }) }
+    {
+        let Ok(plays) = Vec::with_capacity(alloc, 121) else {
+            return Err(Memory);
+        };
+        let Ok(log) = Vec::with_capacity(alloc, MOST_LINKS) else {
+            return Err(Memory);
+        };
+        let Ok(chains) = Chains::new(alloc) else {
+            return Err(Memory);
+        };
+        let _size = position.size();
+        Ok(LinkSet {
+            position: *position,
+            colour,
+            groups: Groups::of(position, colour),
+            links: Vec::new(alloc),
+            steps: Vec::new(alloc),
+            chains,
+            log,
+            plays,
+        })
+    }
+
+    /// The position, with the stones that were put on it.
+    pub fn position(&self) -> &Position
+        ensures { result.now ≡ self.now.present.board }
+    {
+        &self.position
+    }
+
+    /// The player whose links they are.
+    pub fn colour(&self) -> Colour
+        ensures value { result ≡ self.now.player }
+        ensures right { IsRight self.now.player self.now.present }
+    {
+        self.colour
+    }
+
+    /// How many links are held, live or not.
+    pub fn count(&self) -> u32
+        ensures value { result ≡ length self.now.present.links }
+        ensures few { result ≤ 8192 }
+    {
+        self.links.len() as u32
+    }
+
+    /// The live link at an index. None exactly where there is none.
+    pub fn link(&self, index: u32) -> Option<Link>
+        ensures { MatchOption result (IsLiveAt self.now.present.board self.now.player self.now.present.links index → ⊥)
+            (λ link. (slice_get self.now.present.links index ≡ Some link) × IsLive self.now.present.board self.now.player link) }
+    {
+        match self.links.as_slice().get(index as usize) {
+            None => None,
+            Some(link) => {
+                let live = is_live(&self.position, self.colour, link);
+                if live { Some(*link) } else { None }
+            }
+        }
+    }
+
+    /// The indices of the live links of these ends, in either order, each once and in rising order.
+    pub fn live(&self, a: Vertex, b: Vertex) -> PairIter<'_>
+        ensures { AreLivePairs self.now a b result }
+    {
+        let (low, high) = in_order(a, b);
+        let most = self.links.len();
+        PairIter::new(&self.chains, &low, &high, most)
+    }
+
+    /// The steps that the live links at these indices need, as one list of their own. Of one link alone the last step gives
+    /// it.
+    pub fn derivation(&self, links: &[u32]) -> Result<Derived, Memory>
+        requires { (index : ℕ) → StandsIn links.now index → IsLiveAt self.now.present.board self.now.player self.now.present.links index }
+        ensures { IfOk result (λ derived. IsDerived self.now.present.board self.now.player self.now.present.links links.now derived.steps.items derived.places.items) }
+    {
+        derivation_of(
+            *self.links.allocator(),
+            &self.position,
+            self.colour,
+            self.links.as_slice(),
+            self.steps.as_slice(),
+            links,
+        )
+    }
+
+    /// The least index of a live link of this kind and these ends, in either order. None exactly where there is none.
+    pub fn first_of(&self, kind: Kind, a: Vertex, b: Vertex) -> Option<u32>
+        ensures { MatchOption result ((place : ℕ) → IsLiveOf self.now kind a b place → ⊥) (IsFirstFrom self.now kind a b 0) }
+    {
+        let head = head_between(kind, &a, &b);
+        let node = self.chains.after(head);
+        if node < FIRST_NODE {
+            return None;
+        }
+        Some((node - FIRST_NODE) as u32)
+    }
+
+    /// Where a live link has this index: the least larger index of a live link of the same kind and ends. None exactly
+    /// where there is none.
+    pub fn next_of(&self, index: u32) -> Option<u32>
+        ensures { (kind : Kind) (a b : Vertex) → IsLiveOf self.now kind a b index
+            → MatchOption result ((place : ℕ) → index < place → IsLiveOf self.now kind a b place → ⊥) (IsFirstFrom self.now kind a b (index + 1)) }
+    {
+        if self.links.len() <= index as usize {
+            return None;
+        }
+        let node = self.chains.after(FIRST_NODE + index as u16);
+        if node < FIRST_NODE {
+            return None;
+        }
+        Some((node - FIRST_NODE) as u32)
+    }
+
+    /// What gives the set its memory.
+    pub fn allocator(&self) -> Global {
+        *self.links.allocator()
+    }
+
+    /// Adds the link that a step gives from live links, where no live link covers it and there is room. After any other
+    /// answer, want of memory included, the set is as before, and the step is dropped.
+    pub fn add(&mut self, step: Step) -> Result<Added, Memory>
+        ensures added { IfOk result (IsAdded self.old self.new step) }
+        ensures memory { OnErr result (self.new ≡ self.old) }
+    {
+        let Some(link) = self.given(&step) else {
+            return Ok(Added::Refused);
+        };
+        if let Some(place) = self.covering(&link) {
+            return Ok(Added::Covered(place));
+        }
+        let count = self.links.len();
+        if count == MOST_LINKS {
+            return Ok(Added::Limit);
+        }
+        if self.links.reserve(1).is_err() {
+            return Err(Memory);
+        }
+        if self.steps.reserve(1).is_err() {
+            return Err(Memory);
+        }
+        let head = head_for(link.kind, &link.a, &link.b);
+        if self.chains.grow(head).is_err() {
+            return Err(Memory);
+        }
+        self.links.push_reserved(link);
+        self.steps.push_reserved(step);
+        Ok(Added::New(count as u32))
+    }
+
+    /// Puts a stone of either colour on an empty cell. The links that it touches are live no more.
+    pub fn play(&mut self, colour: Colour, cell: Cell)
+        requires { IsEmpty self.old.present.board cell }
+        ensures { self.new ≡ record { player = self.old.player; present = played self.old.present colour cell; past = self.old.present ∷ self.old.past } }
+    {
+        let count = self.links.len();
+        let logged = self.log.len();
+        drop_touched(
+            &mut self.chains,
+            &mut self.log,
+            self.links.as_slice(),
+            &self.position,
+            self.colour,
+            colour,
+            cell,
+        );
+        self.plays.push_reserved(Play {
+            cell,
+            count,
+            logged,
+        });
+        self.position.play(colour, cell);
+        self.groups = Groups::of(&self.position, self.colour);
+    }
+
+    /// Takes back the last stone that stands: the set is as it was before that stone.
+    pub fn undo(&mut self)
+        requires { self.old.past ≢ [] }
+        ensures player { self.new.player ≡ self.old.player }
+        ensures back { self.old.past ≡ self.new.present ∷ self.new.past }
+    {
+        if let Some(play) = self.plays.pop() {
+            let held = self.links.len();
+            cut_down(&mut self.chains, held as u16, play.count as u16);
+            put_back(&mut self.chains, &mut self.log, play.logged);
+            self.links.truncate(play.count);
+            self.steps.truncate(play.count);
+            self.position.lift(play.cell);
+            self.groups = Groups::of(&self.position, self.colour);
+        }
+    }
+
+    /// The link that a step gives from live links. It is live.
+    fn given(&self, step: &Step) -> Option<Link>
+        ensures { MatchOption result ((link : Link) → Gives self.now step.now link → ⊥) (Gives self.now step.now) }
+    {
+        let _size = self.position.size();
+        let Some(link) = result_of(
+            &self.position,
+            self.colour,
+            &self.groups,
+            self.links.as_slice(),
+            step,
+        ) else {
+            return None;
+        };
+        let live = is_live(&self.position, self.colour, &link);
+        if live { Some(link) } else { None }
+    }
+
+    /// The first live link that covers a live one. Only those of its kind and ends are looked at.
+    fn covering(&self, link: &Link) -> Option<u32>
+        requires { IsLive self.now.present.board self.now.player link.now }
+        ensures { MatchOption result (IsUncovered self.now link.now) (λ place. Covers self.now place link.now) }
+    {
+        let head = head_for(link.kind, &link.a, &link.b);
+        let mut node = self.chains.after(head);
+        while node >= FIRST_NODE {
+            let place = node - FIRST_NODE;
+            let covers = self.links[place as usize].carrier.inside(link.carrier);
+            if covers {
+                return Some(place as u32);
+            }
+            node = self.chains.after(node);
+        }
+        None
+    }
+}
+
+/// The head of the links of one kind and these ends, in either order. Of the two heads that is the lower one, since the
+/// lower end counts for more.
+fn head_between(kind: Kind, a: &Vertex, b: &Vertex) -> u16
+    ensures between { IsHeadBetween kind a.now b.now result }
+    ensures small { result < 30258 }
+{
+    let one = head_for(kind, a, b);
+    let other = head_for(kind, b, a);
+    if one < other { one } else { other }
+}

@@ -1,0 +1,9 @@
+pub mod GrowthLaws
+pub mod VertexLaws
+pub mod BaseLaws
+pub mod AndLaws
+pub mod TurnedAnds
+pub mod CountLaws
+pub mod ForkLaws
+pub mod OrLaws
+pub mod ClosedLaws

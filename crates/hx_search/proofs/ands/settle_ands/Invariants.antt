@@ -1,0 +1,13 @@
+use Rattle.std.proofs.Common.{◌-◌}
+use Rattle.hx_search.specs.Closed.{IsGrown}
+use Rattle.hx_search.specs.Reached.{AreRowsSettled}
+use Rattle.hx_search.proofs.ands.settle_ands.Given as goal
+
+abbrev pub invariant-loop-right : goal.invariant-loop-right
+invariant-loop-right l = record {
+  grown : IsGrown l.initial.set l.set;
+  settled : AreRowsSettled l.set l.right;
+}
+
+abbrev pub decreases-loop-right : goal.decreases-loop-right
+decreases-loop-right l = 8193 - l.right

@@ -1,0 +1,9 @@
+use Rattle.hx_search.specs.Closed.{IsGrown}
+use Rattle.hx_search.specs.Reached.{AreBasesBelow}
+use Rattle.hx_search.proofs.bases.settle_bases.Given as goal
+
+abbrev pub invariant-loop-code : goal.invariant-loop-code
+invariant-loop-code l = record {
+  grown : IsGrown l.initial.set l.set;
+  settled : AreBasesBelow l.set l.code;
+}

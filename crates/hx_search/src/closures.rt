@@ -1,0 +1,59 @@
+//! All links that the rules can build from what is there.
+
+ghost use Rattle.std.specs.Prelude.{IfOk};
+ghost use Rattle.hx_search.specs.Closed.{IsGrown, IsAnswer};
+
+use crate::ands::settle_ands;
+use crate::bases::settle_bases;
+use crate::ors::{Passed, join_all};
+use crate::tries::Tried;
+use hx_board::Memory;
+use hx_linkset::{LinkSet, MOST_LINKS};
+
+/// How the closing of a set ended.
+#[derive(Clone, Copy, PartialEq, Eq, Debug)]
+pub enum Closure {
+    /// Nothing that the rules give is missing.
+    Closed,
+
+    /// Something is missing, but the set holds so many links, and that is all that it can.
+    Limit { links: u32 },
+}
+
+/// The set holds all the links that it can.
+const LIMIT: Closure = Closure::Limit {
+    links: MOST_LINKS as u32,
+};
+
+/// Adds links until nothing is missing or there is no room. Whatever the answer, want of memory included, the links that
+/// were live stay live at their indices, and position, player and plays are as before. Closed says three things of the
+/// live links: two vertices that are joined have a Full link on no cell; each And of two of them is covered by one; and
+/// where two vertices have two or more Semi links, of which no cell is in all carriers, they have a Full link.
+pub fn close(set: &mut LinkSet) -> Result<Closure, Memory>
+    ensures grown { IsGrown set.old set.new }
+    ensures answer { IfOk result (IsAnswer set.new) }
+{
+    match settle_bases(set) {
+        Ok(Tried::Settled) => {}
+        Ok(Tried::Stopped) => return Ok(LIMIT),
+        Err(Memory) => return Err(Memory),
+    }
+    let mut settled = 0;
+    loop {
+        match settle_ands(set, settled) {
+            Ok(Tried::Settled) => {}
+            Ok(Tried::Stopped) => return Ok(LIMIT),
+            Err(Memory) => return Err(Memory),
+        }
+        settled = set.count();
+        match join_all(set) {
+            Ok(Passed::Same) => {
+                let _colour = set.colour();
+                return Ok(Closure::Closed);
+            }
+            Ok(Passed::More) => {}
+            Ok(Passed::Full) => return Ok(LIMIT),
+            Err(Memory) => return Err(Memory),
+        }
+    }
+}

@@ -1,0 +1,96 @@
+//! The Or rule, for any two vertices that no Full link joins yet.
+
+ghost use Rattle.std.specs.Prelude.{◌≡◌, IfOk};
+ghost use Rattle.hx_search.specs.Closed.{IsGrown};
+ghost use Rattle.hx_search.specs.Reached.{IsPassed, IsJoinedWhereForked, AreForksOf, AreForksBelow};
+
+use crate::parts::parts_of;
+use crate::vertices::{CODES, vertex_at};
+use hx_board::{Memory, Vertex};
+use hx_link::{Kind, Step};
+use hx_linkset::{Added, LinkSet};
+
+/// What became of Ors that were tried.
+#[derive(Clone, Copy, PartialEq, Eq, Debug)]
+pub(crate) enum Passed {
+    /// None was missing.
+    Same,
+
+    /// One or more were added.
+    More,
+
+    /// The set was full.
+    Full,
+}
+
+/// Tries an Or of two vertices.
+fn join(set: &mut LinkSet, a: &Vertex, b: &Vertex) -> Result<Passed, Memory>
+    ensures grown { IsGrown set.old set.new }
+    ensures passed { IfOk result (IsPassed set.old set.new (IsJoinedWhereForked set.new a.now b.now)) }
+{
+    let None = set.first_of(Kind::Full, *a, *b) else {
+        return Ok(Passed::Same);
+    };
+    let parts = match parts_of(set, a, b) {
+        Ok(Some(parts)) => parts,
+        Ok(None) => return Ok(Passed::Same),
+        Err(Memory) => return Err(Memory),
+    };
+    match set.add(Step::Or { parts }) {
+        Ok(Added::New(_)) => Ok(Passed::More),
+        Ok(Added::Covered(_)) => Ok(Passed::Same),
+        Ok(Added::Refused) => Ok(Passed::Same),
+        Ok(Added::Limit) => Ok(Passed::Full),
+        Err(Memory) => Err(Memory),
+    }
+}
+
+/// Tries an Or of a vertex with each vertex from a number on.
+fn join_from(set: &mut LinkSet, a: &Vertex, from: u8) -> Result<Passed, Memory>
+    ensures grown { IsGrown set.old set.new }
+    ensures passed { IfOk result (IsPassed set.old set.new (AreForksOf set.new a.now from 123)) }
+{
+    let size = set.position().size();
+    let mut more = false;
+    for code in from..CODES {
+        let Some(b) = vertex_at(size, code) else {
+            continue;
+        };
+        match join(set, a, &b) {
+            Ok(Passed::Same) => continue,
+            Ok(Passed::More) => {}
+            Ok(Passed::Full) => return Ok(Passed::Full),
+            Err(Memory) => return Err(Memory),
+        }
+        more = true;
+    }
+    if more {
+        return Ok(Passed::More);
+    }
+    Ok(Passed::Same)
+}
+
+/// Tries an Or of any two vertices.
+pub(crate) fn join_all(set: &mut LinkSet) -> Result<Passed, Memory>
+    ensures grown { IsGrown set.old set.new }
+    ensures passed { IfOk result (IsPassed set.old set.new (AreForksBelow set.new 123)) }
+{
+    let size = set.position().size();
+    let mut more = false;
+    for code in 0..CODES {
+        let Some(a) = vertex_at(size, code) else {
+            continue;
+        };
+        match join_from(set, &a, code + 1) {
+            Ok(Passed::Same) => continue,
+            Ok(Passed::More) => {}
+            Ok(Passed::Full) => return Ok(Passed::Full),
+            Err(Memory) => return Err(Memory),
+        }
+        more = true;
+    }
+    if more {
+        return Ok(Passed::More);
+    }
+    Ok(Passed::Same)
+}
