@@ -4,3 +4,8 @@ pub mod AndSoundness
 pub mod OrSoundness
 pub mod LinkSoundness
 pub mod ThreatSoundness
+pub mod StoneOrder
+pub mod DeadSoundness
+pub mod PairSoundness
+pub mod FillSoundness
+pub mod UnderSoundness

@@ -2,9 +2,13 @@
 //! what they say stands in their contracts.
 #![tactic(auto)]
 
+mod dominations;
+mod fills;
 mod links;
 mod trees;
 
+pub use dominations::under_sound;
+pub use fills::fill_sound;
 pub use links::link_sound;
 pub use trees::{node_sound, tree_sound};
 

@@ -1,7 +1,10 @@
-//! Callers of the laws on small trees and on steps for links: what the checker says of nodes becomes that their winners win,
-//! and the links that steps give that the player wins.
+//! Callers of the laws on small boards. What the checker says of nodes becomes that their winners win; the links that steps
+//! give, that the player wins; a fill step or a dominated cell, that who wins one board wins another too.
 
 ghost use Rattle.std.specs.Prelude.{◌<◌, ◌^◌, length, IsTrue, IfOk, IfSome};
+ghost use Rattle.hx_board.specs.declared.colours.Colour.{Colour};
+ghost use Rattle.hx_board.specs.Colours.{other_of};
+ghost use Rattle.hx_board.specs.Positions.{put};
 ghost use Rattle.hx_board.specs.Game.{Wins};
 ghost use Rattle.hx_proof.specs.Local.{mover_for};
 ghost use Rattle.hx_proof.specs.Winners.{HeadingWins, AllWin};
@@ -9,6 +12,7 @@ ghost use Rattle.hx_proof.specs.Winners.{HeadingWins, AllWin};
 use super::*;
 use hx_board::Colour::{Black, White};
 use hx_board::{Cell, Colour, Groups, Mask, Memory, Position, Size, Vertex};
+use hx_inferior::{FillStep, Kill, dominates, fill_one};
 use hx_link::{Kind, Step, result_of};
 use hx_tree::{Heading, Line, Lines, Node, Rule, Steps, Threats, Verdict, check_node, check_tree};
 use std::alloc::Global;
@@ -214,5 +218,58 @@ fn steps_that_join_the_sides_win(rt: HostRuntime) -> Result<(), Fail> {
     let over_stone = Step::AndStone { left: 0, right: 1 };
     let found = shown_by(&held, Black, to_first, to_last, over_stone);
     assert_eq!(rt; found, None);
+    Ok(())
+}
+
+/// The position after a fill step, where it may be done, and so who wins there wins here.
+fn filled_by(position: &Position, colour: Colour, step: &FillStep) -> Option<Position>
+    ensures { IfSome result (λ after. (mover : Colour) → Wins colour after mover → Wins colour position.now mover) }
+{
+    let after = fill_one(position, colour, *step)?;
+    fill_sound(position, colour, *step);
+    Some(after)
+}
+
+/// Whether the mover need not try the worse cell, since who wins against the better move wins against the worse one.
+fn is_under(position: &Position, mover: Colour, better: Cell, worse: Cell, kill: &Kill) -> bool
+    ensures { IsTrue result → Wins (other_of mover) (put position.now mover better) (other_of mover)
+        → Wins (other_of mover) (put position.now mover worse) (other_of mover) }
+{
+    let is_dominated = dominates(position, mover, better, worse, *kill);
+    if is_dominated {
+        under_sound(position, mover, better, worse, *kill);
+    }
+    is_dominated
+}
+
+/// The board of two rows and columns with these stones of Black's, and the cells of the row below them.
+fn two_rows(black: u128) -> Result<(Position, Cell, Cell), Fail> {
+    let size = Size::new(2, 2).ok_or("size")?;
+    let stones = Position::from_masks(size, Mask::of(black), Mask::empty());
+    let left = size.cell(1, 0).ok_or("left")?;
+    let right = size.cell(1, 1).ok_or("right")?;
+    Ok((stones.ok_or("stones")?, left, right))
+}
+
+/// Black's stone on the second cell of the first row touches both cells of the second, which are a pair.
+#[test]
+fn a_filled_board_keeps_the_winner(rt: HostRuntime) -> Result<(), Fail> {
+    let (position, left, right) = two_rows(2)?;
+    let both = filled_by(&position, Black, &FillStep::Pair(left, right));
+    let (after, _, _) = two_rows(2 | 1 << 11 | 1 << 12)?;
+    assert_eq!(rt; both, Some(after));
+    let one = filled_by(&position, Black, &FillStep::Dead(left));
+    assert_eq!(rt; one, None);
+    Ok(())
+}
+
+/// Once Black has the second cell of the first row, the cells of the second row are a pair, and the first is dead for White.
+#[test]
+fn a_dominated_move_need_not_be_tried(rt: HostRuntime) -> Result<(), Fail> {
+    let (empty, left, right) = two_rows(0)?;
+    let better = cell(1)?;
+    assert!(rt; is_under(&empty, Black, better, left, &Kill::ByPair(right)));
+    assert!(rt; is_under(&empty, Black, better, cell(0)?, &Kill::ByDead));
+    assert!(rt; !is_under(&empty, Black, left, better, &Kill::ByPair(right)));
     Ok(())
 }

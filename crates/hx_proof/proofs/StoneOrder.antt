@@ -1,0 +1,28 @@
+-- Two stones may be put in either order, since the sets of stones come out the same.
+use Rattle.std.proofs.Common.{◌≡◌, ℕ, Bool, true, false, ◌||◌, eqb, refl, sym, ap, ◌∙◌}
+use Rattle.hx_board.specs.declared.colours.Colour.{Colour}
+use Rattle.hx_board.specs.declared.colours.Colour.TheVariants.{Black, White}
+use Rattle.hx_board.specs.Sets.{has, insert}
+use Rattle.hx_board.specs.Positions.{Board, put}
+use Rattle.hx_board.proofs.SetLaws.{has-insert, same_set}
+
+or-swap : (a b c : Bool) → (a || (b || c)) ≡ (b || (a || c))
+or-swap true true c = refl
+or-swap true false c = refl
+or-swap false true c = refl
+or-swap false false c = refl
+
+insert-swap : (set a b : ℕ) → insert (insert set a) b ≡ insert (insert set b) a
+insert-swap set a b =
+    same_set _ _ (λ n. has-insert (insert set a) b n ∙ ap (λ x. eqb n b || x) (has-insert set a n) ∙ or-swap (eqb n b) (eqb n a) (has set n)
+    ∙ sym (has-insert (insert set b) a n ∙ ap (λ x. eqb n a || x) (has-insert set b n)))
+
+pub put-swap : (board : Board) (who whom : Colour) (a b : ℕ) → put (put board who a) whom b ≡ put (put board whom b) who a
+put-swap board Black Black a b = ap (λ (set : ℕ). record board { black = set }) (insert-swap board.black a b)
+put-swap board Black White a b = refl
+put-swap board White Black a b = refl
+put-swap board White White a b = ap (λ (set : ℕ). record board { white = set }) (insert-swap board.white a b)
+
+-- a stone put after two others may be put before them
+pub put-before_two : (board : Board) (who whom : Colour) (a b n : ℕ) → put (put (put board who a) who b) whom n ≡ put (put (put board whom n) who a) who b
+put-before_two board who whom a b n = put-swap (put board who a) who whom b n ∙ ap (λ (z : Board). put z who b) (put-swap board who whom a n)
