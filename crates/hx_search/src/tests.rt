@@ -156,5 +156,18 @@ fn small_boards(rt: HostRuntime) -> Result<(), Fail> {
         let four = square(4, &[(1, 1), (2, 3)], &[(0, 2), (3, 0), (2, 1)])?;
         let _four = closed_from_nothing(&rt, alloc, &four, player)?;
     }
+    let _empty = closed_from_nothing(&rt, alloc, &square(4, &[], &[])?, Black)?;
+    Ok(())
+}
+
+#[test]
+fn a_large_empty_board_fills_the_set(rt: HostRuntime) -> Result<(), Fail> {
+    let position = square(11, &[], &[])?;
+    let mut set = LinkSet::new(rt.alloc(), &position, Black)
+        .ok()
+        .ok_or("memory")?;
+    let closure = close(&mut set).ok().ok_or("memory")?;
+    assert_eq!(rt; closure, Closure::Limit { links: 8192 });
+    assert_eq!(rt; set.count(), 8192);
     Ok(())
 }
