@@ -36,7 +36,7 @@ pub record IsForked (set : Standing) (a b : Vertex) : Type 0 where
 abbrev pub HasFull : Standing → Vertex → Vertex → Type 0
 HasFull set a b = (place : ℕ) × IsLiveOf set Full a b place
 
--- nothing that the rules give from live links is missing; of two ends that are forked, some live Full link is there
+-- each Base and each And is settled; of two ends that are forked, some live Full link is there
 pub record IsClosed (set : Standing) : Type 0 where
   pub bases : (a b : Vertex) → IsSettled set (Base a b)
   pub and_stones : (left right : ℕ) → IsSettled set (AndStone left right)

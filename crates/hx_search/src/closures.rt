@@ -1,4 +1,4 @@
-//! All links that the rules can build from what is there.
+//! How a set of links is closed: first the Bases, and then Ands and Ors in turn, until a pass over the Ors adds none.
 
 ghost use Rattle.std.specs.Prelude.{IfOk};
 ghost use Rattle.hx_search.specs.Closed.{IsGrown, IsAnswer};
@@ -13,10 +13,10 @@ use hx_linkset::{LinkSet, MOST_LINKS};
 /// How the closing of a set ended.
 #[derive(Clone, Copy, PartialEq, Eq, Debug)]
 pub enum Closure {
-    /// Nothing that the rules give is missing.
+    /// Each Base and each And is covered, and ends that fork have a Full link.
     Closed,
 
-    /// Something is missing, but the set holds so many links, and that is all that it can.
+    /// The set is not closed, but it holds so many links, and that is all that it can.
     Limit { links: u32 },
 }
 
@@ -25,7 +25,7 @@ const LIMIT: Closure = Closure::Limit {
     links: MOST_LINKS as u32,
 };
 
-/// Adds links until nothing is missing or there is no room. Whatever the answer, want of memory included, the links that
+/// Adds links until the set is closed or there is no room. Whatever the answer, want of memory included, the links that
 /// were live stay live at their indices, and position, player and plays are as before. Closed says three things of the
 /// live links: two vertices that are joined have a Full link on no cell; each And of two of them is covered by one; and
 /// where two vertices have two or more Semi links, of which no cell is in all carriers, they have a Full link.
@@ -48,6 +48,7 @@ pub fn close(set: &mut LinkSet) -> Result<Closure, Memory>
         settled = set.count();
         match join_all(set) {
             Ok(Passed::Same) => {
+                // that live links come by steps from earlier ones is what this call promises
                 let _colour = set.colour();
                 return Ok(Closure::Closed);
             }

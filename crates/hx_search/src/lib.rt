@@ -1,4 +1,4 @@
-//! The links that the rules can build on a position: Anshelevich's H-search, carried through to the end.
+//! Anshelevich's H-search: a set of links is closed under the rules for Bases and Ands, and under one Or for two ends.
 #![tactic(auto)]
 
 mod ands;

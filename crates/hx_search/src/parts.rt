@@ -42,6 +42,7 @@ pub(crate) fn parts_of(set: &LinkSet, a: &Vertex, b: &Vertex) -> Result<Option<P
     let Some(first) = set.first_of(Kind::Semi, *a, *b) else {
         return Ok(None);
     };
+    // that live links come by steps from earlier ones is what this call promises
     let _colour = set.colour();
     let mut shared = carrier_at(set, first);
     let mut parts = SmallVec::<u32, 8>::new(set.allocator());
