@@ -3,6 +3,7 @@
 mod answered;
 mod damage;
 mod faults;
+mod inferior;
 mod limits;
 mod links;
 mod solve;

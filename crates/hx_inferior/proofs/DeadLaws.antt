@@ -11,14 +11,14 @@ use Rattle.hx_board.specs.Sets.{has}
 use Rattle.hx_board.specs.Cells.{Extent, OnBoard, CellsTouch}
 use Rattle.hx_board.specs.Positions.{Board, IsEmpty}
 use Rattle.hx_board.specs.Graph.{IsVertex, IsReach}
-use Rattle.hx_inferior.specs.declared.surroundings.Surroundings.{Surroundings}
+use Rattle.hx_inferior.specs.declared.open_neighbours.Surroundings.{Surroundings}
 use Rattle.hx_inferior.specs.Inferior.{IsDead}
 use Rattle.hx_inferior.specs.Named.{IsAmong, AreOpen, IsWithin, JoinsAll}
 
 of_same : (n m : ℕ) → Of n ≡ Of m → n ≡ m
 of_same n m e = cc
 
-same_or_differ : (v w : Vertex) → (v ≡ w) ⊎ (v ≢ w)
+pub same_or_differ : (v w : Vertex) → (v ≡ w) ⊎ (v ≢ w)
 same_or_differ (Of n) (Of m) = ⊎_elim (λ t. inl (ap Of t.1)) (λ t. inr (λ e. t.1 (of_same n m e))) (eqb_tells n m)
 same_or_differ (Of n) First = inr (λ e. cc)
 same_or_differ (Of n) Last = inr (λ e. cc)

@@ -1,4 +1,4 @@
--- The open neighbours of a cell as a set, and what is asked of it. These words are for the functions inside the crate alone.
+-- The open neighbours of a cell as a set, and what is asked of it.
 use Rattle.std.specs.Prelude.{◌≡◌, ℕ, true, ◌↔◌, IsTrue}
 use Rattle.hx_board.specs.declared.colours.Colour.{Colour}
 use Rattle.hx_board.specs.declared.vertices.Vertex.{Vertex}
@@ -7,7 +7,7 @@ use Rattle.hx_board.specs.declared.groups.Reach.{Reach}
 use Rattle.hx_board.specs.Sets.{has, IsSubset}
 use Rattle.hx_board.specs.Positions.{Board}
 use Rattle.hx_board.specs.Graph.{Joined}
-use Rattle.hx_inferior.specs.declared.surroundings.Surroundings.{Surroundings}
+use Rattle.hx_inferior.specs.declared.open_neighbours.Surroundings.{Surroundings}
 use Rattle.hx_inferior.specs.Inferior.{IsOpenNeighbour}
 
 -- a vertex of the set

@@ -9,30 +9,10 @@ ghost use Rattle.hx_board.specs.declared.vertices.Vertex.TheVariants.{Of};
 ghost use Rattle.hx_board.specs.Sets.{has};
 ghost use Rattle.hx_board.specs.Cells.{OnBoard};
 ghost use Rattle.hx_inferior.specs.Inferior.{IsDead};
-ghost use Rattle.hx_inferior.specs.Named.{IsAmong, IsWithin, JoinsAll};
+ghost use Rattle.hx_inferior.specs.Named.{IsAmong, JoinsAll};
 
-use crate::surroundings::{Surroundings, open_around};
-use hx_board::{Cell, Colour, Groups, Position, Reach, Vertex, neighbours};
-
-/// Whether each vertex of a set is one of those that some vertex is joined with.
-fn is_within(around: &Surroundings, reach: &Reach) -> bool
-    ensures { IsTrue result ↔ IsWithin around.now reach.now }
-{
-    let has_first = !around.first || reach.first;
-    let has_last = !around.last || reach.last;
-    around.cells.inside(reach.cells) && has_first && has_last
-}
-
-/// Whether a vertex is one of a set.
-fn is_among(around: &Surroundings, vertex: &Vertex) -> bool
-    ensures { IsTrue result ↔ IsAmong around.now vertex.now }
-{
-    match vertex {
-        Vertex::Of(cell) => around.cells.has(*cell),
-        Vertex::First => around.first,
-        Vertex::Last => around.last,
-    }
-}
+use crate::open_neighbours::{Surroundings, is_among, is_within, open_around};
+use hx_board::{Cell, Colour, Groups, Position, Vertex, neighbours};
 
 /// Whether a vertex is joined with each vertex of a set, if it is one of the set.
 fn joins_all(groups: &Groups, around: &Surroundings, vertex: &Vertex) -> bool

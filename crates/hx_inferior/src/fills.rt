@@ -36,8 +36,8 @@ fn may_fill(position: &Position, winner: Colour, step: &FillStep) -> bool
     }
 }
 
-/// The position after a step that may be done.
-fn fill(position: &Position, winner: Colour, step: &FillStep) -> Position
+/// The position after a step that may be done. Where that is known, nothing is asked of the cells again, as `fill_one` does.
+pub fn after_fill(position: &Position, winner: Colour, step: &FillStep) -> Position
     requires { MayFill position.now winner step.now }
     ensures { result ≡ filled position.now winner step.now }
 {
@@ -57,7 +57,7 @@ pub fn fill_one(position: &Position, colour: Colour, step: FillStep) -> Option<P
     ensures { SomeIff result (MayFill position.now colour step) (filled position.now colour step) }
 {
     if may_fill(position, colour, &step) {
-        Some(fill(position, colour, &step))
+        Some(after_fill(position, colour, &step))
     } else {
         None
     }

@@ -18,3 +18,4 @@ pub mod RenamingLaws
 pub mod ClosedLaws
 pub mod KeptStepLaws
 pub mod NextLaws
+pub mod LastStoneLaws

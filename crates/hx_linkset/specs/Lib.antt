@@ -8,3 +8,4 @@ pub mod LivePairs
 pub mod Marks
 pub mod Derivations
 pub mod LiveOf
+pub mod LastStones

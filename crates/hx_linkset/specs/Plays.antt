@@ -1,5 +1,5 @@
 -- The plays that stand, and the states before them.
-use Rattle.std.specs.Prelude.{ℕ, ◌+◌, ◌≤◌, List, [], ◌∷◌, length, take, reverse}
+use Rattle.std.specs.Prelude.{◌≡◌, ℕ, ◌+◌, ◌≤◌, List, [], ◌∷◌, length, take, reverse}
 use Rattle.hx_board.specs.declared.colours.Colour.{Colour}
 use Rattle.hx_board.specs.Positions.{Board, IsHeld, lifted}
 use Rattle.hx_board.specs.Counts.{empty_count}
@@ -19,6 +19,14 @@ past_of state (play ∷ plays) = undone state play ∷ past_of (undone state pla
 abbrev pub Stands : Colour → State → List Play → Type 0
 Stands player state [] = IsRight player state
 Stands player state (play ∷ plays) = IsRight player state × (IsHeld state.board play.cell × ((play.count ≤ length state.links) × Stands player (undone state play) plays))
+
+-- the plays lead to some state on this board that has so many links
+pub record StandOn (board : Board) (count : ℕ) (plays : List Play) : Type 0 where
+  pub player : Colour
+  pub state : State
+  pub same_board : state.board ≡ board
+  pub same_count : length state.links ≡ count
+  pub stands : Stands player state plays
 
 -- there is room for a play on each empty cell, and there was before each play
 abbrev pub HasRoom : ℕ → Board → List Play → Type 0

@@ -56,6 +56,21 @@ impl PlainSet {
         Ok(indices)
     }
 
+    /// The link at an index, live or not.
+    pub(crate) fn held(&self, index: u32) -> Option<Link> {
+        self.links.get(index as usize).copied()
+    }
+
+    /// The position that was written down first of those that had as many links.
+    pub(crate) fn before_last_stones(&self) -> Position {
+        for (position, count) in &self.before {
+            if *count == self.links.len() {
+                return *position;
+            }
+        }
+        self.position
+    }
+
     pub(crate) fn add(&mut self, step: &Step) -> Result<Added, AllocError> {
         let groups = Groups::of(&self.position, self.player);
         let links = self.links.as_slice();

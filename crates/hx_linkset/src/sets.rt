@@ -17,6 +17,7 @@ ghost use Rattle.hx_linkset.specs.States.{IsLive, IsLiveAt, IsRight, played};
 ghost use Rattle.hx_linkset.specs.Answers.{Gives, Covers, IsUncovered, IsAdded};
 ghost use Rattle.hx_linkset.specs.LiveOf.{IsLiveOf, IsFirstFrom, IsHeadBetween};
 ghost use Rattle.hx_linkset.specs.LivePairs.{AreLivePairs};
+ghost use Rattle.hx_linkset.specs.LastStones.{board_before};
 ghost use Rattle.hx_linkset.specs.Marks.{StandsIn};
 ghost use Rattle.hx_linkset.specs.Derivations.{IsDerived};
 
@@ -25,7 +26,7 @@ use crate::derivations::{Derived, derivation_of};
 use crate::liveness::is_live;
 use crate::pairs::{PairIter, in_order};
 use crate::passes::{cut_down, drop_touched, put_back};
-use crate::plays::Play;
+use crate::plays::{Play, before_last};
 use hx_board::{Cell, Colour, Groups, Memory, Position, Vertex};
 use hx_link::{Kind, Link, Step, result_of};
 use std::alloc::Global;
@@ -145,6 +146,22 @@ impl LinkSet {
                 if live { Some(*link) } else { None }
             }
         }
+    }
+
+    /// The link at an index, live or not. None exactly where no link is held there.
+    #[inline(always)]
+    pub fn held(&self, index: u32) -> Option<Link>
+        ensures { result ≡ slice_get self.now.present.links index }
+    {
+        self.links.as_slice().get(index as usize).copied()
+    }
+
+    /// The position before the stones that were put since the last link came, or since the set was made. Where the last
+    /// link came after the last stone it is the position as it stands.
+    pub fn before_last_stones(&self) -> Position
+        ensures { result ≡ board_before (length self.now.present.links) self.now.present.board self.now.past }
+    {
+        before_last(&self.position, self.plays.as_slice(), self.links.len())
     }
 
     /// The indices of the live links of these ends, in either order, each once and in rising order.

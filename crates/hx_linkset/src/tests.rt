@@ -117,11 +117,19 @@ impl Both {
         self.plain.undo();
     }
 
-    /// Each link is the same in both sets, and live exactly where it is one of these.
+    /// Each link is the same in both sets, and live exactly where it is one of these; and no other stones came since the last
+    /// link.
     fn has_live(&self, rt: &impl Abort, live: &[u32]) {
         let count = self.set.count();
         assert_eq!(rt; self.plain.count(), count as usize);
+        let before = self.set.before_last_stones();
+        assert_eq!(rt; before, self.plain.before_last_stones());
         for index in 0..count + 1 {
+            assert_eq!(rt;
+                self.set.held(index),
+                self.plain.held(index),
+                "link {index}"
+            );
             let link = self.set.link(index);
             assert_eq!(rt; link, self.plain.link(index), "link {index}");
             assert_eq!(rt; link.is_some(), live.contains(&index), "link {index}");
@@ -175,6 +183,7 @@ fn links_since_a_play_go_with_it(rt: HostRuntime) -> Result<(), Fail> {
     both.has_live(&rt, &[0, 1, 2, 3, 4, 5, 6, 7, 9, 10, 11]);
     let step = Step::AndStone { left: 6, right: 7 };
     both.adds(&rt, step, Added::New(15))?;
+    both.has_live(&rt, &[0, 1, 2, 3, 4, 5, 6, 7, 9, 10, 11, 15]);
     let carrier = Mask::empty().with(cell(0, 0)?).with(cell(0, 1)?);
     let link = Link {
         kind: Kind::Full,

@@ -5,63 +5,92 @@ use Rattle.std.proofs.Common.{◌≡◌, ℕ, zero, suc, ◌<◌, List, [], ◌�
 use Rattle.std.specs.Prelude.{slice_get, IfSome, IsSomeAnd}
 use Rattle.hx_board.specs.declared.colours.Colour.{Colour}
 use Rattle.hx_board.specs.Colours.{other_of}
-use Rattle.hx_board.specs.Positions.{Board, put}
+use Rattle.hx_board.specs.Positions.{Board, IsBoard, put}
 use Rattle.hx_board.specs.Game.{Wins, By_chain, By_move, By_answers}
+use Rattle.hx_board.proofs.ColourLaws.{other-other}
 use Rattle.hx_law.proofs.OneWinner.{not_both_win}
 use Rattle.hx_link.specs.declared.steps.Step.{Step}
 use Rattle.hx_tree.specs.declared.nodes.Heading.{Heading}
 use Rattle.hx_tree.specs.declared.nodes.Line.{Line}
-use Rattle.hx_tree.specs.declared.nodes.Line.TheVariants.{Child}
+use Rattle.hx_tree.specs.declared.nodes.Line.TheVariants.{Child, Under}
 use Rattle.hx_tree.specs.declared.nodes.Node.{Node}
 use Rattle.hx_tree.specs.declared.nodes.Rule.{Rule}
-use Rattle.hx_tree.specs.declared.nodes.Rule.TheVariants.{Chain, Links, Move, All}
+use Rattle.hx_tree.specs.declared.nodes.Rule.TheVariants.{Chain, Links, Move, All, Fill}
 use Rattle.hx_tree.specs.Headings.{IsHeading}
-use Rattle.hx_tree.specs.Steps.{IsInEachThreat}
+use Rattle.hx_tree.specs.Steps.{IsInEachThreat, IsOutsideThreat}
 use Rattle.hx_tree.specs.Answers.{cell_of, cells_of, IsRightLine, IsRightAll}
 use Rattle.hx_tree.specs.Rules.{IsRightRule, IsRightNode}
 use Rattle.hx_tree.specs.Trees.{headings_of, AreRight, IsValidTree, IsRoot}
+use Rattle.hx_tree.proofs.ThreatLaws.{shared_or_outside, of_contained}
 use Rattle.hx_tree.proofs.TreeGrowth.{slice_get-append_seam}
 use Rattle.hx_proof.specs.Winners.{HeadingWins, OnlyWinner, AllWin}
 use Rattle.hx_proof.proofs.LinkSoundness.{right_steps_give_what_holds, right_links_win}
-use Rattle.hx_proof.proofs.ThreatSoundness.{LeavesWhole, shared_or_whole, threat_left_whole_wins}
+use Rattle.hx_proof.proofs.ThreatSoundness.{threat_left_whole_wins}
+use Rattle.hx_proof.proofs.FillSoundness.{fills_win}
+use Rattle.hx_proof.proofs.UnderSoundness.{wins_under}
 
 -- who an earlier heading says wins does win
 child_wins : (child : Option Heading) (board : Board) (mover winner : Colour) → IfSome child HeadingWins → IsSomeAnd child (IsHeading board mover winner) → Wins winner board mover
 child_wins None board mover winner wins leads = absurd leads
 child_wins (Some child) board mover winner wins leads = rw (← leads.same_position, ← leads.same_mover, ← leads.same_winner) wins
 
--- the winner wins after the move that a right line answers
-line_wins : (before : List Heading) (heading : Heading) → ((k : ℕ) → IfSome (slice_get before k) HeadingWins) → (line : Line) → IsRightLine before heading line
-    → Wins heading.winner (put heading.position (other_of heading.winner) (cell_of line)) heading.winner
-line_wins before heading wins (Child cell child) right = child_wins _ _ _ _ (wins child) right
+-- ---- a right node that answers each move
 
-answer_wins : (before : List Heading) (heading : Heading) → ((k : ℕ) → IfSome (slice_get before k) HeadingWins) → (lines : List Line) (k cell : ℕ) → k < length (cells_of lines)
-    → get_or (cells_of lines) k cell ≡ cell → IfSome (slice_get lines k) (IsRightLine before heading) → Wins heading.winner (put heading.position (other_of heading.winner) cell) heading.winner
-answer_wins before heading wins [] k cell less is right = absurd (omega arith)
-answer_wins before heading wins (line ∷ lines) zero cell less is right = rw is at (line_wins before heading wins line right)
-answer_wins before heading wins (line ∷ lines) (suc k) cell less is right = answer_wins before heading wins lines k cell (omega arith) is right
+module _ (before : List Heading) (heading : Heading) (steps : List Step) (threats : List ℕ) (lines : List Line) (is : IsBoard heading.position)
+    (wins : (k : ℕ) → IfSome (slice_get before k) HeadingWins) (right : IsRightAll before heading steps threats lines) where
+  abbrev WinsAfter : ℕ → Type 0
+  WinsAfter cell = Wins heading.winner (put heading.position (other_of heading.winner) cell) heading.winner
 
--- the opponent's move is in all threats, and has a line, or leaves one of them whole
-all_wins : (before : List Heading) (heading : Heading) (steps : List Step) (threats : List ℕ) (lines : List Line) → ((k : ℕ) → IfSome (slice_get before k) HeadingWins)
-    → IsRightAll before heading steps threats lines → HeadingWins heading
-all_wins before heading steps threats lines wins right =
-    By_answers heading.position heading.to_move right.some right.mover right.some_empty
-    (λ cell empty. ⊎_elim
-    (λ (shared : IsInEachThreat right.links threats cell). let found = right.answered.cells.each cell (record { empty = empty; shared = shared }) in
-    answer_wins before heading wins lines found.0 cell found.1 found.2 (right.answered.lines_right found.0))
-    (λ (whole : LeavesWhole right.links cell). threat_left_whole_wins heading.position heading.winner right.links
-    (right_steps_give_what_holds heading.position heading.winner steps right.links right.steps_right.right) cell whole)
-    (shared_or_whole right.links threats cell right.answered.threats_right.each))
+  abbrev IsRight : Line → Type 0
+  IsRight = IsRightLine before heading right.links threats lines
 
-rule_wins : (before : List Heading) (heading : Heading) (rule : Rule) → ((k : ℕ) → IfSome (slice_get before k) HeadingWins) → IsRightRule before heading rule → HeadingWins heading
-rule_wins before heading Chain wins right = By_chain heading.position heading.to_move right
-rule_wins before heading (Links steps) wins right = right_links_win heading steps right
-rule_wins before heading (Move cell child) wins right =
+  wins_outside_threat : (cell : ℕ) → IsOutsideThreat right.links threats cell → WinsAfter cell
+  wins_outside_threat cell outside =
+      threat_left_whole_wins heading.position heading.winner right.links
+      (right_steps_give_what_holds heading.position heading.winner steps right.links right.steps_right.right) threats right.answered.threats_right.each cell outside
+
+  wins_by_child : (cell child : ℕ) → IsRight (Child cell child) → WinsAfter cell
+  wins_by_child cell child leads = child_wins _ _ _ _ (wins child) leads
+
+  -- the better cell has a child, or is outside a threat, and so the winner wins after the worse one too
+  line_wins : (line : Line) → IsRight line → WinsAfter (cell_of line)
+  line_wins (Child cell child) leads = wins_by_child cell child leads
+  line_wins (Under cell better kill) under =
+      let after_better : WinsAfter better = ⊎_elim
+      (λ has_child. wins_by_child better has_child.0 (of_contained IsRight lines (Child better has_child.0) right.answered.lines_right has_child.1))
+      (wins_outside_threat better)
+      under.answered in
+      rw (other-other heading.winner) at (wins_under heading.position is (other_of heading.winner) better cell kill under.dominated (rw (other-other heading.winner) after_better))
+
+  answer_wins : (rest : List Line) (k cell : ℕ) → k < length (cells_of rest) → get_or (cells_of rest) k cell ≡ cell → IfSome (slice_get rest k) IsRight → WinsAfter cell
+  answer_wins [] k cell less is_cell is_right = absurd (omega arith)
+  answer_wins (line ∷ rest) zero cell less is_cell is_right = rw is_cell at (line_wins line is_right)
+  answer_wins (line ∷ rest) (suc k) cell less is_cell is_right = answer_wins rest k cell (omega arith) is_cell is_right
+
+  -- the opponent's move is in all threats, and has a line, or leaves one of them whole
+  all_wins : HeadingWins heading
+  all_wins =
+      By_answers heading.position heading.to_move right.some right.mover right.some_empty
+      (λ cell empty. ⊎_elim
+      (λ (shared : IsInEachThreat right.links threats cell). let found = right.answered.cells.each cell (record { empty = empty; shared = shared }) in
+      answer_wins lines found.0 cell found.1 found.2 (right.answered.lines_right found.0))
+      (wins_outside_threat cell)
+      (shared_or_outside right.links threats cell right.answered.threats_right.each))
+
+-- ---- right nodes and valid trees
+
+rule_wins : (before : List Heading) (heading : Heading) (rule : Rule) → IsBoard heading.position → ((k : ℕ) → IfSome (slice_get before k) HeadingWins) → IsRightRule before heading rule
+    → HeadingWins heading
+rule_wins before heading Chain is wins right = By_chain heading.position heading.to_move right
+rule_wins before heading (Links steps) is wins right = right_links_win heading steps right
+rule_wins before heading (Move cell child) is wins right =
     By_move heading.position heading.to_move cell right.mover right.empty (child_wins _ _ _ _ (wins child) right.leads)
-rule_wins before heading (All steps threats lines) wins right = all_wins before heading steps threats lines wins right
+rule_wins before heading (All steps threats lines) is wins right = all_wins before heading steps threats lines is wins right
+rule_wins before heading (Fill steps child) is wins right =
+    fills_win heading.position is heading.winner steps right.right heading.to_move (child_wins _ _ _ _ (wins child) right.leads)
 
 pub node_wins : (before : List Heading) (node : Node) → ((k : ℕ) → IfSome (slice_get before k) HeadingWins) → IsRightNode before node → HeadingWins node.heading
-node_wins before node wins right = rule_wins before node.heading node.rule wins right.rule
+node_wins before node wins right = rule_wins before node.heading node.rule right.board wins right.rule
 
 -- the headings before a place win, where the nodes before it do
 headings_win : (nodes : List Node) (k j : ℕ) → (j < k → IfSome (slice_get nodes j) (λ node. HeadingWins node.heading)) → IfSome (slice_get (headings_of (take k nodes)) j) HeadingWins

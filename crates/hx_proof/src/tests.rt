@@ -14,7 +14,9 @@ use hx_board::Colour::{Black, White};
 use hx_board::{Cell, Colour, Groups, Mask, Memory, Position, Size, Vertex};
 use hx_inferior::{FillStep, Kill, dominates, fill_one};
 use hx_link::{Kind, Step, result_of};
-use hx_tree::{Heading, Line, Lines, Node, Rule, Steps, Threats, Verdict, check_node, check_tree};
+use hx_tree::{
+    FillSteps, Heading, Line, Lines, Node, Rule, Steps, Threats, Verdict, check_node, check_tree,
+};
 use std::alloc::Global;
 use std::test::Fail;
 
@@ -45,7 +47,18 @@ fn is_leaf(alloc: Global, node: &Node) -> Result<bool, Memory>
 
 /// A heading of Black's win on a board of one row.
 fn heading(cols: u8, black: u128, white: u128, to_move: Colour) -> Result<Heading, Fail> {
-    let size = Size::new(1, cols).ok_or("size")?;
+    black_wins(1, cols, black, white, to_move)
+}
+
+/// A heading of Black's win on a board of this size.
+fn black_wins(
+    rows: u8,
+    cols: u8,
+    black: u128,
+    white: u128,
+    to_move: Colour,
+) -> Result<Heading, Fail> {
+    let size = Size::new(rows, cols).ok_or("size")?;
     let stones = Position::from_masks(size, Mask::of(black), Mask::of(white));
     Ok(Heading {
         position: stones.ok_or("stones")?,
@@ -152,6 +165,79 @@ fn a_threat_answers_the_moves_that_leave_it_whole(rt: HostRuntime) -> Result<(),
         },
     };
     assert!(rt; is_proof(rt.alloc(), &[won, answer, start])?);
+    Ok(())
+}
+
+/// A node of Black's win by a chain on a board of two rows and columns, with White to move.
+fn chained(black: u128, white: u128) -> Result<Node, Fail> {
+    Ok(Node {
+        heading: black_wins(2, 2, black, white, White)?,
+        rule: Rule::Chain,
+    })
+}
+
+/// Black's stone on the second cell of the first row touches both cells of the second, which are a pair.
+#[test]
+fn who_wins_the_filled_board_wins(rt: HostRuntime) -> Result<(), Fail> {
+    let (_, left, right) = two_rows(2)?;
+    let pair = FillStep::Pair(left, right);
+    let start = Node {
+        heading: black_wins(2, 2, 2, 0, White)?,
+        rule: Rule::Fill {
+            steps: FillSteps::new(vec![in rt.alloc(); pair]?),
+            child: 0,
+        },
+    };
+    let both = chained(2 | 1 << 11 | 1 << 12, 0)?;
+    assert!(rt; is_proof(rt.alloc(), &[both, start])?);
+    Ok(())
+}
+
+/// A node of two rows and columns where Black, with a stone on the second cell of the first row, moves to this cell after White's
+/// move, and wins by this child.
+fn reply(white: u128, cell: Cell, child: u32) -> Result<Node, Fail> {
+    Ok(Node {
+        heading: black_wins(2, 2, 2, white, Black)?,
+        rule: Rule::Move { cell, child },
+    })
+}
+
+/// White's move to the first cell of the first row is no better than that to the first cell of the second row, since the first
+/// cell of the first row is then dead for Black.
+#[test]
+fn a_dominated_move_needs_no_child(rt: HostRuntime) -> Result<(), Fail> {
+    let (_, left, right) = two_rows(2)?;
+    let lines = [
+        Line::Under {
+            cell: cell(0)?,
+            better: left,
+            kill: Kill::ByDead,
+        },
+        Line::Child {
+            cell: left,
+            child: 1,
+        },
+        Line::Child {
+            cell: right,
+            child: 3,
+        },
+    ];
+    let start = Node {
+        heading: black_wins(2, 2, 2, 0, White)?,
+        rule: Rule::All {
+            steps: Steps::new(Vec::new(rt.alloc())),
+            threats: Threats::new(Vec::new(rt.alloc())),
+            lines: Lines::new(lines.to_vec(rt.alloc())?),
+        },
+    };
+    let nodes = [
+        chained(2 | 1 << 12, 1 << 11)?,
+        reply(1 << 11, right, 0)?,
+        chained(2 | 1 << 11, 1 << 12)?,
+        reply(1 << 12, left, 2)?,
+        start,
+    ];
+    assert!(rt; is_proof(rt.alloc(), &nodes)?);
     Ok(())
 }
 

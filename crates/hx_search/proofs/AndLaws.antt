@@ -19,7 +19,7 @@ use Rattle.hx_linkset.specs.States.{Standing, IsLive, IsLiveAt, Names}
 use Rattle.hx_linkset.specs.LiveOf.{IsLiveOf, IsFirstFrom}
 use Rattle.hx_linkset.proofs.PlaceLaws.{same_some}
 use Rattle.hx_search.specs.Closed.{IsSettled, IsGrown, IsStuck}
-use Rattle.hx_search.specs.Reached.{IsUnsettled, IsVertexAt, IsPairSettled, AreRowsSettled, and_at, IsChainSettled, IsChainSettledTo, IsEndSettledBelow, IsEndSettled}
+use Rattle.hx_search.specs.Progress.{IsUnsettled, IsVertexAt, IsPairSettled, AreRowsSettled, and_at, IsChainSettled, IsChainSettledTo, IsEndSettledBelow, IsEndSettled}
 use Rattle.hx_search.proofs.GrowthLaws.{settled-on, live_of-on, live_of-back}
 use Rattle.hx_search.proofs.VertexLaws.{vertex-small, below-more, below-skip, turned, live_of-turned, live_of-vertex, empty-not_own}
 

@@ -12,7 +12,7 @@ use Rattle.hx_link.specs.Steps.{HasEnds, GivesBase}
 use Rattle.hx_linkset.specs.States.{Standing}
 use Rattle.hx_linkset.specs.Answers.{Gives}
 use Rattle.hx_search.specs.Closed.{IsSettled, IsGrown, IsStuck}
-use Rattle.hx_search.specs.Reached.{IsUnsettled, IsVertexAt, AreBasesOf, AreBasesBelow}
+use Rattle.hx_search.specs.Progress.{IsUnsettled, IsVertexAt, AreBasesOf, AreBasesBelow}
 use Rattle.hx_search.proofs.GrowthLaws.{settled-on}
 use Rattle.hx_search.proofs.VertexLaws.{vertex-small, below-more, below-skip, end-vertex}
 

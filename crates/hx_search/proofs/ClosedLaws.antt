@@ -2,7 +2,7 @@
 use Rattle.std.proofs.Common.{length}
 use Rattle.hx_linkset.specs.States.{Standing, IsRight}
 use Rattle.hx_search.specs.Closed.{IsClosed}
-use Rattle.hx_search.specs.Reached.{AreBasesBelow, AreRowsSettled, AreForksBelow}
+use Rattle.hx_search.specs.Progress.{AreBasesBelow, AreRowsSettled, AreForksBelow}
 use Rattle.hx_search.proofs.BaseLaws.{bases-all}
 use Rattle.hx_search.proofs.TurnedAnds.{all-stones, all-cells}
 use Rattle.hx_search.proofs.OrLaws.{forks-all}

@@ -22,7 +22,7 @@ use Rattle.hx_linkset.specs.LiveOf.{IsLiveOf, IsFirstFrom}
 use Rattle.hx_linkset.proofs.PlaceLaws.{get-lt, same_some, get-push, get-push_before, get-push_last}
 use Rattle.hx_linkset.proofs.NextLaws.{live-is_link}
 use Rattle.hx_search.specs.Closed.{IsForked}
-use Rattle.hx_search.specs.Reached.{AreParts, AllShare, IsFork}
+use Rattle.hx_search.specs.Progress.{AreParts, AllShare, IsFork}
 use Rattle.hx_search.proofs.GrowthLaws.{get_there}
 use Rattle.hx_search.proofs.CountLaws.{count-small, count-less}
 

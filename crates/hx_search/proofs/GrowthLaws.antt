@@ -17,7 +17,7 @@ use Rattle.hx_linkset.specs.LiveOf.{IsLiveOf}
 use Rattle.hx_linkset.proofs.GivenLaws.{from_live-live}
 use Rattle.hx_linkset.proofs.PlaceLaws.{get-lt, get-push_before, get-push_last}
 use Rattle.hx_search.specs.Closed.{IsSettled, IsGrown}
-use Rattle.hx_search.specs.Reached.{IsUnsettled}
+use Rattle.hx_search.specs.Progress.{IsUnsettled}
 
 pub grown-itself : (set : Standing) → IsGrown set set
 grown-itself set = record { same_player = refl; same_board = refl; same_past = refl; longer = omega arith; kept = λ place link h. h }

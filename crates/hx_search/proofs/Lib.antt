@@ -6,4 +6,5 @@ pub mod TurnedAnds
 pub mod CountLaws
 pub mod ForkLaws
 pub mod OrLaws
+pub mod DecidedLaws
 pub mod ClosedLaws

@@ -15,7 +15,7 @@ use Rattle.hx_linkset.specs.Answers.{IsCovered, IsFull}
 use Rattle.hx_linkset.specs.LiveOf.{IsLiveOf}
 use Rattle.hx_linkset.proofs.NextLaws.{live-is_link}
 use Rattle.hx_search.specs.Closed.{IsForked, HasFull, IsStuck}
-use Rattle.hx_search.specs.Reached.{IsVertexAt, IsFork, IsJoinedWhereForked, AreForksOf, AreForksBelow}
+use Rattle.hx_search.specs.Progress.{IsVertexAt, IsFork, IsJoinedWhereForked, AreForksOf, AreForksBelow}
 use Rattle.hx_search.proofs.VertexLaws.{vertex-small, below-more, below-skip, live_of-turned, live_of-vertex}
 
 -- ---- one Or

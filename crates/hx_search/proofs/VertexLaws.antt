@@ -17,7 +17,7 @@ use Rattle.hx_linkset.specs.States.{Standing}
 use Rattle.hx_linkset.specs.LiveOf.{IsLiveOf}
 use Rattle.hx_board.specs.Positions.{IsBoard}
 use Rattle.hx_search.specs.Closed.{IsGrown}
-use Rattle.hx_search.specs.Reached.{IsVertexAt}
+use Rattle.hx_search.specs.Progress.{IsVertexAt}
 
 pub vertex-small : (size : Extent) (v : Vertex) → IsExtent size.rows size.cols → IsVertex size v → code_of v < 123
 vertex-small size (Of cell) extent is = omega (arith, on_board-small size cell extent is)

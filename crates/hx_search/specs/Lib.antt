@@ -1,2 +1,3 @@
 pub mod Closed
-pub mod Reached
+pub mod Progress
+pub mod Decided

@@ -6,7 +6,7 @@
 
 ghost use Rattle.std.specs.Prelude.{◌≡◌, ℕ, ◌<◌, length, IfOk};
 ghost use Rattle.hx_search.specs.Closed.{IsGrown};
-ghost use Rattle.hx_search.specs.Reached.{IsTried, and_at, IsChainSettled, IsEndSettled, IsPairSettled, AreRowsSettled};
+ghost use Rattle.hx_search.specs.Progress.{IsTried, and_at, IsChainSettled, IsEndSettled, IsPairSettled, AreRowsSettled};
 
 use crate::tries::{Tried, settle};
 use crate::vertices::{CODES, is_own, vertex_at};

@@ -3,7 +3,7 @@
 ghost use Rattle.std.specs.Prelude.{◌≡◌, ◌<◌, IfOk};
 ghost use Rattle.hx_board.specs.Floods.{code_of};
 ghost use Rattle.hx_search.specs.Closed.{IsGrown};
-ghost use Rattle.hx_search.specs.Reached.{IsTried, AreBasesOf, AreBasesBelow};
+ghost use Rattle.hx_search.specs.Progress.{IsTried, AreBasesOf, AreBasesBelow};
 
 use crate::tries::{Tried, settle};
 use crate::vertices::{CODES, vertex_at};

@@ -1,4 +1,5 @@
-//! How a set of links is closed: first the Bases, and then Ands and Ors in turn, until a pass over the Ors adds none.
+//! How a set of links is closed: first with useful links, so that a set which gets full holds these; then with the Bases, and
+//! with Ands and Ors in turn, until a pass over the Ors adds none. That the set is closed rests on the second part alone.
 
 ghost use Rattle.std.specs.Prelude.{IfOk};
 ghost use Rattle.hx_search.specs.Closed.{IsGrown, IsAnswer};
@@ -6,6 +7,7 @@ ghost use Rattle.hx_search.specs.Closed.{IsGrown, IsAnswer};
 use crate::ands::settle_ands;
 use crate::bases::settle_bases;
 use crate::ors::{Passed, join_all};
+use crate::reaches::{Until, add_useful};
 use crate::tries::Tried;
 use hx_board::Memory;
 use hx_linkset::{LinkSet, MOST_LINKS};
@@ -33,6 +35,10 @@ pub fn close(set: &mut LinkSet) -> Result<Closure, Memory>
     ensures grown { IsGrown set.old set.new }
     ensures answer { IfOk result (IsAnswer set.new) }
 {
+    match add_useful(set, Until::Through) {
+        Ok(()) => {}
+        Err(Memory) => return Err(Memory),
+    }
     match settle_bases(set) {
         Ok(Tried::Settled) => {}
         Ok(Tried::Stopped) => return Ok(LIMIT),

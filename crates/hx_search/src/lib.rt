@@ -1,17 +1,30 @@
-//! Anshelevich's H-search: a set of links is closed under the rules for Bases and Ands, and under one Or for two ends.
+//! Anshelevich's H-search: a set of links is closed under the rules for Bases and Ands, and under one Or for two ends, or as
+//! far as useful links go.
 #![tactic(auto)]
 
 mod ands;
 mod bases;
+mod candidates;
 mod closures;
+mod covers;
+mod ends;
+mod entries;
 mod ors;
 mod parts;
+mod reaches;
 mod tries;
+mod useful_ands;
+mod useful_bases;
+mod useful_ors;
 mod vertices;
+mod work;
 
 pub use closures::{Closure, close};
+pub use reaches::{Reached, reach};
 
 #[cfg(test)]
 mod plain;
+#[cfg(test)]
+mod reach_tests;
 #[cfg(test)]
 mod tests;

@@ -2,7 +2,7 @@
 
 ghost use Rattle.std.specs.Prelude.{◌≡◌, IfOk};
 ghost use Rattle.hx_search.specs.Closed.{IsGrown};
-ghost use Rattle.hx_search.specs.Reached.{IsPassed, IsJoinedWhereForked, AreForksOf, AreForksBelow};
+ghost use Rattle.hx_search.specs.Progress.{IsPassed, IsJoinedWhereForked, AreForksOf, AreForksBelow};
 
 use crate::parts::parts_of;
 use crate::vertices::{CODES, vertex_at};

@@ -8,7 +8,7 @@ ghost use Rattle.hx_board.specs.Sets.{has};
 ghost use Rattle.hx_link.specs.declared.links.Link.{Link};
 ghost use Rattle.hx_linkset.specs.States.{IsLive};
 ghost use Rattle.hx_search.specs.Closed.{IsForked};
-ghost use Rattle.hx_search.specs.Reached.{IsFork};
+ghost use Rattle.hx_search.specs.Progress.{IsFork};
 
 use hx_board::{Mask, Memory, Vertex};
 use hx_link::{Kind, Parts};

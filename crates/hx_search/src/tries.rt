@@ -3,7 +3,7 @@
 
 ghost use Rattle.std.specs.Prelude.{IfOk};
 ghost use Rattle.hx_search.specs.Closed.{IsGrown};
-ghost use Rattle.hx_search.specs.Reached.{IsTriedStep};
+ghost use Rattle.hx_search.specs.Progress.{IsTriedStep};
 
 use hx_board::Memory;
 use hx_link::Step;

@@ -1,12 +1,12 @@
 //! The vertices of a board by number, to go through them: the cells by their index, then the two sides.
 
-ghost use Rattle.std.specs.Prelude.{◌≡◌, ◌↔◌, IsTrue, MatchOption};
+ghost use Rattle.std.specs.Prelude.{◌≡◌, ◌<◌, ◌↔◌, IsTrue, MatchOption};
 ghost use Rattle.hx_board.specs.declared.vertices.Vertex.{Vertex};
 ghost use Rattle.hx_board.specs.Graph.{IsVertex, IsOwn};
 ghost use Rattle.hx_board.specs.Floods.{code_of};
-ghost use Rattle.hx_search.specs.Reached.{IsVertexAt};
+ghost use Rattle.hx_search.specs.Progress.{IsVertexAt};
 
-use hx_board::{Colour, Position, Size, Vertex};
+use hx_board::{Colour, Mask, Position, Size, Vertex};
 
 /// How many numbers there are.
 pub(crate) const CODES: u8 = 123;
@@ -34,5 +34,25 @@ pub(crate) fn is_own(position: &Position, colour: Colour, vertex: &Vertex) -> bo
     match vertex {
         Vertex::Of(cell) => position.stones(colour).has(*cell),
         Vertex::First | Vertex::Last => true,
+    }
+}
+
+/// The number of a vertex.
+pub(crate) fn code(vertex: &Vertex) -> u8
+    ensures value { result ≡ code_of vertex.now }
+    ensures small { result < 123 }
+{
+    match vertex {
+        Vertex::Of(cell) => cell.index(),
+        Vertex::First => 121,
+        Vertex::Last => 122,
+    }
+}
+
+/// Whether a vertex is a cell of a set.
+pub(crate) fn is_in(vertex: &Vertex, set: Mask) -> bool {
+    match vertex {
+        Vertex::Of(cell) => set.has(*cell),
+        Vertex::First | Vertex::Last => false,
     }
 }

@@ -1,6 +1,6 @@
 -- The moves of the opponent are answered in cell order: the cells of the lines so far are the empty cells that are not left,
 -- and they come before those that are left. So when no cell is left, there is a line for each empty cell, in cell order.
-use Rattle.std.proofs.Common.{◌≡◌, ℕ, zero, suc, ◌+◌, ◌<◌, ◌≤◌, Bool, true, false, ◌&&◌, not, eqb, eqb-true, eq-eqb, List, [], ◌∷◌, ◌++◌, length, get_or, refl, sym, ap, ◌∙◌, arith, ◌⊎◌, inl, inr, ⊎_elim, ◌↔◌, length-append}
+use Rattle.std.proofs.Common.{◌≡◌, ℕ, zero, suc, ◌+◌, ◌<◌, ◌≤◌, Bool, true, false, ◌&&◌, not, eqb, eqb-true, eq-eqb, List, [], ◌∷◌, ◌++◌, length, get_or, refl, sym, ap, ◌∙◌, arith, ◌⊎◌, inl, inr, ⊎_elim, ◌↔◌, length-append, Option, Some, None}
 use Rattle.std.specs.Prelude.{slice_get, IfSome, IsSomeAnd}
 use Rattle.std.specs.List.Sorted.{IsStrictlyIncreasing}
 use Rattle.std.proofs.lemmas.Bool.{false≢true, cases_lt}
@@ -19,9 +19,9 @@ use Rattle.hx_board.proofs.Tallies.{count_below-remove}
 use Rattle.hx_tree.specs.declared.nodes.Heading.{Heading}
 use Rattle.hx_tree.specs.declared.nodes.Node.{Node}
 use Rattle.hx_tree.specs.declared.nodes.Line.{Line}
-use Rattle.hx_tree.specs.declared.nodes.Line.TheVariants.{Child}
+use Rattle.hx_tree.specs.declared.nodes.Line.TheVariants.{Child, Under}
 use Rattle.hx_tree.specs.Headings.{IsHeading}
-use Rattle.hx_tree.specs.Answers.{AreInOrder, IsToAnswer, IsRightLine, IsRightAll, cell_of, cells_of}
+use Rattle.hx_tree.specs.Answers.{AreInOrder, IsToAnswer, IsRightChild, IsRightLine, IsRightAll, cell_of, cells_of}
 use Rattle.hx_tree.specs.Trees.{headings_of}
 use Rattle.hx_tree.proofs.CellOrder.{same_kind}
 use Rattle.hx_tree.proofs.TreeGrowth.{headings_of-append}
@@ -80,11 +80,16 @@ module _ (Kind Next : ℕ → Type 0) (cells : List ℕ) (cell : ℕ) (before : 
 abbrev pub IsDone : Board → ℕ → ℕ → Type 0
 IsDone board left cell = IsEmpty board cell × (has left cell ≡ false)
 
+-- a line with a right child: a full search makes no other lines
+abbrev pub IsChildLine : List Heading → Heading → Line → Type 0
+IsChildLine headings heading (Child cell child) = IsRightChild headings heading cell child
+IsChildLine headings heading (Under cell better kill) = ⊥
+
 pub record AreAnswered (board : Board) (winner : Colour) (left : ℕ) (headings : List Heading) (lines : List Line) : Type 0 where
   pub inside : (cell : ℕ) → has left cell ≡ true → IsEmpty board cell
   pub earlier : (done cell : ℕ) → IsDone board left done → has left cell ≡ true → done < cell
   pub in_order : AreInOrder (IsDone board left) (cells_of lines)
-  pub lines_right : (k : ℕ) → IfSome (slice_get lines k) (IsRightLine headings (heading_of board (other_of winner) winner))
+  pub lines_right : (k : ℕ) → IfSome (slice_get lines k) (IsChildLine headings (heading_of board (other_of winner) winner))
   pub count : length lines + count_below 128 left ≡ empty_count board
 
 pub none_answered : (board : Board) (winner : Colour) (left : ℕ) (headings : List Heading) → ((cell : ℕ) → (has left cell ≡ true) ↔ IsEmpty board cell)
@@ -100,11 +105,12 @@ none_answered board winner left headings is_left count = record {
     not_done : (cell : ℕ) → IsDone board left cell → ⊥
     not_done cell is = false≢true (sym is.1 ∙ (is_left cell).1 is.0)
 
-right_line-append : (headings more : List Heading) (heading : Heading) (line : Line) → IsRightLine headings heading line → IsRightLine (headings ++ more) heading line
+right_line-append : (headings more : List Heading) (heading : Heading) (line : Line) → IsChildLine headings heading line → IsChildLine (headings ++ more) heading line
 right_line-append headings more heading (Child cell child) right = some_and-append _ headings more child right
+right_line-append headings more heading (Under cell better kill) right = absurd right
 
-right_lines-append : (headings more : List Heading) (heading : Heading) (lines : List Line) (line : Line) → ((k : ℕ) → IfSome (slice_get lines k) (IsRightLine headings heading))
-    → IsRightLine (headings ++ more) heading line → (k : ℕ) → IfSome (slice_get (lines ++ line ∷ []) k) (IsRightLine (headings ++ more) heading)
+right_lines-append : (headings more : List Heading) (heading : Heading) (lines : List Line) (line : Line) → ((k : ℕ) → IfSome (slice_get lines k) (IsChildLine headings heading))
+    → IsChildLine (headings ++ more) heading line → (k : ℕ) → IfSome (slice_get (lines ++ line ∷ []) k) (IsChildLine (headings ++ more) heading)
 right_lines-append headings more heading [] line right last zero = last
 right_lines-append headings more heading [] line right last (suc k) = tt
 right_lines-append headings more heading (first ∷ lines) line right last zero = right_line-append headings more heading first (right 0)
@@ -168,9 +174,15 @@ all_answered board winner left headings lines before none = record {
 all_to_answer : (board : Board) (cell : ℕ) → IsEmpty board cell ↔ IsToAnswer board [] [] cell
 all_to_answer board cell = (λ empty. record { empty = empty; shared = λ k. tt }, λ is. is.empty)
 
+child_line_right : (headings : List Heading) (heading : Heading) (lines : List Line) (line : Option Line) → IfSome line (IsChildLine headings heading)
+    → IfSome line (IsRightLine headings heading [] [] lines)
+child_line_right headings heading lines None right = tt
+child_line_right headings heading lines (Some (Child cell child)) right = right
+child_line_right headings heading lines (Some (Under cell better kill)) right = absurd right
+
 -- lines for all moves need no steps and no threats
 pub right_by_lines : (headings : List Heading) (board : Board) (winner : Colour) (lines : List Line) (some : ℕ) → IsEmpty board some → AreInOrder (IsEmpty board) (cells_of lines)
-    → ((k : ℕ) → IfSome (slice_get lines k) (IsRightLine headings (heading_of board (other_of winner) winner)))
+    → ((k : ℕ) → IfSome (slice_get lines k) (IsChildLine headings (heading_of board (other_of winner) winner)))
     → IsRightAll headings (heading_of board (other_of winner) winner) [] [] lines
 right_by_lines headings board winner lines some empty in_order right = record {
   mover = refl;
@@ -181,6 +193,6 @@ right_by_lines headings board winner lines some empty in_order right = record {
   answered = record {
     threats_right = record { few = omega arith; each = λ k. tt };
     cells = same_kind (IsEmpty board) (IsToAnswer board [] []) (cells_of lines) (all_to_answer board) in_order;
-    lines_right = right;
+    lines_right = λ k. child_line_right headings (heading_of board (other_of winner) winner) lines (slice_get lines k) (right k);
   };
 }

@@ -1,43 +1,66 @@
--- The line of an answer to a move. Its words are of high bytes, so it gives back the words that it was spelled from; and
--- an answer is its cell and its child.
-use Rattle.std.proofs.Common.{◌≡◌, ℕ, ◌≤◌, List, [], ◌∷◌, refl, ap, ◌∙◌, arith}
+-- The line of an answer to a move. Its words are of high bytes, so it gives back the words that it was spelled from. After its
+-- cell the first word of the reason tells what its other words are: the reasons `child`, `dead` and `pair` begin with different
+-- letters.
+use Rattle.std.proofs.Common.{◌≡◌, ℕ, ◌≤◌, List, [], ◌∷◌, refl, sym, ap, ◌∙◌, arith, Option, Some, None}
 use Rattle.std.specs.Prelude.{codes}
 use Rattle.std.specs.Fmt.{decimal}
 use Rattle.hx_board.specs.Cells.{Extent, IsExtent, OnBoard}
+use Rattle.hx_inferior.specs.declared.dominations.Kill.TheVariants.{ByDead, ByPair}
 use Rattle.hx_tree.specs.declared.nodes.Line.{Line}
-use Rattle.hx_tree.specs.declared.nodes.Line.TheVariants.{Child}
+use Rattle.hx_tree.specs.declared.nodes.Line.TheVariants.{Child, Under}
 use Rattle.hx_tree.specs.Answers.{cell_of}
-use Rattle.hx_text.specs.Words.{cell_word, words_in, IsNumber}
-use Rattle.hx_text.specs.Entries.{answer_words, answer_line, AnswerFits}
-use Rattle.hx_text.proofs.Spacing.{words_in-spaced}
+use Rattle.hx_text.specs.Words.{Reads, cell_word, words_in}
+use Rattle.hx_text.specs.Entries.{reason_words, answer_words, answer_line, ReasonFits, AnswersAt, AnswerFits}
+use Rattle.hx_text.proofs.Cursors.{first_same, rest_same, word_then}
+use Rattle.hx_text.proofs.Spacing.{IsLine, words_in-spaced, line_from_words}
 use Rattle.hx_text.proofs.HighBytes.{AllHigh, is_high, IsHigh-test, IsHigh-decimal, IsHigh-cell_word, IsLine-high}
+use Rattle.hx_text.proofs.Injective.{cell_injective}
 
-abbrev pub child_of : Line → ℕ
-child_of (Child cell child) = child
-
-pub cell_on_board : {size : Extent} (line : Line) → AnswerFits size line → OnBoard size (cell_of line)
-cell_on_board (Child cell child) fits = fits.0
-
-pub child_small : (size : Extent) (line : Line) → AnswerFits size line → IsNumber (child_of line)
-child_small size (Child cell child) fits = fits.1
-
-abbrev pub child_words : ℕ → ℕ → List (List ℕ)
-child_words cell child = codes "line" ∷ cell_word cell ∷ codes "child" ∷ decimal child ∷ []
+AllHigh-reason_words : (size : Extent) (line : Line) → size.rows ≤ 11 → ReasonFits size line → AllHigh (reason_words line)
+unfolding is_high
+AllHigh-reason_words size (Child cell child) few fits = (IsHigh-test (codes "child") refl, (IsHigh-decimal child fits, tt))
+AllHigh-reason_words size (Under cell better ByDead) few on =
+    (IsHigh-test (codes "dead") refl, (IsHigh-cell_word better (omega (arith, on.row)), tt))
+AllHigh-reason_words size (Under cell better (ByPair partner)) few fits =
+    let on : OnBoard size better = fits.0 in
+    let also : OnBoard size partner = fits.1 in
+    (IsHigh-test (codes "pair") refl, (IsHigh-cell_word better (omega (arith, on.row)), (IsHigh-cell_word partner (omega (arith, also.row)), tt)))
 
 pub AllHigh-answer_words : (size : Extent) (line : Line) → size.rows ≤ 11 → AnswerFits size line → AllHigh (answer_words line)
 unfolding is_high
-AllHigh-answer_words size (Child cell child) few fits =
-    let on : OnBoard size cell = fits.0 in (
-      IsHigh-test (codes "line") refl,
-      (IsHigh-cell_word cell (omega (arith, on.row)), (IsHigh-test (codes "child") refl, (IsHigh-decimal child fits.1, tt))),
-    )
+AllHigh-answer_words size line few fits =
+    let on : OnBoard size (cell_of line) = fits.0 in
+    (IsHigh-test (codes "line") refl, (IsHigh-cell_word (cell_of line) (omega (arith, on.row)), AllHigh-reason_words size line few fits.1))
 
-words_in-child_line : (size : Extent) (cell child : ℕ) → size.rows ≤ 11 → AnswerFits size (Child cell child)
-    → words_in (answer_line (Child cell child)) ≡ child_words cell child
-words_in-child_line size cell child few fits =
-    words_in-spaced (child_words cell child)
-    (IsLine-high (codes "line") (cell_word cell ∷ codes "child" ∷ decimal child ∷ []) (AllHigh-answer_words size (Child cell child) few fits))
+pub IsLine-answer_words : (size : Extent) (line : Line) → size.rows ≤ 11 → AnswerFits size line → IsLine (answer_words line)
+IsLine-answer_words size line few fits =
+    IsLine-high (codes "line") (cell_word (cell_of line) ∷ reason_words line) (AllHigh-answer_words size line few fits)
 
 pub words_in-answer_line : (size : Extent) (text : List ℕ) (line : Line) → IsExtent size.rows size.cols → AnswerFits size line
-    → text ≡ answer_line line → words_in text ≡ child_words (cell_of line) (child_of line)
-words_in-answer_line size text (Child cell child) extent fits e = ap words_in e ∙ words_in-child_line size cell child extent.1 fits
+    → text ≡ answer_line line → words_in text ≡ answer_words line
+words_in-answer_line size text line extent fits e =
+    ap words_in e ∙ words_in-spaced (answer_words line) (IsLine-answer_words size line extent.1 fits)
+
+-- ---- what is read after the cell
+
+-- the words begin with none of the three
+pub no_reason : {words : List (List ℕ)} → ((rest : List (List ℕ)) → words ≡ codes "child" ∷ rest → ⊥)
+    → ((rest : List (List ℕ)) → words ≡ codes "dead" ∷ rest → ⊥) → ((rest : List (List ℕ)) → words ≡ codes "pair" ∷ rest → ⊥)
+    → (value : Line) → words ≡ reason_words value → ⊥
+no_reason {words} no_child no_dead no_pair (Child at child) e = no_child (decimal child ∷ []) e
+no_reason {words} no_child no_dead no_pair (Under at better ByDead) e = no_dead (cell_word better ∷ []) e
+no_reason {words} no_child no_dead no_pair (Under at better (ByPair partner)) e = no_pair (cell_word better ∷ cell_word partner ∷ []) e
+
+-- what is read from a line's words is read from the line
+pub answer_reads : (size : Extent) (text : List ℕ) (words after rest : List (List ℕ)) (cell : ℕ) (found : Option Line)
+    → IsExtent size.rows size.cols → words ≡ words_in text → words ≡ codes "line" ∷ after → OnBoard size cell → after ≡ cell_word cell ∷ rest
+    → Reads reason_words (AnswersAt size cell) rest found → Reads answer_line (AnswerFits size) text found
+answer_reads size text words after rest cell (Some line) extent same first on second reads =
+    let same_cell : cell_of line ≡ cell = reads.0.0 in (
+      (rw same_cell on, reads.0.1),
+      line_from_words same (word_then first (word_then (second ∙ ap (λ (c : ℕ). cell_word c ∷ rest) (sym same_cell)) reads.1)),
+    )
+answer_reads size text words after rest cell None extent same first on second reads = λ value fits e.
+    let at_cell = rest_same first (same ∙ words_in-answer_line size text value extent fits e) in
+    let same_cell : cell ≡ cell_of value = cell_injective size cell (cell_of value) extent.1 on fits.0 (first_same second at_cell) in
+    reads value (sym same_cell, fits.1) (rest_same second at_cell)

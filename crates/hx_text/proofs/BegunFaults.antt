@@ -1,13 +1,12 @@
 -- Inside a node no line is right but that of an entry of the kind that is due: a text that begins with the lines before it
 -- goes on with a node whose first line is the same, so it has as many entries of each kind, and this line is the next of them.
-use Rattle.std.proofs.Common.{◌≡◌, ℕ, ◌+◌, ◌<◌, List, [], ◌∷◌, ◌++◌, length, map, refl, sym, ap, ◌∙◌, subst, arith, append_assoc, Some}
+use Rattle.std.proofs.Common.{◌≡◌, ℕ, ◌<◌, List, [], ◌∷◌, ◌++◌, length, map, refl, sym, ap, ◌∙◌, subst, arith, append_assoc, Some}
 use Rattle.std.specs.Prelude.{flat_map, slice_get}
 use Rattle.hx_board.specs.declared.colours.Colour.{Colour}
 use Rattle.hx_board.specs.Cells.{Extent, IsExtent}
 use Rattle.hx_tree.specs.declared.nodes.Rule.{Rule}
 use Rattle.hx_tree.specs.declared.nodes.Node.{Node}
 use Rattle.hx_text.specs.declared.entries.Entry.{Entry}
-use Rattle.hx_text.specs.declared.entries.EntryKind.{EntryKind}
 use Rattle.hx_text.specs.declared.node_lines.Opening.{Opening}
 use Rattle.hx_text.specs.declared.node_lines.Head.{Head}
 use Rattle.hx_text.specs.declared.begun_nodes.Begun.{Begun}
@@ -87,7 +86,7 @@ inside_wrong begun line nodes lines no_entry inside begins =
     let on = aligned begun.so_far.size nodes stands.before later begins.1.size begins.1.nodes begins.1.winner stands.stands.is_size
     stands.stands.each stands.stands.same (subst (AreTreeLinesOf begins.1.size begins.1.nodes begins.1.winner) same begins.1.are) in
     let less : length done < entries_told begun.head.opening =
-    omega (arith, length-entries_for begun.steps.items begun.threats.items begun.lines.items, stands.in_order.missing, inside.lacks) in
+    omega (arith, length-entries_for begun.steps.items begun.threats.items begun.lines.items begun.fills.items, stands.in_order.missing, inside.lacks) in
     let next = next_of_nodes begun.so_far.size begun.head done line begins.0 on.on.more (length begins.1.nodes) begins.1.winner
     stands.stands.is_size stands.head begins.1.are.count less on.on.fits on.on.rest_is in
     no_entry next.entry (next.fits, next.kind ∙ sym (kind_due-at begun stands.in_order)) next.same

@@ -1,7 +1,7 @@
 -- What a cursor over the words of a line has left, and what it says of a line that its words were taken one after the
 -- other: the words that were taken are the first words of the line.
 use Rattle.std.proofs.Common.{◌≡◌, ◌≢◌, ℕ, List, [], ◌∷◌, sym, ap, ◌∙◌, Bool, true, false}
-use Rattle.std.specs.Option.{MatchOption, is_some}
+use Rattle.std.specs.Option.{MatchOption, IfNone, is_some}
 use Rattle.std.specs.declared.option.Option.{Option}
 use Rattle.std.specs.declared.option.Option.TheVariants.{None, Some}
 use Rattle.std.proofs.lemmas.Bool.{false≢true}
@@ -52,3 +52,20 @@ pub goes_on_here : {words : List (List ℕ)} (found : Option (Unit {0})) → Mat
     → false ≡ is_some found → words ≢ []
 goes_on_here (Some done) is test = absurd (false≢true test)
 goes_on_here None is test = is
+
+-- a given word that was taken
+pub word_taken : {word : List ℕ} {old new : List (List ℕ)} (found : Option (Unit {0})) → Takes (λ _. word) (λ _. Unit {0}) old found new
+    → true ≡ is_some found → old ≡ word ∷ new
+word_taken (Some done) takes test = takes.1
+word_taken None takes test = absurd (false≢true (sym test))
+
+-- a given word that does not stand there
+pub word_missing : {word : List ℕ} {old : List (List ℕ)} (new : List (List ℕ)) (found : Option (Unit {0})) → Takes (λ _. word) (λ _. Unit {0}) old found new
+    → false ≡ is_some found → (rest : List (List ℕ)) → old ≡ word ∷ rest → ⊥
+word_missing new (Some done) takes test = absurd (false≢true test)
+word_missing new None takes test = λ rest e. takes tt rest tt e
+
+-- and then the words are as they were
+pub words_kept : {old new : List (List ℕ)} (found : Option (Unit {0})) → IfNone found (new ≡ old) → false ≡ is_some found → new ≡ old
+words_kept (Some done) same test = absurd (false≢true test)
+words_kept None same test = same

@@ -1,6 +1,6 @@
 -- The first word of a line tells what its other words are: those of a step by `base`, `stone` or `cell`, and those of a rule's
--- opening by `links`. Where the other words are none of that kind, the line's words are those of no step and of no opening,
--- since the four first words begin with different letters.
+-- opening by `links` or `fill`. Where the other words are none of that kind, the line's words are those of no step and of no opening,
+-- since the first words of each kind begin with different letters.
 use Rattle.std.proofs.Common.{◌≡◌, ℕ, zero, suc, ◌+◌, ◌<◌, ◌≤◌, List, [], ◌∷◌, length, get_or, sym, ap, ◌∙◌, arith, add-zero, Option, Some, None, Result, Ok, Err}
 use Rattle.std.proofs.lemmas.Grind.{same_number_lists}
 use Rattle.std.specs.Prelude.{codes}
@@ -14,9 +14,10 @@ use Rattle.hx_link.specs.declared.steps.Step.{Step}
 use Rattle.hx_link.specs.declared.steps.Step.TheVariants.{Base, AndStone, AndCell}
 use Rattle.hx_tree.specs.Steps.{most_steps}
 use Rattle.hx_text.specs.declared.node_lines.Opening.{Opening}
-use Rattle.hx_text.specs.declared.node_lines.Opening.TheVariants.{Links}
+use Rattle.hx_text.specs.declared.node_lines.Opening.TheVariants.{Links, Fill}
 use Rattle.hx_text.specs.Words.{Reads, IsNumber, words_in}
 use Rattle.hx_text.specs.StepTexts.{vertex_word, step_words, step_line, StepFits}
+use Rattle.hx_text.specs.FillTexts.{most_fills}
 use Rattle.hx_text.specs.TreeTexts.{opening_words, OpeningFits}
 use Rattle.hx_text.proofs.Cursors.{rest_same, word_then}
 use Rattle.hx_text.proofs.Spacing.{line_from_words}
@@ -122,3 +123,19 @@ pub links_reads : (size : Extent) (words rest : List (List ℕ)) (found : Option
     → Reads opening_words (OpeningFits size) words found
 links_reads size words rest (Some opening) first is none = rw is.1 (is.2, word_then first is.3)
 links_reads size words rest None first is none = λ value fits e. no_links size value words rest first none fits e
+
+no_fills : (size : Extent) (value : Opening) (words rest : List (List ℕ)) → words ≡ codes "fill" ∷ rest
+    → ((fills child : ℕ) → fills ≤ most_fills → IsNumber child → rest ≡ decimal fills ∷ decimal child ∷ [] → ⊥) → OpeningFits size value
+    → words ≡ opening_words value → ⊥
+no_fills size (Fill fills child) words rest first none fits e = none fills child fits.0 fits.1 (rest_same first e)
+no_fills size value words rest first none fits e =
+    let letters : first_letter (codes "fill" ∷ rest) ≡ first_letter (opening_words value) = ap first_letter (sym first ∙ e) in
+    absurd (omega (arith, letters))
+
+pub fills_reads : (size : Extent) (words rest : List (List ℕ)) (found : Option Opening) → words ≡ codes "fill" ∷ rest
+    → IfSome found (λ opening. (fills child : ℕ) × (opening ≡ Fill fills child) × (fills ≤ most_fills) × IsNumber child
+    × (rest ≡ decimal fills ∷ decimal child ∷ []))
+    → IfNone found ((fills child : ℕ) → fills ≤ most_fills → IsNumber child → rest ≡ decimal fills ∷ decimal child ∷ [] → ⊥)
+    → Reads opening_words (OpeningFits size) words found
+fills_reads size words rest (Some opening) first is none = rw is.2 ((is.3, is.4), word_then first is.5)
+fills_reads size words rest None first is none = λ value fits e. no_fills size value words rest first none fits e

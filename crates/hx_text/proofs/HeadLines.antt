@@ -8,7 +8,7 @@ use Rattle.hx_board.specs.Positions.{Board, IsPosition}
 use Rattle.hx_board.proofs.PositionLaws.{board-small}
 use Rattle.hx_tree.specs.declared.nodes.Heading.{Heading}
 use Rattle.hx_text.specs.declared.node_lines.Opening.{Opening}
-use Rattle.hx_text.specs.declared.node_lines.Opening.TheVariants.{Chain, Links, Move, All}
+use Rattle.hx_text.specs.declared.node_lines.Opening.TheVariants.{Chain, Links, Move, All, Fill}
 use Rattle.hx_text.specs.declared.node_lines.Head.{Head}
 use Rattle.hx_text.specs.Words.{mask_word, colour_word, words_in, spaced, IsSet}
 use Rattle.hx_text.specs.TreeTexts.{opening_words, OpeningFits, head_words, head_line, HeadingFits, HeadFits}
@@ -31,6 +31,8 @@ AllHigh-opening_words size (All steps threats lines) few fits = (
     (IsHigh-decimal threats (omega (arith, fits.1)), (IsHigh-decimal lines (omega (arith, fits.2)), tt)),
   ),
 )
+AllHigh-opening_words size (Fill fills child) few fits =
+    (IsHigh-test (codes "fill") refl, (IsHigh-decimal fills (omega (arith, fits.0)), (IsHigh-decimal child fits.1, tt)))
 
 pub AllHigh-head_words : (size : Extent) (head : Head) → size.rows ≤ 11 → OpeningFits size head.opening → AllHigh (head_words head)
 unfolding is_high

@@ -12,6 +12,7 @@ pub mod SizeReads
 pub mod HeadLines
 pub mod AnswerLines
 pub mod StepWords
+pub mod FillLines
 pub mod OrWords
 pub mod FirstWords
 pub mod Injective
@@ -33,5 +34,6 @@ pub mod WholePositions
 pub mod Spelled
 pub mod Pieces
 pub mod WholeTrees
+pub mod FillCounts
 pub mod ValidTrees
 pub mod OneFault

@@ -1,39 +1,36 @@
 -- Different nodes have different lines. A first line is that of one head alone, and is no last line. Of two nodes with which
--- the same lines begin the first lines are the same, hence the numbers of the steps, threats and answers that follow, and
--- hence these.
-use Rattle.std.proofs.Common.{◌≡◌, ℕ, zero, suc, ◌+◌, ◌<◌, ◌≤◌, List, [], ◌∷◌, ◌++◌, length, map, refl, sym, ap, ◌∙◌, subst, arith, ◌⊎◌, inl, inr, append_assoc, length-append}
-use Rattle.std.proofs.lemmas.List.{append-nil, length-map}
-use Rattle.std.proofs.lemmas.Bool.{lt-ltb, le-ltb}
-use Rattle.std.specs.Prelude.{slice_get, nat_lt, if◌then◌else◌}
+-- the same lines begin the first lines are the same, hence the numbers of the steps, threats, answers and fill steps that
+-- follow, and hence these.
+use Rattle.std.proofs.Common.{◌≡◌, ℕ, ◌≤◌, List, [], ◌∷◌, ◌++◌, length, map, refl, sym, ap, ◌∙◌, subst, arith}
+use Rattle.std.proofs.lemmas.List.{append-nil}
 use Rattle.std.specs.Fmt.{decimal}
-use Rattle.std.specs.declared.option.Option.TheVariants.{Some}
 use Rattle.hx_board.specs.declared.colours.Colour.{Colour}
 use Rattle.hx_board.specs.Cells.{Extent, IsExtent}
 use Rattle.hx_board.specs.Positions.{Board}
+use Rattle.hx_inferior.specs.declared.fills.FillStep.{FillStep}
 use Rattle.hx_link.specs.declared.steps.Step.{Step}
 use Rattle.hx_tree.specs.declared.nodes.Heading.{Heading}
 use Rattle.hx_tree.specs.declared.nodes.Line.{Line}
 use Rattle.hx_tree.specs.declared.nodes.Rule.{Rule}
-use Rattle.hx_tree.specs.declared.nodes.Rule.TheVariants.{Chain, Links, Move, All}
+use Rattle.hx_tree.specs.declared.nodes.Rule.TheVariants.{Chain, Links, Move, All, Fill}
 use Rattle.hx_tree.specs.declared.nodes.Node.{Node}
 use Rattle.hx_text.specs.declared.node_lines.Opening.{Opening}
-use Rattle.hx_text.specs.declared.node_lines.Opening.TheVariants.{Chain as Chain_opening, Links as Links_opening, Move as Move_opening, All as All_opening}
+use Rattle.hx_text.specs.declared.node_lines.Opening.TheVariants.{Chain as Chain_opening, Links as Links_opening, Move as Move_opening, All as All_opening, Fill as Fill_opening}
 use Rattle.hx_text.specs.declared.node_lines.Head.{Head}
 use Rattle.hx_text.specs.declared.entries.Entry.{Entry}
-use Rattle.hx_text.specs.declared.entries.Entry.TheVariants.{Step as Step_entry, Threat as Threat_entry, Answer as Answer_entry}
-use Rattle.hx_text.specs.declared.entries.EntryKind.{EntryKind}
-use Rattle.hx_text.specs.declared.entries.EntryKind.TheVariants.{Step as Step_kind, Threat as Threat_kind, Answer as Answer_kind}
 use Rattle.hx_text.specs.Words.{mask_word, colour_word, cell_word, IsNumber}
 use Rattle.hx_text.specs.StepTexts.{step_line, threat_line, StepFits}
-use Rattle.hx_text.specs.Entries.{answer_line, AnswerFits, entry_line, kind_of, EntryFits, EachEntryFits, entries_for, entries_of, opening_of, entries_told, kind_at}
+use Rattle.hx_text.specs.FillTexts.{fill_line, FillFits}
+use Rattle.hx_text.specs.Entries.{answer_line, AnswerFits, entry_line, EntryFits, EachEntryFits, entries_for, entries_of, opening_of}
 use Rattle.hx_text.specs.TreeTexts.{opening_words, OpeningFits, head_of, head_words, head_line, HeadFits, node_lines, NodeFits, end_line}
 use Rattle.hx_text.proofs.Spacing.{spaced_injective}
 use Rattle.hx_text.proofs.Masks.{mask_injective}
 use Rattle.hx_text.proofs.LineWords.{end_words, words_in-end_line}
+use Rattle.hx_text.proofs.StepWords.{first_letter}
 use Rattle.hx_text.proofs.HeadLines.{IsLine-head_words, words_in-head_line, black_small, white_small}
 use Rattle.hx_text.proofs.Injective.{number_injective, colour_injective, cell_injective, board_same}
-use Rattle.hx_text.proofs.EntryLists.{step_entry, threat_entry, answer_entry, entries_for-parts}
-use Rattle.hx_text.proofs.EntryInjective.{step_injective, threat_injective, answer_injective}
+use Rattle.hx_text.proofs.EntryLists.{step_entry, threat_entry, answer_entry, fill_entry, entries_for-parts}
+use Rattle.hx_text.proofs.EntryInjective.{step_injective, threat_injective, answer_injective, fill_injective}
 
 -- ---- first lines
 
@@ -57,7 +54,15 @@ opening_injective size (All_opening s t l) (All_opening p q r) few fits_a fits_b
     let same_threats : t ≡ q = number_injective t q (omega (arith, fits_a.1)) (omega (arith, fits_b.1)) threats in
     let same_lines : l ≡ r = number_injective l r (omega (arith, fits_a.2)) (omega (arith, fits_b.2)) lines in
     cc
-opening_injective size a b few fits_a fits_b e = cc
+opening_injective size (Fill_opening f k) (Fill_opening g j) few fits_a fits_b e =
+    let fills : decimal f ≡ decimal g = cc in
+    let numbers : decimal k ≡ decimal j = cc in
+    let same_fills : f ≡ g = number_injective f g (omega (arith, fits_a.0)) (omega (arith, fits_b.0)) fills in
+    let same_child : k ≡ j = number_injective k j fits_a.1 fits_b.1 numbers in
+    cc
+opening_injective size a b few fits_a fits_b e =
+    let letters : first_letter (opening_words a) ≡ first_letter (opening_words b) = ap first_letter e in
+    absurd (omega (arith, letters))
 
 abbrev heading_of : Board → Colour → Colour → Heading
 heading_of position to_move winner = record { position = position; to_move = to_move; winner = winner }
@@ -120,44 +125,51 @@ front_cancel {X} size entry_for (a ∷ more) (b ∷ later) after_a after_b xs ys
     let first : a ≡ b = told a b fits_a.0 fits_b.0 firsts in
     (ap (λ (h : X). h ∷ more) first ∙ ap (λ (t : List X). b ∷ t) rest.0, rest.1, rest.2, rest.3)
 
-answers_cancel : (size : Extent) (a b : List Line) (xs ys : List (List ℕ)) → IsExtent size.rows size.cols
-    → EachEntryFits size (map answer_entry a) → EachEntryFits size (map answer_entry b) → length a ≡ length b
-    → map entry_line (map answer_entry a) ++ xs ≡ map entry_line (map answer_entry b) ++ ys → (a ≡ b) × (xs ≡ ys)
-answers_cancel size a b xs ys extent fits_a fits_b same e =
-    let all_a : map answer_entry a ≡ map answer_entry a ++ [] = sym (append-nil (map answer_entry a)) in
-    let all_b : map answer_entry b ≡ map answer_entry b ++ [] = sym (append-nil (map answer_entry b)) in
-    let whole = front_cancel size answer_entry a b [] [] xs ys
-    (λ (x y : Line) (fits_x : AnswerFits size x) (fits_y : AnswerFits size y) (l : answer_line x ≡ answer_line y). answer_injective size x y extent fits_x fits_y l)
+fills_cancel : (size : Extent) (a b : List FillStep) (xs ys : List (List ℕ)) → IsExtent size.rows size.cols
+    → EachEntryFits size (map fill_entry a) → EachEntryFits size (map fill_entry b) → length a ≡ length b
+    → map entry_line (map fill_entry a) ++ xs ≡ map entry_line (map fill_entry b) ++ ys → (a ≡ b) × (xs ≡ ys)
+fills_cancel size a b xs ys extent fits_a fits_b same e =
+    let all_a : map fill_entry a ≡ map fill_entry a ++ [] = sym (append-nil (map fill_entry a)) in
+    let all_b : map fill_entry b ≡ map fill_entry b ++ [] = sym (append-nil (map fill_entry b)) in
+    let whole = front_cancel size fill_entry a b [] [] xs ys
+    (λ (x y : FillStep) (fits_x : FillFits size x) (fits_y : FillFits size y) (l : fill_line x ≡ fill_line y). fill_injective size x y extent fits_x fits_y l)
     (subst (EachEntryFits size) all_a fits_a) (subst (EachEntryFits size) all_b fits_b) same
     (ap (λ (es : List Entry). map entry_line es ++ xs) (sym all_a) ∙ e ∙ ap (λ (es : List Entry). map entry_line es ++ ys) all_b) in
     (whole.0, whole.3)
 
--- the three lists of two rules
-record SameLists (steps_a steps_b : List Step) (threats_a threats_b : List ℕ) (lines_a lines_b : List Line) (xs ys : List (List ℕ)) : Type 0 where
+-- the four lists of two rules
+record SameLists (steps_a steps_b : List Step) (threats_a threats_b : List ℕ) (lines_a lines_b : List Line) (fills_a fills_b : List FillStep)
+    (xs ys : List (List ℕ)) : Type 0 where
   steps : steps_a ≡ steps_b
   threats : threats_a ≡ threats_b
   lines : lines_a ≡ lines_b
+  fills : fills_a ≡ fills_b
   rest : xs ≡ ys
 
 lists_cancel : (size : Extent) (steps_a steps_b : List Step) (threats_a threats_b : List ℕ) (lines_a lines_b : List Line)
-    (xs ys : List (List ℕ)) → IsExtent size.rows size.cols → EachEntryFits size (entries_for steps_a threats_a lines_a)
-    → EachEntryFits size (entries_for steps_b threats_b lines_b) → length steps_a ≡ length steps_b → length threats_a ≡ length threats_b
-    → length lines_a ≡ length lines_b
-    → map entry_line (entries_for steps_a threats_a lines_a) ++ xs ≡ map entry_line (entries_for steps_b threats_b lines_b) ++ ys
-    → SameLists steps_a steps_b threats_a threats_b lines_a lines_b xs ys
-lists_cancel size steps_a steps_b threats_a threats_b lines_a lines_b xs ys extent fits_a fits_b as_many_steps as_many_threats as_many_lines e =
-    let parts_a = entries_for-parts steps_a threats_a lines_a in
-    let parts_b = entries_for-parts steps_b threats_b lines_b in
-    let steps = front_cancel size step_entry steps_a steps_b (map threat_entry threats_a ++ map answer_entry lines_a)
-    (map threat_entry threats_b ++ map answer_entry lines_b) xs ys
+    (fills_a fills_b : List FillStep) (xs ys : List (List ℕ)) → IsExtent size.rows size.cols
+    → EachEntryFits size (entries_for steps_a threats_a lines_a fills_a) → EachEntryFits size (entries_for steps_b threats_b lines_b fills_b)
+    → length steps_a ≡ length steps_b → length threats_a ≡ length threats_b → length lines_a ≡ length lines_b → length fills_a ≡ length fills_b
+    → map entry_line (entries_for steps_a threats_a lines_a fills_a) ++ xs ≡ map entry_line (entries_for steps_b threats_b lines_b fills_b) ++ ys
+    → SameLists steps_a steps_b threats_a threats_b lines_a lines_b fills_a fills_b xs ys
+lists_cancel size steps_a steps_b threats_a threats_b lines_a lines_b fills_a fills_b xs ys extent fits_a fits_b many_steps many_threats many_lines many_fills e =
+    let parts_a = entries_for-parts steps_a threats_a lines_a fills_a in
+    let parts_b = entries_for-parts steps_b threats_b lines_b fills_b in
+    let after_threats_a : List Entry = map answer_entry lines_a ++ map fill_entry fills_a in
+    let after_threats_b : List Entry = map answer_entry lines_b ++ map fill_entry fills_b in
+    let steps = front_cancel size step_entry steps_a steps_b (map threat_entry threats_a ++ after_threats_a)
+    (map threat_entry threats_b ++ after_threats_b) xs ys
     (λ (x y : Step) (fits_x : StepFits size x) (fits_y : StepFits size y) (l : step_line x ≡ step_line y). step_injective size x y extent fits_x fits_y l)
-    (subst (EachEntryFits size) parts_a fits_a) (subst (EachEntryFits size) parts_b fits_b) as_many_steps
+    (subst (EachEntryFits size) parts_a fits_a) (subst (EachEntryFits size) parts_b fits_b) many_steps
     (ap (λ (es : List Entry). map entry_line es ++ xs) (sym parts_a) ∙ e ∙ ap (λ (es : List Entry). map entry_line es ++ ys) parts_b) in
-    let threats = front_cancel size threat_entry threats_a threats_b (map answer_entry lines_a) (map answer_entry lines_b) xs ys
+    let threats = front_cancel size threat_entry threats_a threats_b after_threats_a after_threats_b xs ys
     (λ (x y : ℕ) (fits_x : IsNumber x) (fits_y : IsNumber y) (l : threat_line x ≡ threat_line y). threat_injective x y fits_x fits_y l)
-    steps.1 steps.2 as_many_threats steps.3 in
-    let lines = answers_cancel size lines_a lines_b xs ys extent threats.1 threats.2 as_many_lines threats.3 in
-    record { steps = steps.0; threats = threats.0; lines = lines.0; rest = lines.1 }
+    steps.1 steps.2 many_threats steps.3 in
+    let lines = front_cancel size answer_entry lines_a lines_b (map fill_entry fills_a) (map fill_entry fills_b) xs ys
+    (λ (x y : Line) (fits_x : AnswerFits size x) (fits_y : AnswerFits size y) (l : answer_line x ≡ answer_line y). answer_injective size x y extent fits_x fits_y l)
+    threats.1 threats.2 many_lines threats.3 in
+    let fills = fills_cancel size fills_a fills_b xs ys extent lines.1 lines.2 many_fills lines.3 in
+    record { steps = steps.0; threats = threats.0; lines = lines.0; fills = fills.0; rest = fills.1 }
 
 pub rule_cancel : (size : Extent) (a b : Rule) (xs ys : List (List ℕ)) → IsExtent size.rows size.cols → EachEntryFits size (entries_of a)
     → EachEntryFits size (entries_of b) → opening_of a ≡ opening_of b
@@ -165,7 +177,7 @@ pub rule_cancel : (size : Extent) (a b : Rule) (xs ys : List (List ℕ)) → IsE
 rule_cancel size Chain Chain xs ys extent fits_a fits_b o e = (refl, e)
 rule_cancel size (Links a) (Links b) xs ys extent fits_a fits_b o e =
     let same : length a ≡ length b = cc in
-    let rest = lists_cancel size a b [] [] [] [] xs ys extent fits_a fits_b same refl refl e in
+    let rest = lists_cancel size a b [] [] [] [] [] [] xs ys extent fits_a fits_b same refl refl refl e in
     (ap (λ (steps : List Step). Links steps) rest.steps, rest.rest)
 rule_cancel size (Move a k) (Move b j) xs ys extent fits_a fits_b o e =
     let cells : a ≡ b = cc in
@@ -175,10 +187,16 @@ rule_cancel size (All s t l) (All p q r) xs ys extent fits_a fits_b o e =
     let steps : length s ≡ length p = cc in
     let threats : length t ≡ length q = cc in
     let lines : length l ≡ length r = cc in
-    let rest = lists_cancel size s p t q l r xs ys extent fits_a fits_b steps threats lines e in
+    let rest = lists_cancel size s p t q l r [] [] xs ys extent fits_a fits_b steps threats lines refl e in
     let same_steps : s ≡ p = rest.steps in
     let same_threats : t ≡ q = rest.threats in
     let same_lines : l ≡ r = rest.lines in
+    (cc, rest.rest)
+rule_cancel size (Fill f k) (Fill g j) xs ys extent fits_a fits_b o e =
+    let fills : length f ≡ length g = cc in
+    let children : k ≡ j = cc in
+    let rest = lists_cancel size [] [] [] [] [] [] f g xs ys extent fits_a fits_b refl refl refl fills e in
+    let same_fills : f ≡ g = rest.fills in
     (cc, rest.rest)
 rule_cancel size a b xs ys extent fits_a fits_b o e = cc
 

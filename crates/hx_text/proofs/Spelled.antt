@@ -14,18 +14,22 @@ use Rattle.hx_board.specs.declared.colours.Colour.TheVariants.{Black, White}
 use Rattle.hx_board.specs.declared.vertices.Vertex.{Vertex}
 use Rattle.hx_board.specs.Cells.{Extent}
 use Rattle.hx_board.specs.Positions.{Board}
+use Rattle.hx_inferior.specs.declared.fills.FillStep.{FillStep}
+use Rattle.hx_inferior.specs.declared.fills.FillStep.TheVariants.{Other, Dead, Pair}
+use Rattle.hx_inferior.specs.declared.dominations.Kill.TheVariants.{ByDead, ByPair}
 use Rattle.hx_link.specs.declared.steps.Step.{Step}
 use Rattle.hx_link.specs.declared.steps.Step.TheVariants.{Base, AndStone, AndCell, Or}
 use Rattle.hx_tree.specs.declared.nodes.Line.{Line}
-use Rattle.hx_tree.specs.declared.nodes.Line.TheVariants.{Child}
+use Rattle.hx_tree.specs.declared.nodes.Line.TheVariants.{Child, Under}
 use Rattle.hx_tree.specs.declared.nodes.Node.{Node}
 use Rattle.hx_text.specs.declared.node_lines.Opening.{Opening}
-use Rattle.hx_text.specs.declared.node_lines.Opening.TheVariants.{Chain, Links, Move, All}
+use Rattle.hx_text.specs.declared.node_lines.Opening.TheVariants.{Chain, Links, Move, All, Fill}
 use Rattle.hx_text.specs.declared.node_lines.Head.{Head}
 use Rattle.hx_text.specs.Words.{hex, hex_digit, spaced, colour_word, mask_word, cell_word}
 use Rattle.hx_text.specs.Grammars.{text_of}
 use Rattle.hx_text.specs.PositionTexts.{size_line, stones_line, move_line, position_text}
 use Rattle.hx_text.specs.StepTexts.{vertex_word, step_line, threat_line}
+use Rattle.hx_text.specs.FillTexts.{fill_line}
 use Rattle.hx_text.specs.Entries.{answer_line, entry_line, entries_for, entries_of}
 use Rattle.hx_text.specs.TreeTexts.{opening_words, head_of, head_line, node_lines, front_lines, end_line}
 use Rattle.hx_text.specs.Spelling.{each_line, parts_text}
@@ -90,6 +94,11 @@ pub all_spelled : (old : List ℕ) (steps threats lines : ℕ)
 unfolding spaced
 all_spelled old steps threats lines = simp append_assoc
 
+pub fills_spelled : (old : List ℕ) (fills child : ℕ)
+    → (((old ++ codes "fill ") ++ decimal fills) ++ codes " ") ++ decimal child ≡ old ++ spaced (opening_words (Fill fills child))
+unfolding spaced
+fills_spelled old fills child = simp append_assoc
+
 pub base_spelled : (old : List ℕ) (a b : Vertex)
     → ((((old ++ codes "base ") ++ vertex_word a) ++ codes " ") ++ vertex_word b) ++ codes "\n" ≡ old ++ (step_line (Base a b) ++ 10 ∷ [])
 unfolding spaced
@@ -134,6 +143,41 @@ pub child_spelled : (old : List ℕ) (cell child : ℕ)
 unfolding spaced
 child_spelled old cell child = simp append_assoc
 
+pub under_dead_spelled : (old : List ℕ) (cell better : ℕ)
+    → ((((old ++ codes "line ") ++ cell_word cell) ++ codes " dead ") ++ cell_word better) ++ codes "\n"
+    ≡ old ++ (answer_line (Under cell better ByDead) ++ 10 ∷ [])
+unfolding spaced
+under_dead_spelled old cell better = simp append_assoc
+
+-- the parts that a line is put in are those of the line, whatever they are
+line_in_parts : (old a b c d e f g : List ℕ)
+    → ((((((old ++ a) ++ b) ++ c) ++ d) ++ e) ++ f) ++ g ≡ old ++ ((a ++ (b ++ (c ++ (d ++ (e ++ f))))) ++ g)
+line_in_parts old a b c d e f g = simp append_assoc
+
+pub under_pair_spelled : (old : List ℕ) (cell better partner : ℕ)
+    → ((((((old ++ codes "line ") ++ cell_word cell) ++ codes " pair ") ++ cell_word better) ++ codes " ") ++ cell_word partner) ++ codes "\n"
+    ≡ old ++ (answer_line (Under cell better (ByPair partner)) ++ 10 ∷ [])
+unfolding spaced
+under_pair_spelled old cell better partner =
+    line_in_parts old (codes "line ") (cell_word cell) (codes " pair ") (cell_word better) (32 ∷ []) (cell_word partner) (10 ∷ [])
+
+-- the line of a fill step on one cell, whose word goes with the space after it
+pub filled_spelled : (old word : List ℕ) (cell : ℕ) → ((old ++ word) ++ cell_word cell) ++ codes "\n" ≡ old ++ (word ++ cell_word cell ++ 10 ∷ [])
+filled_spelled old word cell = simp append_assoc
+
+pub other_spelled : (cell : ℕ) → codes "other " ++ cell_word cell ++ 10 ∷ [] ≡ fill_line (Other cell) ++ 10 ∷ []
+unfolding spaced
+other_spelled cell = simp append_assoc
+
+pub dead_spelled : (cell : ℕ) → codes "dead " ++ cell_word cell ++ 10 ∷ [] ≡ fill_line (Dead cell) ++ 10 ∷ []
+unfolding spaced
+dead_spelled cell = simp append_assoc
+
+pub pair_spelled : (old : List ℕ) (a b : ℕ)
+    → ((((old ++ codes "pair ") ++ cell_word a) ++ codes " ") ++ cell_word b) ++ codes "\n" ≡ old ++ (fill_line (Pair a b) ++ 10 ∷ [])
+unfolding spaced
+pair_spelled old a b = simp append_assoc
+
 pub end_spelled : (old : List ℕ) (count : ℕ) (winner : Colour)
     → ((((old ++ codes "end ") ++ decimal count) ++ codes " ") ++ colour_word winner) ++ codes "\n" ≡ old ++ text_of (end_line count winner ∷ [])
 unfolding spaced text_of
@@ -148,9 +192,15 @@ lines_end (line ∷ lines) =
 
 -- the lines of the steps, then those of the threats, then those of the answers
 pub entries_spelled : (steps : List Step) (threats : List ℕ) (lines : List Line)
-    → text_of (map entry_line (entries_for steps threats lines))
+    → text_of (map entry_line (entries_for steps threats lines []))
     ≡ each_line step_line steps ++ (each_line threat_line threats ++ each_line answer_line lines)
-entries_spelled steps threats lines = simp (lines_end, flat_map-map, flat_map-append, append_assoc)
+entries_spelled steps threats lines = simp (lines_end, flat_map-map, flat_map-append, append_assoc, append-nil)
+
+pub step_lines_spelled : (steps : List Step) → text_of (map entry_line (entries_for steps [] [] [])) ≡ each_line step_line steps
+step_lines_spelled steps = simp (lines_end, flat_map-map, flat_map-append, append-nil)
+
+pub fill_lines_spelled : (fills : List FillStep) → text_of (map entry_line (entries_for [] [] [] fills)) ≡ each_line fill_line fills
+fill_lines_spelled fills = simp (lines_end, flat_map-map)
 
 -- the parts that a node's first line is put in are those of the line, whatever stands for the space
 in_parts : (old word black white mover winner opening gap end : List ℕ)
@@ -171,6 +221,8 @@ line_spelled old black white mover winner (Move cell child) =
     in_parts old (codes "node ") black white mover winner (spaced (opening_words (Move cell child))) (32 ∷ []) (10 ∷ [])
 line_spelled old black white mover winner (All steps threats lines) =
     in_parts old (codes "node ") black white mover winner (spaced (opening_words (All steps threats lines))) (32 ∷ []) (10 ∷ [])
+line_spelled old black white mover winner (Fill fills child) =
+    in_parts old (codes "node ") black white mover winner (spaced (opening_words (Fill fills child))) (32 ∷ []) (10 ∷ [])
 
 pub head_spelled : (old : List ℕ) (head : Head)
     → ((((old ++ codes "node ")

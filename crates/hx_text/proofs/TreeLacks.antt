@@ -6,10 +6,11 @@ use Rattle.hx_board.specs.declared.colours.Colour.{Colour}
 use Rattle.hx_board.specs.Cells.{Extent, IsExtent}
 use Rattle.hx_tree.specs.declared.nodes.Node.{Node}
 use Rattle.hx_text.specs.declared.entries.Entry.{Entry}
-use Rattle.hx_text.specs.declared.entries.Entry.TheVariants.{Step as Step_entry, Threat as Threat_entry, Answer as Answer_entry}
+use Rattle.hx_text.specs.declared.entries.Entry.TheVariants.{Step as Step_entry, Threat as Threat_entry, Answer as Answer_entry, Fill as Fill_entry}
 use Rattle.hx_text.specs.Words.{Lacks, IsNumber}
 use Rattle.hx_text.specs.Grammars.{Begins}
 use Rattle.hx_text.specs.StepTexts.{step_words}
+use Rattle.hx_text.specs.FillTexts.{fill_words}
 use Rattle.hx_text.specs.Entries.{answer_words, entry_line, EntryFits, EachEntryFits, entries_of}
 use Rattle.hx_text.specs.TreeTexts.{AreTreeLines, EachNodeFits, NodeFits, head_of, head_words, node_lines, front_lines, tree_lines, end_line}
 use Rattle.hx_text.proofs.Cuts.{AllLack, Lacks-middle, AllLack-append, AllLack-front}
@@ -18,11 +19,13 @@ use Rattle.hx_text.proofs.LineWords.{title_words, AllHigh-title_words, size_word
 use Rattle.hx_text.proofs.HeadLines.{AllHigh-head_words}
 use Rattle.hx_text.proofs.StepWords.{AllHigh-step_words, threat_words, AllHigh-threat_words}
 use Rattle.hx_text.proofs.AnswerLines.{AllHigh-answer_words}
+use Rattle.hx_text.proofs.FillLines.{AllHigh-fill_words}
 
 Lacks-entry_line : (size : Extent) (entry : Entry) → size.rows ≤ 11 → EntryFits size entry → Lacks 10 (entry_line entry)
 Lacks-entry_line size (Step_entry step) few fits = Lacks-spaced (step_words step) (AllHigh-step_words size step few fits)
 Lacks-entry_line size (Threat_entry place) few fits = Lacks-spaced (threat_words place) (AllHigh-threat_words place fits)
 Lacks-entry_line size (Answer_entry line) few fits = Lacks-spaced (answer_words line) (AllHigh-answer_words size line few fits)
+Lacks-entry_line size (Fill_entry fill) few fits = Lacks-spaced (fill_words fill) (AllHigh-fill_words size fill few fits)
 
 AllLack-entries : (size : Extent) (entries : List Entry) → size.rows ≤ 11 → EachEntryFits size entries → AllLack (map entry_line entries)
 AllLack-entries size [] few each = tt

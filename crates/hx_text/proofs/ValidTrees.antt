@@ -1,7 +1,7 @@
 -- The nodes of a valid tree on boards of one size, of no more nodes than a text may have, are within the limits of a text:
--- each cell is on the board, a child is an earlier node, what a step or a threat names is an earlier link, and as each cell to
--- answer has one line there are at most 121 lines.
-use Rattle.std.proofs.Common.{◌≡◌, ℕ, zero, suc, ◌+◌, ◌<◌, ◌≤◌, List, [], ◌∷◌, ◌++◌, length, map, take, get_or, ap, arith, Option, Some, None, ◌⊎◌, inl, inr, length-append}
+-- each cell is on the board, a child is an earlier node, what a step or a threat names is an earlier link, as each cell to
+-- answer has one line there are at most 121 lines, and as each fill step fills an empty cell there are at most 121 fill steps.
+use Rattle.std.proofs.Common.{◌≡◌, ℕ, zero, suc, ◌+◌, ◌<◌, ◌≤◌, List, [], ◌∷◌, ◌++◌, length, map, take, get_or, ap, subst, arith, Option, Some, None, inl, inr, length-append}
 use Rattle.std.specs.Prelude.{slice_get, IfSome, IsSomeAnd}
 use Rattle.std.specs.List.{All as EachItem}
 use Rattle.std.proofs.lemmas.List.{length-map}
@@ -13,27 +13,33 @@ use Rattle.hx_board.specs.declared.vertices.Vertex.{Vertex}
 use Rattle.hx_board.specs.declared.vertices.Vertex.TheVariants.{Of, First, Last}
 use Rattle.hx_board.specs.Cells.{Extent, IsExtent, OnBoard}
 use Rattle.hx_board.specs.Graph.{IsVertex}
-use Rattle.hx_board.specs.Positions.{Board, IsEmpty}
+use Rattle.hx_board.specs.Colours.{other_of}
+use Rattle.hx_board.specs.Positions.{Board, IsBoard, IsEmpty, put}
 use Rattle.hx_board.proofs.CellLaws.{on_board-small}
+use Rattle.hx_board.proofs.StoneLaws.{empty-put}
+use Rattle.hx_inferior.specs.declared.dominations.Kill.{Kill}
+use Rattle.hx_inferior.specs.declared.dominations.Kill.TheVariants.{ByDead, ByPair}
+use Rattle.hx_inferior.specs.Inferior.{IsKilled}
 use Rattle.hx_link.specs.declared.links.Link.{Link}
 use Rattle.hx_link.specs.declared.steps.Step.{Step}
 use Rattle.hx_link.specs.declared.steps.Step.TheVariants.{Base, AndStone, AndCell, Or}
 use Rattle.hx_link.specs.Steps.{IsEnd, IsLink, HasEnds, StepGives, AreRightSteps, links_at}
 use Rattle.hx_tree.specs.declared.nodes.Heading.{Heading}
 use Rattle.hx_tree.specs.declared.nodes.Line.{Line}
-use Rattle.hx_tree.specs.declared.nodes.Line.TheVariants.{Child}
+use Rattle.hx_tree.specs.declared.nodes.Line.TheVariants.{Child, Under}
 use Rattle.hx_tree.specs.declared.nodes.Node.{Node}
 use Rattle.hx_tree.specs.declared.nodes.Rule.{Rule}
-use Rattle.hx_tree.specs.declared.nodes.Rule.TheVariants.{Chain, Links, Move, All}
+use Rattle.hx_tree.specs.declared.nodes.Rule.TheVariants.{Chain, Links, Move, All, Fill}
 use Rattle.hx_tree.specs.Steps.{IsThreat, most_steps}
 use Rattle.hx_tree.specs.Answers.{AreInOrder, IsToAnswer, cell_of, cells_of, IsRightLine}
 use Rattle.hx_tree.specs.Rules.{IsRightRule, IsRightNode}
 use Rattle.hx_tree.specs.Trees.{headings_of, AreRight}
 use Rattle.hx_text.specs.StepTexts.{StepFits, AreNumbers}
-use Rattle.hx_text.specs.Entries.{most_answers, AnswerFits, EachEntryFits, entries_of, opening_of}
+use Rattle.hx_text.specs.Entries.{most_answers, ReasonFits, AnswerFits, EachEntryFits, entries_of, opening_of}
 use Rattle.hx_text.specs.TreeTexts.{OpeningFits, NodeFits, EachNodeFits, ListsFit}
 use Rattle.hx_text.specs.Places.{most_nodes}
-use Rattle.hx_text.proofs.EntryLists.{step_entry, threat_entry, answer_entry, EachEntryFits-append}
+use Rattle.hx_text.proofs.EntryLists.{step_entry, threat_entry, answer_entry, EachEntryFits-entries_for}
+use Rattle.hx_text.proofs.FillCounts.{few_fill_steps, fill_steps_fit}
 
 -- a heading that is there is at a place below the length
 place_below : (P : Heading → Type 0) (before : List Heading) (k : ℕ) → IsSomeAnd (slice_get before k) P → k < length before
@@ -48,16 +54,30 @@ few_cells size cells Kind extent on order =
     length-le_from_below 121 cells (sorted_from_strictly_increasing cells order.in_order)
     (λ k d less. on_board-small size (get_or cells k d) extent (on (get_or cells k d) (order.only k d less)))
 
-line_fits : (size : Extent) (before : List Heading) (heading : Heading) (line : Line) → heading.position.size ≡ size → length before ≤ most_nodes
-    → OnBoard size (cell_of line) → IsRightLine before heading line → AnswerFits size line
-line_fits size before heading (Child cell child) same few on right = let below : child < length before = place_below _ before child right in (on, omega arith)
+-- the better cell of a dominated move and the other cell of a pair are empty, so they are on the board
+kill_fits : (board : Board) (mover : Colour) (cell better : ℕ) (kill : Kill) → IsEmpty board better → IsKilled (put board mover better) mover cell kill
+    → ReasonFits board.size (Under cell better kill)
+kill_fits board mover cell better ByDead empty killed = empty.on_board
+kill_fits board mover cell better (ByPair partner) empty killed =
+    let free : IsEmpty board partner = ((empty-put board mover better partner).0 killed.b_empty).0 in
+    (empty.on_board, free.on_board)
 
-lines_fit : (size : Extent) (before : List Heading) (heading : Heading) (lines : List Line) → heading.position.size ≡ size → length before ≤ most_nodes
-    → EachItem (OnBoard size) (cells_of lines) → ((k : ℕ) → IfSome (slice_get lines k) (IsRightLine before heading)) → EachEntryFits size (map answer_entry lines)
-lines_fit size before heading [] same few on right = tt
-lines_fit size before heading (line ∷ lines) same few on right = (
-  line_fits size before heading line same few (on 0 0 (omega arith)) (right 0),
-  lines_fit size before heading lines same few (λ k d less. on (suc k) d (omega arith)) (λ k. right (suc k)),
+line_fits : (size : Extent) (before : List Heading) (heading : Heading) (links : List Link) (threats : List ℕ) (all : List Line) (line : Line)
+    → heading.position.size ≡ size → length before ≤ most_nodes → OnBoard size (cell_of line) → IsRightLine before heading links threats all line
+    → AnswerFits size line
+line_fits size before heading links threats all (Child cell child) same few on right =
+    let below : child < length before = place_below _ before child right in (on, omega arith)
+line_fits size before heading links threats all (Under cell better kill) same few on right =
+    let fits = kill_fits heading.position (other_of heading.winner) cell better kill right.dominated.better_empty right.dominated.killed in
+    (on, subst (λ (s : Extent). ReasonFits s (Under cell better kill)) same fits)
+
+lines_fit : (size : Extent) (before : List Heading) (heading : Heading) (links : List Link) (threats : List ℕ) (all lines : List Line)
+    → heading.position.size ≡ size → length before ≤ most_nodes → EachItem (OnBoard size) (cells_of lines)
+    → ((k : ℕ) → IfSome (slice_get lines k) (IsRightLine before heading links threats all)) → EachEntryFits size (map answer_entry lines)
+lines_fit size before heading links threats all [] same few on right = tt
+lines_fit size before heading links threats all (line ∷ lines) same few on right = (
+  line_fits size before heading links threats all line same few (on 0 0 (omega arith)) (right 0),
+  lines_fit size before heading links threats all lines same few (λ k d less. on (suc k) d (omega arith)) (λ k. right (suc k)),
 )
 
 -- ---- steps
@@ -135,16 +155,20 @@ threats_fit size links (place ∷ threats) few each =
 on_this : (size : Extent) (heading : Heading) → heading.position.size ≡ size → (cell : ℕ) → IsEmpty heading.position cell → OnBoard size cell
 on_this size heading same cell empty = rw same at empty.on_board
 
-opening_fits : (size : Extent) (before : List Heading) (heading : Heading) (rule : Rule) → heading.position.size ≡ size → IsExtent size.rows size.cols
+opening_fits : (size : Extent) (before : List Heading) (heading : Heading) (rule : Rule) → heading.position.size ≡ size → IsBoard heading.position
     → length before ≤ most_nodes → IsRightRule before heading rule → OpeningFits size (opening_of rule)
-opening_fits size before heading Chain same extent few right = tt
-opening_fits size before heading (Links steps) same extent few right = right.steps_right.few
-opening_fits size before heading (Move cell child) same extent few right =
+opening_fits size before heading Chain same is few right = tt
+opening_fits size before heading (Links steps) same is few right = right.steps_right.few
+opening_fits size before heading (Move cell child) same is few right =
     let below : child < length before = place_below _ before child right.leads in (on_this size heading same cell right.empty, omega arith)
-opening_fits size before heading (All steps threats lines) same extent few right =
+opening_fits size before heading (All steps threats lines) same is few right =
+    let extent : IsExtent size.rows size.cols = rw same at is.0 in
     let count = few_cells size (cells_of lines) (IsToAnswer heading.position right.links threats) extent (λ cell is. on_this size heading same cell is.empty)
     right.answered.cells in
     (right.steps_right.few, right.answered.threats_right.few, omega (arith, count, length-map lines cell_of))
+opening_fits size before heading (Fill fills child) same is few right =
+    let below : child < length before = place_below _ before child right.leads in
+    (few_fill_steps heading.position heading.winner fills is right.right, omega arith)
 
 rule_fits : (size : Extent) (before : List Heading) (heading : Heading) (rule : Rule) → heading.position.size ≡ size
     → length before ≤ most_nodes → IsRightRule before heading rule → EachEntryFits size (entries_of rule)
@@ -152,27 +176,27 @@ rule_fits size before heading Chain same few right = tt
 rule_fits size before heading (Links steps) same few right =
     let each : EachEntryFits heading.position.size (map step_entry steps) =
     steps_fit heading.position heading.winner [] steps right.links (omega (arith, right.steps_right.few)) right.steps_right.right in
-    EachEntryFits-append size (map step_entry steps ++ []) [] (EachEntryFits-append size (map step_entry steps) [] (rw same at each) tt) tt
+    EachEntryFits-entries_for size steps [] [] [] (rw same at each) tt tt tt
 rule_fits size before heading (Move cell child) same few right = tt
 rule_fits size before heading (All steps threats lines) same few right =
     let each : EachEntryFits heading.position.size (map step_entry steps) =
     steps_fit heading.position heading.winner [] steps right.links (omega (arith, right.steps_right.few)) right.steps_right.right in
     let count : length right.links ≡ length steps = omega (arith, as_many_links heading.position heading.winner [] steps right.links right.steps_right.right) in
-    EachEntryFits-append size (map step_entry steps ++ map threat_entry threats) (map answer_entry lines)
-    (EachEntryFits-append size (map step_entry steps) (map threat_entry threats) (rw same at each)
-    (threats_fit size right.links threats (omega (arith, count, right.steps_right.few)) right.answered.threats_right.each))
-    (lines_fit size before heading lines same few
-    (λ k d less. on_this size heading same (get_or (cells_of lines) k d) (right.answered.cells.only k d less).empty) right.answered.lines_right)
+    EachEntryFits-entries_for size steps threats lines [] (rw same at each)
+    (threats_fit size right.links threats (omega (arith, count, right.steps_right.few)) right.answered.threats_right.each)
+    (lines_fit size before heading right.links threats lines lines same few
+    (λ k d less. on_this size heading same (get_or (cells_of lines) k d) (right.answered.cells.only k d less).empty) right.answered.lines_right) tt
+rule_fits size before heading (Fill fills child) same few right =
+    EachEntryFits-entries_for size [] [] [] fills tt tt tt (fill_steps_fit size heading.position heading.winner fills same right.right)
 
 node_fits : (size : Extent) (before : List Heading) (node : Option Node) → length before ≤ most_nodes → IfSome node (IsRightNode before)
     → IfSome node (λ n. n.heading.position.size ≡ size) → IfSome node (NodeFits size)
 node_fits size before None few right same = tt
 node_fits size before (Some node) few right same =
-    let extent : IsExtent size.rows size.cols = rw same at right.board.0 in
     record {
       head = record {
         heading = record { size_is = same; board = right.board };
-        opening = opening_fits size before node.heading node.rule same extent few right.rule;
+        opening = opening_fits size before node.heading node.rule same right.board few right.rule;
       };
       entries = rule_fits size before node.heading node.rule same few right.rule;
     }
@@ -212,6 +236,7 @@ lists_fit size Chain fits = tt
 lists_fit size (Links steps) fits = fits
 lists_fit size (Move cell child) fits = tt
 lists_fit size (All steps threats lines) fits = fits
+lists_fit size (Fill fills child) fits = fits.0
 
 pub each_lists_fit : (size : Extent) (nodes : List Node) → EachNodeFits size nodes → EachItem (λ node. ListsFit node.rule) nodes
 each_lists_fit size [] each k d less = absurd (omega arith)

@@ -4,6 +4,7 @@ pub mod PositionTexts
 pub mod PositionReads
 pub mod Spelling
 pub mod StepTexts
+pub mod FillTexts
 pub mod Entries
 pub mod TreeTexts
 pub mod Places

@@ -9,9 +9,9 @@ use Rattle.hx_board.specs.Cells.{Extent, IsExtent}
 use Rattle.hx_tree.specs.declared.nodes.Node.{Node}
 use Rattle.hx_text.specs.declared.node_lines.Head.{Head}
 use Rattle.hx_text.specs.declared.entries.Entry.{Entry}
-use Rattle.hx_text.specs.declared.entries.Entry.TheVariants.{Step as Step_entry, Threat as Threat_entry, Answer as Answer_entry}
+use Rattle.hx_text.specs.declared.entries.Entry.TheVariants.{Step as Step_entry, Threat as Threat_entry, Answer as Answer_entry, Fill as Fill_entry}
 use Rattle.hx_text.specs.declared.entries.EntryKind.{EntryKind}
-use Rattle.hx_text.specs.declared.entries.EntryKind.TheVariants.{Step as Step_kind, Threat as Threat_kind, Answer as Answer_kind}
+use Rattle.hx_text.specs.declared.entries.EntryKind.TheVariants.{Step as Step_kind, Threat as Threat_kind, Answer as Answer_kind, Fill as Fill_kind}
 use Rattle.hx_text.specs.declared.begun_nodes.Begun.{Begun}
 use Rattle.hx_text.specs.declared.places.SoFar.{SoFar}
 use Rattle.hx_text.specs.declared.places.Fed.{Fed}
@@ -24,7 +24,7 @@ use Rattle.hx_text.specs.declared.places.TreeFault.TheVariants.{Text, TooMany as
 use Rattle.hx_text.specs.declared.places.Stop.{Stop}
 use Rattle.hx_text.specs.declared.places.Stop.TheVariants.{Wrong, TooMany, Memory}
 use Rattle.hx_text.specs.Grammars.{Begins}
-use Rattle.hx_text.specs.Entries.{EachEntryFits, IsEntry, entries_for, entry_line, steps_told, threats_told, answers_told, entries_told}
+use Rattle.hx_text.specs.Entries.{EachEntryFits, IsEntry, entries_for, entry_line, steps_told, threats_told, answers_told, fills_told, entries_told}
 use Rattle.hx_text.specs.TreeTexts.{AreTreeLines, AreTreeLinesOf, EachNodeFits, NodeFits, IsRootWinner, HeadFits, title_line, front_lines, head_line, node_lines}
 
 -- the most nodes of a text
@@ -47,17 +47,22 @@ pub record StandsSoFar (so_far : SoFar) (nodes : List Node) (lines : List (List 
 
 -- the entries of a begun node
 abbrev pub entries_in : Begun → List Entry
-entries_in begun = entries_for begun.steps.items begun.threats.items begun.lines.items
+entries_in begun = entries_for begun.steps.items begun.threats.items begun.lines.items begun.fills.items
 
 -- how many entries there are of each kind, and that no kind began before the one before it was whole
 pub record IsInOrder (begun : Begun) : Type 0 where
   pub steps : length begun.steps.items ≤ steps_told begun.head.opening
   pub threats : length begun.threats.items ≤ threats_told begun.head.opening
   pub answers : length begun.lines.items ≤ answers_told begun.head.opening
+  pub fills : length begun.fills.items ≤ fills_told begun.head.opening
   pub threats_after_steps : 0 < length begun.threats.items → length begun.steps.items ≡ steps_told begun.head.opening
   pub answers_after_steps : 0 < length begun.lines.items → length begun.steps.items ≡ steps_told begun.head.opening
   pub answers_after_threats : 0 < length begun.lines.items → length begun.threats.items ≡ threats_told begun.head.opening
-  pub missing : length begun.steps.items + length begun.threats.items + length begun.lines.items + begun.missing ≡ entries_told begun.head.opening
+  pub fills_after_steps : 0 < length begun.fills.items → length begun.steps.items ≡ steps_told begun.head.opening
+  pub fills_after_threats : 0 < length begun.fills.items → length begun.threats.items ≡ threats_told begun.head.opening
+  pub fills_after_answers : 0 < length begun.fills.items → length begun.lines.items ≡ answers_told begun.head.opening
+  pub missing : length begun.steps.items + length begun.threats.items + length begun.lines.items + length begun.fills.items + begun.missing
+      ≡ entries_told begun.head.opening
 
 -- the lines so far are those of these nodes, and then of a node of which the entries that are missing may be none
 pub record StandsBegun (begun : Begun) (nodes : List Node) (lines : List (List ℕ)) : Type 0 where
@@ -132,16 +137,23 @@ EndsNode so_far node step =
 abbrev pub kind_due : Begun → EntryKind
 kind_due begun =
     if nat_lt (length begun.steps.items) (steps_told begun.head.opening) then Step_kind else
-    if nat_lt (length begun.threats.items) (threats_told begun.head.opening) then Threat_kind else Answer_kind
+    if nat_lt (length begun.threats.items) (threats_told begun.head.opening) then Threat_kind else
+    if nat_lt (length begun.lines.items) (answers_told begun.head.opening) then Answer_kind else Fill_kind
 
 -- the entry is added to the list of its kind
 abbrev pub IsAdded : Begun → Entry → Begun → Type 0
 IsAdded old (Step_entry step) new =
-    (new.steps.items ≡ old.steps.items ++ step ∷ []) × (new.threats.items ≡ old.threats.items) × (new.lines.items ≡ old.lines.items)
+    (new.steps.items ≡ old.steps.items ++ step ∷ []) × (new.threats.items ≡ old.threats.items)
+    × (new.lines.items ≡ old.lines.items) × (new.fills.items ≡ old.fills.items)
 IsAdded old (Threat_entry place) new =
-    (new.steps.items ≡ old.steps.items) × (new.threats.items ≡ old.threats.items ++ place ∷ []) × (new.lines.items ≡ old.lines.items)
+    (new.steps.items ≡ old.steps.items) × (new.threats.items ≡ old.threats.items ++ place ∷ [])
+    × (new.lines.items ≡ old.lines.items) × (new.fills.items ≡ old.fills.items)
 IsAdded old (Answer_entry line) new =
-    (new.steps.items ≡ old.steps.items) × (new.threats.items ≡ old.threats.items) × (new.lines.items ≡ old.lines.items ++ line ∷ [])
+    (new.steps.items ≡ old.steps.items) × (new.threats.items ≡ old.threats.items)
+    × (new.lines.items ≡ old.lines.items ++ line ∷ []) × (new.fills.items ≡ old.fills.items)
+IsAdded old (Fill_entry fill) new =
+    (new.steps.items ≡ old.steps.items) × (new.threats.items ≡ old.threats.items)
+    × (new.lines.items ≡ old.lines.items) × (new.fills.items ≡ old.fills.items ++ fill ∷ [])
 
 -- the begun node with one more entry
 pub record IsWithEntry (old : Begun) (entry : Entry) (new : Begun) : Type 0 where

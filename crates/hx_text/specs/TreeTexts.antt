@@ -6,16 +6,17 @@ use Rattle.hx_board.specs.Cells.{Extent, IsExtent, OnBoard}
 use Rattle.hx_board.specs.Positions.{IsBoard}
 use Rattle.hx_tree.specs.declared.nodes.Heading.{Heading}
 use Rattle.hx_tree.specs.declared.nodes.Rule.{Rule}
-use Rattle.hx_tree.specs.declared.nodes.Rule.TheVariants.{Chain, Links, Move, All}
+use Rattle.hx_tree.specs.declared.nodes.Rule.TheVariants.{Chain, Links, Move, All, Fill}
 use Rattle.hx_tree.specs.declared.nodes.Node.{Node}
 use Rattle.hx_tree.specs.Steps.{most_steps, most_threats}
 use Rattle.hx_tree.specs.Trees.{IsRoot}
 use Rattle.hx_text.specs.declared.node_lines.Opening.{Opening}
-use Rattle.hx_text.specs.declared.node_lines.Opening.TheVariants.{Chain as Chain_opening, Links as Links_opening, Move as Move_opening, All as All_opening}
+use Rattle.hx_text.specs.declared.node_lines.Opening.TheVariants.{Chain as Chain_opening, Links as Links_opening, Move as Move_opening, All as All_opening, Fill as Fill_opening}
 use Rattle.hx_text.specs.declared.node_lines.Head.{Head}
 use Rattle.hx_text.specs.Words.{spaced, mask_word, colour_word, cell_word, IsNumber}
 use Rattle.hx_text.specs.Grammars.{text_of}
 use Rattle.hx_text.specs.PositionTexts.{size_line}
+use Rattle.hx_text.specs.FillTexts.{most_fills}
 use Rattle.hx_text.specs.Entries.{most_answers, entry_line, entries_of, opening_of, EachEntryFits}
 
 abbrev pub opening_words : Opening → List (List ℕ)
@@ -23,6 +24,7 @@ opening_words Chain_opening = codes "chain" ∷ []
 opening_words (Links_opening steps) = codes "links" ∷ decimal steps ∷ []
 opening_words (Move_opening cell child) = codes "move" ∷ cell_word cell ∷ decimal child ∷ []
 opening_words (All_opening steps threats lines) = codes "all" ∷ decimal steps ∷ decimal threats ∷ decimal lines ∷ []
+opening_words (Fill_opening fills child) = codes "fill" ∷ decimal fills ∷ decimal child ∷ []
 
 -- the first line of a node
 abbrev pub head_of : Node → Head
@@ -63,6 +65,7 @@ OpeningFits size Chain_opening = Unit {0}
 OpeningFits size (Links_opening steps) = steps ≤ most_steps
 OpeningFits size (Move_opening cell child) = OnBoard size cell × IsNumber child
 OpeningFits size (All_opening steps threats lines) = (steps ≤ most_steps) × (threats ≤ most_threats) × (lines ≤ most_answers)
+OpeningFits size (Fill_opening fills child) = (fills ≤ most_fills) × IsNumber child
 
 -- a first line of a node on a board of this size
 pub record HeadFits (size : Extent) (head : Head) : Type 0 where
@@ -80,6 +83,7 @@ ListsFit Chain = Unit {0}
 ListsFit (Links steps) = length steps ≤ most_steps
 ListsFit (Move cell child) = Unit {0}
 ListsFit (All steps threats lines) = (length steps ≤ most_steps) × (length threats ≤ most_threats) × (length lines ≤ most_answers)
+ListsFit (Fill fills child) = length fills ≤ most_fills
 
 abbrev pub EachNodeFits : Extent → List Node → Type 0
 EachNodeFits size [] = Unit {0}

@@ -9,8 +9,9 @@ use crate::entries::{Entry, EntryKind, read_entry};
 use crate::node_lines::{Head, Opening};
 use crate::places::{Fed, Place, SoFar, Step, Stop};
 use hx_board::{Memory, Size};
+use hx_inferior::FillStep;
 use hx_link::Step as LinkStep;
-use hx_tree::{Line, Lines, Node, Rule, Steps, Threats};
+use hx_tree::{FillSteps, Line, Lines, Node, Rule, Steps, Threats};
 use std::alloc::Global;
 
 /// A node that lacks some of its entries, and what the nodes before it have said.
@@ -25,6 +26,7 @@ pub struct Begun {
     pub steps: Vec<LinkStep>,
     pub threats: Vec<u32>,
     pub lines: Vec<Line>,
+    pub fills: Vec<FillStep>,
 }
 
 impl Begun {
@@ -45,8 +47,10 @@ impl Begun {
             EntryKind::Step
         } else if self.threats.len() < opening.threats() as usize {
             EntryKind::Threat
-        } else {
+        } else if self.lines.len() < opening.answers() as usize {
             EntryKind::Answer
+        } else {
+            EntryKind::Fill
         }
     }
 
@@ -75,6 +79,12 @@ impl Begun {
                     return false;
                 }
                 self.lines.push_reserved(line);
+            }
+            Entry::Fill(fill) => {
+                if self.fills.len() == self.fills.capacity() {
+                    return false;
+                }
+                self.fills.push_reserved(fill);
             }
         }
         self.missing = self.missing.saturating_sub(1);
@@ -112,6 +122,10 @@ pub(crate) fn begin(alloc: Global, so_far: SoFar, head: Head) -> Result<Step, St
             };
             begin_lists(alloc, so_far, Head { heading, opening })
         }
+        Opening::Fill { fills, child } => {
+            let opening = Opening::Fill { fills, child };
+            begin_lists(alloc, so_far, Head { heading, opening })
+        }
     }
 }
 
@@ -123,13 +137,15 @@ fn begin_lists(alloc: Global, so_far: SoFar, head: Head) -> Result<Step, Stop>
     let steps = opening.steps();
     let threats = opening.threats();
     let answers = opening.answers();
+    let fills = opening.fills();
     let begun = Begun {
         so_far,
         head,
-        missing: u64::from(steps) + u64::from(threats) + u64::from(answers),
+        missing: u64::from(steps) + u64::from(threats) + u64::from(answers) + u64::from(fills),
         steps: Vec::with_capacity(alloc, steps as usize).map_err(|_| Stop::Memory)?,
         threats: Vec::with_capacity(alloc, threats as usize).map_err(|_| Stop::Memory)?,
         lines: Vec::with_capacity(alloc, answers as usize).map_err(|_| Stop::Memory)?,
+        fills: Vec::with_capacity(alloc, fills as usize).map_err(|_| Stop::Memory)?,
     };
     Ok(settled(begun))
 }
@@ -181,13 +197,25 @@ fn settled(begun: Begun) -> Step
         };
     }
     let heading = begun.head.heading;
-    let rule = rule_of(begun.head.opening, begun.steps, begun.threats, begun.lines);
+    let rule = rule_of(
+        begun.head.opening,
+        begun.steps,
+        begun.threats,
+        begun.lines,
+        begun.fills,
+    );
     with_node(begun.so_far, Node { heading, rule })
 }
 
 /// The rule that begins so and has these entries.
-fn rule_of(opening: Opening, steps: Vec<LinkStep>, threats: Vec<u32>, lines: Vec<Line>) -> Rule
-    ensures { result ≡ rule_for opening steps.items threats.items lines.items }
+fn rule_of(
+    opening: Opening,
+    steps: Vec<LinkStep>,
+    threats: Vec<u32>,
+    lines: Vec<Line>,
+    fills: Vec<FillStep>,
+) -> Rule
+    ensures { result ≡ rule_for opening steps.items threats.items lines.items fills.items }
 {
     let steps = Steps::new(steps);
     match opening {
@@ -198,6 +226,10 @@ fn rule_of(opening: Opening, steps: Vec<LinkStep>, threats: Vec<u32>, lines: Vec
             steps,
             threats: Threats::new(threats),
             lines: Lines::new(lines),
+        },
+        Opening::Fill { child, .. } => Rule::Fill {
+            steps: FillSteps::new(fills),
+            child,
         },
     }
 }

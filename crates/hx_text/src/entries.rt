@@ -1,13 +1,15 @@
-//! The entries of a node: its lines after the first, each a step, a threat or an answer to a move of the opponent. How many
-//! of each kind there are, and so which kind is due at which place, the node's first line says.
+//! The entries of a node: its lines after the first, each a step, a threat, an answer to a move of the opponent, or a fill
+//! step. How many of each kind there are, and so which kind is due at which place, the node's first line says.
 
 ghost use Rattle.std.specs.Prelude.{◌≡◌, IfOk};
 ghost use Rattle.hx_text.specs.Words.{Reads};
 ghost use Rattle.hx_text.specs.Entries.{IsEntry, entry_line};
 
-use crate::node_lines::read_answer;
+use crate::answer_lines::read_answer;
+use crate::fill_lines::read_fill;
 use crate::step_lines::{read_step, read_threat};
 use hx_board::{Memory, Size};
+use hx_inferior::FillStep;
 use hx_link::Step;
 use hx_tree::Line;
 use std::alloc::Global;
@@ -18,6 +20,7 @@ pub enum EntryKind {
     Step,
     Threat,
     Answer,
+    Fill,
 }
 
 /// A line of a node after its first.
@@ -27,6 +30,7 @@ pub enum Entry {
     /// The place of a threat among the steps.
     Threat(u32),
     Answer(Line),
+    Fill(FillStep),
 }
 
 /// The line of an entry of this kind. It takes memory for the parts of an Or alone, where they are more than eight.
@@ -52,6 +56,10 @@ pub(crate) fn read_entry(
         },
         EntryKind::Answer => match read_answer(size, line) {
             Some(answer) => Ok(Some(Entry::Answer(answer))),
+            None => Ok(None),
+        },
+        EntryKind::Fill => match read_fill(size, line) {
+            Some(fill) => Ok(Some(Entry::Fill(fill))),
             None => Ok(None),
         },
     }

@@ -1,8 +1,10 @@
 //! The texts of positions and of trees, read and written exactly.
 #![tactic(auto)]
 
+mod answer_lines;
 mod begun_nodes;
 mod entries;
+mod fill_lines;
 mod laws;
 mod lines;
 mod node_lines;

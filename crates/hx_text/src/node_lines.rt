@@ -1,17 +1,17 @@
-//! A node's first line, which tells its position, its mover, its winner, how its rule begins and how many entries follow;
-//! and the line of an answer to a move of the opponent.
+//! A node's first line, which tells its position, its mover, its winner, how its rule begins and how many entries follow.
 
 ghost use Rattle.std.specs.Prelude.{◌≡◌, ◌≢◌, ℕ, ◌≤◌, ◌∷◌, [], codes, IfSome, IfNone, MatchOption};
 ghost use Rattle.std.specs.Fmt.{decimal};
 ghost use Rattle.hx_board.specs.Cells.{OnBoard};
 ghost use Rattle.hx_tree.specs.Steps.{most_steps, most_threats};
 ghost use Rattle.hx_text.specs.Words.{Reads, IsNumber, cell_word};
-ghost use Rattle.hx_text.specs.Entries.{most_answers, answer_line, AnswerFits, steps_told, threats_told, answers_told};
+ghost use Rattle.hx_text.specs.FillTexts.{most_fills};
+ghost use Rattle.hx_text.specs.Entries.{most_answers, steps_told, threats_told, answers_told, fills_told};
 ghost use Rattle.hx_text.specs.TreeTexts.{opening_words, OpeningFits, head_line, HeadFits};
 
 use crate::words::Words;
 use hx_board::{Cell, Position, Size};
-use hx_tree::{Heading, Line};
+use hx_tree::Heading;
 
 /// How a rule begins: what a node's first line tells of it.
 #[derive(Clone, Copy, PartialEq, Eq, Debug)]
@@ -31,6 +31,11 @@ pub enum Opening {
         threats: u32,
         lines: u32,
     },
+    /// So many fill steps follow.
+    Fill {
+        fills: u32,
+        child: u32,
+    },
 }
 
 impl Opening {
@@ -39,7 +44,7 @@ impl Opening {
         ensures { result ≡ steps_told self.now }
     {
         match self {
-            Opening::Chain | Opening::Move { .. } => 0,
+            Opening::Chain | Opening::Move { .. } | Opening::Fill { .. } => 0,
             Opening::Links { steps } | Opening::All { steps, .. } => *steps,
         }
     }
@@ -49,7 +54,8 @@ impl Opening {
         ensures { result ≡ threats_told self.now }
     {
         match self {
-            Opening::Chain | Opening::Links { .. } | Opening::Move { .. } => 0,
+            Opening::Chain | Opening::Links { .. } | Opening::Move { .. } | Opening::Fill { .. } =>
+                0,
             Opening::All { threats, .. } => *threats,
         }
     }
@@ -59,8 +65,20 @@ impl Opening {
         ensures { result ≡ answers_told self.now }
     {
         match self {
-            Opening::Chain | Opening::Links { .. } | Opening::Move { .. } => 0,
+            Opening::Chain | Opening::Links { .. } | Opening::Move { .. } | Opening::Fill { .. } =>
+                0,
             Opening::All { lines, .. } => *lines,
+        }
+    }
+
+    /// How many fill steps follow, where they are all that follows.
+    pub(crate) fn fills(&self) -> u32
+        ensures { result ≡ fills_told self.now }
+    {
+        match self {
+            Opening::Chain | Opening::Links { .. } | Opening::Move { .. } | Opening::All { .. } =>
+                0,
+            Opening::Fill { fills, .. } => *fills,
         }
     }
 }
@@ -80,6 +98,9 @@ const MOST_THREATS: u32 = 128;
 
 /// The most lines that answer the opponent's moves: a board has no more cells.
 const MOST_ANSWERS: u32 = 121;
+
+/// The most fill steps of a node: each fills an empty cell at least.
+const MOST_FILLS: u32 = 121;
 
 /// The line `node BLACK WHITE MOVER WINNER OPENING`.
 pub(crate) fn read_head(size: Size, line: &[u8]) -> Option<Head>
@@ -113,6 +134,7 @@ fn read_opening(size: Size, words: &mut Words<'_>) -> Option<Opening>
         b"links" => read_links(words),
         b"move" => read_move(size, words),
         b"all" => read_all(words),
+        b"fill" => read_fills(words),
         _ => None,
     }
 }
@@ -167,17 +189,15 @@ fn read_all(words: &mut Words<'_>) -> Option<Opening>
     })
 }
 
-/// The line of an answer to a move of the opponent, `line CELL child NUMBER`.
-pub(crate) fn read_answer(size: Size, line: &[u8]) -> Option<Line>
-    ensures { Reads answer_line (AnswerFits size) line.now result }
+/// The rest of the opening `fill`: the words `FILLS CHILD`.
+fn read_fills(words: &mut Words<'_>) -> Option<Opening>
+    ensures some { IfSome result (λ opening. (fills child : ℕ) × (opening ≡ Opening.Fill fills child) × (fills ≤ most_fills) × IsNumber child
+        × (words.old ≡ decimal fills ∷ decimal child ∷ [])) }
+    ensures none { IfNone result ((fills child : ℕ) → fills ≤ most_fills → IsNumber child
+        → words.old ≡ decimal fills ∷ decimal child ∷ [] → ⊥) }
 {
-    // The proof takes from here that the size is one of a board.
-    let _rows = size.rows();
-    let mut words = Words::of(line);
-    words.keyword(b"line")?;
-    let cell = words.cell(size)?;
-    words.keyword(b"child")?;
+    let fills = words.count(MOST_FILLS)?;
     let child = words.number()?;
     words.end()?;
-    Some(Line::Child { cell, child })
+    Some(Opening::Fill { fills, child })
 }

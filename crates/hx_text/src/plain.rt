@@ -2,6 +2,7 @@
 //! compare the program with. Nothing here is shared with what the program reads and writes by.
 
 use hx_board::{Cell, Colour, Position, Size, Vertex};
+use hx_inferior::{FillStep, Kill};
 use hx_link::Step;
 use hx_tree::{Line, Node, Rule};
 use std::alloc::{AllocError, Global};
@@ -77,6 +78,10 @@ fn plain_rule(alloc: Global, rule: &Rule) -> Result<String, AllocError> {
             let lines = lines.items().len();
             format!(in alloc; "all {steps} {threats} {lines}")
         }
+        Rule::Fill { steps, child } => {
+            let steps = steps.items().len();
+            format!(in alloc; "fill {steps} {child}")
+        }
     }
 }
 
@@ -101,6 +106,7 @@ fn plain_entries(alloc: Global, rule: &Rule) -> Result<String, AllocError> {
             }
             Ok(text)
         }
+        Rule::Fill { steps, .. } => plain_fills(alloc, steps.items()),
     }
 }
 
@@ -144,6 +150,45 @@ fn plain_answer(alloc: Global, line: Line) -> Result<String, AllocError> {
         Line::Child { cell, child } => {
             let cell = plain_cell(alloc, cell)?;
             format!(in alloc; "line {cell} child {child}\n")
+        }
+        Line::Under { cell, better, kill } => {
+            let cell = plain_cell(alloc, cell)?;
+            let better = plain_cell(alloc, better)?;
+            match kill {
+                Kill::ByDead => format!(in alloc; "line {cell} dead {better}\n"),
+                Kill::ByPair(partner) => {
+                    let partner = plain_cell(alloc, partner)?;
+                    format!(in alloc; "line {cell} pair {better} {partner}\n")
+                }
+            }
+        }
+    }
+}
+
+/// The lines of these fill steps.
+fn plain_fills(alloc: Global, fills: &[FillStep]) -> Result<String, AllocError> {
+    let mut text = String::new(alloc);
+    for fill in fills {
+        let line = plain_fill(alloc, *fill)?;
+        text.push_str(line.as_str())?;
+    }
+    Ok(text)
+}
+
+fn plain_fill(alloc: Global, fill: FillStep) -> Result<String, AllocError> {
+    match fill {
+        FillStep::Other(cell) => {
+            let cell = plain_cell(alloc, cell)?;
+            format!(in alloc; "other {cell}\n")
+        }
+        FillStep::Dead(cell) => {
+            let cell = plain_cell(alloc, cell)?;
+            format!(in alloc; "dead {cell}\n")
+        }
+        FillStep::Pair(a, b) => {
+            let a = plain_cell(alloc, a)?;
+            let b = plain_cell(alloc, b)?;
+            format!(in alloc; "pair {a} {b}\n")
         }
     }
 }

@@ -4,13 +4,16 @@
 
 ghost use Rattle.std.specs.Prelude.{◌≡◌, ◌+◌, ◌≤◌, ◌++◌, ◌<◌, ◌∷◌, [], length, ◌↔◌, IsTrue};
 ghost use Rattle.std.specs.Fmt.{decimal};
-ghost use Rattle.hx_tree.specs.declared.nodes.Line.TheVariants.{Child};
+ghost use Rattle.hx_inferior.specs.declared.fills.FillStep.TheVariants.{Pair};
+ghost use Rattle.hx_inferior.specs.declared.dominations.Kill.TheVariants.{ByDead, ByPair};
+ghost use Rattle.hx_tree.specs.declared.nodes.Line.TheVariants.{Child, Under};
 ghost use Rattle.hx_link.specs.declared.steps.Step.TheVariants.{Base};
-ghost use Rattle.hx_text.specs.declared.node_lines.Opening.TheVariants.{Links, Move, All};
+ghost use Rattle.hx_text.specs.declared.node_lines.Opening.TheVariants.{Links, Move, All, Fill};
 ghost use Rattle.hx_text.specs.Words.{hex_digit, mask_word, colour_word, cell_word, spaced};
 ghost use Rattle.hx_text.specs.Grammars.{text_of};
 ghost use Rattle.hx_text.specs.PositionTexts.{size_line, stones_line, move_line, position_text};
 ghost use Rattle.hx_text.specs.StepTexts.{IsShortStep, vertex_word, step_line, threat_line};
+ghost use Rattle.hx_text.specs.FillTexts.{fill_line};
 ghost use Rattle.hx_text.specs.Entries.{opening_of, answer_line};
 ghost use Rattle.hx_text.specs.Spelling.{part_text};
 ghost use Rattle.hx_text.specs.TreeTexts.{ListsFit, opening_words, head_of, head_line, front_lines, end_line};
@@ -18,6 +21,7 @@ ghost use Rattle.hx_text.specs.TreeTexts.{ListsFit, opening_words, head_of, head
 use crate::values;
 use arrayvec::ArrayVec;
 use hx_board::{Cell, Colour, Mask, Position, Size, Vertex};
+use hx_inferior::{FillStep, Kill};
 use hx_link::Step;
 use hx_tree::{Line, Node, Rule};
 use itoa::Buffer;
@@ -182,6 +186,10 @@ impl Text {
     {
         match line {
             Line::Child { cell, child } => self.put_child(*cell, *child),
+            Line::Under { cell, better, kill } => match kill {
+                Kill::ByDead => self.put_under_dead(*cell, *better),
+                Kill::ByPair(partner) => self.put_under_pair(*cell, *better, *partner),
+            },
         }
     }
 
@@ -268,6 +276,67 @@ impl Text {
         self.put(b"\n");
     }
 
+    /// Puts the line of an answer by a better cell, with which the cell is dead.
+    fn put_under_dead(&mut self, cell: Cell, better: Cell)
+        requires { length self.old + 18 ≤ ROOM }
+        ensures { self.new ≡ self.old ++ (answer_line (Under cell better ByDead) ++ 10 ∷ []) }
+    {
+        self.put(b"line ");
+        self.put_cell(cell);
+        self.put(b" dead ");
+        self.put_cell(better);
+        self.put(b"\n");
+    }
+
+    /// Puts the line of an answer by a better cell, with which the cell is one of a pair with its partner.
+    fn put_under_pair(&mut self, cell: Cell, better: Cell, partner: Cell)
+        requires { length self.old + 22 ≤ ROOM }
+        ensures { self.new ≡ self.old ++ (answer_line (Under cell better (ByPair partner)) ++ 10 ∷ []) }
+    {
+        self.put(b"line ");
+        self.put_cell(cell);
+        self.put(b" pair ");
+        self.put_cell(better);
+        self.put(b" ");
+        self.put_cell(partner);
+        self.put(b"\n");
+    }
+
+    /// Puts the line of a fill step.
+    pub(crate) fn put_fill(&mut self, fill: &FillStep)
+        requires { length self.old + 13 ≤ ROOM }
+        ensures { self.new ≡ self.old ++ (fill_line fill.now ++ 10 ∷ []) }
+    {
+        match fill {
+            FillStep::Other(cell) => self.put_filled(b"other ", *cell),
+            FillStep::Dead(cell) => self.put_filled(b"dead ", *cell),
+            FillStep::Pair(a, b) => self.put_pair(*a, *b),
+        }
+    }
+
+    /// Puts the line of a fill step on one cell, which begins with this word and the space after it.
+    fn put_filled(&mut self, word: &[u8], cell: Cell)
+        requires room { length self.old + 13 ≤ ROOM }
+        requires short { length word.now ≤ 6 }
+        ensures { self.new ≡ self.old ++ (word.now ++ cell_word cell ++ 10 ∷ []) }
+    {
+        self.put(word);
+        self.put_cell(cell);
+        self.put(b"\n");
+    }
+
+    /// Puts the line of a fill step on the cells of a pair.
+    fn put_pair(&mut self, a: Cell, b: Cell)
+        requires { length self.old + 13 ≤ ROOM }
+        ensures { self.new ≡ self.old ++ (fill_line (Pair a b) ++ 10 ∷ []) }
+    {
+        self.put(b"pair ");
+        self.put_cell(a);
+        self.put(b" ");
+        self.put_cell(b);
+        self.put(b"\n");
+    }
+
     /// Puts the last line of a tree's text, which says how many nodes there are and who wins.
     pub(crate) fn put_end(&mut self, nodes: u32, winner: Colour)
         requires { length self.old + 21 ≤ ROOM }
@@ -324,6 +393,7 @@ impl Text {
                 threats.items().len() as u32,
                 lines.items().len() as u32,
             ),
+            Rule::Fill { steps, child } => self.put_fills(steps.items().len() as u32, *child),
         }
     }
 
@@ -349,6 +419,18 @@ impl Text {
         self.put_index(threats);
         self.put(b" ");
         self.put_index(lines);
+    }
+
+    /// Puts the words of a rule of so many fill steps and of the child that goes on.
+    fn put_fills(&mut self, fills: u32, child: u32)
+        requires { length self.old + 36 ≤ ROOM }
+        ensures text { self.new ≡ self.old ++ spaced (opening_words (Fill fills child)) }
+        ensures short { length self.new ≤ length self.old + 36 }
+    {
+        self.put(b"fill ");
+        self.put_index(fills);
+        self.put(b" ");
+        self.put_index(child);
     }
 
     /// Puts the words of a winning move and of the child that goes on.

@@ -4,6 +4,7 @@ ghost use Rattle.std.specs.Prelude.{IsTrue};
 ghost use Rattle.hx_text.specs.TreeTexts.{ListsFit};
 
 mod entries;
+mod fills;
 mod seeded;
 
 use crate::plain::{plain_position, plain_tree};
@@ -12,10 +13,11 @@ use crate::{
     write_end, write_heading, write_node, write_position, written_is_text,
 };
 use hx_board::Colour::{Black, White};
-use hx_board::{Colour, Mask, Position, Size};
+use hx_board::{Cell, Colour, Mask, Position, Size};
+use hx_inferior::{FillStep, Kill};
 use hx_io::MemorySink;
 use hx_link::{Parts, Step};
-use hx_tree::{Heading, Line, Lines, Node, Rule, Steps, Threats};
+use hx_tree::{FillSteps, Heading, Line, Lines, Node, Rule, Steps, Threats};
 use smallvec::SmallVec;
 use std::alloc::{AllocError, Global};
 use std::process::Abort;
@@ -123,8 +125,31 @@ fn by_all(
     Node { heading, rule }
 }
 
-/// The lines that answer moves to these cells of the board of 11 by 11, given by row and column, by these children.
-fn lines_of(alloc: Global, answers: &[(u8, u8, u32)]) -> Result<Vec<Line>, Fail> {
+/// The winner wins the position after these fill steps by a child.
+fn by_fill(
+    position: Position,
+    to_move: Colour,
+    winner: Colour,
+    fills: Vec<FillStep>,
+    child: u32,
+) -> Node {
+    let heading = Heading {
+        position,
+        to_move,
+        winner,
+    };
+    let steps = FillSteps::new(fills);
+    let rule = Rule::Fill { steps, child };
+    Node { heading, rule }
+}
+
+/// The lines that answer moves to these cells of the board of 11 by 11, given by row and column, by these children, and after
+/// them the lines of these dominated cells, each with its better cell.
+fn lines_of(
+    alloc: Global,
+    answers: &[(u8, u8, u32)],
+    dominated: &[(Cell, Cell, Kill)],
+) -> Result<Vec<Line>, Fail> {
     let size = Size::new(11, 11).ok_or("size")?;
     let mut lines = Vec::new(alloc);
     for (row, col, child) in answers {
@@ -132,6 +157,13 @@ fn lines_of(alloc: Global, answers: &[(u8, u8, u32)]) -> Result<Vec<Line>, Fail>
         lines.push(Line::Child {
             cell,
             child: *child,
+        })?;
+    }
+    for (cell, better, kill) in dominated {
+        lines.push(Line::Under {
+            cell: *cell,
+            better: *better,
+            kill: *kill,
         })?;
     }
     Ok(lines)
@@ -144,7 +176,7 @@ fn by_answers(
     winner: Colour,
     answers: &[(u8, u8, u32)],
 ) -> Result<Node, Fail> {
-    let lines = lines_of(alloc, answers)?;
+    let lines = lines_of(alloc, answers, &[])?;
     let none = Vec::new(alloc);
     Ok(by_all(position, winner, Vec::new(alloc), none, lines))
 }
@@ -198,6 +230,7 @@ fn lists_fit(rule: &Rule) -> bool
                 && threats.items().len() <= 128
                 && lines.items().len() <= 121
         }
+        Rule::Fill { steps, .. } => steps.items().len() <= 121,
     }
 }
 
@@ -343,7 +376,7 @@ end 5 black
 #[test]
 fn the_lines_of_a_node_are_read(rt: HostRuntime) -> Result<(), Fail> {
     let alloc = rt.alloc();
-    let answers = lines_of(alloc, &[(0, 0, 1), (0, 1, 3)])?;
+    let answers = lines_of(alloc, &[(0, 0, 1), (0, 1, 3)], &[])?;
     let rule = Rule::All {
         steps: Steps::new(Vec::new(alloc)),
         threats: Threats::new(Vec::new(alloc)),

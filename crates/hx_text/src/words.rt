@@ -1,7 +1,7 @@
 //! The words of a line, taken one after the other. Words are separated by exactly one space, so two spaces have an
 //! empty word between them, and a line begins and ends with a word.
 
-ghost use Rattle.std.specs.Prelude.{◌≡◌, ◌≢◌, ◌≤◌, ◌∷◌, [], MatchOption};
+ghost use Rattle.std.specs.Prelude.{◌≡◌, ◌≢◌, ◌≤◌, ◌∷◌, [], IfNone, MatchOption};
 ghost use Rattle.std.specs.Fmt.{decimal};
 ghost use Rattle.hx_board.specs.Cells.{OnBoard};
 ghost use Rattle.hx_board.specs.Graph.{IsVertex};
@@ -15,7 +15,7 @@ use std::marker::Model;
 
 /// The words of a line that are still to be taken, seen as a list of words.
 ///
-/// Where the next word is not of the kind asked for, the line is of no use any more.
+/// Where the next word is not of the kind asked for, the line is of no use any more, unless the call says otherwise.
 #[derive(Drop)]
 pub(crate) struct Words<'a> {
     rest: &'a [u8],
@@ -63,11 +63,12 @@ impl<'a> Words<'a> {
         }
     }
 
-    /// Takes a word that has to stand there.
+    /// Takes a given word, if it stands there. Where it does not, the words are as they were.
     pub(crate) fn keyword(&mut self, expected: &[u8]) -> Option<()>
         // A word has no space.
         requires { Lacks 32 expected.now }
-        ensures { Takes (λ _. expected.now) (λ _. Unit {0}) self.old result self.new }
+        ensures takes { Takes (λ _. expected.now) (λ _. Unit {0}) self.old result self.new }
+        ensures same { IfNone result (self.new ≡ self.old) }
     {
         if !self.more {
             return None;

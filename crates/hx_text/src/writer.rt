@@ -8,12 +8,14 @@ ghost use Rattle.hx_io.specs.Sinks.{TakesAll};
 ghost use Rattle.hx_text.specs.Grammars.{text_of};
 ghost use Rattle.hx_text.specs.PositionTexts.{position_text};
 ghost use Rattle.hx_text.specs.StepTexts.{step_line, threat_line};
+ghost use Rattle.hx_text.specs.FillTexts.{fill_line};
 ghost use Rattle.hx_text.specs.Entries.{answer_line, entry_line, entries_for, entries_of};
 ghost use Rattle.hx_text.specs.Spelling.{Spells, each_line, part_text, parts_text};
 ghost use Rattle.hx_text.specs.TreeTexts.{ListsFit, front_lines, node_lines, end_line};
 
 use crate::spelling::{ROOM, Text};
 use hx_board::{Colour, Position, Size};
+use hx_inferior::FillStep;
 use hx_io::{Failed, Sink, write_all};
 use hx_link::Step;
 use hx_tree::{Line, Node, Rule};
@@ -29,6 +31,9 @@ const THREAT_BYTES: usize = 18;
 
 /// No line of an answer is longer, with its LF.
 const ANSWER_BYTES: usize = 26;
+
+/// No line of a fill step is longer, with its LF.
+const FILL_BYTES: usize = 13;
 
 /// Writes the text of a position and of the player to move: five lines, each with its LF. After `Failed` the sink has
 /// taken no more than a part of it, from its beginning.
@@ -78,12 +83,13 @@ fn write_rule<K: Sink>(sink: &mut K, text: &mut Text, rule: &Rule) -> Result<(),
 {
     match rule {
         Rule::Chain | Rule::Move { .. } => Ok(()),
-        Rule::Links { steps } => write_entries(sink, text, steps.items(), &[], &[]),
+        Rule::Links { steps } => write_steps(sink, text, steps.items()),
         Rule::All {
             steps,
             threats,
             lines,
         } => write_entries(sink, text, steps.items(), threats.items(), lines.items()),
+        Rule::Fill { steps, .. } => write_fills(sink, text, steps.items()),
     }
 }
 
@@ -95,7 +101,7 @@ fn write_entries<K: Sink>(
     threats: &[u32],
     lines: &[Line],
 ) -> Result<(), Failed>
-    ensures bytes { Spells (K.taken sink.old) text.old (K.taken sink.new) text.new result (text_of (map entry_line (entries_for steps.now threats.now lines.now))) }
+    ensures bytes { Spells (K.taken sink.old) text.old (K.taken sink.new) text.new result (text_of (map entry_line (entries_for steps.now threats.now lines.now []))) }
     ensures cause { HasCause (K.faults sink.old) (K.faults sink.new) result }
 {
     write_steps(sink, text, steps)?;
@@ -199,6 +205,27 @@ fn write_answer<K: Sink>(sink: &mut K, text: &mut Text, line: &Line) -> Result<(
 {
     make_room(sink, text, ANSWER_BYTES)?;
     text.put_answer(line);
+    Ok(())
+}
+
+/// Spells the line of each fill step.
+fn write_fills<K: Sink>(sink: &mut K, text: &mut Text, fills: &[FillStep]) -> Result<(), Failed>
+    ensures bytes { Spells (K.taken sink.old) text.old (K.taken sink.new) text.new result (each_line fill_line fills.now) }
+    ensures cause { HasCause (K.faults sink.old) (K.faults sink.new) result }
+{
+    for fill in fills {
+        write_fill(sink, text, fill)?;
+    }
+    Ok(())
+}
+
+/// Spells the line of a fill step.
+fn write_fill<K: Sink>(sink: &mut K, text: &mut Text, fill: &FillStep) -> Result<(), Failed>
+    ensures bytes { Spells (K.taken sink.old) text.old (K.taken sink.new) text.new result (fill_line fill.now ++ 10 ∷ []) }
+    ensures cause { HasCause (K.faults sink.old) (K.faults sink.new) result }
+{
+    make_room(sink, text, FILL_BYTES)?;
+    text.put_fill(fill);
     Ok(())
 }
 

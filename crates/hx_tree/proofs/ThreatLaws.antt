@@ -1,14 +1,69 @@
--- Threats that are read one after the other: the cells that are kept are the empty ones that all threats so far share.
-use Rattle.std.proofs.Common.{◌≡◌, ℕ, ◌+◌, ◌<◌, ◌≤◌, true, List, length, get_or, sym, ap, ◌∙◌, subst, arith, ◌↔◌, ⊎_elim, Option, Some}
-use Rattle.std.specs.Prelude.{slice_get, IfSome, IsSomeAnd}
-use Rattle.std.proofs.lemmas.Bool.{cases_lt}
+-- Threats that are read one after the other: the cells that are kept are the empty ones that all threats so far share. And each
+-- cell is in the carriers of all threats, or outside that of some.
+use Rattle.std.proofs.Common.{◌≡◌, ℕ, zero, suc, ◌+◌, ◌<◌, ◌≤◌, true, false, List, [], ◌∷◌, length, get_or, refl, sym, ap, ◌∙◌, subst, arith, ◌↔◌, ◌⊎◌, inl, inr, ⊎_elim, Option, Some, None}
+use Rattle.std.specs.Prelude.{slice_get, IfSome, IsSomeAnd, Contains}
+use Rattle.std.proofs.lemmas.Bool.{cases_lt, cases_Bool, false≢true}
 use Rattle.std.proofs.lemmas.Option.{slice_get-get_or, slice_get_past}
 use Rattle.hx_board.specs.Sets.{has, intersection}
 use Rattle.hx_board.specs.Positions.{Board, IsEmpty}
 use Rattle.hx_board.proofs.SetLaws.{has-intersection_left, has-intersection_right, has-intersection_both}
 use Rattle.hx_link.specs.declared.links.Link.{Link}
-use Rattle.hx_tree.specs.Steps.{IsThreat, IsThreatOn, AreThreats, most_threats}
+use Rattle.hx_link.specs.Steps.{IsChainLink}
+use Rattle.hx_tree.specs.Steps.{IsThreat, IsThreatOn, AreThreats, IsInEachThreat, IsOutsideThreat, most_threats}
 use Rattle.hx_tree.specs.Answers.{IsToAnswer}
+
+-- what holds of each item holds of one that the list contains
+pub of_contained : {X : Type 0} (P : X → Type 0) (items : List X) (item : X) → ((k : ℕ) → IfSome (slice_get items k) P) → Contains items item → P item
+of_contained {X} P items item each found = let Q : Option X → Type 0 = λ o. IfSome o P in
+    subst Q (slice_get-get_or items found.0 item found.1 ∙ ap Some found.2) (each found.0)
+
+-- ---- each cell is in the carriers of all threats, or outside some
+
+-- a link at a place, in whose carrier the cell is not
+record LinkWithout (links : List Link) (place cell : ℕ) : Type 0 where
+  link : Link
+  there : slice_get links place ≡ Some link
+  outside : has link.carrier cell ≡ false
+
+in_or_outside : (links : List Link) (place cell : ℕ) (found : Option Link) → slice_get links place ≡ found → IsSomeAnd found IsChainLink
+    → IsSomeAnd found (λ link. has link.carrier cell ≡ true) ⊎ LinkWithout links place cell
+in_or_outside links place cell None there threat = absurd threat
+in_or_outside links place cell (Some link) there threat =
+    ⊎_elim inl (λ outside. inr (record { link = link; there = there; outside = outside })) (cases_Bool (has link.carrier cell))
+
+-- each cell is in the carriers of all threats, or outside some
+pub shared_or_outside : (links : List Link) (threats : List ℕ) (cell : ℕ) → ((k : ℕ) → IfSome (slice_get threats k) (IsThreat links))
+    → IsInEachThreat links threats cell ⊎ IsOutsideThreat links threats cell
+shared_or_outside links [] cell each = inl none
+  where
+    none : IsInEachThreat links [] cell
+    none zero = tt
+    none (suc k) = tt
+shared_or_outside links (place ∷ places) cell each =
+    ⊎_elim
+    (λ here. ⊎_elim (λ rest. inl (shared here rest)) (λ later. inr (outside_later later)) (shared_or_outside links places cell (λ k. each (suc k))))
+    (λ without. inr (record { place = place; is_threat = (0, omega arith, refl); link = without.link; there = without.there; outside = without.outside }))
+    (in_or_outside links place cell (slice_get links place) refl (each zero))
+  where
+    shared : IsSomeAnd (slice_get links place) (λ link. has link.carrier cell ≡ true) → IsInEachThreat links places cell → IsInEachThreat links (place ∷ places) cell
+    shared here rest zero = here
+    shared here rest (suc k) = rest k
+
+    outside_later : IsOutsideThreat links places cell → IsOutsideThreat links (place ∷ places) cell
+    outside_later later = record {
+      place = later.place;
+      is_threat = (suc later.is_threat.0, omega (arith, later.is_threat.1), later.is_threat.2);
+      link = later.link;
+      there = later.there;
+      outside = later.outside;
+    }
+
+pub outside-not_shared : (links : List Link) (threats : List ℕ) (cell : ℕ) → IsOutsideThreat links threats cell → ¬ IsInEachThreat links threats cell
+outside-not_shared links threats cell outside shared =
+    let Q : Option Link → Type 0 = λ o. IsSomeAnd o (λ link. has link.carrier cell ≡ true) in
+    false≢true (sym outside.outside ∙ subst Q outside.there (of_contained (λ (place : ℕ). Q (slice_get links place)) threats outside.place shared outside.is_threat))
+
+-- ---- threats one after the other
 
 module _ (board : Board) (links : List Link) (threats : List ℕ) where
   -- the cell is in the carrier of the link at a place
@@ -48,7 +103,7 @@ module _ (board : Board) (links : List Link) (threats : List ℕ) where
   module _ (count place carrier shared : ℕ) (less : count < length threats) (is : place ≡ get_or threats count place) (before : AreShared count shared) where
     pub one_more_shared : IsThreatOn links place carrier → AreShared (count + 1) (intersection shared carrier)
     one_more_shared threat =
-        let Joins : Option Link → Type 0 = λ o. IsSomeAnd o (λ link. Rattle.hx_link.specs.Steps.IsChainLink link) in
+        let Joins : Option Link → Type 0 = λ o. IsSomeAnd o (λ link. IsChainLink link) in
         let In : ℕ → Option Link → Type 0 = λ cell o. IsSomeAnd o (λ link. has link.carrier cell ≡ true) in
         record {
           each = more (IsThreat links) count place less is before.each (subst Joins (sym threat.there) threat.joins);

@@ -1,20 +1,23 @@
 -- When each move of the opponent's is answered that a node has to answer.
-use Rattle.std.specs.Prelude.{ℕ, List, map, slice_get, IsSomeAnd, IfSome, Contains, ◌≡◌}
+use Rattle.std.specs.Prelude.{ℕ, List, map, slice_get, IsSomeAnd, IfSome, Contains, ◌≡◌, ◌⊎◌}
 use Rattle.std.specs.List.{All}
 use Rattle.std.specs.List.Sorted.{IsStrictlyIncreasing}
 use Rattle.hx_board.specs.Colours.{other_of}
 use Rattle.hx_board.specs.Positions.{Board, IsEmpty, put}
+use Rattle.hx_inferior.specs.declared.dominations.Kill.{Kill}
+use Rattle.hx_inferior.specs.Inferior.{IsDominated}
 use Rattle.hx_link.specs.declared.links.Link.{Link}
 use Rattle.hx_link.specs.declared.steps.Step.{Step}
 use Rattle.hx_tree.specs.declared.nodes.Heading.{Heading}
 use Rattle.hx_tree.specs.declared.nodes.Line.{Line}
-use Rattle.hx_tree.specs.declared.nodes.Line.TheVariants.{Child}
+use Rattle.hx_tree.specs.declared.nodes.Line.TheVariants.{Child, Under}
 use Rattle.hx_tree.specs.Headings.{IsHeading}
-use Rattle.hx_tree.specs.Steps.{GiveLinks, AreThreats, IsInEachThreat}
+use Rattle.hx_tree.specs.Steps.{GiveLinks, AreThreats, IsInEachThreat, IsOutsideThreat}
 
 -- the cell that a line answers
 abbrev pub cell_of : Line → ℕ
 cell_of (Child cell child) = cell
+cell_of (Under cell better kill) = cell
 
 abbrev pub cells_of : List Line → List ℕ
 cells_of lines = map cell_of lines
@@ -30,17 +33,31 @@ pub record IsToAnswer (board : Board) (links : List Link) (threats : List ℕ) (
   pub empty : IsEmpty board cell
   pub shared : IsInEachThreat links threats cell
 
--- a child goes on from the opponent's stone on the line's cell
-abbrev pub IsRightLine : List Heading → Heading → Line → Type 0
-IsRightLine before heading (Child cell child) =
+-- some line answers the cell by a child
+abbrev pub HasChild : List Line → ℕ → Type 0
+HasChild lines cell = (child : ℕ) × Contains lines (Child cell child)
+
+-- an earlier heading says that the winner wins after the opponent's stone on the cell
+abbrev pub IsRightChild : List Heading → Heading → ℕ → ℕ → Type 0
+IsRightChild before heading cell child =
     IsSomeAnd (slice_get before child) (IsHeading (put heading.position (other_of heading.winner) cell) heading.winner heading.winner)
+
+-- the better cell dominates the cell for the opponent, and it has a line with a child or is outside the carrier of some threat
+pub record IsRightUnder (heading : Heading) (links : List Link) (threats : List ℕ) (lines : List Line) (cell better : ℕ) (kill : Kill) : Type 0 where
+  pub dominated : IsDominated heading.position (other_of heading.winner) better cell kill
+  pub answered : HasChild lines better ⊎ IsOutsideThreat links threats better
+
+-- a line has a right child, or names a better cell that is answered without a better one
+abbrev pub IsRightLine : List Heading → Heading → List Link → List ℕ → List Line → Line → Type 0
+IsRightLine before heading links threats lines (Child cell child) = IsRightChild before heading cell child
+IsRightLine before heading links threats lines (Under cell better kill) = IsRightUnder heading links threats lines cell better kill
 
 -- the threats are links of these; each cell to answer has exactly one line, in cell order, and there is no other line; and
 -- each line is right
 pub record AreAnswered (before : List Heading) (heading : Heading) (links : List Link) (threats : List ℕ) (lines : List Line) : Type 0 where
   pub threats_right : AreThreats links threats
   pub cells : AreInOrder (IsToAnswer heading.position links threats) (cells_of lines)
-  pub lines_right : (k : ℕ) → IfSome (slice_get lines k) (IsRightLine before heading)
+  pub lines_right : (k : ℕ) → IfSome (slice_get lines k) (IsRightLine before heading links threats lines)
 
 -- the opponent is to move and has a move, the steps are right, and his moves are answered by threats and lines
 pub record IsRightAll (before : List Heading) (heading : Heading) (steps : List Step) (threats : List ℕ) (lines : List Line) : Type 0 where

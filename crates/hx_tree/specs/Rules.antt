@@ -7,10 +7,11 @@ use Rattle.hx_link.specs.declared.steps.Step.{Step}
 use Rattle.hx_tree.specs.declared.nodes.Heading.{Heading}
 use Rattle.hx_tree.specs.declared.nodes.Node.{Node}
 use Rattle.hx_tree.specs.declared.nodes.Rule.{Rule}
-use Rattle.hx_tree.specs.declared.nodes.Rule.TheVariants.{Chain, Links, Move, All}
+use Rattle.hx_tree.specs.declared.nodes.Rule.TheVariants.{Chain, Links, Move, All, Fill}
 use Rattle.hx_tree.specs.Headings.{IsHeading}
 use Rattle.hx_tree.specs.Steps.{AreRightLinks}
 use Rattle.hx_tree.specs.Answers.{IsRightAll}
+use Rattle.hx_tree.specs.Fills.{IsRightFill}
 
 -- the winner moves to an empty cell, and an earlier heading says that it wins the position after that
 pub record IsRightMove (before : List Heading) (heading : Heading) (cell child : ℕ) : Type 0 where
@@ -24,15 +25,17 @@ IsRightRule before heading Chain = HasChain heading.position heading.winner
 IsRightRule before heading (Links steps) = AreRightLinks heading steps
 IsRightRule before heading (Move cell child) = IsRightMove before heading cell child
 IsRightRule before heading (All steps threats lines) = IsRightAll before heading steps threats lines
+IsRightRule before heading (Fill steps child) = IsRightFill before heading steps child
 
 -- a node is right after these headings: its board has a position on it, and its rule is right
 pub record IsRightNode (before : List Heading) (node : Node) : Type 0 where
   pub board : IsBoard node.heading.position
   pub rule : IsRightRule before node.heading node.rule
 
--- the steps of a rule
+-- the steps of a rule that give links
 abbrev pub steps_of : Rule → List Step
 steps_of Chain = []
 steps_of (Links steps) = steps
 steps_of (Move cell child) = []
 steps_of (All steps threats lines) = steps
+steps_of (Fill steps child) = []

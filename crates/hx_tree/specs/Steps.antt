@@ -1,5 +1,5 @@
 -- The links of a node's steps, and the threats among them.
-use Rattle.std.specs.Prelude.{◌≡◌, ◌-◌, ◌≤◌, ◌⊎◌, true, ℕ, List, [], length, slice_get, IfSome, IsSomeAnd}
+use Rattle.std.specs.Prelude.{◌≡◌, ◌-◌, ◌≤◌, ◌⊎◌, true, false, ℕ, List, [], length, Contains, slice_get, IfSome, IsSomeAnd}
 use Rattle.std.specs.declared.option.Option.TheVariants.{Some}
 use Rattle.hx_board.specs.declared.colours.Colour.{Colour}
 use Rattle.hx_board.specs.Sets.{has}
@@ -49,6 +49,14 @@ pub record AreThreats (links : List Link) (threats : List ℕ) : Type 0 where
 abbrev pub IsInEachThreat : List Link → List ℕ → ℕ → Type 0
 IsInEachThreat links threats cell =
     (k : ℕ) → IfSome (slice_get threats k) (λ place. IsSomeAnd (slice_get links place) (λ link. has link.carrier cell ≡ true))
+
+-- the carrier of some threat does not have the cell
+pub record IsOutsideThreat (links : List Link) (threats : List ℕ) (cell : ℕ) : Type 0 where
+  pub place : ℕ
+  pub is_threat : Contains threats place
+  pub link : Link
+  pub there : slice_get links place ≡ Some link
+  pub outside : has link.carrier cell ≡ false
 
 -- the place of a link on this carrier that joins the two sides, for the functions inside the crate
 pub record IsThreatOn (links : List Link) (place carrier : ℕ) : Type 0 where

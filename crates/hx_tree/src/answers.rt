@@ -4,13 +4,15 @@ ghost use Rattle.std.specs.Prelude.{◌≡◌, ◌↔◌, IsTrue, IfOk, IsOk, �
 ghost use Rattle.std.specs.List.{All};
 ghost use Rattle.hx_board.specs.Sets.{has};
 ghost use Rattle.hx_board.specs.Positions.{IsEmpty};
-ghost use Rattle.hx_tree.specs.Answers.{AreInOrder, AreAnswered, IsRightAll, IsRightLine, cell_of, cells_of};
+ghost use Rattle.hx_tree.specs.Answers.{AreInOrder, AreAnswered, HasChild, IsRightAll, cell_of, cells_of};
+ghost use Rattle.hx_tree.specs.Named.{IsRightGiven};
 
 use crate::headings::leads;
 use crate::lists::{Lines, Steps, Threats};
 use crate::nodes::{Heading, Line};
 use crate::steps::{cells_to_answer, links_of};
 use hx_board::{Mask, Memory, Position};
+use hx_inferior::dominates;
 use hx_link::Link;
 use std::alloc::Global;
 
@@ -65,7 +67,23 @@ fn check_answers(
     if !are_lines_of(cells, lines) {
         return false;
     }
-    are_right(before, heading, lines)
+    let leaves_a_threat = heading.position.empties().minus(cells);
+    let lost = leaves_a_threat.union(cells_with_child(lines));
+    are_right(before, heading, lost, lines)
+}
+
+/// The cells that lines answer by a child.
+fn cells_with_child(lines: &[Line]) -> Mask
+    ensures { (cell : ℕ) → (has result cell ≡ true) ↔ HasChild lines.now cell }
+{
+    let mut answered = Mask::empty();
+    for line in lines {
+        match line {
+            Line::Child { cell, .. } => answered = answered.with(*cell),
+            Line::Under { .. } => {}
+        }
+    }
+    answered
 }
 
 /// Whether the lines are for the cells of this set, each once and in cell order.
@@ -85,27 +103,31 @@ fn are_lines_of(cells: Mask, lines: &[Line]) -> bool
     answered == cells
 }
 
-/// Whether each line is right.
-fn are_right(before: &[Heading], heading: &Heading, lines: &[Line]) -> bool
+/// Whether each line is right, given the moves of the opponent that lose.
+fn are_right(before: &[Heading], heading: &Heading, lost: Mask, lines: &[Line]) -> bool
     requires { All (λ line. IsEmpty heading.now.position (cell_of line)) lines.now }
-    ensures { IsTrue result ↔ ((k : ℕ) → IfSome (slice_get lines.now k) (IsRightLine before.now heading.now)) }
+    ensures { IsTrue result ↔ ((k : ℕ) → IfSome (slice_get lines.now k) (IsRightGiven before.now heading.now lost)) }
 {
     for line in lines {
-        if !check_line(before, heading, line) {
+        if !check_line(before, heading, lost, line) {
             return false;
         }
     }
     true
 }
 
-/// Whether a line is right.
-fn check_line(before: &[Heading], heading: &Heading, line: &Line) -> bool
+/// Whether a line is right, given the moves of the opponent that lose.
+fn check_line(before: &[Heading], heading: &Heading, lost: Mask, line: &Line) -> bool
     requires { IsEmpty heading.now.position (cell_of line.now) }
-    ensures { IsTrue result ↔ IsRightLine before.now heading.now line.now }
+    ensures { IsTrue result ↔ IsRightGiven before.now heading.now lost line.now }
 {
     match line {
         Line::Child { cell, child } => {
             leads(before, heading, heading.winner.other(), *cell, *child)
+        }
+        Line::Under { cell, better, kill } => {
+            let opponent = heading.winner.other();
+            lost.has(*better) && dominates(&heading.position, opponent, *better, *cell, *kill)
         }
     }
 }

@@ -22,9 +22,22 @@ pub(crate) fn leads(
 {
     let mut expected = heading.position;
     expected.play(stone, cell);
+    says(before, child, &expected, stone.other(), heading.winner)
+}
+
+/// Whether an earlier heading at this place says that the winner wins this position with this mover.
+pub(crate) fn says(
+    before: &[Heading],
+    child: u32,
+    position: &Position,
+    mover: Colour,
+    winner: Colour,
+) -> bool
+    ensures { IsTrue result ↔ IsSomeAnd (slice_get before.now child) (IsHeading position.now mover winner) }
+{
     match before.get(child as usize) {
         None => false,
-        Some(next) => is_heading(next, &expected, stone.other(), heading.winner),
+        Some(next) => is_heading(next, position, mover, winner),
     }
 }
 

@@ -2,6 +2,7 @@
 #![tactic(auto)]
 
 mod answers;
+mod fills;
 mod headings;
 mod lists;
 mod nodes;
@@ -9,7 +10,7 @@ mod rules;
 mod steps;
 mod trees;
 
-pub use lists::{Lines, Steps, Threats};
+pub use lists::{FillSteps, Lines, Steps, Threats};
 pub use nodes::{Heading, Line, Node, Rule};
 pub use rules::check_node;
 pub use trees::{Verdict, check_tree};

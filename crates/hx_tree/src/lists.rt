@@ -5,10 +5,13 @@ ghost use Rattle.std.specs.Cmp.{partial_equiv_from_equiv};
 ghost use Rattle.std.specs.Cmp.Lexicographic.{pointwise, lists_per, lists_equiv, nat_list_eq_equiv};
 ghost use Rattle.hx_link.specs.contracts.steps.StepPartialEq.TheImpl.Laws.{laws-law as step_per};
 ghost use Rattle.hx_link.specs.contracts.steps.StepEq.TheImpl.Laws.{laws-law as step_equiv};
+ghost use Rattle.hx_inferior.specs.contracts.fills.FillStepPartialEq.TheImpl.Laws.{laws-law as fill_step_per};
+ghost use Rattle.hx_inferior.specs.contracts.fills.FillStepEq.TheImpl.Laws.{laws-law as fill_step_equiv};
 ghost use Rattle.hx_tree.specs.contracts.nodes.LinePartialEq.TheImpl.Laws.{laws-law as line_per};
 ghost use Rattle.hx_tree.specs.contracts.nodes.LineEq.TheImpl.Laws.{laws-law as line_equiv};
 
 use crate::nodes::Line;
+use hx_inferior::FillStep;
 use hx_link::Step;
 use std::marker::Model;
 
@@ -165,4 +168,56 @@ impl PartialEq for Lines {
 
 impl Eq for Lines {
     ghost laws = { lists_equiv line_equiv };
+}
+
+/// The fill steps of a node, in the order in which they are done.
+#[derive(Debug, Drop)]
+pub struct FillSteps {
+    items: Vec<FillStep>,
+}
+
+impl Model for FillSteps {
+    ghost use Rattle.std.specs.Prelude.{List};
+    ghost use Rattle.hx_inferior.specs.declared.fills.FillStep.{FillStep};
+
+    ghost Value = { List FillStep };
+
+    ghost view = { λ s. s.items.items };
+}
+
+impl FillSteps {
+    /// The list of these steps.
+    pub fn new(items: Vec<FillStep>) -> FillSteps
+        ensures { result ≡ items.items }
+    {
+        FillSteps { items }
+    }
+
+    /// The steps, in their order.
+    pub fn items(&self) -> &[FillStep]
+        ensures { result.now ≡ self.now }
+    {
+        self.items.as_slice()
+    }
+
+    /// The vector of the steps.
+    pub fn into_inner(self) -> Vec<FillStep>
+        ensures { result.items ≡ self }
+    {
+        self.items
+    }
+}
+
+impl PartialEq for FillSteps {
+    ghost eq = { pointwise ⟦<FillStep as PartialEq>⟧.eq };
+
+    ghost laws = { lists_per fill_step_per };
+
+    fn eq(&self, other: &FillSteps) -> bool {
+        self.items() == other.items()
+    }
+}
+
+impl Eq for FillSteps {
+    ghost laws = { lists_equiv fill_step_equiv };
 }

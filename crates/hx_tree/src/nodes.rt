@@ -4,8 +4,9 @@
 ghost use Rattle.std.specs.Prelude.{◌≡◌};
 ghost use Rattle.hx_tree.specs.Answers.{cell_of};
 
-use crate::lists::{Lines, Steps, Threats};
+use crate::lists::{FillSteps, Lines, Steps, Threats};
 use hx_board::{Cell, Colour, Position};
+use hx_inferior::Kill;
 
 /// What a node says: in this position, with this player to move, this player wins.
 #[derive(Clone, Copy, PartialEq, Eq, Debug)]
@@ -44,13 +45,31 @@ pub enum Rule {
         threats: Threats,
         lines: Lines,
     },
+
+    /// The cells are filled for the winner, by one step after the other, of which there is one at least. The winner wins the
+    /// position after them, with the same player to move, by the child, an earlier node of the tree.
+    Fill {
+        steps: FillSteps,
+        child: u32,
+    },
 }
 
 /// Why the winner wins after a move of the opponent.
 #[derive(Clone, Copy, PartialEq, Eq, Debug)]
 pub enum Line {
     /// After the opponent's move to the cell the winner wins by the child, an earlier node of the tree.
-    Child { cell: Cell, child: u32 },
+    Child {
+        cell: Cell,
+        child: u32,
+    },
+
+    /// The cell is dominated by the better cell, which has a Child line or lies outside some threat's carrier. The kill says
+    /// how the cell is killed by the opponent's move to the better one.
+    Under {
+        cell: Cell,
+        better: Cell,
+        kill: Kill,
+    },
 }
 
 impl Line {
@@ -59,7 +78,7 @@ impl Line {
         ensures { result ≡ cell_of self.now }
     {
         match self {
-            Line::Child { cell, .. } => *cell,
+            Line::Child { cell, .. } | Line::Under { cell, .. } => *cell,
         }
     }
 }

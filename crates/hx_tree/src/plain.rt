@@ -1,11 +1,13 @@
 //! The rules of valid trees once more, said as plainly as they can be, for the tests to compare the checker with. What link
-//! a step gives is asked of hx_link, which has a plain program of its own.
+//! a step gives is asked of hx_link, what a fill step does and whether a cell is dominated of hx_inferior. Both have plain
+//! programs of their own.
 
 ghost use Rattle.std.specs.Prelude.{◌<◌, ◌^◌, length};
 
 use crate::nodes::{Heading, Line, Node, Rule};
 use crate::trees::Verdict;
 use hx_board::{Cell, Colour, Groups, Position, Vertex, chain};
+use hx_inferior::{FillStep, dominates, fill_one};
 use hx_link::{Kind, Link, Step, result_of};
 use std::alloc::{AllocError, Global};
 
@@ -26,7 +28,7 @@ pub(crate) fn plain_verdict(alloc: Global, nodes: &[Node]) -> Result<Verdict, Al
 }
 
 /// Whether a node is right after these nodes.
-fn is_right(alloc: Global, earlier: &[Node], node: &Node) -> Result<bool, AllocError> {
+pub(crate) fn is_right(alloc: Global, earlier: &[Node], node: &Node) -> Result<bool, AllocError> {
     let heading = &node.heading;
     let winner_moves = heading.to_move == heading.winner;
     match &node.rule {
@@ -45,12 +47,18 @@ fn is_right(alloc: Global, earlier: &[Node], node: &Node) -> Result<bool, AllocE
         } => match links_of(alloc, heading, steps.items())? {
             None => Ok(false),
             Some(links) => {
-                let (links, threats) = (links.as_slice(), threats.items());
-                let is_answered = are_threats(links, threats)
-                    && each_is_answered(earlier, heading, links, threats, lines.items());
+                let answers = Answers {
+                    earlier,
+                    heading,
+                    links: links.as_slice(),
+                    threats: threats.items(),
+                    lines: lines.items(),
+                };
+                let is_answered = answers.have_threats() && answers.are_complete();
                 Ok(is_answered && !winner_moves && some_cell_is_empty(&heading.position))
             }
         },
+        Rule::Fill { steps, child } => Ok(fills_to(earlier, heading, steps.items(), *child)),
     }
 }
 
@@ -98,48 +106,105 @@ fn some_cell_is_empty(position: &Position) -> bool {
     false
 }
 
-/// Whether there are at most 128 threats, and at the place of each is a link from side to side.
-fn are_threats(links: &[Link], threats: &[u32]) -> bool {
-    for place in threats {
-        match links.get(*place as usize) {
-            Some(link) if is_from_side_to_side(link) => {}
-            _ => return false,
-        }
-    }
-    threats.len() <= 128
+/// What a node has to say to the moves of the opponent.
+#[derive(Clone, Copy)]
+struct Answers<'a> {
+    earlier: &'a [Node],
+    heading: &'a Heading,
+    links: &'a [Link],
+    threats: &'a [u32],
+    lines: &'a [Line],
 }
 
-/// Whether a stone of the opponent on this cell breaks each of the threats.
-fn breaks_all(links: &[Link], threats: &[u32], cell: Cell) -> bool {
-    for place in threats {
-        match links.get(*place as usize) {
-            Some(link) if link.carrier.has(cell) => {}
-            _ => return false,
-        }
-    }
-    true
-}
-
-/// Whether there are lines for the empty cells that break all threats, one after the other, and no other line.
-fn each_is_answered(
-    earlier: &[Node],
-    heading: &Heading,
-    links: &[Link],
-    threats: &[u32],
-    lines: &[Line],
-) -> bool {
-    let mut rest = lines;
-    for index in 0..121u8 {
-        if let Some(cell) = empty_cell(&heading.position, index)
-            && breaks_all(links, threats, cell)
-        {
-            match rest {
-                [line, more @ ..] if is_answer(earlier, heading, cell, line) => rest = more,
+impl Answers<'_> {
+    /// Whether there are at most 128 threats, and at the place of each is a link from side to side.
+    fn have_threats(&self) -> bool {
+        for place in self.threats {
+            match self.links.get(*place as usize) {
+                Some(link) if is_from_side_to_side(link) => {}
                 _ => return false,
             }
         }
+        self.threats.len() <= 128
     }
-    rest.is_empty()
+
+    /// Whether a stone of the opponent on this cell breaks each of the threats.
+    fn breaks_all(&self, cell: Cell) -> bool {
+        for place in self.threats {
+            match self.links.get(*place as usize) {
+                Some(link) if link.carrier.has(cell) => {}
+                _ => return false,
+            }
+        }
+        true
+    }
+
+    /// Whether there are lines for the empty cells that break all threats, one after the other, and no other line.
+    fn are_complete(&self) -> bool {
+        let mut rest = self.lines;
+        for index in 0..121u8 {
+            if let Some(cell) = empty_cell(&self.heading.position, index)
+                && self.breaks_all(cell)
+            {
+                match rest {
+                    [line, more @ ..] if self.is_answer(cell, line) => rest = more,
+                    _ => return false,
+                }
+            }
+        }
+        rest.is_empty()
+    }
+
+    /// Whether this line is for this cell and is right.
+    fn is_answer(&self, cell: Cell, line: &Line) -> bool {
+        match line {
+            Line::Child { cell: here, child } => {
+                *here == cell && leads_to(self.earlier, self.heading, cell, *child)
+            }
+            Line::Under {
+                cell: here,
+                better,
+                kill,
+            } => {
+                let position = &self.heading.position;
+                let opponent = self.heading.winner.other();
+                let loses = self.has_child(*better) || !self.breaks_all(*better);
+                *here == cell && loses && dominates(position, opponent, *better, cell, *kill)
+            }
+        }
+    }
+
+    /// Whether some line answers this cell by a child.
+    fn has_child(&self, cell: Cell) -> bool {
+        for line in self.lines {
+            match line {
+                Line::Child { cell: here, .. } if *here == cell => return true,
+                _ => {}
+            }
+        }
+        false
+    }
+}
+
+/// Whether there is some fill step, and the child has the position after them all, the same mover and the same winner.
+fn fills_to(earlier: &[Node], heading: &Heading, steps: &[FillStep], child: u32) -> bool {
+    let mut position = heading.position;
+    for step in steps {
+        match fill_one(&position, heading.winner, *step) {
+            Some(next) => position = next,
+            None => return false,
+        }
+    }
+    match earlier.get(child as usize) {
+        None => false,
+        Some(node) => {
+            let next = &node.heading;
+            !steps.is_empty()
+                && next.position == position
+                && next.to_move == heading.to_move
+                && next.winner == heading.winner
+        }
+    }
 }
 
 /// The cell with this index. None where it lies off the board or holds a stone.
@@ -149,15 +214,6 @@ fn empty_cell(position: &Position, index: u8) -> Option<Cell> {
         Some(cell)
     } else {
         None
-    }
-}
-
-/// Whether this line is for this cell and is right.
-fn is_answer(earlier: &[Node], heading: &Heading, cell: Cell, line: &Line) -> bool {
-    match line {
-        Line::Child { cell: here, child } => {
-            *here == cell && leads_to(earlier, heading, cell, *child)
-        }
     }
 }
 

@@ -5,6 +5,7 @@ ghost use Rattle.std.specs.Prelude.{◌≡◌, ◌↔◌, IsTrue, IsOk, IfOk, []
 ghost use Rattle.hx_tree.specs.Rules.{IsRightMove, IsRightNode, steps_of};
 
 use crate::answers::check_all;
+use crate::fills::check_fill;
 use crate::headings::leads;
 use crate::nodes::{Heading, Node, Rule};
 use crate::steps::check_links;
@@ -27,6 +28,7 @@ pub fn check_node(alloc: Global, before: &[Heading], node: &Node) -> Result<bool
             threats,
             lines,
         } => check_all(alloc, before, heading, steps, threats, lines),
+        Rule::Fill { steps, child } => Ok(check_fill(before, heading, steps.items(), *child)),
     }
 }
 

@@ -49,7 +49,7 @@ fn nodes_of_each_kind(alloc: Global) -> Result<Vec<Node>, Fail> {
     let threats = by_all(position, Black, Vec::new(alloc), threats, Vec::new(alloc));
     let steps = steps_of_each_kind(alloc)?;
     let most_threats = [128; 128].to_vec(alloc)?;
-    let lines = lines_of(alloc, &[(3, 4, 5), (10, 10, 4_294_967_295)])?;
+    let lines = lines_of(alloc, &[(3, 4, 5), (10, 10, 4_294_967_295)], &[])?;
     let all = by_all(position, White, steps, most_threats, lines);
     Ok(vec![in alloc; no_links, links, no_answers, threats, all]?)
 }
@@ -62,7 +62,7 @@ fn entries_are_written_and_read_back(rt: HostRuntime) -> Result<(), Fail> {
 }
 
 /// How a node's first line ends, how many nodes are whole with it, and the line that is wrong where none follows.
-const FIRST_LINES: [(&str, usize, u64); 9] = [
+const FIRST_LINES: [(&str, usize, u64); 13] = [
     ("links 0", 1, 4),
     ("all 0 0 0", 1, 4),
     ("links 8192", 0, 4),
@@ -72,6 +72,10 @@ const FIRST_LINES: [(&str, usize, u64); 9] = [
     ("all 8193 0 0", 0, 3),
     ("all 0 129 0", 0, 3),
     ("all 0 0 122", 0, 3),
+    ("fill 0 0", 1, 4),
+    ("fill 121 0", 0, 4),
+    ("fill 122 0", 0, 3),
+    ("fill 0", 0, 3),
 ];
 
 #[test]

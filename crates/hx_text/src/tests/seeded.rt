@@ -1,8 +1,9 @@
 //! Trees of nodes that look drawn by chance are read back.
 
-use super::{assert_read_back, by_all, by_chain, by_links, by_move, lines_of, or_of};
+use super::{assert_read_back, by_all, by_chain, by_fill, by_links, by_move, lines_of, or_of};
 use hx_board::Colour::{Black, White};
-use hx_board::{Colour, Mask, Position, Size, Vertex};
+use hx_board::{Cell, Colour, Mask, Position, Size, Vertex};
+use hx_inferior::{FillStep, Kill};
 use hx_link::Step;
 use hx_tree::Node;
 use std::alloc::{AllocError, Global};
@@ -105,11 +106,50 @@ impl Numbers {
         Ok(steps)
     }
 
-    /// A node by one of the four rules. Nothing of it need be right.
+    fn next_cell_of(&mut self, size: Size) -> Result<Cell, Fail> {
+        let (row, col) = self.next_cell();
+        Ok(size.cell(row, col).ok_or("cell")?)
+    }
+
+    /// Up to three dominated cells, each with its better cell and how it is killed.
+    fn next_dominated(
+        &mut self,
+        alloc: Global,
+        size: Size,
+    ) -> Result<Vec<(Cell, Cell, Kill)>, Fail> {
+        let mut dominated = Vec::new(alloc);
+        for _ in 0..self.next() % 4 {
+            let cell = self.next_cell_of(size)?;
+            let better = self.next_cell_of(size)?;
+            let kill = match self.next() % 2 {
+                0 => Kill::ByDead,
+                _ => Kill::ByPair(self.next_cell_of(size)?),
+            };
+            dominated.push((cell, better, kill))?;
+        }
+        Ok(dominated)
+    }
+
+    /// Up to seven fill steps.
+    fn next_fills(&mut self, alloc: Global, size: Size) -> Result<Vec<FillStep>, Fail> {
+        let mut fills = Vec::new(alloc);
+        for _ in 0..self.next() % 8 {
+            let cell = self.next_cell_of(size)?;
+            let fill = match self.next() % 3 {
+                0 => FillStep::Other(cell),
+                1 => FillStep::Dead(cell),
+                _ => FillStep::Pair(cell, self.next_cell_of(size)?),
+            };
+            fills.push(fill)?;
+        }
+        Ok(fills)
+    }
+
+    /// A node by one of the five rules. Nothing of it need be right.
     fn next_node(&mut self, alloc: Global, size: Size) -> Result<Node, Fail> {
         let position = self.next_position(size).ok_or("stones")?;
         let winner = self.next_colour();
-        match self.next() % 4 {
+        match self.next() % 5 {
             0 => Ok(by_chain(position, self.next_colour(), winner)),
             1 => {
                 let (row, col) = self.next_cell();
@@ -119,10 +159,17 @@ impl Numbers {
                 let steps = self.next_steps(alloc, size)?;
                 Ok(by_links(position, self.next_colour(), winner, steps))
             }
+            3 => {
+                let fills = self.next_fills(alloc, size)?;
+                let child = self.next_number();
+                Ok(by_fill(position, self.next_colour(), winner, fills, child))
+            }
             _ => {
                 let steps = self.next_steps(alloc, size)?;
                 let threats = self.next_numbers(alloc)?;
-                let lines = lines_of(alloc, &self.next_answers(alloc)?)?;
+                let answers = self.next_answers(alloc)?;
+                let dominated = self.next_dominated(alloc, size)?;
+                let lines = lines_of(alloc, &answers, &dominated)?;
                 Ok(by_all(position, winner, steps, threats, lines))
             }
         }

@@ -1,6 +1,6 @@
 use Rattle.std.proofs.Common.{◌-◌}
 use Rattle.hx_search.specs.Closed.{IsGrown}
-use Rattle.hx_search.specs.Reached.{AreRowsSettled}
+use Rattle.hx_search.specs.Progress.{AreRowsSettled}
 use Rattle.hx_search.proofs.ands.settle_ands.Given as goal
 
 abbrev pub invariant-loop-right : goal.invariant-loop-right

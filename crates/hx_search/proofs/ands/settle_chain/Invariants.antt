@@ -1,5 +1,5 @@
 use Rattle.hx_search.specs.Closed.{IsGrown}
-use Rattle.hx_search.specs.Reached.{IsChainSettledTo}
+use Rattle.hx_search.specs.Progress.{IsChainSettledTo}
 use Rattle.hx_search.proofs.AndLaws.{chain_left}
 use Rattle.hx_search.proofs.ands.settle_chain.Given as goal
 

@@ -1,5 +1,5 @@
 use Rattle.hx_search.specs.Closed.{IsGrown}
-use Rattle.hx_search.specs.Reached.{IsEndSettledBelow}
+use Rattle.hx_search.specs.Progress.{IsEndSettledBelow}
 use Rattle.hx_search.proofs.ands.settle_end.Given as goal
 
 abbrev pub invariant-loop-code : goal.invariant-loop-code

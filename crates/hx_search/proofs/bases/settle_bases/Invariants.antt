@@ -1,5 +1,5 @@
 use Rattle.hx_search.specs.Closed.{IsGrown}
-use Rattle.hx_search.specs.Reached.{AreBasesBelow}
+use Rattle.hx_search.specs.Progress.{AreBasesBelow}
 use Rattle.hx_search.proofs.bases.settle_bases.Given as goal
 
 abbrev pub invariant-loop-code : goal.invariant-loop-code

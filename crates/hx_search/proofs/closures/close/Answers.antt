@@ -1,6 +1,6 @@
 use Rattle.std.proofs.Common.{ℕ, ◌≤◌, length, sym, subst, arith}
 use Rattle.hx_linkset.specs.States.{Standing}
-use Rattle.hx_search.specs.Reached.{AreBasesBelow, AreRowsSettled}
+use Rattle.hx_search.specs.Progress.{AreBasesBelow, AreRowsSettled}
 use Rattle.hx_search.proofs.GrowthLaws.{grown-on}
 use Rattle.hx_search.proofs.BaseLaws.{below-on}
 use Rattle.hx_search.proofs.AndLaws.{rows-on}

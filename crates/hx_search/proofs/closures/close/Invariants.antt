@@ -1,6 +1,6 @@
 use Rattle.std.proofs.Common.{◌-◌, length}
 use Rattle.hx_search.specs.Closed.{IsGrown}
-use Rattle.hx_search.specs.Reached.{AreBasesBelow, AreRowsSettled}
+use Rattle.hx_search.specs.Progress.{AreBasesBelow, AreRowsSettled}
 use Rattle.hx_search.proofs.closures.close.Given as goal
 
 abbrev pub invariant-loop-set : goal.invariant-loop-set

@@ -1,6 +1,6 @@
 use Rattle.std.proofs.Common.{◌≡◌, ◌<◌, true, false, length}
 use Rattle.hx_search.specs.Closed.{IsGrown}
-use Rattle.hx_search.specs.Reached.{AreForksBelow}
+use Rattle.hx_search.specs.Progress.{AreForksBelow}
 use Rattle.hx_search.proofs.ors.join_all.Given as goal
 
 abbrev pub invariant-loop-code : goal.invariant-loop-code

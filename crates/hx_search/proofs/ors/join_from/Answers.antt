@@ -1,6 +1,6 @@
 use Rattle.std.proofs.Common.{◌≡◌, sym, ◌∙◌, subst, arith}
 use Rattle.hx_search.specs.Closed.{IsGrown}
-use Rattle.hx_search.specs.Reached.{AreForksOf}
+use Rattle.hx_search.specs.Progress.{AreForksOf}
 use Rattle.hx_linkset.specs.States.{Standing}
 use Rattle.hx_search.proofs.GrowthLaws.{grown-on}
 use Rattle.hx_search.proofs.VertexLaws.{size-extent, size-on}

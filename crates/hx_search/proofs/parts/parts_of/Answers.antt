@@ -4,7 +4,7 @@ use Rattle.std.specs.declared.option.Option.{Option}
 use Rattle.hx_link.specs.declared.links.Kind.TheVariants.{Semi}
 use Rattle.hx_linkset.specs.LiveOf.{IsLiveOf, IsFirstFrom}
 use Rattle.hx_linkset.proofs.PlaceLaws.{get-lt}
-use Rattle.hx_search.specs.Reached.{AreParts, IsFork}
+use Rattle.hx_search.specs.Progress.{AreParts, IsFork}
 use Rattle.hx_search.proofs.ForkLaws.{parts-one, share-one, share-same, share-more, parts-more, not-forked, fork-of}
 use Rattle.hx_search.proofs.parts.parts_of.Goals as goal
 

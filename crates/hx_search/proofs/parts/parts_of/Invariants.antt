@@ -1,7 +1,7 @@
 use Rattle.std.proofs.Common.{◌-◌, length}
 use Rattle.hx_link.specs.declared.links.Kind.TheVariants.{Semi}
 use Rattle.hx_linkset.specs.LiveOf.{IsLiveOf}
-use Rattle.hx_search.specs.Reached.{AreParts, AllShare}
+use Rattle.hx_search.specs.Progress.{AreParts, AllShare}
 use Rattle.hx_search.proofs.parts.parts_of.Given as goal
 
 abbrev pub invariant-loop-shared : goal.invariant-loop-shared

@@ -61,7 +61,7 @@ answers-loop-cell-preserved t c =
     let empty = before.inside c.in-Some.cell least.member in
     let proved = rw (c.loop-cell.invariant.kept, c.other.ensures, other-other c.args.winner) at c.in_ok-child.ensures.proved in
     let line : Line = Child c.in-Some.cell c.in_ok-child.child in
-    let pushed : c.push.new.self.items ≡ c.loop-cell.lines.items ++ line ∷ [] = search rules in
+    let pushed : c.extend_from_slice.new.self.items ≡ c.loop-cell.lines.items ++ line ∷ [] = search rules in
     let lines : List Line = c.loop-cell.lines.items in
     record {
       kept = c.after.ensures.kept ∙ c.loop-cell.invariant.kept;

@@ -9,5 +9,16 @@ returns c = λ nodes lines stands room fits.
     (begun_with_head _ nodes lines (grind (arith, c.with_capacity.ensures.items, c.map_err.ensures.cases, c.in_ok-map_err.was))
     (grind (arith, c.with_capacity-2.ensures.items, c.map_err-2.ensures.cases, c.in_ok-map_err-2.was))
     (grind (arith, c.with_capacity-3.ensures.items, c.map_err-3.ensures.cases, c.in_ok-map_err-3.was))
-    (omega (arith, c.from.ensures, c.from-2.ensures, c.from-3.ensures, c.steps-steps.ensures, c.threats-threats.ensures, c.answers-answers.ensures))
+    (grind (arith, c.with_capacity-4.ensures.items, c.map_err-4.ensures.cases, c.in_ok-map_err-4.was))
+    (omega (
+      arith,
+      c.from.ensures,
+      c.from-2.ensures,
+      c.from-3.ensures,
+      c.from-4.ensures,
+      c.steps-steps.ensures,
+      c.threats-threats.ensures,
+      c.answers-answers.ensures,
+      c.fills-fills.ensures,
+    ))
     stands room fits)

@@ -1,5 +1,5 @@
 -- Where nothing is missing the node is whole.
-use Rattle.std.proofs.Common.{arith, ap, ◌≡◌}
+use Rattle.std.proofs.Common.{arith, ap}
 use Rattle.hx_tree.specs.declared.nodes.Rule.{Rule}
 use Rattle.hx_tree.specs.declared.nodes.Node.{Node}
 use Rattle.hx_text.proofs.BegunSteps.{settled_whole}

@@ -1,0 +1,209 @@
+-- Which moves can kill a cell. A stone of the mover's joins nothing for the opponent, so what it makes dead for him it touches. What it
+-- joins for the mover was joined with its cell: so a pair that is new with it has an open neighbour that was joined with its cell.
+use Rattle.std.proofs.Common.{◌≡◌, ◌≢◌, ℕ, Bool, true, false, refl, sym, ◌∙◌, subst, inl, inr, ⊎_elim, ◌↔◌}
+use Rattle.std.specs.Prelude.{MatchOption}
+use Rattle.std.specs.declared.option.Option.{Option}
+use Rattle.std.specs.declared.option.Option.TheVariants.{None, Some}
+use Rattle.std.proofs.lemmas.Bool.{false≢true, false_from_ne_true}
+use Rattle.hx_board.specs.declared.colours.Colour.{Colour}
+use Rattle.hx_board.specs.declared.vertices.Vertex.{Vertex}
+use Rattle.hx_board.specs.declared.vertices.Vertex.TheVariants.{Of, First, Last}
+use Rattle.hx_board.specs.Colours.{other_of}
+use Rattle.hx_board.specs.Sets.{has, union, remove}
+use Rattle.hx_board.specs.Positions.{Board, IsEmpty, put}
+use Rattle.hx_board.specs.Graph.{Joined}
+use Rattle.hx_board.proofs.ColourLaws.{other-other, other-differs}
+use Rattle.hx_board.proofs.SetLaws.{has-union_left, has-union_right, has-remove_before}
+use Rattle.hx_board.proofs.StoneLaws.{size-put, stones-put, empty-put}
+use Rattle.hx_board.proofs.KeptStones.{joined_stays}
+use Rattle.hx_board.proofs.Joins.{joined-sym}
+use Rattle.hx_inferior.specs.declared.open_neighbours.Surroundings.{Surroundings}
+use Rattle.hx_inferior.specs.declared.dominations.Kill.{Kill}
+use Rattle.hx_inferior.specs.declared.dominations.Kill.TheVariants.{ByDead, ByPair}
+use Rattle.hx_inferior.specs.Inferior.{IsNotOthers, IsOpenNeighbour, IsDead, IsPair, IsDominated}
+use Rattle.hx_inferior.specs.Named.{IsAmong, AreOpen}
+use Rattle.hx_fill.specs.declared.makers.Makers.{Makers}
+use Rattle.hx_fill.specs.declared.turns.Worse.{Worse}
+use Rattle.hx_fill.specs.Makers.{IsMaker, AreMakers}
+use Rattle.hx_fill.specs.Views.{HoldsReached}
+use Rattle.hx_fill.specs.Unders.{IsWorse}
+use Rattle.hx_fill.proofs.MakerLaws.{removed, has-remove_other}
+use Rattle.hx_fill.proofs.JoinedAfter.{joined_before, joined_still, joined_over_stone}
+
+by_member : {P : Type 0} (set n : ℕ) → (has set n ≡ true → P) → (has set n ≡ false → P) → P
+by_member {P = P} set n has_it lacks = by_test (has set n) refl
+  where
+    by_test : (b : Bool) → has set n ≡ b → P
+    by_test true e = has_it e
+    by_test false e = lacks e
+
+-- ---- by a cell that becomes dead for the opponent
+
+module _ (board : Board) (mover : Colour) (better worse : ℕ) (around : Surroundings) (open_ones : AreOpen board (other_of mover) worse around) (apart : has around.cells better ≡ false) where
+  not_others_still : (v : Vertex) → IsOpenNeighbour board (other_of mover) worse v → IsNotOthers (put board mover better) (other_of mover) v
+  not_others_still (Of n) o = false_from_ne_true _ (λ held. ⊎_elim
+      (λ new. let P : ℕ → Type 0 = λ x. has around.cells x ≡ true in false≢true (sym apart ∙ subst P new.1 ((open_ones (Of n)).1 o)))
+      (λ was. false≢true (sym o.not_others ∙ was)) ((stones-put board mover (other_of (other_of mover)) better n).0 held))
+  not_others_still First o = tt
+  not_others_still Last o = tt
+
+  joined_without : (from to : Vertex) → Joined (put board mover better) (other_of mover) from to → Joined board (other_of mover) from to
+  joined_without from to joined = joined_stays (other_of mover) from to (put board mover better) board (record {
+    same_size = sym (size-put board mover better);
+    own = λ n h. ⊎_elim (λ new. absurd (other-differs mover new.0)) (λ was. was) ((stones-put board mover (other_of mover) better n).0 h);
+  }) joined
+
+  pub dead_before : IsDead (put board mover better) (other_of mover) worse → IsDead board (other_of mover) worse
+  dead_before dead = record {
+    empty = ((empty-put board mover better worse).0 dead.empty).0;
+    joined = λ one other differ o p. joined_without one other (dead.joined one other differ (still one o) (still other p));
+  }
+    where
+      still : (v : Vertex) → IsOpenNeighbour board (other_of mover) worse v → IsOpenNeighbour (put board mover better) (other_of mover) worse v
+      still v o = record { touch = rw size-put o.touch; not_others = not_others_still v o }
+
+pub killers_by_dead-neighbours : (board : Board) (mover : Colour) (worse : ℕ) (around : Surroundings) → AreOpen board (other_of mover) worse around → (IsDead board (other_of mover) worse → ⊥)
+    → (better : ℕ) → IsDominated board mover better worse ByDead → has around.cells better ≡ true
+killers_by_dead-neighbours board mover worse around open_ones not_dead better dominated =
+    by_member around.cells better (λ h. h) (λ apart. absurd (not_dead (dead_before board mover better worse around open_ones apart dominated.killed)))
+
+-- ---- by a cell that becomes one of a pair
+
+module _ (board : Board) (player : Colour) where
+  not_others_before : (n : ℕ) (v : Vertex) → IsNotOthers (put board player n) player v → IsNotOthers board player v
+  not_others_before n (Of m) not = false_from_ne_true _ (λ held. false≢true (sym not ∙ (stones-put board player (other_of player) n m).1 (inr held)))
+  not_others_before n First not = tt
+  not_others_before n Last not = tt
+
+  not_others_after : (n : ℕ) (v : Vertex) → IsNotOthers board player v → IsNotOthers (put board player n) player v
+  not_others_after n (Of m) not =
+      false_from_ne_true _ (λ held. ⊎_elim (λ new. other-differs player new.0) (λ was. false≢true (sym not ∙ was)) ((stones-put board player (other_of player) n m).0 held))
+  not_others_after n First not = tt
+  not_others_after n Last not = tt
+
+  open_before : (n cell : ℕ) (v : Vertex) → IsOpenNeighbour (put board player n) player cell v → IsOpenNeighbour board player cell v
+  open_before n cell v o = record { touch = rw size-put at o.touch; not_others = not_others_before n v o.not_others }
+
+  open_after : (n cell : ℕ) (v : Vertex) → IsOpenNeighbour board player cell v → IsOpenNeighbour (put board player n) player cell v
+  open_after n cell v o = record { touch = rw size-put o.touch; not_others = not_others_after n v o.not_others }
+
+-- no open neighbour of the cell is joined with the other one
+abbrev pub IsApart : Board → Colour → ℕ → ℕ → Type 0
+IsApart board player cell other = (v : Vertex) → IsOpenNeighbour board player cell v → Joined board player v (Of other) → ⊥
+
+module _ (board : Board) (player : Colour) (stone : ℕ) where
+  module _ (cell : ℕ) (apart : IsApart board player cell stone) where
+    same_joined : (v to : Vertex) → IsOpenNeighbour board player cell v → Joined (put board player stone) player v to → Joined board player v to
+    same_joined v to o joined = ⊎_elim (λ j. j) (λ both. absurd (apart v o both.0)) (joined_before board player stone v to joined)
+
+    -- a maker of the cell was one before a stone that none of its open neighbours was joined with
+    pub dead_without : (maker : ℕ) → IsEmpty board cell → cell ≢ maker → IsDead (put (put board player stone) player maker) player cell → IsDead (put board player maker) player cell
+    dead_without maker empty differ dead = record {
+      empty = (empty-put board player maker cell).1 (empty, differ);
+      joined = λ one other apart_ones o p. joined one other (open_before board player maker cell one o) (open_before board player maker cell other p) (dead.joined one other apart_ones (later one o) (later other p));
+    }
+      where
+        later : (v : Vertex) → IsOpenNeighbour (put board player maker) player cell v → IsOpenNeighbour (put (put board player stone) player maker) player cell v
+        later v o = open_after (put board player stone) player maker cell v (open_after board player stone cell v (open_before board player maker cell v o))
+
+        joined : (one other : Vertex) → IsOpenNeighbour board player cell one → IsOpenNeighbour board player cell other → Joined (put (put board player stone) player maker) player one other
+            → Joined (put board player maker) player one other
+        joined one other o p with_both = ⊎_elim
+            (λ j. joined_still board player maker one other (same_joined one other o j))
+            (λ both. joined_over_stone board player maker one other (same_joined one (Of maker) o both.0)
+            (joined-sym board player other (Of maker) (same_joined other (Of maker) p (joined-sym (put board player stone) player (Of maker) other both.1))))
+            (joined_before (put board player stone) player maker one other with_both)
+
+  pub maker_before : (a b : ℕ) → IsPair (put board player stone) player a b → IsApart board player a stone → IsMaker board player a b
+  maker_before a b pair apart =
+      let a_empty = ((empty-put board player stone a).0 pair.a_empty).0 in
+      record {
+        empty = ((empty-put board player stone b).0 pair.b_empty).0;
+        differ = λ e. pair.differ (sym e);
+        dead = dead_without a apart b a_empty pair.differ pair.a_dead;
+      }
+
+  pub pair_before : (a b : ℕ) → IsPair (put board player stone) player a b → IsApart board player a stone → IsApart board player b stone → IsPair board player a b
+  pair_before a b pair apart_a apart_b = record {
+    a_empty = ((empty-put board player stone a).0 pair.a_empty).0;
+    b_empty = ((empty-put board player stone b).0 pair.b_empty).0;
+    differ = pair.differ;
+    a_dead = (maker_before a b pair apart_a).dead;
+    b_dead = dead_without b apart_b a ((empty-put board player stone b).0 pair.b_empty).0 (λ e. pair.differ (sym e)) pair.b_dead;
+  }
+
+-- a cell that is a pair with no maker among the empty cells is a pair with none
+pub no_pair-by_makers : (board : Board) (player : Colour) (cell among : ℕ) (makers : Makers) → AreMakers board player cell among makers
+    → ((n : ℕ) → IsEmpty board n → has among n ≡ true) → ((n : ℕ) → has makers.cells n ≡ true → ¬ IsPair board player cell n) → (n : ℕ) → ¬ IsPair board player cell n
+no_pair-by_makers board player cell among makers are all none n pair =
+    none n ((are.cells n).1 (all n pair.b_empty, record { empty = pair.b_empty; differ = λ e. pair.differ (sym e); dead = pair.a_dead })) pair
+
+-- a partner after a move is one that makes the move a better one
+pub partner-dominates : (board : Board) (mover : Colour) (better worse : ℕ) (makers : ℕ) (found : Option ℕ) → IsEmpty board better → IsEmpty board worse → better ≢ worse
+    → (((n : ℕ) → has makers n ≡ true → ¬ IsPair (put board mover better) mover worse n) → (n : ℕ) → ¬ IsPair (put board mover better) mover worse n)
+    → MatchOption found ((n : ℕ) → has makers n ≡ true → ¬ IsPair (put board mover better) mover worse n) (λ n. (has makers n ≡ true) × IsPair (put board mover better) mover worse n)
+    → MatchOption found ((n : ℕ) → ¬ IsDominated board mover better worse (ByPair n)) (λ n. IsDominated board mover better worse (ByPair n))
+partner-dominates board mover better worse makers None empty worse_empty differ all none = λ n dominated. all none n dominated.killed
+partner-dominates board mover better worse makers (Some partner) empty worse_empty differ all is = record { better_empty = empty; worse_empty = worse_empty; differ = differ; killed = is.1 }
+
+module _ (board : Board) (mover : Colour) (worse : ℕ) where
+  not_reached : (cell better near : ℕ) → IsEmpty board better → HoldsReached board mover cell near → has near better ≡ false → IsApart board mover cell better
+  not_reached cell better near empty holds misses v o joined =
+      false≢true (sym misses ∙ holds v o better empty.on_board joined)
+
+  pub killers_by_pair-reached : (empties : ℕ) (makers : Makers) (near near_makers : ℕ) → ((n : ℕ) → (has empties n ≡ true) ↔ IsEmpty board n) → AreMakers board mover worse empties makers
+      → ((partner : ℕ) → has makers.cells partner ≡ true → ¬ IsPair board mover worse partner)
+      → HoldsReached board mover worse near → ((cell : ℕ) → has makers.cells cell ≡ true → HoldsReached board mover cell near_makers)
+      → (better partner : ℕ) → IsDominated board mover better worse (ByPair partner) → has (union near near_makers) better ≡ true
+  killers_by_pair-reached empties makers near near_makers empties_are makers_are no_pair holds holds_each better partner dominated =
+      by_member near better (λ h. has-union_left near near_makers better h) (λ misses. has-union_right near near_makers better (by_maker misses))
+    where
+      by_maker : has near better ≡ false → has near_makers better ≡ true
+      by_maker misses = by_member near_makers better (λ h. h) (λ none. absurd (no_pair partner among (pair_before board mover better worse partner dominated.killed apart
+          (not_reached partner better near_makers dominated.better_empty (holds_each partner among) none))))
+        where
+          apart : IsApart board mover worse better
+          apart = not_reached worse better near dominated.better_empty holds misses
+
+          maker : IsMaker board mover worse partner
+          maker = maker_before board mover better worse partner dominated.killed apart
+
+          among : has makers.cells partner ≡ true
+          among = (makers_are.cells partner).1 ((empties_are partner).1 maker.empty, maker)
+
+-- outside of the two sets no cell is better
+pub better-possible : (board : Board) (mover : Colour) (worse : Worse) → IsWorse board mover worse → (better : ℕ) (kill : Kill) → IsDominated board mover better worse.cell kill
+    → has (union worse.by_dead worse.by_pair) better ≡ true
+better-possible board mover worse is better ByDead dominated = has-union_left worse.by_dead worse.by_pair better (is.by_dead better dominated)
+better-possible board mover worse is better (ByPair partner) dominated = has-union_right worse.by_dead worse.by_pair better (is.by_pair better partner dominated)
+
+-- ---- the open neighbours after the move
+
+module _ (board : Board) (mover : Colour) (better cell : ℕ) (around : Surroundings) where
+  pub open-own_after : AreOpen board mover cell around → AreOpen (put board mover better) mover cell around
+  open-own_after open_ones v = ((λ among. open_after board mover better cell v ((open_ones v).0 among)), (λ o. (open_ones v).1 (open_before board mover better cell v o)))
+
+  pub open-others_after : AreOpen board (other_of mover) cell around → AreOpen (put board mover better) (other_of mover) cell (record around { cells = remove around.cells better })
+  open-others_after open_ones v = (to_open v, to_among v)
+    where
+      to_open : (v : Vertex) → IsAmong (record around { cells = remove around.cells better }) v → IsOpenNeighbour (put board mover better) (other_of mover) cell v
+      to_open (Of n) among =
+          let was = (open_ones (Of n)).0 (has-remove_before around.cells better n among) in
+          record {
+            touch = rw size-put was.touch;
+            not_others = false_from_ne_true _ (λ held. ⊎_elim
+                (λ new. let P : ℕ → Type 0 = λ x. has (remove around.cells better) x ≡ true in false≢true (sym (removed around.cells better) ∙ subst P new.1 among))
+                (λ before. false≢true (sym was.not_others ∙ before)) ((stones-put board mover (other_of (other_of mover)) better n).0 held));
+          }
+      to_open First among = record { touch = rw size-put ((open_ones First).0 among).touch; not_others = tt }
+      to_open Last among = record { touch = rw size-put ((open_ones Last).0 among).touch; not_others = tt }
+
+      to_among : (v : Vertex) → IsOpenNeighbour (put board mover better) (other_of mover) cell v → IsAmong (record around { cells = remove around.cells better }) v
+      to_among (Of n) o = has-remove_other around.cells better n
+          (λ same. false≢true (sym o.not_others ∙ (stones-put board mover (other_of (other_of mover)) better n).1 (inl (sym (other-other mover), same))))
+          ((open_ones (Of n)).1 (record {
+            touch = rw size-put at o.touch;
+            not_others = false_from_ne_true _ (λ held. false≢true (sym o.not_others ∙ (stones-put board mover (other_of (other_of mover)) better n).1 (inr held)));
+          }))
+      to_among First o = (open_ones First).1 (record { touch = rw size-put at o.touch; not_others = tt })
+      to_among Last o = (open_ones Last).1 (record { touch = rw size-put at o.touch; not_others = tt })

@@ -1,0 +1,12 @@
+pub mod JoinedAfter
+pub mod MakerLaws
+pub mod GrowthLaws
+pub mod FillLaws
+pub mod RoundLaws
+pub mod WinnerLaws
+pub mod CountLaws
+pub mod ThreatLaws
+pub mod ViewLaws
+pub mod ReachLaws
+pub mod KillerLaws
+pub mod UnderLaws

@@ -1,0 +1,13 @@
+use Rattle.std.proofs.Common.{sym}
+use Rattle.hx_board.proofs.StoneLaws.{empty-put}
+use Rattle.hx_fill.proofs.KillerLaws.{open-others_after}
+use Rattle.hx_fill.proofs.turns.Turn.is_dead_after.Goals as goal
+
+pub makers_of-makers-requires-clause-empty : goal.makers_of-makers-requires-clause-empty
+makers_of-makers-requires-clause-empty c =
+    rw c.after-others.ensures ((empty-put c.args.self.now.position c.args.self.now.mover c.args.better c.args.worse.now.cell).1 (c.requires.worse.empty, λ e. c.requires.differ (sym e)))
+
+pub makers_of-makers-requires-clause-around : goal.makers_of-makers-requires-clause-around
+makers_of-makers-requires-clause-around c =
+    rw (c.after-others.ensures, c.other-other.ensures, c.without-around.ensures)
+    (open-others_after c.args.self.now.position c.args.self.now.mover c.args.better c.args.worse.now.cell c.args.worse.now.others c.requires.worse.others)

@@ -1,0 +1,10 @@
+use Rattle.std.proofs.Common.{sym, ◌∙◌}
+use Rattle.std.proofs.lemmas.Bool.{false≢true}
+use Rattle.hx_fill.proofs.KillerLaws.{killers_by_dead-neighbours}
+use Rattle.hx_fill.proofs.turns.Turn.killers_by_dead.Goals as goal
+
+pub returns : goal.returns
+returns c =
+    let makers = rw (c.of-others.ensures, c.other.ensures) at c.makers_of-makers.ensures in
+    killers_by_dead-neighbours c.args.self.now.position c.args.self.now.mover c.args.cell c.args.around.now c.requires.around
+    (λ dead. false≢true (sym c.if-makers.false ∙ makers.dead.1 dead))

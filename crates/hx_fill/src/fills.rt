@@ -1,0 +1,43 @@
+//! What fill-in leaves behind: the steps that were done and the position after them.
+
+ghost use Rattle.std.specs.Prelude.{OnOk};
+ghost use Rattle.hx_inferior.specs.Inferior.{MayFill};
+ghost use Rattle.hx_fill.specs.Rounds.{DoesStep};
+
+use hx_board::{Colour, Memory, Position};
+use hx_inferior::{FillStep, after_fill};
+
+/// One step of fill-in, and the player whose stones it puts.
+#[derive(Clone, Copy, PartialEq, Eq, Debug)]
+pub struct Fill {
+    /// The player for whom the step is right, whoever wins: its cells are dead or a captured pair for that player.
+    pub colour: Colour,
+
+    /// The step.
+    pub step: FillStep,
+}
+
+/// A position after some steps, and these steps in the order in which they were done.
+#[derive(Drop)]
+pub struct Filled {
+    /// The position after the last step.
+    pub position: Position,
+
+    /// The steps, the first one first.
+    pub steps: Vec<Fill>,
+}
+
+impl Filled {
+    /// Does a step that is right for the player.
+    pub(crate) fn add(&mut self, colour: Colour, step: FillStep) -> Result<(), Memory>
+        requires { MayFill self.old.position colour step }
+        ensures { OnOk result (DoesStep colour step self.old.position self.old.steps.items self.new.position self.new.steps.items) }
+    {
+        if self.steps.reserve(1).is_err() {
+            return Err(Memory);
+        }
+        self.position = after_fill(&self.position, colour, &step);
+        self.steps.push_reserved(Fill { colour, step });
+        Ok(())
+    }
+}

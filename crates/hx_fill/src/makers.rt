@@ -1,0 +1,111 @@
+//! Which further stone of a player would make a cell dead for that player.
+//!
+//! A stone on b joins two vertices that were not joined exactly where both were joined with b. So with a stone on b a cell is
+//! dead where each of its open neighbours is joined with all of them, or is joined with b. To know all such b takes one look
+//! at each open neighbour, and no flood. Two cells are a captured pair where each makes the other dead.
+
+ghost use Rattle.std.specs.Prelude.{◌≡◌, ℕ, true, false, IsTrue, MatchOption};
+ghost use Rattle.hx_board.specs.Sets.{has};
+ghost use Rattle.hx_board.specs.Cells.{OnBoard};
+ghost use Rattle.hx_board.specs.Positions.{IsEmpty};
+ghost use Rattle.hx_inferior.specs.Inferior.{IsPair};
+ghost use Rattle.hx_inferior.specs.Named.{AreOpen};
+ghost use Rattle.hx_fill.specs.Makers.{AreMakers, IsNarrowed, AreNarrowed, AreMakersAmong};
+
+use crate::views::View;
+use hx_board::{Cell, Mask, Vertex};
+use hx_inferior::{Surroundings, is_among, is_within, open_around};
+
+/// What is known of an empty cell, for one player.
+#[derive(Clone, Copy, PartialEq, Eq, Debug)]
+pub(crate) struct Makers {
+    /// The other empty cells, of those that were asked about, on which a stone of the player makes the cell dead, or leaves it so.
+    pub(crate) cells: Mask,
+
+    /// Whether the cell is dead.
+    pub(crate) is_dead: bool,
+}
+
+/// What is known of an empty cell with these open neighbours, and its makers among some cells. The fewer these are, the sooner
+/// none of them is left.
+pub(crate) fn makers_of(view: &View, cell: Cell, around: &Surroundings, among: Mask) -> Makers
+    requires empty { IsEmpty view.now.board cell }
+    requires around { AreOpen view.now.board view.now.player cell around.now }
+    ensures { AreMakers view.now.board view.now.player cell among result }
+{
+    let all = Makers {
+        is_dead: true,
+        cells: view.position().empties().meet(among).without(cell),
+    };
+    let by_first = narrowed(view, &all, around, &Vertex::First);
+    let by_sides = narrowed(view, &by_first, around, &Vertex::Last);
+    narrowed_by_cells(view, &by_sides, around)
+}
+
+/// The first of some cells, each of which makes the cell dead, that is a pair with the cell.
+pub(crate) fn partner_of(view: &View, cell: Cell, makers: Mask) -> Option<Cell>
+    requires empty { IsEmpty view.now.board cell }
+    requires makers { AreMakersAmong view.now.board view.now.player cell makers }
+    ensures { MatchOption result ((other : ℕ) → has makers other ≡ true → ¬ IsPair view.now.board view.now.player cell other)
+        (λ other. (has makers other ≡ true) × IsPair view.now.board view.now.player cell other) }
+{
+    let size = view.position().size();
+    let mut left = makers;
+    while let Some(other) = left.least(size) {
+        left = left.without(other);
+        let around = open_around(view.position(), view.colour(), other);
+        let back = makers_of(view, other, &around, Mask::empty().with(cell));
+        let is_pair = back.cells.has(cell);
+        if is_pair {
+            return Some(other);
+        }
+    }
+    None
+}
+
+/// What is left of the makers after a look at one vertex, if it is an open neighbour.
+fn narrowed(view: &View, makers: &Makers, around: &Surroundings, vertex: &Vertex) -> Makers
+    requires around { (n : ℕ) → has around.now.cells n ≡ true → OnBoard view.now.board.size n }
+    requires makers { (n : ℕ) → has makers.now.cells n ≡ true → OnBoard view.now.board.size n }
+    ensures { IsNarrowed view.now.board view.now.player around.now vertex.now makers.now result }
+{
+    if !is_among(around, vertex) {
+        return *makers;
+    }
+    let reach = view.joined_with(*vertex);
+    if is_within(around, &reach) {
+        return *makers;
+    }
+    Makers {
+        is_dead: false,
+        cells: makers.cells.meet(reach.cells),
+    }
+}
+
+/// What is left of the makers after a look at each cell among the open neighbours.
+fn narrowed_by_cells(view: &View, makers: &Makers, around: &Surroundings) -> Makers
+    requires around { (n : ℕ) → has around.now.cells n ≡ true → OnBoard view.now.board.size n }
+    requires makers { (n : ℕ) → has makers.now.cells n ≡ true → OnBoard view.now.board.size n }
+    ensures { AreNarrowed view.now.board view.now.player around.now 0 makers.now result }
+{
+    let size = view.position().size();
+    let mut found = *makers;
+    let mut left = around.cells;
+    while let Some(next) = left.least(size) {
+        left = left.without(next);
+        found = narrowed(view, &found, around, &Vertex::Of(next));
+        // For most cells no maker is left after a few neighbours.
+        if has_none(&found) {
+            return found;
+        }
+    }
+    found
+}
+
+/// Whether the cell is not dead and has no maker.
+fn has_none(makers: &Makers) -> bool
+    ensures dead { IsTrue result → makers.now.is_dead ≡ false }
+    ensures cells { IsTrue result → makers.now.cells ≡ 0 }
+{
+    !makers.is_dead && makers.cells == Mask::empty()
+}

@@ -1,0 +1,73 @@
+//! Fill-in, in rounds.
+//!
+//! A round goes once over the empty cells for one player, with what was joined at its start, and fills what is dead or a captured
+//! pair. That stays right when stones come elsewhere, so a round may fill many cells without a further flood. The rounds end when
+//! one for each player has filled nothing.
+
+ghost use Rattle.std.specs.Prelude.{◌≡◌, IfOk, OnOk};
+ghost use Rattle.hx_board.specs.Positions.{IsEmpty};
+ghost use Rattle.hx_fill.specs.Fills.{IsFillIn};
+ghost use Rattle.hx_fill.specs.Rounds.{IsGrown, LooksAt, IsRound};
+
+use crate::fills::Filled;
+use crate::makers::{makers_of, partner_of};
+use crate::views::View;
+use hx_board::{Cell, Colour, Groups, Memory, Position};
+use hx_inferior::{FillStep, open_around};
+use std::alloc::Global;
+
+/// Fills what is dead or a captured pair, for either player, until no such cells are left. Each step is right for its own player
+/// where it is done. Hayward, van Rijswijck, Arneson and Henderson call this fill-in.
+pub fn fill_in(alloc: Global, position: &Position) -> Result<Filled, Memory>
+    ensures { IfOk result (λ filled. IsFillIn position.now filled.steps.items filled.position) }
+{
+    let mut filled = Filled {
+        position: *position,
+        steps: Vec::new(alloc),
+    };
+    loop {
+        let _size = filled.position.size();
+        let before = filled.steps.len();
+        fill_round(&mut filled, Colour::Black)?;
+        fill_round(&mut filled, Colour::White)?;
+        if filled.steps.len() == before {
+            return Ok(filled);
+        }
+    }
+}
+
+/// Looks at each empty cell for one player.
+fn fill_round(filled: &mut Filled, colour: Colour) -> Result<(), Memory>
+    ensures { OnOk result (IsRound colour 0 filled.old.position filled.old.steps.items filled.new.position filled.new.steps.items) }
+{
+    let size = filled.position.size();
+    let groups = Groups::of(&filled.position, colour);
+    let view = View::of(&filled.position, colour, &groups);
+    let mut left = filled.position.empties();
+    while let Some(cell) = left.least(size) {
+        left = left.without(cell);
+        let is_empty = filled.position.empties().has(cell);
+        if is_empty {
+            fill_at(filled, &view, colour, cell)?;
+        }
+    }
+    Ok(())
+}
+
+/// Fills an empty cell, or it and a partner, where that was right at the start of the round.
+fn fill_at(filled: &mut Filled, view: &View, colour: Colour, cell: Cell) -> Result<(), Memory>
+    requires colour { view.now.player ≡ colour }
+    requires grown { IsGrown view.now.board filled.old.position }
+    requires empty { IsEmpty filled.old.position cell }
+    ensures { OnOk result (LooksAt view.now.board colour cell filled.old.position filled.old.steps.items filled.new.position filled.new.steps.items) }
+{
+    let around = open_around(view.position(), view.colour(), cell);
+    let makers = makers_of(view, cell, &around, filled.position.empties());
+    if makers.is_dead {
+        return filled.add(colour, FillStep::Dead(cell));
+    }
+    match partner_of(view, cell, makers.cells) {
+        Some(partner) => filled.add(colour, FillStep::Pair(cell, partner)),
+        None => Ok(()),
+    }
+}

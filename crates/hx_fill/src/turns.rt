@@ -1,0 +1,213 @@
+//! Moves that another move is better than.
+//!
+//! Where the mover takes the better cell, the worse one is dead for the opponent, or one of a captured pair of the mover. What is
+//! joined after the move is told by what was joined before it, so no group is flooded again for a move. And a move kills only what
+//! it touches, or what is joined with its cell, so most moves need not be tried.
+
+ghost use Rattle.std.specs.Prelude.{◌≡◌, ◌≢◌, ℕ, true, ◌↔◌, IsTrue, MatchOption};
+ghost use Rattle.hx_board.specs.Colours.{other_of};
+ghost use Rattle.hx_board.specs.Sets.{has, remove};
+ghost use Rattle.hx_board.specs.Positions.{IsEmpty};
+ghost use Rattle.hx_inferior.specs.declared.dominations.Kill.{Kill};
+ghost use Rattle.hx_inferior.specs.declared.dominations.Kill.TheVariants.{ByDead, ByPair};
+ghost use Rattle.hx_inferior.specs.Inferior.{IsDominated};
+ghost use Rattle.hx_inferior.specs.Named.{AreOpen};
+ghost use Rattle.hx_fill.specs.Unders.{AreOthers, IsWorse, IsBetter};
+
+use crate::makers::{makers_of, partner_of};
+use crate::reaches::{reached_around, reached_around_each};
+use crate::views::View;
+use hx_board::{Cell, Colour, Groups, Mask, Position};
+use hx_inferior::{Kill, Surroundings, open_around};
+
+/// A better cell, and how the move to it kills the worse one.
+#[derive(Clone, Copy, PartialEq, Eq, Debug)]
+pub(crate) struct Better {
+    pub(crate) cell: Cell,
+    pub(crate) kill: Kill,
+}
+
+/// An empty cell that another one may be better than, and what is known of it before the move.
+#[derive(Clone, Copy, PartialEq, Eq, Debug)]
+pub(crate) struct Worse {
+    pub(crate) cell: Cell,
+
+    /// Its open neighbours for the mover.
+    pub(crate) own: Surroundings,
+
+    /// Its open neighbours for the opponent.
+    pub(crate) others: Surroundings,
+
+    /// Where the mover takes any other cell, it is not dead for the opponent.
+    pub(crate) by_dead: Mask,
+
+    /// Where the mover takes any other cell, it is not part of a pair of the mover.
+    pub(crate) by_pair: Mask,
+}
+
+/// A position and the player to move, with what is joined for each player.
+#[derive(Drop)]
+pub(crate) struct Turn {
+    position: Position,
+    mover: Colour,
+    own: Groups,
+    others: Groups,
+    ghost own_grouped: { own ≡ record { board = position; player = mover } },
+    ghost others_grouped: { others ≡ record { board = position; player = other_of mover } },
+}
+
+impl Turn {
+    pub(crate) fn of(position: &Position, mover: Colour) -> Turn
+        ensures position { result.position ≡ position.now }
+        ensures mover { result.mover ≡ mover }
+    {
+        Turn {
+            position: *position,
+            mover,
+            own: Groups::of(position, mover),
+            others: Groups::of(position, mover.other()),
+        }
+    }
+
+    /// The cells that can make a cell dead for the opponent, where the mover takes one of them: its open neighbours, or any cell where
+    /// it is dead already. A stone of the mover's joins nothing for the opponent, and takes its own cell alone from him.
+    fn killers_by_dead(&self, cell: Cell, around: &Surroundings) -> Mask
+        requires empty { IsEmpty self.now.position cell }
+        requires around { AreOpen self.now.position (other_of self.now.mover) cell around.now }
+        ensures { (better : ℕ) → IsDominated self.now.position self.now.mover better cell ByDead → has result better ≡ true }
+    {
+        let others = View::of(&self.position, self.mover.other(), &self.others);
+        let makers = makers_of(&others, cell, around, Mask::empty());
+        if makers.is_dead {
+            return self.position.empties();
+        }
+        around.cells
+    }
+
+    /// The cells that can make a cell part of a pair, where the mover takes one of them: those that an open neighbour of it, or of a
+    /// maker of it, is joined with, or any cell where it is part of a pair already. A stone joins only what was joined with its cell.
+    fn killers_by_pair(&self, cell: Cell, around: &Surroundings) -> Mask
+        requires empty { IsEmpty self.now.position cell }
+        requires around { AreOpen self.now.position self.now.mover cell around.now }
+        ensures { (better partner : ℕ) → IsDominated self.now.position self.now.mover better cell (ByPair partner) → has result better ≡ true }
+    {
+        let own = View::of(&self.position, self.mover, &self.own);
+        let makers = makers_of(&own, cell, around, self.position.empties());
+        match partner_of(&own, cell, makers.cells) {
+            Some(_) => self.position.empties(),
+            None => {
+                let by_makers = reached_around_each(&own, makers.cells);
+                reached_around(&own, around).union(by_makers)
+            }
+        }
+    }
+
+    /// What is known of an empty cell before the move.
+    fn worse(&self, cell: Cell) -> Worse
+        requires { IsEmpty self.now.position cell }
+        ensures worse { IsWorse self.now.position self.now.mover result }
+        ensures cell { result.cell ≡ cell }
+    {
+        let own = open_around(&self.position, self.mover, cell);
+        let others = open_around(&self.position, self.mover.other(), cell);
+        let by_dead = self.killers_by_dead(cell, &others);
+        let by_pair = self.killers_by_pair(cell, &own);
+        Worse {
+            cell,
+            own,
+            others,
+            by_dead,
+            by_pair,
+        }
+    }
+
+    /// Whether the move to the better cell makes the worse one dead for the opponent.
+    fn is_dead_after(&self, better: Cell, worse: &Worse) -> bool
+        requires better { IsEmpty self.now.position better }
+        requires worse { IsWorse self.now.position self.now.mover worse.now }
+        requires differ { better ≢ worse.now.cell }
+        ensures { IsTrue result ↔ IsDominated self.now.position self.now.mover better worse.now.cell ByDead }
+    {
+        let other = self.mover.other();
+        let others = View::after(&self.position, other, &self.others, self.mover, better);
+        let around = without(&worse.others, better);
+        let makers = makers_of(&others, worse.cell, &around, Mask::empty());
+        makers.is_dead
+    }
+
+    /// A cell that is a pair with the worse one after the move to the better one.
+    fn partner_after(&self, better: Cell, worse: &Worse) -> Option<Cell>
+        requires better { IsEmpty self.now.position better }
+        requires worse { IsWorse self.now.position self.now.mover worse.now }
+        requires differ { better ≢ worse.now.cell }
+        ensures { MatchOption result ((partner : ℕ) → ¬ IsDominated self.now.position self.now.mover better worse.now.cell (ByPair partner))
+            (λ partner. IsDominated self.now.position self.now.mover better worse.now.cell (ByPair partner)) }
+    {
+        let own = View::after(&self.position, self.mover, &self.own, self.mover, better);
+        let makers = makers_of(&own, worse.cell, &worse.own, self.position.empties());
+        partner_of(&own, worse.cell, makers.cells)
+    }
+
+    /// How the move to the better cell kills the worse one.
+    fn kill_by(&self, better: Cell, worse: &Worse) -> Option<Kill>
+        requires better { IsEmpty self.now.position better }
+        requires worse { IsWorse self.now.position self.now.mover worse.now }
+        requires differ { better ≢ worse.now.cell }
+        ensures { MatchOption result ((kill : Kill) → ¬ IsDominated self.now.position self.now.mover better worse.now.cell kill)
+            (λ kill. IsDominated self.now.position self.now.mover better worse.now.cell kill) }
+    {
+        let can_be_dead = worse.by_dead.has(better);
+        if can_be_dead && self.is_dead_after(better, worse) {
+            return Some(Kill::ByDead);
+        }
+        let can_be_paired = worse.by_pair.has(better);
+        if !can_be_paired {
+            return None;
+        }
+        match self.partner_after(better, worse) {
+            Some(partner) => Some(Kill::ByPair(partner)),
+            None => None,
+        }
+    }
+
+    /// The first of some cells that is better than a cell.
+    fn better_among(&self, worse: &Worse, cells: Mask) -> Option<Better>
+        requires worse { IsWorse self.now.position self.now.mover worse.now }
+        requires cells { AreOthers self.now.position worse.now.cell cells }
+        ensures { MatchOption result ((cell : ℕ) → has cells cell ≡ true → (kill : Kill) → ¬ IsDominated self.now.position self.now.mover cell worse.now.cell kill)
+            (IsBetter self.now.position self.now.mover worse.now.cell cells) }
+    {
+        let size = self.position.size();
+        let mut left = cells;
+        while let Some(cell) = left.least(size) {
+            left = left.without(cell);
+            if let Some(kill) = self.kill_by(cell, worse) {
+                return Some(Better { cell, kill });
+            }
+        }
+        None
+    }
+
+    /// The first of some cells that is better than a cell.
+    pub(crate) fn better_than(&self, worse: Cell, cells: Mask) -> Option<Better>
+        requires worse { IsEmpty self.now.position worse }
+        requires cells { AreOthers self.now.position worse cells }
+        ensures { MatchOption result ((cell : ℕ) → has cells cell ≡ true → (kill : Kill) → ¬ IsDominated self.now.position self.now.mover cell worse kill)
+            (IsBetter self.now.position self.now.mover worse cells) }
+    {
+        let known = self.worse(worse);
+        let possible = cells.meet(known.by_dead.union(known.by_pair));
+        self.better_among(&known, possible)
+    }
+}
+
+/// The open neighbours without a cell.
+fn without(around: &Surroundings, cell: Cell) -> Surroundings
+    ensures { result ≡ record around.now { cells = remove around.now.cells cell } }
+{
+    Surroundings {
+        cells: around.cells.without(cell),
+        first: around.first,
+        last: around.last,
+    }
+}

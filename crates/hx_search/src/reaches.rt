@@ -1,0 +1,193 @@
+//! The closure of a set by useful links alone, for positions inside a search.
+//!
+//! A closed set holds very many links, and most of them are of no use. Here links are made only between vertices that stand
+//! for their groups, and few of each pair of ends; the smallest come first, and the first one that decides the position may
+//! end it.
+
+ghost use Rattle.std.specs.Prelude.{◌≡◌, ◌↔◌, IsTrue, IfOk};
+ghost use Rattle.hx_linkset.specs.States.{IsRight};
+ghost use Rattle.hx_search.specs.Closed.{IsGrown};
+ghost use Rattle.hx_search.specs.Decided.{IsReached};
+ghost use Rattle.hx_search.specs.Progress.{IsTaken};
+
+use crate::candidates::MOST_CELLS;
+use crate::work::Work;
+use hx_board::{Colour, Memory, Vertex};
+use hx_link::{Kind, Link};
+use hx_linkset::{Added, LinkSet};
+
+/// What the useful links show of a position.
+#[derive(Clone, Copy, PartialEq, Eq, Debug)]
+pub enum Reached {
+    /// The set's player wins: the live link at this index joins the player's two sides, and it is Full, or the player is to
+    /// move.
+    Decided(u32),
+
+    /// No such link is live.
+    Open,
+}
+
+/// What became of the candidates of one size.
+#[derive(Clone, Copy, PartialEq, Eq, Debug)]
+enum Taken {
+    /// One was added at this index.
+    New(u32),
+
+    /// None is left.
+    NoMore,
+
+    /// The set is full.
+    Full,
+}
+
+/// Takes candidates with so many cells until one of them is added.
+fn take(set: &mut LinkSet, work: &mut Work, cells: usize) -> Result<Taken, Memory>
+    ensures grown { IsGrown set.old set.new }
+    ensures longer { IfOk result (IsTaken set.old set.new) }
+{
+    for _ in 0..work.candidates.count(cells) {
+        let Some(candidate) = work.candidates.pop(cells) else {
+            return Ok(Taken::NoMore);
+        };
+        let is_wanted = candidate.is_wanted(set, &work.caps);
+        if !is_wanted {
+            continue;
+        }
+        match set.add(candidate.step) {
+            Ok(Added::New(index)) => return Ok(Taken::New(index)),
+            Ok(Added::Covered(_)) => {}
+            Ok(Added::Refused) => {}
+            Ok(Added::Limit) => return Ok(Taken::Full),
+            Err(Memory) => return Err(Memory),
+        }
+    }
+    Ok(Taken::NoMore)
+}
+
+/// How a run over candidates ended.
+#[derive(Clone, Copy, PartialEq, Eq, Debug)]
+enum Run {
+    /// All of them were tried.
+    Through,
+
+    /// A link ended the run, or the set is full.
+    Ended,
+}
+
+/// When to end before all candidates were tried.
+#[derive(Clone, Copy, PartialEq, Eq, Debug)]
+pub(crate) enum Until {
+    /// The position is decided, with this player to move.
+    Decided(Colour),
+
+    /// Never.
+    Through,
+}
+
+/// Whether a link of this player's ends the run.
+fn ends_run(link: &Link, colour: Colour, until: Until) -> bool {
+    match until {
+        Until::Decided(to_move) => {
+            link.joins_sides() && (link.kind == Kind::Full || colour == to_move)
+        }
+        Until::Through => false,
+    }
+}
+
+/// Adds the candidates with so many cells, and all with no more that these make possible.
+fn take_all(set: &mut LinkSet, work: &mut Work, cells: usize, until: Until) -> Result<Run, Memory>
+    ensures { IsGrown set.old set.new }
+{
+    loop {
+        match take(set, work, cells) {
+            Ok(Taken::New(index)) => {
+                let Some(link) = set.link(index) else {
+                    return Ok(Run::Through);
+                };
+                let is_last = ends_run(&link, set.colour(), until);
+                if is_last {
+                    return Ok(Run::Ended);
+                }
+                if work.look_at(set, index, &link).is_err() {
+                    return Err(Memory);
+                }
+            }
+            Ok(Taken::NoMore) => return Ok(Run::Through),
+            Ok(Taken::Full) => return Ok(Run::Ended),
+            Err(Memory) => return Err(Memory),
+        }
+    }
+}
+
+/// Adds candidates, the smallest first.
+fn grow(set: &mut LinkSet, work: &mut Work, until: Until) -> Result<(), Memory>
+    ensures { IsGrown set.old set.new }
+{
+    for cells in 0..=MOST_CELLS {
+        match take_all(set, work, cells, until) {
+            Ok(Run::Through) => {}
+            Ok(Run::Ended) => return Ok(()),
+            Err(Memory) => return Err(Memory),
+        }
+    }
+    Ok(())
+}
+
+/// Whether it is the turn of the set's player.
+fn is_turn(set: &LinkSet, to_move: Colour) -> bool
+    ensures { IsTrue result ↔ (set.now.player ≡ to_move) }
+{
+    set.colour() == to_move
+}
+
+/// Whether the set's player wins by a live link.
+fn answer(set: &LinkSet, to_move: Colour) -> Reached
+    ensures { IsReached set.now to_move result }
+{
+    if let Some(index) = set.first_of(Kind::Full, Vertex::First, Vertex::Last) {
+        return Reached::Decided(index);
+    }
+    let with_move = is_turn(set, to_move);
+    if !with_move {
+        return Reached::Open;
+    }
+    match set.first_of(Kind::Semi, Vertex::First, Vertex::Last) {
+        Some(index) => Reached::Decided(index),
+        None => Reached::Open,
+    }
+}
+
+/// Adds useful links, the smallest first.
+pub(crate) fn add_useful(set: &mut LinkSet, until: Until) -> Result<(), Memory>
+    ensures { IsGrown set.old set.new }
+{
+    let mut work = match Work::of(set) {
+        Ok(work) => work,
+        Err(Memory) => return Err(Memory),
+    };
+    if work.begin(set).is_err() {
+        return Err(Memory);
+    }
+    grow(set, &mut work, until)
+}
+
+/// Adds useful links until one decides the position, or none is left that this call looks for, or there is no room. Whatever
+/// the answer, want of memory included, the links that were live stay live at their indices, and position, player and plays
+/// are as before; each live link comes by a step from live links before it. The answer says whether a live link is there
+/// that decides the position for the set's player, where `to_move` is to move.
+///
+/// A set that a call has left Open may be played on and reached again: what is new then is what the stones since then
+/// change. A set that is decided, and stays so, needs no more links.
+pub fn reach(set: &mut LinkSet, to_move: Colour) -> Result<Reached, Memory>
+    ensures grown { IsGrown set.old set.new }
+    ensures reached { IfOk result (IsReached set.new to_move) }
+    ensures right { IsRight set.new.player set.new.present }
+{
+    let added = add_useful(set, Until::Decided(to_move));
+    // that live links come by steps from earlier ones is what this call promises
+    let _colour = set.colour();
+    match added {
+        Ok(()) => Ok(answer(set, to_move)),
+        Err(Memory) => Err(Memory),
+    }
+}

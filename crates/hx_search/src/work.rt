@@ -1,0 +1,170 @@
+//! What a closure by useful links works with, and what is new when it begins.
+//!
+//! Where a set was brought to its end before and only stones came since, the stones tell what is new: ends that lost a Full
+//! link may have another Or; what an own stone joins has Bases; a stone that stood for its group hands its links over to the
+//! vertex that stands for it now; and over a new stone that stands for its group Ands become Full. Nothing else is tried.
+
+use crate::candidates::Candidates;
+use crate::covers::Caps;
+use crate::ends::Ends;
+use crate::entries::Entries;
+use crate::useful_ands::{push_ands, push_ands_over};
+use crate::useful_bases::{push_base, push_bases};
+use crate::useful_ors::{push_ors, push_ors_between};
+use crate::vertices::{code, is_in};
+use hx_board::{Mask, Memory, Position, Vertex};
+use hx_link::{Kind, Link};
+use hx_linkset::LinkSet;
+
+/// What a closure works with.
+#[derive(Drop)]
+pub(crate) struct Work {
+    ends: Ends,
+    entries: Entries,
+    pub(crate) candidates: Candidates,
+    pub(crate) caps: Caps,
+}
+
+impl Work {
+    pub(crate) fn of(set: &LinkSet) -> Result<Work, Memory> {
+        let alloc = set.allocator();
+        Ok(Work {
+            ends: Ends::of(set.position(), set.colour()),
+            entries: Entries::new(alloc)?,
+            candidates: Candidates::new(alloc)?,
+            caps: Caps::of(set.position()),
+        })
+    }
+
+    /// Adds what a new link makes possible.
+    pub(crate) fn look_at(&mut self, set: &LinkSet, index: u32, link: &Link) -> Result<(), Memory> {
+        match link.kind {
+            Kind::Full => push_ands(
+                set,
+                &self.ends,
+                &mut self.entries,
+                &mut self.candidates,
+                index,
+                link,
+            ),
+            Kind::Semi => push_ors(set, &mut self.candidates, index, link),
+        }
+    }
+
+    /// Adds what is possible at first.
+    pub(crate) fn begin(&mut self, set: &LinkSet) -> Result<(), Memory> {
+        let before = set.before_last_stones();
+        if set.count() == 0 || before == *set.position() {
+            self.begin_with_all(set)
+        } else {
+            self.begin_after(set, &before)
+        }
+    }
+
+    /// Adds what all live links make possible, and all Bases.
+    fn begin_with_all(&mut self, set: &LinkSet) -> Result<(), Memory> {
+        for index in 0..set.count() {
+            if let Some(link) = set.link(index) {
+                self.look_at(set, index, &link)?;
+            }
+        }
+        let all = set.position().size().all();
+        push_bases(set, &self.ends, &mut self.candidates, all)
+    }
+
+    /// Adds what the last stones make possible, where the links that were live before them made nothing more possible.
+    fn begin_after(&mut self, set: &LinkSet, before: &Position) -> Result<(), Memory> {
+        self.enter_all(set, before)?;
+        self.hand_over(set, before)?;
+        let fresh = set
+            .position()
+            .stones(set.colour())
+            .minus(before.stones(set.colour()));
+        let near = self.near(set.position(), fresh);
+        push_bases(set, &self.ends, &mut self.candidates, near)
+    }
+
+    /// Enters the Full links that are live, and tries new Ors of the ends of those that were live before the last stones.
+    fn enter_all(&mut self, set: &LinkSet, before: &Position) -> Result<(), Memory> {
+        let mut seen = Pairs::none();
+        let empties = set.position().empties();
+        let empties_before = before.empties();
+        let others = set.position().stones(set.colour().other());
+        for index in 0..set.count() {
+            let Some(link) = set.held(index) else {
+                break;
+            };
+            if link.kind == Kind::Semi
+                || !link.carrier.inside(empties_before)
+                || is_in(&link.a, others)
+                || is_in(&link.b, others)
+            {
+                continue;
+            }
+            if link.carrier.inside(empties) {
+                self.entries.add_link(&self.ends, index, &link)?;
+            } else if seen.add(&link.a, &link.b) {
+                push_ors_between(set, &mut self.candidates, &link.a, &link.b)?;
+            }
+        }
+        Ok(())
+    }
+
+    /// Gives the links of a stone that stands for its group no more to the vertex that now does, and makes those over a new
+    /// stone that stands for its group.
+    fn hand_over(&mut self, set: &LinkSet, before: &Position) -> Result<(), Memory> {
+        let position = set.position();
+        let stones = position.stones(set.colour());
+        let fresh = stones.minus(before.stones(set.colour()));
+        let former = Ends::of(before, set.colour()).standing();
+        let mut rest = fresh.union(former);
+        for _ in 0..121u8 {
+            let Some(stone) = rest.least(position.size()) else {
+                break;
+            };
+            rest = rest.without(stone);
+            let stands_for = self.ends.stands_for(position, &stone);
+            let at = Vertex::Of(stone);
+            if stands_for != at {
+                push_base(set, &mut self.candidates, &at, &stands_for)?;
+            } else if fresh.has(stone) {
+                push_ands_over(set, &self.ends, &self.entries, &mut self.candidates, &stone)?;
+            }
+        }
+        Ok(())
+    }
+
+    /// The cells that are joined with one of these stones.
+    fn near(&self, position: &Position, stones: Mask) -> Mask {
+        let mut near = Mask::empty();
+        let mut rest = stones;
+        for _ in 0..121u8 {
+            let Some(stone) = rest.least(position.size()) else {
+                break;
+            };
+            rest = rest.without(stone);
+            near = near.union(self.ends.reach(&Vertex::Of(stone)).cells);
+        }
+        near
+    }
+}
+
+/// Pairs of vertices.
+#[derive(Clone, Copy)]
+struct Pairs {
+    others: [u128; 123],
+}
+
+impl Pairs {
+    fn none() -> Pairs {
+        Pairs { others: [0; 123] }
+    }
+
+    /// Adds a pair, and says whether it is new.
+    fn add(&mut self, a: &Vertex, b: &Vertex) -> bool {
+        let others = self.others[code(a) as usize];
+        let with = others | (1 << code(b));
+        self.others[code(a) as usize] = with;
+        with != others
+    }
+}

@@ -1,0 +1,47 @@
+-- The lines of fill steps. Their words are of high bytes, so each line gives back the words that it was spelled from. The first
+-- word tells what the other words are: `other`, `dead` and `pair` begin with different letters.
+use Rattle.std.proofs.Common.{◌≡◌, ℕ, ◌≤◌, List, [], ◌∷◌, refl, ap, ◌∙◌, arith, Option, Some, None}
+use Rattle.std.specs.Prelude.{codes}
+use Rattle.hx_board.specs.Cells.{Extent, IsExtent, OnBoard}
+use Rattle.hx_inferior.specs.declared.fills.FillStep.{FillStep}
+use Rattle.hx_inferior.specs.declared.fills.FillStep.TheVariants.{Other, Dead, Pair}
+use Rattle.hx_text.specs.Words.{Reads, cell_word, words_in}
+use Rattle.hx_text.specs.FillTexts.{fill_words, fill_line, FillFits}
+use Rattle.hx_text.proofs.Spacing.{IsLine, words_in-spaced, line_from_words}
+use Rattle.hx_text.proofs.HighBytes.{AllHigh, is_high, IsHigh-test, IsHigh-cell_word, IsLine-high}
+
+pub AllHigh-fill_words : (size : Extent) (fill : FillStep) → size.rows ≤ 11 → FillFits size fill → AllHigh (fill_words fill)
+unfolding is_high
+AllHigh-fill_words size (Other cell) few on = (IsHigh-test (codes "other") refl, (IsHigh-cell_word cell (omega (arith, on.row)), tt))
+AllHigh-fill_words size (Dead cell) few on = (IsHigh-test (codes "dead") refl, (IsHigh-cell_word cell (omega (arith, on.row)), tt))
+AllHigh-fill_words size (Pair a b) few fits =
+    let on : OnBoard size a = fits.0 in
+    let also : OnBoard size b = fits.1 in
+    (IsHigh-test (codes "pair") refl, (IsHigh-cell_word a (omega (arith, on.row)), (IsHigh-cell_word b (omega (arith, also.row)), tt)))
+
+pub IsLine-fill_words : (size : Extent) (fill : FillStep) → size.rows ≤ 11 → FillFits size fill → IsLine (fill_words fill)
+IsLine-fill_words size (Other cell) few fits = IsLine-high (codes "other") (cell_word cell ∷ []) (AllHigh-fill_words size (Other cell) few fits)
+IsLine-fill_words size (Dead cell) few fits = IsLine-high (codes "dead") (cell_word cell ∷ []) (AllHigh-fill_words size (Dead cell) few fits)
+IsLine-fill_words size (Pair a b) few fits =
+    IsLine-high (codes "pair") (cell_word a ∷ cell_word b ∷ []) (AllHigh-fill_words size (Pair a b) few fits)
+
+pub words_in-fill_line : (size : Extent) (line : List ℕ) (fill : FillStep) → IsExtent size.rows size.cols → FillFits size fill
+    → line ≡ fill_line fill → words_in line ≡ fill_words fill
+words_in-fill_line size line fill extent fits e = ap words_in e ∙ words_in-spaced (fill_words fill) (IsLine-fill_words size fill extent.1 fits)
+
+-- ---- what is read
+
+-- the words begin with none of the three
+pub no_fill_step : {words : List (List ℕ)} → ((rest : List (List ℕ)) → words ≡ codes "other" ∷ rest → ⊥)
+    → ((rest : List (List ℕ)) → words ≡ codes "dead" ∷ rest → ⊥) → ((rest : List (List ℕ)) → words ≡ codes "pair" ∷ rest → ⊥)
+    → (value : FillStep) → words ≡ fill_words value → ⊥
+no_fill_step {words} no_other no_dead no_pair (Other cell) e = no_other (cell_word cell ∷ []) e
+no_fill_step {words} no_other no_dead no_pair (Dead cell) e = no_dead (cell_word cell ∷ []) e
+no_fill_step {words} no_other no_dead no_pair (Pair a b) e = no_pair (cell_word a ∷ cell_word b ∷ []) e
+
+-- what is read from a line's words is read from the line
+pub fill_reads : (size : Extent) (line : List ℕ) (words : List (List ℕ)) (found : Option FillStep)
+    → IsExtent size.rows size.cols → words ≡ words_in line → Reads fill_words (FillFits size) words found
+    → Reads fill_line (FillFits size) line found
+fill_reads size line words (Some fill) extent same reads = (reads.0, line_from_words same reads.1)
+fill_reads size line words None extent same reads = λ value fits e. reads value fits (same ∙ words_in-fill_line size line value extent fits e)
