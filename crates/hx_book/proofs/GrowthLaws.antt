@@ -1,0 +1,193 @@
+-- A book with one node more. The node is right after the others, and of a position and mover that none of them is of; its
+-- place becomes the head of its bucket's chain.
+use Rattle.std.proofs.Common.{◌≡◌, ◌≢◌, ℕ, zero, suc, ◌+◌, ◌-◌, ◌<◌, ◌≤◌, List, [], ◌∷◌, ◌++◌, length, set, get_or, refl, sym, ap, ◌∙◌, subst, Some, ◌⊎◌, inl, inr, ⊎_elim, arith, length-append}
+use Rattle.std.specs.Prelude.{slice_get, slice_index}
+use Rattle.std.proofs.lemmas.Bool.{cases_eq}
+use Rattle.std.proofs.lemmas.List.{length-set, get_or-set_same, get_or-set_other}
+use Rattle.hx_board.specs.declared.colours.Colour.{Colour}
+use Rattle.hx_board.specs.Positions.{Board}
+use Rattle.hx_tree.specs.declared.nodes.Node.{Node}
+use Rattle.hx_tree.specs.Rules.{IsRightNode}
+use Rattle.hx_tree.specs.Trees.{headings_of}
+use Rattle.hx_tree.proofs.TreeGrowth.{one_more_right}
+use Rattle.hx_book.specs.Entries.{IsOf, IsEntry, HasNoEntry, AreApart, IsBook}
+use Rattle.hx_book.specs.Buckets.{bucket_of, IsIn, IsNewestBelow, AreChains, FieldsKeep}
+use Rattle.hx_book.proofs.ChainLaws.{get-lt, read-index}
+
+pub get-push : {A : Type 0} → (xs : List A) (x y : A) (place : ℕ) → slice_get (xs ++ x ∷ []) place ≡ Some y
+    → (slice_get xs place ≡ Some y) ⊎ ((place ≡ length xs) × (y ≡ x))
+get-push [] x y zero e = inr (refl, cc)
+get-push [] x y (suc place) e = cc
+get-push (z ∷ zs) x y zero e = inl e
+get-push (z ∷ zs) x y (suc place) e = ⊎_elim (λ w. inl w) (λ w. inr (ap suc w.0, w.1)) (get-push zs x y place e)
+
+pub get-push_before : {A : Type 0} → (xs : List A) (more : A) (place : ℕ) (x : A) → slice_get xs place ≡ Some x → slice_get (xs ++ more ∷ []) place ≡ Some x
+get-push_before [] more place x e = cc
+get-push_before (z ∷ zs) more zero x e = e
+get-push_before (z ∷ zs) more (suc place) x e = get-push_before zs more place x e
+
+pub get-push_last : {A : Type 0} → (xs : List A) (x : A) → slice_get (xs ++ x ∷ []) (length xs) ≡ Some x
+get-push_last [] x = refl
+get-push_last (z ∷ zs) x = get-push_last zs x
+
+index-push_before : (xs : List ℕ) (x place : ℕ) → place < length xs → slice_index (xs ++ x ∷ []) place ≡ slice_index xs place
+index-push_before [] x place less = absurd (omega arith)
+index-push_before (y ∷ ys) x zero less = refl
+index-push_before (y ∷ ys) x (suc place) less = index-push_before ys x place (omega arith)
+
+index-push_last : (xs : List ℕ) (x : ℕ) → slice_index (xs ++ x ∷ []) (length xs) ≡ x
+index-push_last [] x = refl
+index-push_last (y ∷ ys) x = index-push_last ys x
+
+-- ---- entries
+
+module _ (nodes : List Node) (node : Node) where
+  pub entry-before : (board : Board) (mover : Colour) (place : ℕ) → IsEntry nodes board mover place → IsEntry (nodes ++ node ∷ []) board mover place
+  entry-before board mover place entry = record { node = entry.node; there = get-push_before nodes node place entry.node entry.there; is_of = entry.is_of }
+
+  pub entry-last : IsEntry (nodes ++ node ∷ []) node.heading.position node.heading.to_move (length nodes)
+  entry-last = record { node = node; there = get-push_last nodes node; is_of = record { same_position = refl; same_mover = refl } }
+
+  pub entry-cases : (board : Board) (mover : Colour) (place : ℕ) → IsEntry (nodes ++ node ∷ []) board mover place
+      → IsEntry nodes board mover place ⊎ ((place ≡ length nodes) × IsOf board mover node)
+  entry-cases board mover place entry = ⊎_elim
+      (λ was. inl (record { node = entry.node; there = was; is_of = entry.is_of }))
+      (λ last. inr (last.0, subst (λ (n : Node). IsOf board mover n) last.1 entry.is_of))
+      (get-push nodes node entry.node place entry.there)
+
+  -- an entry of the new node's position and mover is none of before
+  new-only : HasNoEntry nodes node.heading.position node.heading.to_move → (board : Board) (mover : Colour) → IsOf board mover node
+      → (place : ℕ) → IsEntry nodes board mover place → ⊥
+  new-only none board mover new place entry = none place (record {
+    node = entry.node;
+    there = entry.there;
+    is_of = record { same_position = entry.is_of.same_position ∙ sym new.same_position; same_mover = entry.is_of.same_mover ∙ sym new.same_mover };
+  })
+
+  pub apart-more : AreApart nodes → HasNoEntry nodes node.heading.position node.heading.to_move → AreApart (nodes ++ node ∷ [])
+  apart-more apart none board mover one other first second = ⊎_elim
+      (λ a. ⊎_elim (λ b. apart board mover one other a b) (λ b. absurd (new-only none board mover b.1 one a)) (entry-cases board mover other second))
+      (λ a. ⊎_elim (λ b. absurd (new-only none board mover a.1 other b)) (λ b. a.0 ∙ sym b.0) (entry-cases board mover other second))
+      (entry-cases board mover one first)
+
+-- ---- chains
+
+module _ (buckets : ℕ) (nodes : List Node) (node : Node) where
+  in-before : (bucket place : ℕ) → IsIn buckets nodes bucket place → IsIn buckets (nodes ++ node ∷ []) bucket place
+  in-before bucket place was = record { node = was.node; there = get-push_before nodes node place was.node was.there; same_bucket = was.same_bucket }
+
+  in-last : IsIn buckets (nodes ++ node ∷ []) (bucket_of buckets node.heading.position node.heading.to_move) (length nodes)
+  in-last = record { node = node; there = get-push_last nodes node; same_bucket = refl }
+
+  in-cases : (bucket place : ℕ) → IsIn buckets (nodes ++ node ∷ []) bucket place
+      → IsIn buckets nodes bucket place ⊎ ((place ≡ length nodes) × (bucket_of buckets node.heading.position node.heading.to_move ≡ bucket))
+  in-cases bucket place is = ⊎_elim
+      (λ was. inl (record { node = is.node; there = was; same_bucket = is.same_bucket }))
+      (λ last. inr (last.0, ap (λ (n : Node). bucket_of buckets n.heading.position n.heading.to_move) (sym last.1) ∙ is.same_bucket))
+      (get-push nodes node is.node place is.there)
+
+  -- below the end nothing changes
+  newest-before : (bucket bound link : ℕ) → bound ≤ length nodes → IsNewestBelow buckets nodes bucket bound link → IsNewestBelow buckets (nodes ++ node ∷ []) bucket bound link
+  newest-before bucket bound link small newest = record {
+    within = newest.within;
+    is_in = λ some. in-before bucket (link - 1) (newest.is_in some);
+    newest = λ place from below is. ⊎_elim (λ was. newest.newest place from below was) (λ last. absurd (omega (arith, last.0))) (in-cases bucket place is);
+  }
+
+  -- the head of another bucket is as before
+  newest-other : (bucket link : ℕ) → (bucket_of buckets node.heading.position node.heading.to_move ≡ bucket → ⊥) → IsNewestBelow buckets nodes bucket (length nodes) link
+      → IsNewestBelow buckets (nodes ++ node ∷ []) bucket (length nodes + 1) link
+  newest-other bucket link other newest = record {
+    within = omega (arith, newest.within);
+    is_in = λ some. in-before bucket (link - 1) (newest.is_in some);
+    newest = λ place from below is. ⊎_elim
+        (λ was. newest.newest place from (get-lt nodes place was.node was.there) was)
+        (λ last. other last.1)
+        (in-cases bucket place is);
+  }
+
+  -- the new node is the newest of its bucket
+  newest-own : IsNewestBelow buckets (nodes ++ node ∷ []) (bucket_of buckets node.heading.position node.heading.to_move) (length nodes + 1) (length nodes + 1)
+  newest-own = record {
+    within = omega arith;
+    is_in = λ some. let last : length nodes + 1 - 1 ≡ length nodes = omega arith in rw last in-last;
+    newest = λ place from below is. absurd (omega (arith, from, below));
+  }
+
+module _ (nodes : List Node) (heads next : List ℕ) (node : Node) (chains : AreChains nodes heads next)
+    (bucket : ℕ) (is_bucket : bucket ≡ bucket_of (length heads) node.heading.position node.heading.to_move) (below : bucket < length heads) where
+  abbrev buckets : ℕ
+  buckets = length heads
+
+  abbrev more : List Node
+  more = nodes ++ node ∷ []
+
+  abbrev new_heads : List ℕ
+  new_heads = set heads bucket (length nodes + 1)
+
+  abbrev new_next : List ℕ
+  new_next = next ++ slice_index heads bucket ∷ []
+
+  head-more : (b : ℕ) → b < buckets → IsNewestBelow buckets more b (length nodes + 1) (slice_index new_heads b)
+  head-more b inside = ⊎_elim
+      (λ (same : b ≡ bucket). rw (same, get_or-set_same heads bucket (length nodes + 1) 0 below) (subst (λ (own : ℕ). IsNewestBelow buckets more own (length nodes + 1) (length nodes + 1)) (sym is_bucket) (newest-own buckets nodes node)))
+      (λ (different : b ≡ bucket → ⊥). rw (get_or-set_other heads bucket b (length nodes + 1) 0 different)
+      (newest-other buckets nodes node b (slice_index heads b) (λ same. different (sym same ∙ sym is_bucket)) (chains.heads_lead b inside)))
+      (cases_eq b bucket)
+
+  next-more_before : (b place : ℕ) → IsIn buckets nodes b place → IsNewestBelow buckets more b place (slice_index new_next place)
+  next-more_before b place was =
+      let less : place < length nodes = get-lt nodes place was.node was.there in
+      let less_next : place < length next = omega (arith, less, chains.long) in
+      let within : place ≤ length nodes = omega (arith, less) in
+      let value : slice_index new_next place ≡ slice_index next place = index-push_before next (slice_index heads bucket) place less_next in
+      rw value (newest-before buckets nodes node b place (slice_index next place) within (chains.next_lead b place was))
+
+  next-more_last : (b place : ℕ) → place ≡ length nodes → b ≡ bucket → IsNewestBelow buckets more b place (slice_index new_next place)
+  next-more_last b place at here =
+      let last : place ≡ length next = at ∙ sym chains.long in
+      let value : slice_index new_next place ≡ slice_index heads bucket = ap (λ (p : ℕ). slice_index new_next p) last ∙ index-push_last next (slice_index heads bucket) in
+      let within : length nodes ≤ length nodes = omega arith in
+      rw (value, here, at) (newest-before buckets nodes node bucket (length nodes) (slice_index heads bucket) within (chains.heads_lead bucket below))
+
+  next-more : (b place : ℕ) → IsIn buckets more b place → IsNewestBelow buckets more b place (slice_index new_next place)
+  next-more b place is = ⊎_elim
+      (next-more_before b place)
+      (λ last. next-more_last b place last.0 (sym last.1 ∙ sym is_bucket))
+      (in-cases buckets nodes node b place is)
+
+  pub chains-more : AreChains more new_heads new_next
+  chains-more =
+      let same : length new_heads ≡ buckets = length-set heads bucket (length nodes + 1) in
+      let longer : length more ≡ length nodes + 1 = omega (arith, length-append nodes (node ∷ [])) in
+      record {
+        long = omega (arith, longer, chains.long, length-append next (slice_index heads bucket ∷ []));
+        some = omega (arith, same, chains.some);
+        few = omega (arith, same, chains.few);
+        heads_lead = rw (same, longer) head-more;
+        next_lead = rw same next-more;
+      }
+
+-- ---- the book
+
+module _ (slots : ℕ) (nodes : List Node) (node : Node) (book : IsBook (record { slots = slots; nodes = nodes })) where
+  pub book-more : length nodes < slots → IsRightNode (headings_of nodes) node → HasNoEntry nodes node.heading.position node.heading.to_move
+      → IsBook (record { slots = slots; nodes = nodes ++ node ∷ [] })
+  book-more room right none = record {
+    held = omega (arith, length-append nodes (node ∷ []));
+    small = book.small;
+    right = one_more_right nodes node book.right right;
+    apart = apart-more nodes node book.apart none;
+  }
+
+module _ (slots : ℕ) (nodes : List Node) (heads next : List ℕ) (room links : ℕ) (node : Node) (fields : FieldsKeep slots nodes heads next room links)
+    (bucket : ℕ) (is_bucket : bucket ≡ bucket_of (length heads) node.heading.position node.heading.to_move) (below : bucket < length heads)
+    (head : ℕ) (read : head ≡ get_or heads bucket head) where
+  pub fields-more : length nodes ≢ slots → IsRightNode (headings_of nodes) node → HasNoEntry nodes node.heading.position node.heading.to_move
+      → FieldsKeep slots (nodes ++ node ∷ []) (set heads bucket (length nodes + 1)) (next ++ head ∷ []) room links
+  fields-more room_left right none = record {
+    book = book-more slots nodes node fields.book (omega (arith, room_left, fields.book.held)) right none;
+    chains = rw (read-index heads bucket head below read) (chains-more nodes heads next node fields.chains bucket is_bucket below);
+    node_room = fields.node_room;
+    link_room = fields.link_room;
+  }

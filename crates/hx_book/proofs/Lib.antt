@@ -1,0 +1,8 @@
+pub mod ChainLaws
+pub mod GrowthLaws
+pub mod MarkLaws
+pub mod ChildLaws
+pub mod NeedLaws
+pub mod RenamingLaws
+pub mod KeptLaws
+pub mod PutLaws

@@ -1,0 +1,58 @@
+-- The buckets of a book, for the functions inside the crate. An entry's bucket is computed from its position and mover. The
+-- entries of a bucket are chained: from its head to the newest of them, and from each to the next older one. A link is 0 at
+-- the end of a chain, and else one more than the place of an entry.
+use Rattle.std.specs.Prelude.{◌≡◌, ℕ, ◌-◌, ◌*◌, ◌/◌, ◌%◌, ◌^◌, ◌<◌, ◌≤◌, List, length, slice_get, slice_index, bit_xor}
+use Rattle.std.specs.declared.option.Option.TheVariants.{Some}
+use Rattle.hx_board.specs.declared.colours.Colour.{Colour}
+use Rattle.hx_board.specs.declared.colours.Colour.TheVariants.{Black, White}
+use Rattle.hx_board.specs.Positions.{Board}
+use Rattle.hx_tree.specs.declared.nodes.Node.{Node}
+use Rattle.hx_book.specs.Entries.{IsBook}
+
+-- the upper half of the product of two numbers below 2^64, with the lower half laid over it
+unfoldable pub folded : ℕ → ℕ → ℕ
+folded a b = bit_xor (a * b / 2 ^ 64) (a * b % 2 ^ 64)
+
+-- the two halves of a set, each mixed with a key
+unfoldable pub folded_set : ℕ → ℕ → ℕ → ℕ
+folded_set set low_key high_key = folded (bit_xor (set % 2 ^ 64) low_key) (bit_xor (set / 2 ^ 64) high_key)
+
+abbrev pub mover_key : Colour → ℕ
+mover_key Black = 13287129219935123339
+mover_key White = 5871781006564002453
+
+-- a number that differs between most positions and movers
+unfoldable pub number_of : Board → Colour → ℕ
+number_of board mover =
+    folded (bit_xor (folded_set board.black 11400714819323198485 14029467366897019727) (mover_key mover)) (bit_xor (folded_set board.white 1609587929392839161 9650029242287828579) 2870177450012600261)
+
+-- the bucket of a position and mover
+unfoldable pub bucket_of : ℕ → Board → Colour → ℕ
+bucket_of buckets board mover = number_of board mover % buckets
+
+-- the entry at this place has this bucket
+pub record IsIn (buckets : ℕ) (nodes : List Node) (bucket place : ℕ) : Type 0 where
+  pub node : Node
+  pub there : slice_get nodes place ≡ Some node
+  pub same_bucket : bucket_of buckets node.heading.position node.heading.to_move ≡ bucket
+
+-- a link to the newest of the bucket's entries before a bound, or the end of the chain
+pub record IsNewestBelow (buckets : ℕ) (nodes : List Node) (bucket bound link : ℕ) : Type 0 where
+  pub within : link ≤ bound
+  pub is_in : 0 < link → IsIn buckets nodes bucket (link - 1)
+  pub newest : (place : ℕ) → link ≤ place → place < bound → IsIn buckets nodes bucket place → ⊥
+
+-- each chain has exactly the entries of its bucket, newest first
+pub record AreChains (nodes : List Node) (heads next : List ℕ) : Type 0 where
+  pub long : length next ≡ length nodes
+  pub some : 0 < length heads
+  pub few : length heads ≤ 2097152
+  pub heads_lead : (bucket : ℕ) → bucket < length heads → IsNewestBelow (length heads) nodes bucket (length nodes) (slice_index heads bucket)
+  pub next_lead : (bucket place : ℕ) → IsIn (length heads) nodes bucket place → IsNewestBelow (length heads) nodes bucket place (slice_index next place)
+
+-- the fields of a book: its chains are right, and there is room for all that it may hold
+pub record FieldsKeep (slots : ℕ) (nodes : List Node) (heads next : List ℕ) (room links : ℕ) : Type 0 where
+  pub book : IsBook (record { slots = slots; nodes = nodes })
+  pub chains : AreChains nodes heads next
+  pub node_room : slots ≤ room
+  pub link_room : slots ≤ links

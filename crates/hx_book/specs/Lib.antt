@@ -1,0 +1,6 @@
+pub mod Entries
+pub mod Puts
+pub mod Buckets
+pub mod Trees
+pub mod Renaming
+pub mod Growing

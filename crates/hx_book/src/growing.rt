@@ -1,0 +1,67 @@
+//! A list of proofs that only grows, over a book of one's own or one that is shared.
+
+ghost use Rattle.std.specs.Prelude.{◌≡◌, ℕ, List, Option, length, IfOk, IfErr, MatchOption};
+ghost use Rattle.atomic_table.specs.Seated.{TableId};
+ghost use Rattle.hx_tree.specs.declared.nodes.Node.{Node as Proof};
+ghost use Rattle.hx_tree.specs.Rules.{IsRightNode};
+ghost use Rattle.hx_tree.specs.Trees.{headings_of};
+ghost use Rattle.hx_book.specs.Entries.{IsEntry, HasNoEntry};
+ghost use Rattle.hx_book.specs.Growing.{IsFirstFound};
+ghost use Rattle.hx_book.specs.Puts.{Extends};
+
+use crate::answers::{Found, NoSlot};
+use crate::books::Book;
+use hx_board::{Colour, Position};
+use hx_tree::Node;
+use std::sync::Wait;
+
+/// Where proofs are looked for and stored. Others may store theirs in the same place: each call sees a list of nodes that
+/// begins with what was seen before.
+pub trait Proofs {
+    /// The nodes that were seen.
+    ghost list: { Self → List Proof };
+
+    /// The most nodes that the list may have.
+    ghost slots: { Self → ℕ };
+
+    /// The name of the shared object that it stands over, where it tells it.
+    ghost over: { Self → Option TableId };
+
+    /// The first entry of a position and mover, of the nodes that are now seen. None exactly where there is none.
+    fn look<R: Wait>(&mut self, rt: &R, position: &Position, to_move: Colour) -> Option<Found>
+        ensures slots { slots self.new ≡ slots self.old }
+        ensures over { over self.new ≡ over self.old }
+        ensures seen { Extends (list self.new) (list self.old) }
+        ensures found { MatchOption result (HasNoEntry (list self.new) position.now to_move) (IsFirstFound (list self.new) position.now to_move) };
+
+    /// Stores a node that is right after those that were seen. The index of the entry of its position and mover, of the nodes
+    /// that are now seen. The node comes back exactly where there is no such entry and each slot is taken.
+    fn store<R: Wait>(&mut self, rt: &R, node: Node) -> Result<u32, NoSlot>
+        requires { IsRightNode (headings_of (list self.old)) node }
+        ensures slots { slots self.new ≡ slots self.old }
+        ensures over { over self.new ≡ over self.old }
+        ensures seen { Extends (list self.new) (list self.old) }
+        ensures entry { IfOk result (IsEntry (list self.new) node.heading.position node.heading.to_move) }
+        ensures none { IfErr result (λ _. HasNoEntry (list self.new) node.heading.position node.heading.to_move) }
+        ensures full { IfErr result (λ _. length (list self.new) ≡ slots self.new) }
+        ensures handed_back { IfErr result (λ refusal. (refusal.held ≡ slots self.new) × (refusal.node ≡ node)) };
+}
+
+impl Proofs for Book {
+    ghost use Rattle.std.specs.Prelude.{None};
+
+    ghost list = { λ b. b.nodes };
+
+    ghost slots = { λ b. b.slots };
+
+    ghost over = { λ b. None };
+
+    fn look<R: Wait>(&mut self, _rt: &R, position: &Position, to_move: Colour) -> Option<Found> {
+        let _held = self.held();
+        self.find(position, to_move)
+    }
+
+    fn store<R: Wait>(&mut self, _rt: &R, node: Node) -> Result<u32, NoSlot> {
+        self.put(node)
+    }
+}

@@ -1,0 +1,33 @@
+//! The book as a list that is scanned from the front. For the tests.
+
+use crate::answers::Found;
+use hx_board::{Colour, Position};
+use hx_tree::Node;
+use std::alloc::AllocError;
+
+/// The first node of this position and mover.
+pub(crate) fn plain_find(nodes: &[Node], position: &Position, to_move: Colour) -> Option<Found> {
+    for (index, node) in (0..u32::MAX).zip(nodes) {
+        if node.heading.position == *position && node.heading.to_move == to_move {
+            let winner = node.heading.winner;
+            return Some(Found { index, winner });
+        }
+    }
+    None
+}
+
+/// The place of the first node of this node's position and mover, which is added where there is none.
+pub(crate) fn plain_put(nodes: &mut Vec<Node>, node: Node) -> Result<u32, AllocError> {
+    match plain_find(
+        nodes.as_slice(),
+        &node.heading.position,
+        node.heading.to_move,
+    ) {
+        Some(found) => Ok(found.index),
+        None => {
+            let place = u32::try_from(nodes.len()).or(Err(AllocError))?;
+            nodes.push(node)?;
+            Ok(place)
+        }
+    }
+}
