@@ -6,7 +6,8 @@ use Rattle.std.proofs.lemmas.Bool.{cases_lt, cases_eq}
 use Rattle.hx_board.specs.declared.colours.Colour.{Colour}
 use Rattle.hx_board.specs.Positions.{Board}
 use Rattle.hx_tree.specs.declared.nodes.Node.{Node}
-use Rattle.hx_book.specs.Entries.{IsEntry, IsFound, HasNoEntry}
+use Rattle.hx_tree.specs.Entries.{IsEntry, HasNoEntry}
+use Rattle.hx_book.specs.Entries.{IsFound}
 use Rattle.hx_book.specs.Buckets.{bucket_of, IsIn, IsNewestBelow, AreChains}
 
 -- how far a search in a bucket has come: entries of the position and mover stand below the link alone

@@ -10,25 +10,11 @@ use Rattle.hx_tree.specs.declared.nodes.Node.{Node}
 use Rattle.hx_tree.specs.Rules.{IsRightNode}
 use Rattle.hx_tree.specs.Trees.{headings_of}
 use Rattle.hx_tree.proofs.TreeGrowth.{one_more_right}
-use Rattle.hx_book.specs.Entries.{IsOf, IsEntry, HasNoEntry, AreApart, IsBook}
+use Rattle.hx_tree.specs.Entries.{HasNoEntry}
+use Rattle.hx_tree.proofs.EntryLaws.{get-push, get-push_before, get-push_last, apart-more}
+use Rattle.hx_book.specs.Entries.{IsBook}
 use Rattle.hx_book.specs.Buckets.{bucket_of, IsIn, IsNewestBelow, AreChains, FieldsKeep}
 use Rattle.hx_book.proofs.ChainLaws.{get-lt, read-index}
-
-pub get-push : {A : Type 0} → (xs : List A) (x y : A) (place : ℕ) → slice_get (xs ++ x ∷ []) place ≡ Some y
-    → (slice_get xs place ≡ Some y) ⊎ ((place ≡ length xs) × (y ≡ x))
-get-push [] x y zero e = inr (refl, cc)
-get-push [] x y (suc place) e = cc
-get-push (z ∷ zs) x y zero e = inl e
-get-push (z ∷ zs) x y (suc place) e = ⊎_elim (λ w. inl w) (λ w. inr (ap suc w.0, w.1)) (get-push zs x y place e)
-
-pub get-push_before : {A : Type 0} → (xs : List A) (more : A) (place : ℕ) (x : A) → slice_get xs place ≡ Some x → slice_get (xs ++ more ∷ []) place ≡ Some x
-get-push_before [] more place x e = cc
-get-push_before (z ∷ zs) more zero x e = e
-get-push_before (z ∷ zs) more (suc place) x e = get-push_before zs more place x e
-
-pub get-push_last : {A : Type 0} → (xs : List A) (x : A) → slice_get (xs ++ x ∷ []) (length xs) ≡ Some x
-get-push_last [] x = refl
-get-push_last (z ∷ zs) x = get-push_last zs x
 
 index-push_before : (xs : List ℕ) (x place : ℕ) → place < length xs → slice_index (xs ++ x ∷ []) place ≡ slice_index xs place
 index-push_before [] x place less = absurd (omega arith)
@@ -38,37 +24,6 @@ index-push_before (y ∷ ys) x (suc place) less = index-push_before ys x place (
 index-push_last : (xs : List ℕ) (x : ℕ) → slice_index (xs ++ x ∷ []) (length xs) ≡ x
 index-push_last [] x = refl
 index-push_last (y ∷ ys) x = index-push_last ys x
-
--- ---- entries
-
-module _ (nodes : List Node) (node : Node) where
-  pub entry-before : (board : Board) (mover : Colour) (place : ℕ) → IsEntry nodes board mover place → IsEntry (nodes ++ node ∷ []) board mover place
-  entry-before board mover place entry = record { node = entry.node; there = get-push_before nodes node place entry.node entry.there; is_of = entry.is_of }
-
-  pub entry-last : IsEntry (nodes ++ node ∷ []) node.heading.position node.heading.to_move (length nodes)
-  entry-last = record { node = node; there = get-push_last nodes node; is_of = record { same_position = refl; same_mover = refl } }
-
-  pub entry-cases : (board : Board) (mover : Colour) (place : ℕ) → IsEntry (nodes ++ node ∷ []) board mover place
-      → IsEntry nodes board mover place ⊎ ((place ≡ length nodes) × IsOf board mover node)
-  entry-cases board mover place entry = ⊎_elim
-      (λ was. inl (record { node = entry.node; there = was; is_of = entry.is_of }))
-      (λ last. inr (last.0, subst (λ (n : Node). IsOf board mover n) last.1 entry.is_of))
-      (get-push nodes node entry.node place entry.there)
-
-  -- an entry of the new node's position and mover is none of before
-  new-only : HasNoEntry nodes node.heading.position node.heading.to_move → (board : Board) (mover : Colour) → IsOf board mover node
-      → (place : ℕ) → IsEntry nodes board mover place → ⊥
-  new-only none board mover new place entry = none place (record {
-    node = entry.node;
-    there = entry.there;
-    is_of = record { same_position = entry.is_of.same_position ∙ sym new.same_position; same_mover = entry.is_of.same_mover ∙ sym new.same_mover };
-  })
-
-  pub apart-more : AreApart nodes → HasNoEntry nodes node.heading.position node.heading.to_move → AreApart (nodes ++ node ∷ [])
-  apart-more apart none board mover one other first second = ⊎_elim
-      (λ a. ⊎_elim (λ b. apart board mover one other a b) (λ b. absurd (new-only none board mover b.1 one a)) (entry-cases board mover other second))
-      (λ a. ⊎_elim (λ b. absurd (new-only none board mover a.1 other b)) (λ b. a.0 ∙ sym b.0) (entry-cases board mover other second))
-      (entry-cases board mover one first)
 
 -- ---- chains
 

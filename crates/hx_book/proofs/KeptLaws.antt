@@ -12,7 +12,7 @@ use Rattle.hx_tree.proofs.TreeGrowth.{headings_of-append, one_more_right, valid_
 use Rattle.hx_book.specs.Trees.{Names, IsNeeded, IsTreeOf}
 use Rattle.hx_book.specs.Renaming.{renamed_node, IsMarked, AreMarkedFrom, IsKept, IsRest, EndsInRoot, AreKeptBelow}
 use Rattle.hx_book.proofs.ChainLaws.{get-lt}
-use Rattle.hx_book.proofs.GrowthLaws.{get-push, get-push_before, get-push_last}
+use Rattle.hx_tree.proofs.EntryLaws.{get-push, get-push_before, get-push_last}
 use Rattle.hx_book.proofs.ChildLaws.{get-heading, take-heading, right-at, child-before, needed-size}
 use Rattle.hx_book.proofs.RenamingLaws.{node-renamed}
 

@@ -5,7 +5,7 @@ use Rattle.std.proofs.lemmas.List.{take_more}
 use Rattle.hx_tree.specs.declared.nodes.Line.{Line}
 use Rattle.hx_book.specs.Trees.{HasChild, HasLine}
 use Rattle.hx_book.specs.Renaming.{MarksMore}
-use Rattle.hx_book.proofs.GrowthLaws.{get-push, get-push_before, get-push_last}
+use Rattle.hx_tree.proofs.EntryLaws.{get-push, get-push_before, get-push_last}
 use Rattle.hx_book.proofs.ChainLaws.{get-lt, read-get}
 
 mark-then : (A B : ℕ → Type 0) (old middle new : List Bool) → MarksMore A old middle → MarksMore B middle new → MarksMore (λ p. A p ⊎ B p) old new

@@ -6,7 +6,8 @@ use Rattle.hx_board.specs.declared.colours.Colour.{Colour}
 use Rattle.hx_board.specs.Positions.{Board}
 use Rattle.hx_tree.specs.declared.nodes.Node.{Node}
 use Rattle.hx_book.specs.declared.answers.Found.{Found}
-use Rattle.hx_book.specs.Entries.{Contents, IsFound, HasNoEntry, AreApart}
+use Rattle.hx_tree.specs.Entries.{HasNoEntry, AreApart}
+use Rattle.hx_book.specs.Entries.{Contents, IsFound}
 use Rattle.hx_book.specs.Growing.{IsFirstFound}
 use Rattle.hx_book.specs.Puts.{Refusal, Puts}
 

@@ -4,7 +4,8 @@ use Rattle.hx_board.specs.declared.colours.Colour.{Colour}
 use Rattle.hx_board.specs.Positions.{Board}
 use Rattle.hx_tree.specs.declared.nodes.Node.{Node}
 use Rattle.hx_book.specs.declared.answers.Found.{Found}
-use Rattle.hx_book.specs.Entries.{IsEntry, IsFound}
+use Rattle.hx_tree.specs.Entries.{IsEntry}
+use Rattle.hx_book.specs.Entries.{IsFound}
 
 -- what was found is an entry of the position and mover, and none stands before it
 pub record IsFirstFound (nodes : List Node) (board : Board) (mover : Colour) (found : Found) : Type 0 where

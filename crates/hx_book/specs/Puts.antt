@@ -1,7 +1,8 @@
 -- What a book answers to a node that is put in, and what it then holds.
 use Rattle.std.specs.Prelude.{◌≡◌, ◌<◌, ◌⊎◌, ℕ, List, [], ◌∷◌, ◌++◌, length, Result, Ok, Err}
 use Rattle.hx_tree.specs.declared.nodes.Node.{Node}
-use Rattle.hx_book.specs.Entries.{Contents, contents, IsEntry, HasNoEntry}
+use Rattle.hx_tree.specs.Entries.{IsEntry, HasNoEntry}
+use Rattle.hx_book.specs.Entries.{Contents, contents}
 
 -- a node that was refused, and how many nodes were held
 pub record Refusal : Type 0 where

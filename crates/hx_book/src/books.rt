@@ -7,7 +7,8 @@
 ghost use Rattle.std.specs.Prelude.{◌≡◌, ◌≢◌, ◌<◌, ◌≤◌, ◌↔◌, IsTrue, [], length, IfOk, MatchOption};
 ghost use Rattle.hx_tree.specs.Rules.{IsRightNode};
 ghost use Rattle.hx_tree.specs.Trees.{headings_of, IsValidTree};
-ghost use Rattle.hx_book.specs.Entries.{contents, IsBook, IsFound, HasNoEntry};
+ghost use Rattle.hx_tree.specs.Entries.{HasNoEntry};
+ghost use Rattle.hx_book.specs.Entries.{contents, IsBook, IsFound};
 ghost use Rattle.hx_book.specs.Puts.{Puts};
 ghost use Rattle.hx_book.specs.Trees.{IsTreeOf};
 

@@ -5,7 +5,7 @@ ghost use Rattle.atomic_table.specs.Seated.{TableId};
 ghost use Rattle.hx_tree.specs.declared.nodes.Node.{Node as Proof};
 ghost use Rattle.hx_tree.specs.Rules.{IsRightNode};
 ghost use Rattle.hx_tree.specs.Trees.{headings_of};
-ghost use Rattle.hx_book.specs.Entries.{IsEntry, HasNoEntry};
+ghost use Rattle.hx_tree.specs.Entries.{IsEntry, HasNoEntry};
 ghost use Rattle.hx_book.specs.Growing.{IsFirstFound};
 ghost use Rattle.hx_book.specs.Puts.{Extends};
 
