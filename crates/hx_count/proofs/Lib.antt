@@ -1,0 +1,9 @@
+pub mod Changes
+pub mod Sums
+pub mod MachineLaws
+pub mod Workers
+pub mod PartLaws
+pub mod Keeps
+pub mod Closing
+pub mod SeatLaws
+pub mod DealLaws

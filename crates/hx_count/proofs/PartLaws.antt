@@ -1,0 +1,138 @@
+-- Sums over views of which one changes, and parts that come and go. For the steps of the counts.
+use Rattle.std.proofs.Common.{◌≡◌, ◌≢◌, ℕ, zero, suc, ◌+◌, ◌-◌, ◌<◌, ◌≤◌, Bool, cond, ⊎_elim, List, [], ◌∷◌, ◌++◌, length, get_or, set, take, drop, refl, sym, ap, ◌∙◌, subst, arith, append_assoc, append-nil}
+use Rattle.std.specs.Prelude.{◌==◌}
+use Rattle.std.specs.List.{sum_by, count_by}
+use Rattle.std.proofs.lemmas.List.Sums.{sum_by-set, sum_by-cons, sum_by-append, get_or-le-sum_by}
+use Rattle.std.proofs.lemmas.Bool.{cases_eq}
+use mathlib.Core.Option.{some, some-injective, some-ne-none}
+use lib.ListN.{get_elem?}
+use Rattle.atomic_table.proofs.Lists.{set_else}
+use Rattle.hx_count.specs.declared.events.CountEvent.{CountEvent}
+use Rattle.hx_count.specs.declared.views.Limits.{Limits}
+use Rattle.hx_count.specs.declared.views.Part.{Part}
+use Rattle.hx_count.specs.declared.views.View.{View}
+use Rattle.hx_count.specs.Machine.{worker_of}
+use Rattle.hx_count.specs.Histories.{AreOthers, GoesOn}
+use Rattle.hx_count.specs.Counted.{part, view, times_in, IsFair, AreFairParts, new_parts}
+use Rattle.hx_count.proofs.Workers.{one_same, same-one, other-none}
+
+-- ---- one of a list
+
+module _ {A : Type 0} where
+  pub at-within : (xs : List A) (place : ℕ) (x : A) → get_elem? xs place ≡ some x → place < length xs
+  at-within [] place x there = absurd (some-ne-none x (sym there))
+  at-within (y ∷ ys) zero x there = omega arith
+  at-within (y ∷ ys) (suc place) x there = omega (arith, at-within ys place x there)
+
+  pub at-get : (xs : List A) (place : ℕ) (x d : A) → get_elem? xs place ≡ some x → get_or xs place d ≡ x
+  at-get [] place x d there = absurd (some-ne-none x (sym there))
+  at-get (y ∷ ys) zero x d there = some-injective y x there
+  at-get (y ∷ ys) (suc place) x d there = at-get ys place x d there
+
+  pub sum-set : (f : A → ℕ) (xs : List A) (place : ℕ) (x new : A) → get_elem? xs place ≡ some x → sum_by f (set xs place new) + f x ≡ sum_by f xs + f new
+  sum-set f xs place x new there = subst (λ y. sum_by f (set xs place new) + f y ≡ sum_by f xs + f new) (at-get xs place x x there) (sum_by-set f xs place new x (at-within xs place x there))
+
+  pub term-le : (f : A → ℕ) (xs : List A) (place : ℕ) (x : A) → get_elem? xs place ≡ some x → f x ≤ sum_by f xs
+  term-le f xs place x there = subst (λ y. f y ≤ sum_by f xs) (at-get xs place x x there) (get_or-le-sum_by f xs place x (at-within xs place x there))
+
+  -- where one term is all of a sum of 1, each other one is 0
+  pub others-none : (f : A → ℕ) (xs : List A) (place other : ℕ) (x y none : A) → f none ≡ 0 → sum_by f xs ≡ 1 → f x ≡ 1 → other ≢ place
+      → get_elem? xs place ≡ some x → get_elem? xs other ≡ some y → f y ≡ 0
+  others-none f xs place other x y none is_none one own apart there also =
+      let rest : get_elem? (set xs place none) other ≡ some y = set_else xs place other none apart ∙ also in
+      omega (arith, sum-set f xs place x none there, term-le f (set xs place none) other y rest, is_none, one, own)
+
+-- ---- parts
+
+pub times-single : (worker : ℕ) (p : Part) → times_in worker (p ∷ []) ≡ one_same worker p.worker
+times-single worker p = omega (arith, sum_by-cons (λ (q : Part). cond (q.worker == worker) 1 0) p [])
+
+pub times-first : (worker : ℕ) (p : Part) (parts : List Part) → times_in worker (p ∷ parts) ≡ one_same worker p.worker + times_in worker parts
+times-first worker p parts = sum_by-cons (λ (q : Part). cond (q.worker == worker) 1 0) p parts
+
+pub times-append : (worker : ℕ) (parts more : List Part) → times_in worker (parts ++ more) ≡ times_in worker parts + times_in worker more
+times-append worker parts more = sum_by-append (λ (q : Part). cond (q.worker == worker) 1 0) parts more
+
+-- the first part and the others are all
+pub times-cut : (worker : ℕ) (parts : List Part) → times_in worker (take 1 parts) + times_in worker (drop 1 parts) ≡ times_in worker parts
+times-cut worker [] = refl
+times-cut worker (p ∷ parts) = omega (arith, times-first worker p parts, times-single worker p)
+
+pub fair-append : (limits : Limits) (history : List CountEvent) (parts more : List Part) → AreFairParts limits history parts → AreFairParts limits history more → AreFairParts limits history (parts ++ more)
+fair-append limits history [] more fair also = also
+fair-append limits history (p ∷ parts) more fair also = (fair.0, fair-append limits history parts more fair.1 also)
+
+pub fair-first : (limits : Limits) (history : List CountEvent) (parts : List Part) → AreFairParts limits history parts → AreFairParts limits history (take 1 parts)
+fair-first limits history [] fair = fair
+fair-first limits history (p ∷ parts) fair = (fair.0, tt)
+
+pub fair-rest : (limits : Limits) (history : List CountEvent) (parts : List Part) → AreFairParts limits history parts → AreFairParts limits history (drop 1 parts)
+fair-rest limits history [] fair = fair
+fair-rest limits history (p ∷ parts) fair = fair.1
+
+-- ---- histories
+
+others-append : (worker : ℕ) (events more : List CountEvent) → AreOthers worker events → AreOthers worker more → AreOthers worker (events ++ more)
+others-append worker [] more others also = also
+others-append worker (event ∷ events) more others also = (others.0, others-append worker events more others.1 also)
+
+pub goes_on-now : (worker : ℕ) (history : List CountEvent) → GoesOn worker history history
+goes_on-now worker history = record { between = []; others = tt; same = sym (append-nil history) }
+
+-- another worker's event is one more
+pub goes_on-more : (worker : ℕ) (old history : List CountEvent) (event : CountEvent) → worker_of event ≢ worker → GoesOn worker old history → GoesOn worker old (history ++ event ∷ [])
+goes_on-more worker old history event apart on = record {
+  between = on.between ++ event ∷ [];
+  others = others-append worker on.between (event ∷ []) on.others (apart, tt);
+  same = ap (λ l. l ++ event ∷ []) on.same ∙ append_assoc old on.between (event ∷ []);
+}
+
+-- parts of other workers stay fair
+pub fair-more : (limits : Limits) (history : List CountEvent) (event : CountEvent) (parts : List Part) → times_in (worker_of event) parts ≡ 0
+    → AreFairParts limits history parts → AreFairParts limits (history ++ event ∷ []) parts
+fair-more limits history event [] none fair = tt
+fair-more limits history event (p ∷ parts) none fair =
+    let sum = times-first (worker_of event) p parts in
+    let apart : worker_of event ≢ p.worker = λ same. absurd (omega (arith, none, sum, same-one (worker_of event) p.worker (sym same))) in (
+      record { same_limits = fair.0.same_limits; goes_on = goes_on-more p.worker p.seen history event apart fair.0.goes_on },
+      fair-more limits history event parts (omega (arith, none, sum)) fair.1,
+    )
+
+-- ---- the parts of all workers
+
+pub times-before : (limits : Limits) (first count worker : ℕ) → worker < first → times_in worker (new_parts limits first count) ≡ 0
+times-before limits first zero worker less = refl
+times-before limits first (suc count) worker less = omega (
+  arith,
+  times-first worker (part limits first []) (new_parts limits (first + 1) count),
+  other-none worker first (λ same. omega arith),
+  times-before limits (first + 1) count worker (omega arith),
+)
+
+pub times-among : (limits : Limits) (first count worker : ℕ) → first ≤ worker → worker < first + count → times_in worker (new_parts limits first count) ≡ 1
+times-among limits first zero worker from to = absurd (omega arith)
+times-among limits first (suc count) worker from to = ⊎_elim
+    (λ same. omega (arith, times-first worker (part limits first []) (new_parts limits (first + 1) count), same-one worker first same, times-before limits (first + 1) count worker (omega arith)))
+    (λ apart. omega (arith, times-first worker (part limits first []) (new_parts limits (first + 1) count), other-none worker first apart, times-among limits (first + 1) count worker (omega arith) (omega arith)))
+    (cases_eq first worker)
+
+pub times-after : (limits : Limits) (first count worker : ℕ) → first + count ≤ worker → times_in worker (new_parts limits first count) ≡ 0
+times-after limits first zero worker far = refl
+times-after limits first (suc count) worker far = omega (
+  arith,
+  times-first worker (part limits first []) (new_parts limits (first + 1) count),
+  other-none worker first (λ same. omega arith),
+  times-after limits (first + 1) count worker (omega arith),
+)
+
+pub fair-new : (limits : Limits) (first count : ℕ) → AreFairParts limits [] (new_parts limits first count)
+fair-new limits first zero = tt
+fair-new limits first (suc count) = (record { same_limits = refl; goes_on = goes_on-now first [] }, fair-new limits (first + 1) count)
+
+pub first-new : (limits : Limits) (first count : ℕ) → 0 < count → take 1 (new_parts limits first count) ≡ part limits first [] ∷ []
+first-new limits first zero more = absurd (omega arith)
+first-new limits first (suc count) more = refl
+
+pub rest-new : (limits : Limits) (first count : ℕ) → drop 1 (new_parts limits first count) ≡ new_parts limits (first + 1) (count - 1)
+rest-new limits first zero = refl
+rest-new limits first (suc count) = ap (new_parts limits (first + 1)) (omega arith)

@@ -1,0 +1,4 @@
+pub mod Machine
+pub mod Histories
+pub mod Counted
+pub mod Seats

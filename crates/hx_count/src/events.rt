@@ -1,0 +1,14 @@
+//! What happens to the counts, one event at a time.
+
+/// One event of the counts. A worker goes by its number, and so does a loss word.
+#[derive(Clone, Copy, PartialEq, Eq, Debug)]
+pub enum CountEvent {
+    /// The worker asks for a unit of the budget.
+    Spend { worker: u32 },
+
+    /// The worker holds the word once more.
+    Hold { worker: u32, word: u32 },
+
+    /// The worker holds the word once less.
+    Release { worker: u32, word: u32 },
+}

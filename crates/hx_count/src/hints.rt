@@ -1,0 +1,67 @@
+//! Proof numbers that workers leave for one another. They are hints: a word may be overwritten at any time, also by the
+//! numbers of another position, and no proof rests on one.
+
+ghost use Rattle.std.specs.Prelude.{◌<◌, ◌≤◌, vec_len};
+
+use crossbeam_utils::atomic::AtomicCell;
+use hx_board::Memory;
+use hx_pn::{INF, Numbers};
+use std::alloc::Global;
+
+/// Two numbers, each read and written by itself.
+#[derive(Drop)]
+struct Hint {
+    phi: AtomicCell<u32>,
+    delta: AtomicCell<u32>,
+}
+
+/// A table of hints.
+#[derive(Drop)]
+pub struct Hints {
+    hints: Vec<Hint>,
+    ghost some: { 0 < vec_len hints },
+}
+
+/// A number of a position whose winner is not known.
+fn open(number: u32) -> u32
+    ensures { (1 ≤ result) × (result < 2147483647) }
+{
+    number.clamp(1, INF - 1)
+}
+
+impl Hints {
+    /// A table of so many words. All numbers are 1 at first, as those of a position that nobody looked at.
+    pub fn with_words(alloc: Global, words: u32) -> Result<Hints, Memory>
+        requires { 0 < words }
+    {
+        let Ok(mut hints) = Vec::with_capacity(alloc, words as usize) else {
+            return Err(Memory);
+        };
+        for _ in 0..words {
+            hints.push_reserved(Hint {
+                phi: AtomicCell::new(1),
+                delta: AtomicCell::new(1),
+            });
+        }
+        Ok(Hints { hints })
+    }
+
+    /// The numbers at a place, which is taken modulo the words. Both are at least 1 and below `INF`.
+    pub fn get(&self, place: u32) -> Numbers
+        ensures phi { (1 ≤ result.phi) × (result.phi < 2147483647) }
+        ensures delta { (1 ≤ result.delta) × (result.delta < 2147483647) }
+    {
+        let hint = &self.hints[place as usize % self.hints.len()];
+        Numbers {
+            phi: open(hint.phi.load()),
+            delta: open(hint.delta.load()),
+        }
+    }
+
+    /// Leaves numbers at a place, which is taken modulo the words.
+    pub fn set(&self, place: u32, numbers: Numbers) {
+        let hint = &self.hints[place as usize % self.hints.len()];
+        hint.phi.store(numbers.phi);
+        hint.delta.store(numbers.delta);
+    }
+}

@@ -1,0 +1,22 @@
+//! Counts that many workers share: units of a budget, and loss words, which workers hold and release. Each call is one step on
+//! one word, and takes no lock.
+#![tactic(auto)]
+
+mod counts;
+mod events;
+mod hints;
+mod rules;
+mod seats;
+mod totals;
+mod views;
+
+pub use counts::Counts;
+pub use events::CountEvent;
+pub use hints::Hints;
+pub use seats::{CountSeat, Spent};
+pub use totals::Totals;
+
+#[cfg(test)]
+mod plain;
+#[cfg(test)]
+mod tests;
