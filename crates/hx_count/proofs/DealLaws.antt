@@ -1,10 +1,9 @@
 -- Seats as they are dealt out, one after the other, and gathered again.
-use Rattle.std.proofs.Common.{◌≡◌, ℕ, zero, suc, ◌+◌, ◌-◌, ◌<◌, ◌≤◌, List, [], ◌∷◌, ◌++◌, length, map, take, drop, get_or, refl, sym, ap, ◌∙◌, subst, arith, append_assoc, length-append}
+use Rattle.std.proofs.Common.{◌≡◌, ℕ, zero, suc, ◌+◌, ◌-◌, ◌<◌, List, [], ◌∷◌, ◌++◌, length, map, get_or, refl, sym, ap, ◌∙◌, subst, arith, length-append}
 use Rattle.std.specs.List.{All}
 use Rattle.std.proofs.lemmas.List.{get_or_append_left, get_or_at}
 use Rattle.atomic_table.specs.Seated.{TableId}
 use Rattle.hx_count.specs.declared.views.Limits.{Limits}
-use Rattle.hx_count.specs.declared.views.View.{View}
 use Rattle.hx_count.specs.Counted.{Seated, part, view, new_parts, all_but_first, only_first, joined}
 use Rattle.hx_count.specs.Seats.{Origin, Seat, seat, origin, seat_of, first_part, part_of, new_seats, IsNew}
 use Rattle.hx_count.proofs.PartLaws.{first-new, rest-new}

@@ -1,26 +1,25 @@
 -- Each step of the counts keeps their rule.
-use Rattle.std.proofs.Common.{◌≡◌, ◌≢◌, ℕ, zero, suc, ◌+◌, ◌-◌, ◌*◌, ◌%◌, ◌^◌, ◌<◌, ◌≤◌, Bool, true, false, cond, List, [], ◌∷◌, ◌++◌, length, get_or, set, take, drop, min, refl, sym, ap, ◌∙◌, subst, ⊎_elim, arith, length-set, get_or-set_same, get_or-set_other}
-use Rattle.std.specs.Prelude.{slice_index, nat_lt}
+use Rattle.std.proofs.Common.{◌≡◌, ◌≢◌, ℕ, ◌+◌, ◌-◌, ◌%◌, ◌^◌, ◌<◌, ◌≤◌, true, false, List, [], ◌∷◌, ◌++◌, length, get_or, set, min, refl, sym, ap, ◌∙◌, subst, ⊎_elim, arith, length-set, get_or-set_same, get_or-set_other}
+use Rattle.std.specs.Prelude.{slice_index}
 use Rattle.std.specs.List.{sum_by}
 use Rattle.std.proofs.lemmas.List.Sums.{sum_by-cons, sum_by-append}
 use Rattle.std.proofs.lemmas.Bool.{cases_lt, cases_eq, lt-ltb, le-ltb}
-use mathlib.Core.Option.{none, some, some-injective, some-ne-none}
+use mathlib.Core.Option.{none, some, some-ne-none}
 use native.Mathlib.Decide.{dec_lt}
 use mathlib.Core.Logic.{dite}
 use lib.ListN.{get_elem?}
 use lib.Seq.{set-get_or}
 use Rattle.atomic_table.specs.Table.{State, step, keeps, opening, Allows, Splits, Joins}
-use Rattle.atomic_table.proofs.Lists.{at_set, at_snoc, set_else, set_again}
+use Rattle.atomic_table.proofs.Lists.{at_set, at_snoc, set_else}
 use Rattle.hx_count.specs.declared.events.CountEvent.{CountEvent}
 use Rattle.hx_count.specs.declared.events.CountEvent.TheVariants.{Spend, Hold, Release}
 use Rattle.hx_count.specs.declared.views.Limits.{Limits}
 use Rattle.hx_count.specs.declared.views.Part.{Part}
 use Rattle.hx_count.specs.declared.views.View.{View}
-use Rattle.hx_count.specs.Machine.{CountsState, Account, account_of, granted_to_all, refused_of_all, losses_at, held_in_all, has_units, counts_step, counts_run, worker_of, IsAllowed, AreAllowed}
-use Rattle.hx_count.specs.Histories.{GoesOn}
-use Rattle.hx_count.specs.Counted.{start_of, state_after, IsHistory, part, view, times_in, IsFair, AreFairParts, AreFair, Counted, Seated, IsNext, IsSpend, IsLook, spends, holds, releases, looks, all_but_first, only_first, joined, no_parts, first_view, new_parts, AreSmall}
+use Rattle.hx_count.specs.Machine.{CountsState, Account, account_of, granted_to_all, refused_of_all, losses_at, held_in_all, has_units, counts_step, worker_of, IsAllowed}
+use Rattle.hx_count.specs.Counted.{start_of, state_after, IsHistory, part, view, times_in, IsFair, AreFairParts, Counted, Seated, IsNext, IsSpend, IsLook, spends, holds, releases, looks, all_but_first, only_first, joined, no_parts, first_view, new_parts, AreSmall}
 use Rattle.hx_count.proofs.MachineLaws.{run-append, allowed-append, run-budget, goes_on-account, granted-unit, granted-refusal, refused-unit, refused-refusal, losses-spend, granted-hold, refused-hold, granted-release, refused-release, losses-hold_here, losses-hold_elsewhere, losses-release_here, losses-release_elsewhere, history-bounded, history-workers, losses-le, losses-own, refused-le, start-granted, start-refused, start-losses}
-use Rattle.hx_count.proofs.PartLaws.{at-within, sum-set, term-le, others-none, times-single, times-append, times-cut, fair-append, fair-first, fair-rest, goes_on-now, fair-more, times-among, times-after, fair-new}
+use Rattle.hx_count.proofs.PartLaws.{sum-set, term-le, others-none, times-single, times-append, times-cut, fair-append, fair-first, fair-rest, goes_on-now, fair-more, times-among, times-after, fair-new}
 use Rattle.hx_count.proofs.Workers.{same-one}
 
 abbrev Words : Type 0

@@ -1,7 +1,7 @@
 -- What each event of the counts machine changes, and what it leaves as it was.
-use Rattle.std.proofs.Common.{◌≡◌, ◌≢◌, ℕ, zero, suc, ◌+◌, ◌-◌, ◌*◌, ◌<◌, ◌≤◌, Bool, true, false, cond, List, [], ◌∷◌, ◌++◌, length, replicate, get_or, min, refl, sym, ap, ◌∙◌, subst, arith, ⊎_elim, true≢false}
-use Rattle.std.specs.Prelude.{slice_index, nat_lt}
-use Rattle.std.specs.List.{sum_by, sum, count_by}
+use Rattle.std.proofs.Common.{◌≡◌, ◌≢◌, ℕ, zero, suc, ◌+◌, ◌-◌, ◌*◌, ◌<◌, ◌≤◌, Bool, true, false, cond, List, [], ◌∷◌, ◌++◌, length, replicate, get_or, refl, sym, ap, ◌∙◌, subst, arith, ⊎_elim, true≢false}
+use Rattle.std.specs.Prelude.{slice_index}
+use Rattle.std.specs.List.{sum_by, sum}
 use Rattle.std.proofs.lemmas.List.{get_or_past, get_or-replicate, length-replicate}
 use Rattle.std.proofs.lemmas.List.Sums.{get_or-le-sum_by, sum_by-cons}
 use Rattle.std.proofs.lemmas.Bool.{cases_lt, lt-ltb, le-ltb}
@@ -9,10 +9,10 @@ use mathlib.Core.Logic.{dite}
 use native.Mathlib.Decide.{ℕ_discrete, dec_lt}
 use Rattle.hx_count.specs.declared.events.CountEvent.{CountEvent}
 use Rattle.hx_count.specs.declared.events.CountEvent.TheVariants.{Spend, Hold, Release}
-use Rattle.hx_count.specs.Machine.{Account, CountsState, no_account, account, counts_start, account_of, granted_to_all, refused_of_all, losses_at, held_in_all, held_by_all, has_units, changed_at, with_unit, with_refusal, holding, releasing, with_account, counts_step, counts_run, worker_of, MayDo, IsAllowed, AreAllowed}
+use Rattle.hx_count.specs.Machine.{Account, CountsState, no_account, account, counts_start, account_of, granted_to_all, refused_of_all, losses_at, held_in_all, held_by_all, has_units, changed_at, with_unit, with_refusal, holding, releasing, with_account, counts_step, counts_run, worker_of, IsAllowed, AreAllowed}
 use Rattle.hx_count.specs.Histories.{AreOthers, GoesOn}
 use Rattle.hx_count.proofs.Changes.{length-changed, changed-here, changed-elsewhere, sum_by-changed, sum_by-unchanged}
-use Rattle.hx_count.proofs.Sums.{upto, upto-same, sum-upto, sum_by-upto, sum_by-same, upto-sum_by}
+use Rattle.hx_count.proofs.Sums.{upto, sum-upto, sum_by-same, upto-sum_by}
 
 abbrev one_if : Bool → ℕ
 one_if b = cond b 1 0
@@ -167,9 +167,6 @@ bounded-step words state event bounded is_worker long few = record {
       (λ same. subst (λ w. held_in_all (account_of (counts_step state event) w) ≤ 1024) same few)
       (λ apart. subst (λ a. held_in_all a ≤ 1024) (sym (step-others state event worker apart)) (bounded.few worker));
 }
-
-spent-long : (units : Bool) (a : Account) → length (cond units with_unit with_refusal a).held ≡ length a.held
-spent-long units a = ap length (spent-held units a)
 
 pub bounded-allowed : (words : ℕ) (state : CountsState) (event : CountEvent) → AreBounded words state → IsAllowed state event → AreBounded words (counts_step state event)
 bounded-allowed words state (Spend worker) bounded allowed =

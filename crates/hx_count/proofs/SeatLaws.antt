@@ -1,6 +1,6 @@
 -- What a seat is after each of its steps.
-use Rattle.std.proofs.Common.{◌≡◌, ℕ, zero, suc, ◌+◌, ◌-◌, ◌%◌, ◌^◌, ◌<◌, ◌≤◌, Bool, true, false, cond, List, [], ◌∷◌, ◌++◌, length, min, refl, sym, ap, ◌∙◌, subst, arith, Ok, Err, true≢false}
-use Rattle.std.specs.Prelude.{slice_index, nat_lt, slice_index_or}
+use Rattle.std.proofs.Common.{◌≡◌, ℕ, ◌+◌, ◌-◌, ◌%◌, ◌^◌, ◌<◌, ◌≤◌, Bool, true, false, List, [], ◌∷◌, ◌++◌, length, refl, sym, ap, ◌∙◌, subst, arith, Ok, Err}
+use Rattle.std.specs.Prelude.{slice_index}
 use Rattle.std.proofs.lemmas.Bool.{lt-ltb, le-ltb}
 use mathlib.Core.Option.{none}
 use Rattle.atomic_table.specs.Seated.{TableId}
@@ -10,11 +10,11 @@ use Rattle.hx_count.specs.declared.events.CountEvent.TheVariants.{Spend, Hold, R
 use Rattle.hx_count.specs.declared.views.Limits.{Limits}
 use Rattle.hx_count.specs.declared.views.Part.{Part}
 use Rattle.hx_count.specs.declared.views.View.{View}
-use Rattle.hx_count.specs.Machine.{CountsState, Account, account_of, granted_to_all, refused_of_all, losses_at, held_in_all, has_units, with_unit, with_refusal, holding, releasing, counts_step, counts_run, worker_of, IsAllowed, AreAllowed}
+use Rattle.hx_count.specs.Machine.{CountsState, Account, account_of, granted_to_all, losses_at, held_in_all, has_units, with_unit, with_refusal, holding, releasing, counts_step, counts_run, IsAllowed, AreAllowed}
 use Rattle.hx_count.specs.Histories.{GoesOn}
 use Rattle.hx_count.specs.Counted.{start_of, state_after, IsHistory, part, view, Counted, Seated, IsNext, IsSpend, IsLook, spends, holds, releases, looks}
-use Rattle.hx_count.specs.Seats.{Seat, seat, origin, own, state_seen, seat_of, first_part, SeatKeeps, Adds, Spends, Sees, IsNew}
-use Rattle.hx_count.proofs.MachineLaws.{run-append, run-budget, goes_on-account, spend-unit, spend-refusal, hold-own, release-own, held-holding, held-releasing, inside-held, losses-own, granted-own, refused-own, start-nothing, history-in_budget}
+use Rattle.hx_count.specs.Seats.{Seat, seat, origin, own, state_seen, seat_of, first_part, SeatKeeps, Adds, Spends, Sees}
+use Rattle.hx_count.proofs.MachineLaws.{run-append, run-budget, goes_on-account, spend-unit, spend-refusal, hold-own, release-own, held-holding, held-releasing, losses-own, granted-own, refused-own, history-in_budget}
 use Rattle.hx_count.proofs.Changes.{changed-here}
 use Rattle.hx_count.proofs.Keeps.{spends-keep, holds-keep, releases-keep, looks-keep}
 
@@ -44,12 +44,6 @@ module _ (limits : Limits) (slots id : ℕ) (me : Seated) (granted held : ℕ) (
 
   pub may-look : (word : ℕ) → word < limits.words → Allows (Counted limits) slots id me (word + 1) (λ n. n) (looks (step slots (word + 1) 0 0 none) me)
   may-look word inside = subst (λ (m : Seated). Allows (Counted limits) slots id m (word + 1) (λ n. n) (looks (step slots (word + 1) 0 0 none) m)) (sym k.whole) (looks-keep limits slots id p word inside)
-
-  pub one-part : me.0.parts ≡ p ∷ []
-  one-part = ap (λ (m : Seated). m.0.parts) k.whole
-
-  pub no-slot : me.1 ≡ []
-  no-slot = ap (λ (m : Seated). m.1) k.whole
 
 -- ---- what was told of a step
 
@@ -96,13 +90,6 @@ keeps-part me q granted held refused one bare is same_granted same_refused same_
     let first = only-first_part me.0 q one in
     subst (λ (m : Seated). SeatKeeps m granted held refused) (sym (λ i. (one i, bare i)))
     (record { whole = refl; is_history = is; same_granted = same_granted; same_refused = same_refused; same_held = same_held })
-
--- a new seat
-pub keeps-new : (me : Seated) → IsNew me → SeatKeeps me 0 0 false
-keeps-new me new =
-    let q = first_part me.0 in let limits = q.limits in
-    let none = start-nothing limits.budget limits.words limits.workers q.worker in
-    keeps-part me (part limits q.worker []) 0 0 false (ap (λ (m : Seated). m.0) new) (ap (λ (m : Seated). m.1) new) tt none.granted none.refused none.held
 
 module _ (table table_after : TableId) (same : table_after ≡ table) (p : Part) (me : Seated) where
   adds-next : (event : CountEvent) → IsNext p event me.0 → Adds (seat_of table p) event (seat_of table_after (first_part me.0))

@@ -1,6 +1,6 @@
 -- Seats as contracts see them: which counts a seat is of, its worker's number, and the history as far as it has seen it. What its
 -- worker has is what the counts machine says after that history.
-use Rattle.std.specs.Prelude.{◌≡◌, ℕ, zero, suc, ◌+◌, ◌≤◌, Bool, true, false, List, [], ◌∷◌, ◌++◌, slice_index_or, sum_by, Result, Ok, Err, MatchResult}
+use Rattle.std.specs.Prelude.{◌≡◌, ℕ, zero, suc, ◌+◌, Bool, true, false, List, [], ◌∷◌, ◌++◌, slice_index_or, Result, Ok, Err, MatchResult}
 use Rattle.std.specs.List.{All}
 use Rattle.atomic_table.specs.Seated.{TableId}
 use Rattle.hx_count.specs.declared.events.CountEvent.{CountEvent}

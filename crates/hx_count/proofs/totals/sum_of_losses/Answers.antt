@@ -1,4 +1,4 @@
-use Rattle.std.proofs.Common.{◌≡◌, ◌<◌, ◌≤◌, ◌+◌, ℕ, List, [], ◌∷◌, suc, zero, ap, sym, ◌∙◌, arith, length, drop, take, get_or, length-drop}
+use Rattle.std.proofs.Common.{◌≡◌, ◌+◌, ℕ, List, [], ◌∷◌, suc, ap, sym, ◌∙◌, arith, drop, take}
 use Rattle.std.specs.Prelude.{sum}
 use Rattle.std.specs.Slots.{slots_items}
 use Rattle.std.proofs.lemmas.List.Sums.{sum_by_more, sum_by-take-le}

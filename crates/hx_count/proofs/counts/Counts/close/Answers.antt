@@ -1,4 +1,4 @@
-use Rattle.std.proofs.Common.{◌≡◌, ◌<◌, ◌≤◌, ◌*◌, ◌∙◌, ℕ, ap, sym, subst, arith, min, map}
+use Rattle.std.proofs.Common.{◌∙◌, ap, sym, arith, min, map}
 use Rattle.std.specs.Slots.{slots_items}
 use Rattle.hx_count.specs.Seats.{part_of}
 use Rattle.hx_count.proofs.Closing.{Ends, ended, held-words, few-held, held-seats, granted-seats, refused-seats, closed}

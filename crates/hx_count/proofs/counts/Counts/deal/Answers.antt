@@ -1,6 +1,6 @@
-use Rattle.std.proofs.Common.{◌≡◌, ◌∷◌, ◌++◌, ◌<◌, ◌≤◌, ◌+◌, ◌-◌, ℕ, [], ap, sym, ◌∙◌, arith, length, subst}
+use Rattle.std.proofs.Common.{◌≡◌, ◌∷◌, ◌++◌, ◌≤◌, ◌+◌, ◌-◌, [], ap, sym, ◌∙◌, arith, length, subst}
 use Rattle.std.specs.List.{All}
-use Rattle.hx_count.specs.Counted.{view, part, new_parts}
+use Rattle.hx_count.specs.Counted.{view, new_parts}
 use Rattle.hx_count.specs.Seats.{origin, new_seats}
 use Rattle.hx_count.proofs.Keeps.{splits-keep}
 use Rattle.hx_count.proofs.DealLaws.{one-new, rest-parts, first-parts, dealt-more, length-new, new-made}

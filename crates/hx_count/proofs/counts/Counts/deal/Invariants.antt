@@ -1,6 +1,6 @@
 use Rattle.std.proofs.Common.{◌≡◌, ◌+◌, ◌≤◌, ◌-◌, [], vec_capacity}
 use Rattle.hx_count.specs.Counted.{view, new_parts}
-use Rattle.hx_count.specs.Seats.{new_seats, origin}
+use Rattle.hx_count.specs.Seats.{new_seats}
 use Rattle.hx_count.proofs.counts.Counts.deal.Given as goal
 
 abbrev pub invariant-loop : goal.invariant-loop

@@ -1,4 +1,4 @@
-use Rattle.std.proofs.Common.{◌≡◌, ◌<◌, ◌++◌, [], List, length, map}
+use Rattle.std.proofs.Common.{◌≡◌, ◌++◌, [], List, map}
 use Rattle.std.specs.Prelude.{All}
 use Rattle.hx_count.specs.Counted.{view}
 use Rattle.hx_count.specs.Seats.{Seat, part_of}

@@ -1,9 +1,8 @@
-use Rattle.std.proofs.Common.{◌≡◌, ◌<◌, ap, sym, ◌∙◌, refl, arith}
+use Rattle.std.proofs.Common.{◌<◌, ap, sym, ◌∙◌, refl, arith}
 use Rattle.hx_count.specs.Machine.{held_in_all}
-use Rattle.hx_count.specs.Counted.{IsNext}
 use Rattle.hx_count.specs.declared.events.CountEvent.TheVariants.{Hold}
 use Rattle.hx_count.specs.Seats.{own, first_part}
-use Rattle.hx_count.proofs.SeatLaws.{made-next, may-hold, one-part, adds-hold, own-hold, held-hold, keeps-hold}
+use Rattle.hx_count.proofs.SeatLaws.{made-next, may-hold, adds-hold, own-hold, held-hold, keeps-hold}
 use Rattle.hx_count.proofs.counts.Counts.hold.Goals as goal
 
 pub fetch_add-requires : goal.fetch_add-requires

@@ -1,4 +1,4 @@
-use Rattle.std.proofs.Common.{◌≡◌, ◌<◌, ap, sym, ◌∙◌, refl, arith}
+use Rattle.std.proofs.Common.{◌<◌, ap, sym, ◌∙◌, refl, arith}
 use Rattle.hx_count.specs.Seats.{first_part}
 use Rattle.hx_count.proofs.SeatLaws.{made-look, may-look, keeps-look, sees-look, own-look, sum-look, least-look}
 use Rattle.hx_count.proofs.counts.Counts.losses.Goals as goal

@@ -1,4 +1,4 @@
-use Rattle.std.proofs.Common.{◌≡◌, ◌<◌, ap, sym, ◌∙◌, refl, arith}
+use Rattle.std.proofs.Common.{◌<◌, ap, sym, ◌∙◌, refl, arith}
 use Rattle.std.specs.Prelude.{slice_index}
 use Rattle.hx_count.specs.declared.events.CountEvent.TheVariants.{Release}
 use Rattle.hx_count.specs.Seats.{own, first_part}
