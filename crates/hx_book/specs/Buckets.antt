@@ -26,9 +26,9 @@ unfoldable pub number_of : Board → Colour → ℕ
 number_of board mover =
     folded (bit_xor (folded_set board.black 11400714819323198485 14029467366897019727) (mover_key mover)) (bit_xor (folded_set board.white 1609587929392839161 9650029242287828579) 2870177450012600261)
 
--- the bucket of a position and mover
+-- the bucket of a position and mover: as far into the buckets as their number is into the numbers below 2^64
 unfoldable pub bucket_of : ℕ → Board → Colour → ℕ
-bucket_of buckets board mover = number_of board mover % buckets
+bucket_of buckets board mover = number_of board mover * buckets / 2 ^ 64
 
 -- the entry at this place has this bucket
 pub record IsIn (buckets : ℕ) (nodes : List Node) (bucket place : ℕ) : Type 0 where

@@ -65,12 +65,14 @@ fn number(position: &Position, mover: Colour) -> u64
     fold(black ^ key_of(mover), white ^ LAST)
 }
 
-/// The bucket of a position and mover.
+/// The bucket of a position and mover: as far into the buckets as their number is into all numbers. A product is faster than a
+/// remainder by a number that is known only at run time.
 #[tactic(auto, unfolding(crate::specs::Buckets::bucket_of))]
 pub(crate) fn bucket(buckets: usize, position: &Position, mover: Colour) -> usize
     requires { 0 < buckets }
     ensures value { result ≡ bucket_of buckets position.now mover }
     ensures below { result < buckets }
 {
-    (number(position, mover) % buckets as u64) as usize
+    let product = number(position, mover) as u128 * buckets as u128;
+    (product / HALF) as usize
 }

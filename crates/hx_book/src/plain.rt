@@ -16,18 +16,24 @@ pub(crate) fn plain_find(nodes: &[Node], position: &Position, to_move: Colour) -
     None
 }
 
-/// The place of the first node of this node's position and mover, which is added where there is none.
-pub(crate) fn plain_put(nodes: &mut Vec<Node>, node: Node) -> Result<u32, AllocError> {
+/// The place of the first node of this node's position and mover, which is added where there is none. None where there is none
+/// and the list has as many nodes as there are slots.
+pub(crate) fn plain_put(
+    nodes: &mut Vec<Node>,
+    slots: usize,
+    node: Node,
+) -> Result<Option<u32>, AllocError> {
     match plain_find(
         nodes.as_slice(),
         &node.heading.position,
         node.heading.to_move,
     ) {
-        Some(found) => Ok(found.index),
+        Some(found) => Ok(Some(found.index)),
+        None if nodes.len() >= slots => Ok(None),
         None => {
             let place = u32::try_from(nodes.len()).or(Err(AllocError))?;
             nodes.push(node)?;
-            Ok(place)
+            Ok(Some(place))
         }
     }
 }

@@ -122,6 +122,8 @@ fn refuses_without_a_slot(rt: HostRuntime) -> Result<(), Fail> {
     assert!(rt; refusal.into_node() == by_move(empty, Black, a1, 0));
     assert_eq!(rt; book.held(), 1);
     assert_eq!(rt; book.slots(), 1);
+    let tree = tree_at(book, 0)?;
+    assert!(rt; tree.as_slice() == [by_chain(black, White, Black)].as_slice());
     Ok(())
 }
 
@@ -221,16 +223,25 @@ fn put_in_both(
     let Some(put) = put_chain(book, position, to_move, winner) else {
         return Ok(());
     };
-    let expected = plain_put(nodes, by_chain(*position, to_move, winner)).or(Err("memory"))?;
-    assert_eq!(rt; put.ok(), Some(expected));
+    let node = by_chain(*position, to_move, winner);
+    let expected = plain_put(nodes, book.slots() as usize, node).or(Err("memory"))?;
+    assert_eq!(rt; put.ok(), expected);
     Ok(())
 }
 
 #[test]
 fn answers_as_the_plain_book_does(rt: HostRuntime) -> Result<(), Fail> {
     let rows = rows(rt.alloc())?;
-    for buckets in [1, 2, 7, 64] {
-        let mut book = Book::with_buckets(rt.alloc(), 100, buckets).or(Err("memory"))?;
+    for (slots, buckets) in [
+        (100, 1),
+        (100, 2),
+        (100, 7),
+        (100, 64),
+        (5, 1),
+        (5, 4),
+        (0, 2),
+    ] {
+        let mut book = Book::with_buckets(rt.alloc(), slots, buckets).or(Err("memory"))?;
         let mut nodes = Vec::new(rt.alloc());
         for (place, position) in rows.iter().enumerate() {
             let to_move = if place % 3 == 0 { Black } else { White };
