@@ -106,6 +106,7 @@ fn narrowed_by_cells(view: &View, makers: &Makers, around: &Surroundings) -> Mak
 fn has_none(makers: &Makers) -> bool
     ensures dead { IsTrue result → makers.now.is_dead ≡ false }
     ensures cells { IsTrue result → makers.now.cells ≡ 0 }
+    ensures none { makers.now.is_dead ≡ false → makers.now.cells ≡ 0 → IsTrue result }
 {
     !makers.is_dead && makers.cells == Mask::empty()
 }

@@ -2,7 +2,7 @@
 //! found anew for each question.
 
 use crate::fills::Fill;
-use hx_board::{Cell, Colour, Mask, Position};
+use hx_board::{Cell, Colour, Mask, Position, chain};
 use hx_inferior::{FillStep, Kill, dead, dominates, fill_one, pair};
 use hx_linkset::LinkSet;
 use hx_tree::Line;
@@ -143,4 +143,30 @@ pub(crate) fn each_takes(set: &LinkSet, threats: &[u32]) -> bool {
         shared = left;
     }
     true
+}
+
+/// Whether the player wins the position with this mover: each game is played to its end, and no move is left out. A game of more
+/// than `moves` moves counts as lost.
+pub(crate) fn wins(position: &Position, player: Colour, mover: Colour, moves: u8) -> bool {
+    if chain(position, player) {
+        return true;
+    }
+    if moves == 0 {
+        return false;
+    }
+    let empties = position.empties();
+    let mut wins_some = false;
+    let mut wins_all = empties != Mask::empty();
+    for place in 0..121u8 {
+        if let Some(cell) = cell_at(position, place)
+            && empties.has(cell)
+        {
+            let mut next = *position;
+            next.play(mover, cell);
+            let is_won = wins(&next, player, mover.other(), moves - 1);
+            wins_some |= is_won;
+            wins_all &= is_won;
+        }
+    }
+    if mover == player { wins_some } else { wins_all }
 }

@@ -4,6 +4,7 @@ ghost use Rattle.std.specs.Prelude.{IfOk};
 ghost use Rattle.hx_fill.specs.Fills.{AreDeadOrPairs};
 
 mod mustplay;
+mod winners;
 
 use super::*;
 use crate::plain;

@@ -5,8 +5,10 @@ use crate::{must, plain};
 use hx_board::Colour::{Black, White};
 use hx_board::Vertex::{First, Last};
 use hx_board::{Cell, Colour, Mask, Position, Size, Vertex};
+use hx_inferior::Kill;
 use hx_link::{Parts, Step};
 use hx_linkset::{Added, LinkSet};
+use hx_tree::Line;
 use smallvec::SmallVec;
 use std::alloc::{AllocError, Global};
 use std::process::Abort;
@@ -52,6 +54,17 @@ fn cell(row: u8, col: u8) -> Result<Cell, Fail> {
     Ok(size.cell(row, col).ok_or("cell")?)
 }
 
+/// Adds links by these steps.
+fn add_all(rt: &impl Abort, alloc: Global, set: &mut LinkSet, plans: &[Plan]) -> Result<(), Fail> {
+    for plan in plans {
+        let place = set.count();
+        let step = step_of(alloc, *plan)?;
+        let added = set.add(step).map_err(|_| "memory")?;
+        assert_eq!(rt; added, Added::New(place));
+    }
+    Ok(())
+}
+
 /// A set with links by these steps.
 fn planned(
     rt: &impl Abort,
@@ -60,12 +73,7 @@ fn planned(
     plans: &[Plan],
 ) -> Result<LinkSet, Fail> {
     let mut set = new_set(alloc, position, Black)?;
-    for (index, plan) in plans.iter().enumerate() {
-        let step = step_of(alloc, *plan)?;
-        let added = set.add(step).map_err(|_| "memory")?;
-        let place = u32::try_from(index).map_err(|_| "place")?;
-        assert_eq!(rt; added, Added::New(place));
-    }
+    add_all(rt, alloc, &mut set, plans)?;
     Ok(set)
 }
 
@@ -92,17 +100,68 @@ fn plans() -> Result<[Plan; 15], Fail> {
     ])
 }
 
+/// The further links of the set when it is closed. None of them joins the two sides.
+fn closing_plans() -> Result<[Plan; 17], Fail> {
+    let (a1, b1) = (Vertex::Of(cell(0, 0)?), Vertex::Of(cell(0, 1)?));
+    let (a2, b2) = (Vertex::Of(cell(1, 0)?), Vertex::Of(cell(1, 1)?));
+    Ok([
+        Plan::Base(a2, b2),
+        Plan::Base(a1, b1),
+        Plan::Cell(16, 10),
+        Plan::Cell(1, 15),
+        Plan::Cell(3, 10),
+        Plan::Cell(1, 7),
+        Plan::Or(18, 17),
+        Plan::Cell(1, 4),
+        Plan::Cell(4, 10),
+        Plan::Cell(4, 15),
+        Plan::Cell(7, 15),
+        Plan::Cell(10, 15),
+        Plan::Cell(9, 15),
+        Plan::Cell(1, 16),
+        Plan::Cell(0, 16),
+        Plan::Cell(4, 16),
+        Plan::Cell(3, 16),
+    ])
+}
+
+/// The lines of which there must be one: a2 is better than b1, which then is a pair with b2, and b1 than a2, which then is a
+/// pair with a1.
+fn lines_that_overlap() -> Result<[Line; 2], Fail> {
+    let (a1, b1) = (cell(0, 0)?, cell(0, 1)?);
+    let (a2, b2) = (cell(1, 0)?, cell(1, 1)?);
+    let by_a2 = Line::Under {
+        cell: b1,
+        better: a2,
+        kill: Kill::ByPair(b2),
+    };
+    let by_b1 = Line::Under {
+        cell: a2,
+        better: b1,
+        kill: Kill::ByPair(a1),
+    };
+    Ok([by_a2, by_b1])
+}
+
 /// Two links between the sides share b1 and a2, of which either is better than the other.
+fn compare_overlap(rt: &impl Abort, set: &LinkSet) -> Result<(), Fail> {
+    let found = must(set).map_err(|_| "memory")?;
+    assert!(rt; plain::each_takes(set, found.threats.as_slice()));
+    assert_eq!(rt; found.threats.as_slice(), [8, 14].as_slice());
+    assert_eq!(rt; (found.cells, found.under.len()), (Mask::of(B1 | A2), 1));
+    let line = found.under.first().ok_or("line")?;
+    assert!(rt; lines_that_overlap()?.contains(line), "{line:?}");
+    Ok(())
+}
+
+/// The same must be answered when the set is closed.
 #[test]
 fn threats_that_overlap(rt: HostRuntime) -> Result<(), Fail> {
     let position = board(2, 2, 0, 0)?;
-    let set = planned(&rt, rt.alloc(), &position, &plans()?)?;
-    let found = must(&set).map_err(|_| "memory")?;
-    assert!(rt; plain::each_takes(&set, found.threats.as_slice()));
-    assert_eq!(rt; found.threats.as_slice(), [8, 14].as_slice());
-    assert_eq!(rt; (found.cells, found.under.len()), (Mask::of(B1 | A2), 1));
-    assert!(rt; plain::are_under(&position, White, found.cells, found.under.as_slice()));
-    Ok(())
+    let mut set = planned(&rt, rt.alloc(), &position, &plans()?)?;
+    compare_overlap(&rt, &set)?;
+    add_all(&rt, rt.alloc(), &mut set, &closing_plans()?)?;
+    compare_overlap(&rt, &set)
 }
 
 /// Link 8 joins the two sides on a1, b1 and c1, and link 10 on a1.
