@@ -26,7 +26,8 @@ use Rattle.hx_tree.specs.Trees.{headings_of}
 use Rattle.hx_tree.proofs.CellOrder.{same_kind}
 use Rattle.hx_tree.proofs.TreeGrowth.{headings_of-append}
 use Rattle.hx_sweep.specs.Growth.{heading_of, IsProved}
-use Rattle.hx_sweep.proofs.NodeGrowth.{some_and-append, proved_leads}
+use Rattle.hx_tree.proofs.RightNodeGrowth.{some_and-append}
+use Rattle.hx_sweep.proofs.NodeGrowth.{proved_leads}
 
 -- ---- a cell is taken out of a set
 

@@ -12,7 +12,6 @@ use Rattle.hx_board.specs.Positions.{Board, IsBoard, IsEmpty, put}
 use Rattle.hx_board.specs.Counts.{empty_count, sweep_size}
 use Rattle.hx_board.proofs.StoneLaws.{size-put, board-put}
 use Rattle.hx_board.proofs.EmptyCells.{empty_count-put, some_empty-count, sweep_size-suc, sweep_size-positive}
-use Rattle.hx_tree.specs.declared.nodes.Heading.{Heading}
 use Rattle.hx_tree.specs.declared.nodes.Node.{Node}
 use Rattle.hx_tree.specs.declared.nodes.Rule.{Rule}
 use Rattle.hx_tree.specs.Headings.{IsHeading}
@@ -20,13 +19,6 @@ use Rattle.hx_tree.specs.Rules.{IsRightRule}
 use Rattle.hx_tree.specs.Trees.{headings_of}
 use Rattle.hx_tree.proofs.TreeGrowth.{one_more_right}
 use Rattle.hx_sweep.specs.Growth.{heading_of, IsBegun, IsGrown, IsProved}
-
--- ---- earlier headings
-
-pub some_and-append : (P : Heading → Type 0) (headings more : List Heading) (k : ℕ) → IsSomeAnd (slice_get headings k) P → IsSomeAnd (slice_get (headings ++ more) k) P
-some_and-append P [] more k is = absurd is
-some_and-append P (first ∷ headings) more zero is = is
-some_and-append P (first ∷ headings) more (suc k) is = some_and-append P headings more k is
 
 -- ---- lists that grow
 

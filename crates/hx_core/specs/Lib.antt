@@ -1,0 +1,4 @@
+pub mod BookMachine
+pub mod Machine
+pub mod Runs
+pub mod Fields

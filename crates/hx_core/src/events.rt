@@ -1,0 +1,82 @@
+//! What workers ask of the machine, and what it answers.
+
+use hx_board::{Colour, Position};
+use hx_tree::Node;
+
+/// What a worker does. Workers go by their numbers, from 0 on, and so do loss words.
+#[derive(PartialEq, Eq, Debug, Drop)]
+pub enum Event {
+    /// The worker looks for the proof of a position and mover.
+    Look {
+        worker: u32,
+        position: Position,
+        to_move: Colour,
+    },
+
+    /// The worker stores a node that is right after those that it has seen.
+    Store {
+        worker: u32,
+        node: Node,
+    },
+
+    /// One worker tells another what it has seen.
+    Tell {
+        from: u32,
+        to: u32,
+    },
+
+    /// The worker asks for a unit of the budget.
+    Spend {
+        worker: u32,
+    },
+
+    /// The worker holds a loss word once more. It holds fewer than 1,024 in all before.
+    Hold {
+        worker: u32,
+        word: u32,
+    },
+
+    /// The worker holds a loss word, which it holds, once less.
+    Release {
+        worker: u32,
+        word: u32,
+    },
+}
+
+/// An entry that was found: where it stands, and who wins by it.
+#[derive(Clone, Copy, PartialEq, Eq, Debug)]
+pub struct Found {
+    pub index: u32,
+    pub winner: Colour,
+}
+
+/// What a worker is answered.
+#[derive(Clone, Copy, PartialEq, Eq, Debug)]
+pub enum Reply {
+    /// To a look: the first entry of the position and mover.
+    Found(Found),
+
+    /// To a look: there is no entry of the position and mover.
+    NoEntry,
+
+    /// To a store: the index of the first entry of the node's position and mover, which may be the node.
+    Stored(u32),
+
+    /// To a store: there is no such entry, and each slot is taken; how many that are.
+    NoSlot(u32),
+
+    /// The other worker was told.
+    Told,
+
+    /// To a spend: a unit was granted.
+    Granted,
+
+    /// To a spend: each unit was granted before; how many that are.
+    Spent(u64),
+
+    /// The word is held once more.
+    Held,
+
+    /// The word is held once less.
+    Released,
+}
