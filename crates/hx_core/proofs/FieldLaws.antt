@@ -2,7 +2,6 @@
 use Rattle.std.proofs.Common.{◌≡◌, ◌≢◌, ℕ, ◌+◌, ◌<◌, ◌≤◌, Bool, true, false, List, [], ◌∷◌, ◌++◌, length, set, get_or, sym, ap, ◌∙◌, subst, arith, length-append}
 use Rattle.std.specs.Prelude.{replicate, slice_index, take, if◌then◌else◌}
 use Rattle.std.proofs.lemmas.Bool.{lt-ltb, le-ltb}
-use Rattle.std.proofs.lemmas.List.{get_or_default}
 use Rattle.hx_board.specs.declared.colours.Colour.{Colour}
 use Rattle.hx_board.specs.Positions.{Board}
 use Rattle.hx_tree.specs.declared.nodes.Node.{Node}
@@ -10,7 +9,7 @@ use Rattle.hx_tree.specs.Entries.{HasNoEntry}
 use Rattle.hx_tree.specs.Rules.{IsRightNode}
 use Rattle.hx_tree.specs.Trees.{headings_of}
 use Rattle.hx_tree.proofs.RightNodeGrowth.{right_node-whole}
-use Rattle.hx_count.specs.Machine.{Account, CountsState, account, no_account, changed_at, with_unit, with_refusal, with_account, granted_to_all, has_units, counts_step, worker_of, IsAllowed}
+use Rattle.hx_count.specs.Machine.{Account, CountsState, account, changed_at, with_unit, with_refusal, with_account, granted_to_all, has_units, counts_step, worker_of, IsAllowed}
 use Rattle.hx_count.specs.declared.events.CountEvent.{CountEvent}
 use Rattle.hx_count.specs.declared.events.CountEvent.TheVariants.{Spend as SpendUnit}
 use Rattle.hx_core.specs.declared.events.Reply.{Reply}
@@ -99,9 +98,6 @@ module _ (slots : ℕ) (nodes : List Node) (seen : List ℕ) (worker held : ℕ)
         record { none = none; room = omega (arith, is_held, left, few); last = is_held; grown = ap (λ (n : ℕ). with_seen (with_node book node) worker n) longer }
 
 -- ---- accounts that are read and written
-
-pub account-read : (accounts : List Account) (worker : ℕ) (read : Account) → worker < length accounts → read ≡ get_or accounts worker read → get_or accounts worker no_account ≡ read
-account-read accounts worker read inside is = get_or_default accounts worker no_account read inside ∙ sym is
 
 -- an event of the counts changes the account of its worker so
 abbrev pub Changes : (Account → Account) → CountsState → CountEvent → Type 0

@@ -5,7 +5,7 @@ ghost use Rattle.std.specs.Prelude.{◌≡◌, ◌≤◌, ◌↔◌, IsTrue, len
 ghost use Rattle.hx_tree.specs.Entries.{HasNoEntry};
 ghost use Rattle.hx_core.specs.declared.events.Event.TheVariants.{Look, Store, Tell};
 ghost use Rattle.hx_core.specs.BookMachine.{IsFirstFound};
-ghost use Rattle.hx_core.specs.Machine.{IsWorker, CanHappen, MachineStep};
+ghost use Rattle.hx_core.specs.Machine.{CanHappen, MachineStep};
 
 use crate::events::{Found, Reply};
 use crate::states::State;

@@ -12,7 +12,7 @@ use Rattle.hx_count.specs.declared.views.Part.{Part}
 use Rattle.hx_count.specs.declared.views.View.{View}
 use Rattle.hx_count.specs.Machine.{CountsState, Account, no_account, account_of, granted_to_all, refused_of_all, losses_at, held_in_all, held_by_all}
 use Rattle.hx_count.specs.Histories.{GoesOn}
-use Rattle.hx_count.specs.Counted.{Seated, start_of, state_after, IsHistory, view, times_in, AreFairParts, Counted}
+use Rattle.hx_count.specs.Counted.{Seated, start_of, state_after, IsHistory, view, times_in, AreCurrentParts, Counted}
 use Rattle.hx_count.specs.Seats.{Origin, Seat, own, part_of, IsClosed}
 use Rattle.hx_count.proofs.MachineLaws.{goes_on-account, history-bounded, history-workers, held-losses, held-le, run-budget, history-in_budget}
 use Rattle.hx_count.proofs.Sums.{upto, upto-same, sum-upto, sum_by-upto}
@@ -29,7 +29,7 @@ pub record Ends (limits : Limits) (words : List ℕ) (parts : List Part) : Type 
   pub losses : (word : ℕ) → word < limits.words → slice_index words (word + 1) ≡ losses_at (state_after limits history) word
   pub once : (worker : ℕ) → worker < limits.workers → times_in worker parts ≤ 1
   pub never : (worker : ℕ) → limits.workers ≤ worker → times_in worker parts ≡ 0
-  pub fair : AreFairParts limits history parts
+  pub current : AreCurrentParts limits history parts
 
 ends-now : (limits : Limits) (s : State (Unit {0}) View) (id : ℕ) (v : View) → Counted limits s → get_elem? s.views id ≡ some v → Ends limits s.words v.parts
 ends-now limits s id v c there = record {
@@ -41,7 +41,7 @@ ends-now limits s id v c there = record {
   losses = c.losses;
   once = λ worker below. omega (arith, c.once worker below, term-le (λ (u : View). times_in worker u.parts) s.views id v there);
   never = λ worker far. omega (arith, c.never worker far, term-le (λ (u : View). times_in worker u.parts) s.views id v there);
-  fair = c.fair id v there;
+  current = c.current id v there;
 }
 
 pub ends : (limits : Limits) (id : ℕ) (v : View) (words : List ℕ) (slots : List (Unit {0})) → Final (Seen (Counted limits) id v) words slots → Ends limits words v.parts
@@ -93,27 +93,27 @@ module _ (limits : Limits) (words : List ℕ) (parts : List Part) (e : Ends limi
 -- ---- the seats that were given back
 
 module _ (made : Origin) (seats : List Seat) (words : List ℕ) (e : Ends made.limits words (map part_of seats)) where
-  fair-seats : (more : List Seat) → AreFairParts made.limits e.history (map part_of more) → All (λ (s : Seat). GoesOn s.worker s.seen e.history) more
-  fair-seats [] fair k d less = absurd (omega arith)
-  fair-seats (s ∷ more) fair zero d less = fair.0.goes_on
-  fair-seats (s ∷ more) fair (suc k) d less = fair-seats more fair.1 k d (omega arith)
+  current-seats : (more : List Seat) → AreCurrentParts made.limits e.history (map part_of more) → All (λ (s : Seat). GoesOn s.worker s.seen e.history) more
+  current-seats [] current k d less = absurd (omega arith)
+  current-seats (s ∷ more) current zero d less = current.0.goes_on
+  current-seats (s ∷ more) current (suc k) d less = current-seats more current.1 k d (omega arith)
 
   pub all-seen : All (λ (s : Seat). GoesOn s.worker s.seen e.history) seats
-  all-seen = fair-seats seats e.fair
+  all-seen = current-seats seats e.current
 
   -- each worker has at the end what its seat says
-  own-last : (f : Account → ℕ) (more : List Seat) → AreFairParts made.limits e.history (map part_of more)
+  own-last : (f : Account → ℕ) (more : List Seat) → AreCurrentParts made.limits e.history (map part_of more)
       → sum_by (λ (s : Seat). f (own s)) more ≡ sum_by (λ (p : Part). f (account_of (state_after made.limits e.history) p.worker)) (map part_of more)
-  own-last f [] fair = refl
-  own-last f (s ∷ more) fair =
+  own-last f [] current = refl
+  own-last f (s ∷ more) current =
       let same : own s ≡ account_of (state_after made.limits e.history) s.worker =
-      ap (λ (l : Limits). account_of (state_after l s.seen) s.worker) fair.0.same_limits ∙ sym (goes_on-account (start_of made.limits) s.worker s.seen e.history fair.0.goes_on) in
+      ap (λ (l : Limits). account_of (state_after l s.seen) s.worker) current.0.same_limits ∙ sym (goes_on-account (start_of made.limits) s.worker s.seen e.history current.0.goes_on) in
       omega (
         arith,
         sum_by-cons (λ (t : Seat). f (own t)) s more,
         sum_by-cons (λ (p : Part). f (account_of (state_after made.limits e.history) p.worker)) (part_of s) (map part_of more),
         ap f same,
-        own-last f more fair.1,
+        own-last f more current.1,
       )
 
   length-parts : (more : List Seat) → length (map part_of more) ≡ length more
@@ -121,7 +121,7 @@ module _ (made : Origin) (seats : List Seat) (words : List ℕ) (e : Ends made.l
   length-parts (s ∷ more) = ap suc (length-parts more)
 
   pub seats-sum : (f : Account → ℕ) → length seats ≡ made.limits.workers → sum_by (λ (s : Seat). f (own s)) seats ≡ sum_by f (state_after made.limits e.history).accounts
-  seats-sum f all = own-last f seats e.fair ∙ workers-sum made.limits words (map part_of seats) e f (length-parts seats ∙ all)
+  seats-sum f all = own-last f seats e.current ∙ workers-sum made.limits words (map part_of seats) e f (length-parts seats ∙ all)
 
   pub held-seats : length seats ≡ made.limits.workers → sum (drop 1 words) ≡ sum_by (λ (s : Seat). held_in_all (own s)) seats
   held-seats all = held-words made.limits words (map part_of seats) e ∙ sym (seats-sum held_in_all all)

@@ -17,9 +17,9 @@ use Rattle.hx_count.specs.declared.views.Limits.{Limits}
 use Rattle.hx_count.specs.declared.views.Part.{Part}
 use Rattle.hx_count.specs.declared.views.View.{View}
 use Rattle.hx_count.specs.Machine.{CountsState, Account, account_of, granted_to_all, refused_of_all, losses_at, held_in_all, has_units, counts_step, worker_of, IsAllowed}
-use Rattle.hx_count.specs.Counted.{start_of, state_after, IsHistory, part, view, times_in, IsFair, AreFairParts, Counted, Seated, IsNext, IsSpend, IsLook, spends, holds, releases, looks, all_but_first, only_first, joined, no_parts, first_view, new_parts, AreSmall}
+use Rattle.hx_count.specs.Counted.{start_of, state_after, IsHistory, part, view, times_in, IsCurrent, AreCurrentParts, Counted, Seated, IsNext, IsSpend, IsLook, spends, holds, releases, looks, all_but_first, only_first, joined, no_parts, first_view, new_parts, AreSmall}
 use Rattle.hx_count.proofs.MachineLaws.{run-append, allowed-append, run-budget, goes_on-account, granted-unit, granted-refusal, refused-unit, refused-refusal, losses-spend, granted-hold, refused-hold, granted-release, refused-release, losses-hold_here, losses-hold_elsewhere, losses-release_here, losses-release_elsewhere, history-bounded, history-workers, losses-le, losses-own, refused-le, start-granted, start-refused, start-losses}
-use Rattle.hx_count.proofs.PartLaws.{sum-set, term-le, others-none, times-single, times-append, times-cut, fair-append, fair-first, fair-rest, goes_on-now, fair-more, times-among, times-after, fair-new}
+use Rattle.hx_count.proofs.PartLaws.{sum-set, term-le, others-none, times-single, times-append, times-cut, current-append, current-first, current-rest, goes_on-now, current-more, times-among, times-after, current-new}
 use Rattle.hx_count.proofs.Workers.{same-one}
 
 abbrev Words : Type 0
@@ -53,15 +53,15 @@ module _ (limits : Limits) (s : Words) (c : Counted limits s) (id : ℕ) (p : Pa
   pub is-of_now : p.worker < length now.accounts
   is-of_now = omega (arith, is-worker, history-workers limits.budget limits.words limits.workers c.history)
 
-  own-fair : IsFair limits c.history p
-  own-fair = (c.fair id (view (p ∷ [])) there).0
+  own-current : IsCurrent limits c.history p
+  own-current = (c.current id (view (p ∷ [])) there).0
 
   pub same-limits : p.limits ≡ limits
-  same-limits = own-fair.same_limits
+  same-limits = own-current.same_limits
 
   -- what the worker has now is what it had when it last looked
   pub same-account : account_of now p.worker ≡ account_of (state_after p.limits p.seen) p.worker
-  same-account = goes_on-account (start_of limits) p.worker p.seen c.history own-fair.goes_on ∙ ap (λ (l : Limits). account_of (state_after l p.seen) p.worker) (sym same-limits)
+  same-account = goes_on-account (start_of limits) p.worker p.seen c.history own-current.goes_on ∙ ap (λ (l : Limits). account_of (state_after l p.seen) p.worker) (sym same-limits)
 
   module _ (event : CountEvent) (own : worker_of event ≡ p.worker) where
     abbrev longer : List CountEvent
@@ -70,10 +70,10 @@ module _ (limits : Limits) (s : Words) (c : Counted limits s) (id : ℕ) (p : Pa
     abbrev seen_more : View
     seen_more = view (part p.limits p.worker longer ∷ [])
 
-    fair-others : (other : ℕ) (u : View) → other ≢ id → get_elem? s.views other ≡ some u → AreFairParts limits longer u.parts
-    fair-others other u apart also = fair-more limits c.history event u.parts
+    current-others : (other : ℕ) (u : View) → other ≢ id → get_elem? s.views other ≡ some u → AreCurrentParts limits longer u.parts
+    current-others other u apart also = current-more limits c.history event u.parts
         (ap (λ worker. times_in worker u.parts) own ∙ others-none (named p.worker) s.views id other (view (p ∷ [])) u no_parts refl (c.once p.worker is-worker) own-once apart there also)
-        (c.fair other u also)
+        (c.current other u also)
 
     same-sum : (worker : ℕ) → sum_by (named worker) (set s.views id seen_more) ≡ sum_by (named worker) s.views
     same-sum worker = omega (arith, sum-set (named worker) s.views id (view (p ∷ [])) seen_more there, times-single worker p, times-single worker (part p.limits p.worker longer))
@@ -94,16 +94,16 @@ module _ (limits : Limits) (s : Words) (c : Counted limits s) (id : ℕ) (p : Pa
       losses = λ k inside. losses k inside ∙ ap (λ (state : CountsState). losses_at state k) (sym (after-more limits c.history event));
       once = λ worker inside. same-sum worker ∙ c.once worker inside;
       never = λ worker far. same-sum worker ∙ c.never worker far;
-      fair = λ other u at. ⊎_elim
-          (λ (t : (other ≡ id) × (seen_more ≡ u)). subst (λ (v : View). AreFairParts limits longer v.parts) t.1 (record { same_limits = same-limits; goes_on = goes_on-now p.worker longer }, tt))
-          (λ (t : (other ≢ id) × (get_elem? s.views other ≡ some u)). fair-others other u t.0 t.1)
+      current = λ other u at. ⊎_elim
+          (λ (t : (other ≡ id) × (seen_more ≡ u)). subst (λ (v : View). AreCurrentParts limits longer v.parts) t.1 (record { same_limits = same-limits; goes_on = goes_on-now p.worker longer }, tt))
+          (λ (t : (other ≢ id) × (get_elem? s.views other ≡ some u)). current-others other u t.0 t.1)
           (at_set s.views id other seen_more u at);
     }
 
     pub next : IsAllowed now event → IsNext p event seen_more
     next allowed = record {
       before = c.history;
-      goes_on = own-fair.goes_on;
+      goes_on = own-current.goes_on;
       is_history = subst (λ (l : Limits). IsHistory l longer) (sym same-limits) (more-history limits c.history event c.is_history allowed);
       seen = refl;
     }
@@ -279,16 +279,16 @@ module _ (limits : Limits) (slots id : ℕ) (p : Part) where
       losses = c.losses;
       once = λ n below. same-times n ∙ c.once n below;
       never = λ n far. same-times n ∙ c.never n far;
-      fair = λ other u at. ⊎_elim
-          (λ (t : (other ≡ id) × (looked ≡ u)). subst (λ (v : View). AreFairParts limits c.history v.parts) t.1 (record { same_limits = same-limits limits s c id p there; goes_on = goes_on-now worker c.history }, tt))
-          (λ (t : (other ≢ id) × (get_elem? s.views other ≡ some u)). c.fair other u t.1)
+      current = λ other u at. ⊎_elim
+          (λ (t : (other ≡ id) × (looked ≡ u)). subst (λ (v : View). AreCurrentParts limits c.history v.parts) t.1 (record { same_limits = same-limits limits s c id p there; goes_on = goes_on-now worker c.history }, tt))
+          (λ (t : (other ≢ id) × (get_elem? s.views other ≡ some u)). c.current other u t.1)
           (at_set s.views id other looked u at);
     }
 
     look-told : IsLook p word number looked
     look-told = record {
       history = c.history;
-      goes_on = (c.fair id (view (p ∷ [])) there).0.goes_on;
+      goes_on = (c.current id (view (p ∷ [])) there).0.goes_on;
       is_history = subst (λ (l : Limits). IsHistory l c.history) (sym (same-limits limits s c id p there)) c.is_history;
       losses = c.losses word inside ∙ ap (λ (l : Limits). losses_at (state_after l c.history) word) (sym (same-limits limits s c id p there));
       seen = refl;
@@ -355,12 +355,12 @@ splits-keep limits id v s c there =
       losses = c.losses;
       once = λ worker below. same worker ∙ c.once worker below;
       never = λ worker far. same worker ∙ c.never worker far;
-      fair = λ other u at. ⊎_elim
+      current = λ other u at. ⊎_elim
           (λ (t : get_elem? views other ≡ some u). ⊎_elim
-          (λ (e : (other ≡ id) × (rest ≡ u)). subst (λ (w : View). AreFairParts limits c.history w.parts) e.1 (fair-rest limits c.history v.parts (c.fair id v there)))
-          (λ (e : (other ≢ id) × (get_elem? s.views other ≡ some u)). c.fair other u e.1)
+          (λ (e : (other ≡ id) × (rest ≡ u)). subst (λ (w : View). AreCurrentParts limits c.history w.parts) e.1 (current-rest limits c.history v.parts (c.current id v there)))
+          (λ (e : (other ≢ id) × (get_elem? s.views other ≡ some u)). c.current other u e.1)
           (at_set s.views id other rest u t))
-          (λ (t : first ≡ u). subst (λ (w : View). AreFairParts limits c.history w.parts) t (fair-first limits c.history v.parts (c.fair id v there)))
+          (λ (t : first ≡ u). subst (λ (w : View). AreCurrentParts limits c.history w.parts) t (current-first limits c.history v.parts (c.current id v there)))
           (at_snoc views first u other at);
     }
 
@@ -383,11 +383,11 @@ joins-keep limits id v other w s c there apart also =
       losses = c.losses;
       once = λ worker below. same worker ∙ c.once worker below;
       never = λ worker far. same worker ∙ c.never worker far;
-      fair = λ one u at. ⊎_elim
-          (λ (t : (one ≡ other) × (no_parts ≡ u)). subst (λ (x : View). AreFairParts limits c.history x.parts) t.1 tt)
+      current = λ one u at. ⊎_elim
+          (λ (t : (one ≡ other) × (no_parts ≡ u)). subst (λ (x : View). AreCurrentParts limits c.history x.parts) t.1 tt)
           (λ (t : (one ≢ other) × (get_elem? views one ≡ some u)). ⊎_elim
-          (λ (e : (one ≡ id) × (both ≡ u)). subst (λ (x : View). AreFairParts limits c.history x.parts) e.1 (fair-append limits c.history w.parts v.parts (c.fair other w was) (c.fair id v there)))
-          (λ (e : (one ≢ id) × (get_elem? s.views one ≡ some u)). c.fair one u e.1)
+          (λ (e : (one ≡ id) × (both ≡ u)). subst (λ (x : View). AreCurrentParts limits c.history x.parts) e.1 (current-append limits c.history w.parts v.parts (c.current other w was) (c.current id v there)))
+          (λ (e : (one ≢ id) × (get_elem? s.views one ≡ some u)). c.current one u e.1)
           (at_set s.views id one both u t.1))
           (at_set views other one no_parts u at);
     }
@@ -407,8 +407,8 @@ opens limits words small wide zeros =
       losses = λ word below. zeros (word + 1) ∙ sym (start-losses limits.budget limits.words limits.workers word);
       once = λ worker below. one worker ∙ times-among limits 0 limits.workers worker (omega arith) (omega arith);
       never = λ worker far. one worker ∙ times-after limits 0 limits.workers worker (omega arith);
-      fair = λ id u at. ⊎_elim
+      current = λ id u at. ⊎_elim
           (λ (t : get_elem? [] id ≡ some u). absurd (some-ne-none u (sym t)))
-          (λ (t : first_view limits ≡ u). subst (λ (w : View). AreFairParts limits [] w.parts) t (fair-new limits 0 limits.workers))
+          (λ (t : first_view limits ≡ u). subst (λ (w : View). AreCurrentParts limits [] w.parts) t (current-new limits 0 limits.workers))
           (at_snoc [] (first_view limits) u id at);
     }

@@ -12,7 +12,7 @@ use Rattle.hx_count.specs.declared.views.Limits.{Limits}
 use Rattle.hx_count.specs.declared.views.Part.{Part}
 use Rattle.hx_count.specs.Machine.{worker_of}
 use Rattle.hx_count.specs.Histories.{AreOthers, GoesOn}
-use Rattle.hx_count.specs.Counted.{part, times_in, AreFairParts, new_parts}
+use Rattle.hx_count.specs.Counted.{part, times_in, AreCurrentParts, new_parts}
 use Rattle.hx_count.proofs.Workers.{one_same, same-one, other-none}
 
 -- ---- one of a list
@@ -57,17 +57,17 @@ pub times-cut : (worker : ℕ) (parts : List Part) → times_in worker (take 1 p
 times-cut worker [] = refl
 times-cut worker (p ∷ parts) = omega (arith, times-first worker p parts, times-single worker p)
 
-pub fair-append : (limits : Limits) (history : List CountEvent) (parts more : List Part) → AreFairParts limits history parts → AreFairParts limits history more → AreFairParts limits history (parts ++ more)
-fair-append limits history [] more fair also = also
-fair-append limits history (p ∷ parts) more fair also = (fair.0, fair-append limits history parts more fair.1 also)
+pub current-append : (limits : Limits) (history : List CountEvent) (parts more : List Part) → AreCurrentParts limits history parts → AreCurrentParts limits history more → AreCurrentParts limits history (parts ++ more)
+current-append limits history [] more current also = also
+current-append limits history (p ∷ parts) more current also = (current.0, current-append limits history parts more current.1 also)
 
-pub fair-first : (limits : Limits) (history : List CountEvent) (parts : List Part) → AreFairParts limits history parts → AreFairParts limits history (take 1 parts)
-fair-first limits history [] fair = fair
-fair-first limits history (p ∷ parts) fair = (fair.0, tt)
+pub current-first : (limits : Limits) (history : List CountEvent) (parts : List Part) → AreCurrentParts limits history parts → AreCurrentParts limits history (take 1 parts)
+current-first limits history [] current = current
+current-first limits history (p ∷ parts) current = (current.0, tt)
 
-pub fair-rest : (limits : Limits) (history : List CountEvent) (parts : List Part) → AreFairParts limits history parts → AreFairParts limits history (drop 1 parts)
-fair-rest limits history [] fair = fair
-fair-rest limits history (p ∷ parts) fair = fair.1
+pub current-rest : (limits : Limits) (history : List CountEvent) (parts : List Part) → AreCurrentParts limits history parts → AreCurrentParts limits history (drop 1 parts)
+current-rest limits history [] current = current
+current-rest limits history (p ∷ parts) current = current.1
 
 -- ---- histories
 
@@ -86,15 +86,15 @@ goes_on-more worker old history event apart on = record {
   same = ap (λ l. l ++ event ∷ []) on.same ∙ append_assoc old on.between (event ∷ []);
 }
 
--- parts of other workers stay fair
-pub fair-more : (limits : Limits) (history : List CountEvent) (event : CountEvent) (parts : List Part) → times_in (worker_of event) parts ≡ 0
-    → AreFairParts limits history parts → AreFairParts limits (history ++ event ∷ []) parts
-fair-more limits history event [] none fair = tt
-fair-more limits history event (p ∷ parts) none fair =
+-- parts of other workers stay current
+pub current-more : (limits : Limits) (history : List CountEvent) (event : CountEvent) (parts : List Part) → times_in (worker_of event) parts ≡ 0
+    → AreCurrentParts limits history parts → AreCurrentParts limits (history ++ event ∷ []) parts
+current-more limits history event [] none current = tt
+current-more limits history event (p ∷ parts) none current =
     let sum = times-first (worker_of event) p parts in
     let apart : worker_of event ≢ p.worker = λ same. absurd (omega (arith, none, sum, same-one (worker_of event) p.worker (sym same))) in (
-      record { same_limits = fair.0.same_limits; goes_on = goes_on-more p.worker p.seen history event apart fair.0.goes_on },
-      fair-more limits history event parts (omega (arith, none, sum)) fair.1,
+      record { same_limits = current.0.same_limits; goes_on = goes_on-more p.worker p.seen history event apart current.0.goes_on },
+      current-more limits history event parts (omega (arith, none, sum)) current.1,
     )
 
 -- ---- the parts of all workers
@@ -124,9 +124,9 @@ times-after limits first (suc count) worker far = omega (
   times-after limits (first + 1) count worker (omega arith),
 )
 
-pub fair-new : (limits : Limits) (first count : ℕ) → AreFairParts limits [] (new_parts limits first count)
-fair-new limits first zero = tt
-fair-new limits first (suc count) = (record { same_limits = refl; goes_on = goes_on-now first [] }, fair-new limits (first + 1) count)
+pub current-new : (limits : Limits) (first count : ℕ) → AreCurrentParts limits [] (new_parts limits first count)
+current-new limits first zero = tt
+current-new limits first (suc count) = (record { same_limits = refl; goes_on = goes_on-now first [] }, current-new limits (first + 1) count)
 
 pub first-new : (limits : Limits) (first count : ℕ) → 0 < count → take 1 (new_parts limits first count) ≡ part limits first [] ∷ []
 first-new limits first zero more = absurd (omega arith)

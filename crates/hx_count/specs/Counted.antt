@@ -1,6 +1,6 @@
 -- The rule of the table. There is one history, of which each seat has seen a front. Word 0 counts its spends, granted and
 -- refused; each other word is a loss word.
-use Rattle.std.specs.Prelude.{◌≡◌, ℕ, zero, suc, ◌+◌, ◌<◌, ◌≤◌, min, ◌==◌, List, [], ◌∷◌, ◌++◌, length, take, drop, slice_index, sum_by, count_by}
+use Rattle.std.specs.Prelude.{◌≡◌, ℕ, zero, suc, ◌+◌, ◌^◌, ◌<◌, ◌≤◌, min, ◌==◌, List, [], ◌∷◌, ◌++◌, length, take, drop, slice_index, sum_by, count_by}
 use mathlib.Core.Option.{some}
 use lib.ListN.{get_elem?}
 use Rattle.atomic_table.specs.Table.{State, Me, Step}
@@ -32,7 +32,7 @@ view parts = record { parts = parts }
 
 -- the limits that the calls allow
 pub record AreSmall (limits : Limits) : Type 0 where
-  pub budget : limits.budget ≤ 1099511627776
+  pub budget : limits.budget ≤ 2 ^ 40
   pub words : limits.words ≤ 65536
   pub workers : limits.workers ≤ 64
 
@@ -40,17 +40,17 @@ pub record AreSmall (limits : Limits) : Type 0 where
 abbrev pub times_in : ℕ → List Part → ℕ
 times_in worker parts = count_by (λ (p : Part). p.worker == worker) parts
 
--- a part is of this table, and since what it has seen its worker has done nothing
-pub record IsFair (limits : Limits) (history : List CountEvent) (p : Part) : Type 0 where
+-- a part is of this table, and what it has seen has all that its worker did
+pub record IsCurrent (limits : Limits) (history : List CountEvent) (p : Part) : Type 0 where
   pub same_limits : p.limits ≡ limits
   pub goes_on : GoesOn p.worker p.seen history
 
-abbrev pub AreFairParts : Limits → List CountEvent → List Part → Type 0
-AreFairParts limits history [] = Unit {0}
-AreFairParts limits history (p ∷ parts) = IsFair limits history p × AreFairParts limits history parts
+abbrev pub AreCurrentParts : Limits → List CountEvent → List Part → Type 0
+AreCurrentParts limits history [] = Unit {0}
+AreCurrentParts limits history (p ∷ parts) = IsCurrent limits history p × AreCurrentParts limits history parts
 
-abbrev pub AreFair : Limits → List CountEvent → List View → Type 0
-AreFair limits history views = (id : ℕ) (v : View) → get_elem? views id ≡ some v → AreFairParts limits history v.parts
+abbrev pub AreCurrent : Limits → List CountEvent → List View → Type 0
+AreCurrent limits history views = (id : ℕ) (v : View) → get_elem? views id ≡ some v → AreCurrentParts limits history v.parts
 
 -- the table between two steps
 pub record Counted (limits : Limits) (s : State (Unit {0}) View) : Type 0 where
@@ -63,7 +63,7 @@ pub record Counted (limits : Limits) (s : State (Unit {0}) View) : Type 0 where
   pub losses : (word : ℕ) → word < limits.words → slice_index s.words (word + 1) ≡ losses_at (state_after limits history) word
   pub once : (worker : ℕ) → worker < limits.workers → sum_by (λ (v : View). times_in worker v.parts) s.views ≡ 1
   pub never : (worker : ℕ) → limits.workers ≤ worker → sum_by (λ (v : View). times_in worker v.parts) s.views ≡ 0
-  pub fair : AreFair limits history s.views
+  pub current : AreCurrent limits history s.views
 
 -- a part for each worker from the first on, who has seen nothing yet
 abbrev pub new_parts : Limits → ℕ → ℕ → List Part

@@ -1,12 +1,13 @@
 //! Proof numbers that workers leave for one another. They are hints: a word may be overwritten at any time, also by the
 //! numbers of another position, and no proof rests on one.
 
-ghost use Rattle.std.specs.Prelude.{◌<◌, ◌≤◌, vec_len};
+ghost use Rattle.std.specs.Prelude.{◌≡◌, ◌<◌, ◌≤◌, IfOk};
 
 use crossbeam_utils::atomic::AtomicCell;
 use hx_board::Memory;
 use hx_pn::{INF, Numbers};
 use std::alloc::Global;
+use std::marker::Model;
 
 /// Two numbers, each read and written by itself.
 #[derive(Drop)]
@@ -15,11 +16,20 @@ struct Hint {
     delta: AtomicCell<u32>,
 }
 
-/// A table of hints.
+/// A table of hints. All that contracts see of it is how many words it has.
 #[derive(Drop)]
 pub struct Hints {
     hints: Vec<Hint>,
-    ghost some: { 0 < vec_len hints },
+}
+
+impl Model for Hints {
+    ghost use Rattle.std.specs.Prelude.{ℕ, ◌<◌, vec_len};
+
+    ghost Value = { ℕ };
+
+    ghost view = { λ h. vec_len h.hints };
+
+    ghost invariant = { λ h. 0 < vec_len h.hints };
 }
 
 /// A number of a position whose winner is not known.
@@ -33,6 +43,7 @@ impl Hints {
     /// A table of so many words. All numbers are 1 at first, as those of a position that nobody looked at.
     pub fn with_words(alloc: Global, words: u32) -> Result<Hints, Memory>
         requires { 0 < words }
+        ensures { IfOk result (λ hints. hints ≡ words) }
     {
         let Ok(mut hints) = Vec::with_capacity(alloc, words as usize) else {
             return Err(Memory);
