@@ -13,7 +13,7 @@ use Rattle.hx_count.specs.declared.views.View.{View}
 use Rattle.hx_count.specs.Machine.{CountsState, Account, account_of, granted_to_all, losses_at, held_in_all, has_units, with_unit, with_refusal, holding, releasing, counts_step, counts_run, IsAllowed, AreAllowed}
 use Rattle.hx_count.specs.Histories.{GoesOn}
 use Rattle.hx_count.specs.Counted.{start_of, state_after, IsHistory, part, view, Counted, Seated, IsNext, IsSpend, IsLook, spends, holds, releases, looks}
-use Rattle.hx_count.specs.Seats.{Seat, seat, origin, own, state_seen, seat_of, first_part, SeatKeeps, Adds, Spends}
+use Rattle.hx_count.specs.Seats.{Seat, own, state_seen, seat_of, first_part, SeatKeeps, Adds, Spends}
 use Rattle.hx_count.proofs.MachineLaws.{run-append, run-budget, goes_on-account, spend-unit, spend-refusal, hold-own, release-own, held-holding, held-releasing, losses-own, granted-own, refused-own, history-in_budget}
 use Rattle.hx_count.proofs.Changes.{changed-here}
 use Rattle.hx_count.proofs.Keeps.{spends-keep, holds-keep, releases-keep, looks-keep}

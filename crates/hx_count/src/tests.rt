@@ -52,8 +52,7 @@ fn look_while_held(counts: &Counts, seat: &mut CountSeat, word: u32) -> u64
     requires word { word < counts.now.limits.words }
     requires room { held_in_all (own seat.old) < 1024 }
     ensures made { seat.new.made ≡ seat.old.made }
-    ensures held { own seat.new ≡ own seat.old }
-    ensures most { slice_index (own seat.old).held word ≤ result }
+    ensures own { own seat.new ≡ own seat.old }
 {
     release_takes_back();
     counts.hold(seat, word);
