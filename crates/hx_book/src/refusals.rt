@@ -1,20 +1,14 @@
-//! What a book answers.
+//! Want of a slot.
 
 ghost use Rattle.std.specs.Prelude.{◌≡◌};
 
-use hx_board::Colour;
 use hx_tree::Node;
 use std::marker::Model;
+use thiserror::Error;
 
-/// An entry of a book: where it stands, and who wins by it.
-#[derive(Clone, Copy, PartialEq, Eq, Debug)]
-pub struct Found {
-    pub index: u32,
-    pub winner: Colour,
-}
-
-/// Want of a slot: the answer of a book whose slots are all taken, with the node that found no room.
-#[derive(Debug, Drop)]
+/// The answer of a book whose slots are all taken, with the node that found no room.
+#[derive(Debug, Drop, Error)]
+#[error("each of the {held} slots is taken")]
 pub struct NoSlot {
     held: u32,
     node: Node,
