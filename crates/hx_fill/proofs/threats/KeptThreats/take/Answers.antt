@@ -1,7 +1,7 @@
 use Rattle.std.proofs.Common.{sym, ◌∙◌}
 use Rattle.std.proofs.lemmas.Bool.{false≢true}
 use Rattle.hx_fill.proofs.ThreatLaws.{taken_more}
-use Rattle.hx_fill.proofs.threats.Threats.take.Goals as goal
+use Rattle.hx_fill.proofs.threats.KeptThreats.take.Goals as goal
 
 pub returns : goal.returns
 returns c =
