@@ -98,12 +98,12 @@ fn turn_of(full: u16, semi: u16) -> Option<Kind>
 }
 
 /// Two ends with the lower one first, as links have them.
-pub(crate) fn in_order(a: Vertex, b: Vertex) -> (Vertex, Vertex)
-    ensures order { AreInOrder a b result.0 result.1 }
+pub(crate) fn in_order(a: &Vertex, b: &Vertex) -> (Vertex, Vertex)
+    ensures order { AreInOrder a.now b.now result.0 result.1 }
     ensures low { IsSomeVertex result.0 }
     ensures high { IsSomeVertex result.1 }
 {
     let first = a.code();
     let second = b.code();
-    if first <= second { (a, b) } else { (b, a) }
+    if first <= second { (*a, *b) } else { (*b, *a) }
 }

@@ -187,7 +187,7 @@ impl LinkSet {
     pub fn live(&self, a: Vertex, b: Vertex) -> PairIter<'_>
         ensures { AreLivePairs self.now a b result }
     {
-        let (low, high) = in_order(a, b);
+        let (low, high) = in_order(&a, &b);
         let most = self.links.len();
         PairIter::new(&self.chains, &low, &high, most)
     }
