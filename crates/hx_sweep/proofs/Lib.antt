@@ -1,3 +1,4 @@
 pub mod WinCases
 pub mod NodeGrowth
+pub mod LinesInOrder
 pub mod AnswerOrder
