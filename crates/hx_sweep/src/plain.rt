@@ -1,5 +1,5 @@
-//! Who wins, said as plainly as it can be: each game is played to its end, and no move is left out. The tests hold the
-//! search against it.
+//! Who wins, said as plainly as it can be: who is to move wins by some move, and the other player wins after each. The
+//! tests hold the search against it.
 
 use hx_board::{Colour, Mask, Position, chain};
 
@@ -13,18 +13,16 @@ pub(crate) fn wins(position: &Position, player: Colour, mover: Colour, moves: u8
     }
     let size = position.size();
     let empties = position.empties();
-    let mut wins_some = false;
-    let mut wins_all = empties != Mask::empty();
     for index in 0..121u8 {
         if let Some(cell) = size.cell(index / 11, index % 11)
             && empties.has(cell)
         {
             let mut next = *position;
             next.play(mover, cell);
-            let is_won = wins(&next, player, mover.other(), moves - 1);
-            wins_some |= is_won;
-            wins_all &= is_won;
+            if wins(&next, player, mover.other(), moves - 1) == (mover == player) {
+                return mover == player;
+            }
         }
     }
-    if mover == player { wins_some } else { wins_all }
+    mover != player && empties != Mask::empty()
 }
