@@ -5,7 +5,7 @@ use Rattle.hx_search.proofs.GrowthLaws.{grown-on}
 use Rattle.hx_search.proofs.BaseLaws.{below-on}
 use Rattle.hx_search.proofs.AndLaws.{rows-on}
 use Rattle.hx_search.proofs.ClosedLaws.{closed-by}
-use Rattle.hx_search.proofs.closures.close.Goals as goal
+use Rattle.hx_search.proofs.closures.add_all.Goals as goal
 
 pub returns-in-Ok-Same-clause-answer : goal.returns-in-Ok-Same-clause-answer
 returns-in-Ok-Same-clause-answer c =

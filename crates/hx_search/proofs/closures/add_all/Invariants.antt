@@ -1,7 +1,7 @@
 use Rattle.std.proofs.Common.{◌-◌, length}
 use Rattle.hx_search.specs.Closed.{IsGrown}
 use Rattle.hx_search.specs.Progress.{AreBasesBelow, AreRowsSettled}
-use Rattle.hx_search.proofs.closures.close.Given as goal
+use Rattle.hx_search.proofs.closures.add_all.Given as goal
 
 abbrev pub invariant-loop-set : goal.invariant-loop-set
 invariant-loop-set l = record {
