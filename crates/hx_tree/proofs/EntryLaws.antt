@@ -1,5 +1,5 @@
 -- A list of nodes as a book of proofs. With one node more: which entries it has then, and that no two are of one position and
--- mover. Where no two are, each entry is the first of its position and mover.
+-- mover. What was stored is the first entry of its position and mover.
 use Rattle.std.proofs.Common.{◌≡◌, ℕ, zero, suc, List, [], ◌∷◌, ◌++◌, length, refl, sym, ap, ◌∙◌, subst, Some, ◌⊎◌, inl, inr, ⊎_elim, arith}
 use Rattle.std.specs.Prelude.{slice_get}
 use Rattle.hx_board.specs.declared.colours.Colour.{Colour}
@@ -62,12 +62,6 @@ module _ (nodes : List Node) (node : Node) where
         (λ last. absurd (omega (arith, less, last.0)))
         (entry-cases node.heading.position node.heading.to_move earlier entry);
   }
-
--- an entry is the first one, where no two are of one position and mover
-pub first-distinct : (nodes : List Node) (board : Board) (mover : Colour) (place : ℕ) → AreDistinctEntries nodes → IsEntry nodes board mover place
-    → IsFirstEntry nodes board mover place
-first-distinct nodes board mover place distinct entry =
-    record { entry = entry; first = λ earlier less other. omega (arith, less, distinct board mover earlier place other entry) }
 
 -- what was stored has a first entry at the answered place
 pub first-stored : (slots : ℕ) (old new : List Node) (node : Node) (place : ℕ) → IsStored slots old node place new

@@ -12,7 +12,8 @@ mod steps;
 mod trees;
 
 pub use entries::Found;
-pub use lists::{FillSteps, Lines, Steps, Threats};
+pub use hx_link::Steps;
+pub use lists::{FillSteps, Lines, Threats};
 pub use nodes::{Heading, Line, Node, Rule};
 pub use rules::check_node;
 pub use steps::{MOST_STEPS, MOST_THREATS};
