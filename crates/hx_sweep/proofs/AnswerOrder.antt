@@ -15,7 +15,7 @@ use Rattle.hx_tree.specs.Trees.{headings_of}
 use Rattle.hx_tree.proofs.TreeGrowth.{headings_of-append}
 use Rattle.hx_sweep.specs.Growth.{heading_of, IsProved}
 use Rattle.hx_sweep.specs.Moves.{IsChildLine}
-use Rattle.hx_sweep.proofs.LinesInOrder.{AreAnsweredSoFar, IsRightChildLine, one_more_answered}
+use Rattle.hx_tree.proofs.LinesInOrder.{AreAnsweredSoFar, IsRightChildLine, one_more_answered}
 use Rattle.hx_sweep.proofs.NodeGrowth.{proved_leads}
 
 -- the nodes of the answer stand in a list of nodes

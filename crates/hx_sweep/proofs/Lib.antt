@@ -1,4 +1,3 @@
 pub mod WinCases
 pub mod NodeGrowth
-pub mod LinesInOrder
 pub mod AnswerOrder

@@ -1,9 +1,9 @@
 //! The trees of full searches: one whole, and of others who wins, held against the plain game tree.
 
-use super::plain::wins;
-use super::*;
+use super::sweep;
 use hx_board::Colour::{Black, White};
 use hx_board::{Colour, Mask, Position, Size};
+use hx_samples::{Draws, SMALL_BOARDS, numbered, wins};
 use hx_tree::{Heading, Node, Rule};
 use std::alloc::Global;
 use std::process::Abort;
@@ -54,27 +54,9 @@ fn assert_winner(
     Ok(())
 }
 
-/// The position that a number to base three stands for, with a digit for each cell: 0 is empty, 1 black, 2 white.
-fn numbered(size: Size, number: u32) -> Option<Position> {
-    let mut black = Mask::empty();
-    let mut white = Mask::empty();
-    let mut rest = number;
-    for index in 0..121u8 {
-        if let Some(cell) = size.cell(index / 11, index % 11) {
-            match rest % 3 {
-                0 => (),
-                1 => black = black.with(cell),
-                _ => white = white.with(cell),
-            }
-            rest /= 3;
-        }
-    }
-    Position::from_masks(size, black, white)
-}
-
 #[test]
 fn each_small_position(rt: HostRuntime) -> Result<(), Fail> {
-    for (rows, cols, positions) in [(1, 2, 9), (2, 1, 9), (2, 2, 81), (2, 3, 729)] {
+    for (rows, cols, positions) in SMALL_BOARDS {
         let size = Size::new(rows, cols).ok_or("size")?;
         for number in 0..positions {
             let position = numbered(size, number).ok_or("position")?;
@@ -85,48 +67,12 @@ fn each_small_position(rt: HostRuntime) -> Result<(), Fail> {
     Ok(())
 }
 
-/// Numbers that look drawn by chance and are the same in each run: Marsaglia's xorshift.
-#[derive(Drop)]
-struct Numbers {
-    state: u64,
-}
-
-impl Numbers {
-    fn next(&mut self) -> u64 {
-        let mut number = self.state;
-        number ^= number << 13;
-        number ^= number >> 7;
-        number ^= number << 17;
-        self.state = number;
-        number
-    }
-
-    /// A position of five rows and columns with nine empty cells.
-    fn next_position(&mut self, size: Size) -> Option<Position> {
-        let mut black = Mask::empty();
-        let mut white = Mask::empty();
-        let mut still_empty = 9;
-        for index in 0..25u8 {
-            let number = self.next();
-            let cell = size.cell(index / 5, index % 5)?;
-            if number % u64::from(25 - index) < still_empty {
-                still_empty -= 1;
-            } else if number >> 63 == 0 {
-                black = black.with(cell);
-            } else {
-                white = white.with(cell);
-            }
-        }
-        Position::from_masks(size, black, white)
-    }
-}
-
 #[test]
 fn nine_empty_cells(rt: HostRuntime) -> Result<(), Fail> {
-    let mut numbers = Numbers { state: 2026 };
+    let mut draws = Draws::new(2026);
     let size = Size::new(5, 5).ok_or("size")?;
-    for to_move in [Black, White, Black, White] {
-        let position = numbers.next_position(size).ok_or("position")?;
+    for to_move in [Black, White] {
+        let position = draws.position(size, 9);
         assert_eq!(rt; position.empty_count(), 9);
         assert_winner(&rt, rt.alloc(), &position, to_move)?;
     }

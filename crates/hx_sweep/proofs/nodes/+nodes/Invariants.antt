@@ -6,7 +6,7 @@ use Rattle.hx_board.specs.Counts.{empty_count, sweep_size}
 use Rattle.hx_tree.specs.Trees.{headings_of}
 use Rattle.hx_board.specs.Colours.{other_of}
 use Rattle.hx_sweep.specs.Growth.{heading_of, IsGrown}
-use Rattle.hx_sweep.proofs.LinesInOrder.{AreAnsweredSoFar}
+use Rattle.hx_tree.proofs.LinesInOrder.{AreAnsweredSoFar}
 use Rattle.hx_sweep.proofs.nodes.+nodes.Given as goal
 
 abbrev pub decreases-prove : goal.decreases-prove
