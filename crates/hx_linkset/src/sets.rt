@@ -284,9 +284,10 @@ impl LinkSet {
     pub fn play(&mut self, colour: Colour, cell: Cell)
         requires { IsEmpty self.old.present.board cell }
         ensures set { self.new ≡ record {
-            player = self.old.player;
-            present = played self.old.present colour cell;
-            past = self.old.present ∷ self.old.past } }
+          player = self.old.player;
+          present = played self.old.present colour cell;
+          past = self.old.present ∷ self.old.past;
+        } }
         ensures live { (link : Link) → IsLive self.new.present.board self.new.player link
             ↔ (IsLive self.old.present.board self.old.player link × IsUntouched self.old.player colour cell link) }
     {
