@@ -140,7 +140,8 @@ fn links_of_two_ends(rt: HostRuntime) -> Result<(), Fail> {
 
 /// Whether a live link is at each of these indices.
 fn are_live(set: &LinkSet, indices: &[u32]) -> bool
-    ensures { IsTrue result → (index : ℕ) → StandsIn indices.now index → IsLiveAt set.now.present.board set.now.player set.now.present.links index }
+    ensures { IsTrue result → (index : ℕ) → StandsIn indices.now index
+        → IsLiveAt set.now.present.board set.now.player set.now.present.links index }
 {
     for index in indices {
         let Some(_link) = set.link(*index) else {
