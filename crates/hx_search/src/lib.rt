@@ -25,7 +25,7 @@ pub use decisions::{Reached, decided};
 pub use reaches::reach;
 
 #[cfg(test)]
-mod plain;
+mod draws;
 #[cfg(test)]
 mod reach_tests;
 #[cfg(test)]
