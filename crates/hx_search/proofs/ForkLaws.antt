@@ -19,12 +19,12 @@ use Rattle.hx_link.specs.Steps.{HasEnds, IsLink, IsOutside, IsOneOf, links_at, c
 use Rattle.hx_link.proofs.PartLaws.{part_at}
 use Rattle.hx_linkset.specs.States.{Standing, IsRight}
 use Rattle.hx_linkset.specs.LiveOf.{IsLiveOf, IsFirstFrom}
-use Rattle.hx_linkset.proofs.PlaceLaws.{get-lt, same_some, get-push, get-push_before, get-push_last}
+use Rattle.hx_board.proofs.ListLaws.{get-lt, same_some, get-push, get-push_before, get-push_last}
 use Rattle.hx_linkset.proofs.NextLaws.{live-is_link}
 use Rattle.hx_search.specs.Closed.{IsForked}
 use Rattle.hx_search.specs.Progress.{AreParts, AllShare, IsFork}
 use Rattle.hx_search.proofs.GrowthLaws.{get_there}
-use Rattle.hx_search.proofs.CountLaws.{count-small, count-less}
+use Rattle.hx_board.proofs.CountLaws.{count-small, count-less}
 
 -- ---- sets
 

@@ -3,15 +3,16 @@ use Rattle.std.specs.Prelude.{◌≡◌, ℕ, ◌+◌, ◌<◌, ◌≤◌, Bool,
 use Rattle.std.specs.declared.option.Option.{Option}
 use Rattle.std.specs.declared.option.Option.TheVariants.{None, Some}
 use Rattle.hx_board.specs.declared.vertices.Vertex.{Vertex}
-use Rattle.hx_board.specs.Cells.{Extent}
 use Rattle.hx_board.specs.Sets.{has, IsSubset, count_below}
 use Rattle.hx_board.specs.Graph.{IsVertex, IsOwn}
-use Rattle.hx_board.specs.Floods.{code_of}
+use Rattle.hx_board.specs.VertexSets.{code_of}
+use Rattle.hx_board.specs.declared.vertices.TheConstants.{VERTICES}
 use Rattle.hx_link.specs.declared.links.Kind.TheVariants.{Full, Semi}
 use Rattle.hx_link.specs.declared.links.Link.{Link}
 use Rattle.hx_link.specs.Steps.{HasEnds}
 use Rattle.hx_link.specs.declared.steps.Step.{Step}
 use Rattle.hx_link.specs.declared.steps.Step.TheVariants.{Base, AndStone, AndCell, Or}
+use Rattle.hx_linkset.specs.declared.sets.TheConstants.{MOST_LINKS}
 use Rattle.hx_linkset.specs.States.{Standing}
 use Rattle.hx_linkset.specs.Answers.{Gives}
 use Rattle.hx_linkset.specs.LiveOf.{IsLiveOf}
@@ -27,7 +28,7 @@ use Rattle.hx_search.specs.Closed.{IsSettled, IsForked, HasFull, IsStuck}
 
 -- the set holds all the links that it can, and what the step gives no live link covers
 pub record IsUnsettled (set : Standing) (step : Step) : Type 0 where
-  pub full : length set.present.links ≡ 8192
+  pub full : length set.present.links ≡ MOST_LINKS
   pub not_settled : IsSettled set step → ⊥
 
 -- what became of one step
@@ -50,16 +51,9 @@ IsPassed old new Fact AtLimit = IsStuck new
 
 -- what became of candidates: where one was added there are more links, and no more than there may be
 abbrev pub IsTaken : Standing → Standing → Taken → Type 0
-IsTaken old new (New index) = (length old.present.links < length new.present.links) × (length new.present.links ≤ 8192)
+IsTaken old new (New index) = (length old.present.links < length new.present.links) × (length new.present.links ≤ MOST_LINKS)
 IsTaken old new NoMore = Unit {0}
 IsTaken old new NoRoom = Unit {0}
-
--- ---- vertices
-
--- the vertex of the board that has this number
-pub record IsVertexAt (size : Extent) (code : ℕ) (vertex : Vertex) : Type 0 where
-  pub is_vertex : IsVertex size vertex
-  pub is_code : code_of vertex ≡ code
 
 -- ---- bases
 
@@ -69,7 +63,7 @@ AreBasesOf set a from bound = (b : Vertex) → IsVertex set.present.board.size b
 
 -- the Bases of each vertex below a bound with those above it
 abbrev pub AreBasesBelow : Standing → ℕ → Type 0
-AreBasesBelow set bound = (a : Vertex) → IsVertex set.present.board.size a → code_of a < bound → AreBasesOf set a (code_of a + 1) 123
+AreBasesBelow set bound = (a : Vertex) → IsVertex set.present.board.size a → code_of a < bound → AreBasesOf set a (code_of a + 1) VERTICES
 
 -- ---- ands
 
@@ -137,4 +131,4 @@ AreForksOf set a from bound = (b : Vertex) → IsVertex set.present.board.size b
 
 -- each vertex below a bound with those above it
 abbrev pub AreForksBelow : Standing → ℕ → Type 0
-AreForksBelow set bound = (a : Vertex) → IsVertex set.present.board.size a → code_of a < bound → AreForksOf set a (code_of a + 1) 123
+AreForksBelow set bound = (a : Vertex) → IsVertex set.present.board.size a → code_of a < bound → AreForksOf set a (code_of a + 1) VERTICES

@@ -39,8 +39,7 @@ pub fn close(set: &mut LinkSet) -> Result<Closure, Memory>
     ensures right { IsRight set.new.player set.new.present }
 {
     let closure = add_all(set);
-    // that live links come by steps from earlier ones is what this call promises
-    let _colour = set.colour();
+    set.keeps();
     closure
 }
 
@@ -65,11 +64,11 @@ fn add_all(set: &mut LinkSet) -> Result<Closure, Memory>
             Ok(Tried::Stopped) => return Ok(LIMIT),
             Err(Memory) => return Err(Memory),
         }
+        // the board is a position's, so each vertex has its code; and no more than so many links are held, so the loop ends
+        set.keeps();
         settled = set.count();
         match join_all(set) {
             Ok(Passed::Same) => {
-                // it tells also that the board is one, so that each vertex has its number
-                let _colour = set.colour();
                 return Ok(Closure::Closed);
             }
             Ok(Passed::More) => {}

@@ -17,7 +17,6 @@ mod tries;
 mod useful_ands;
 mod useful_bases;
 mod useful_ors;
-mod vertices;
 mod work;
 
 pub use closures::{Closure, close};
