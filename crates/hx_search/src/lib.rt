@@ -24,8 +24,6 @@ pub use decisions::{Reached, decided};
 pub use reaches::reach;
 
 #[cfg(test)]
-mod draws;
-#[cfg(test)]
 mod reach_tests;
 #[cfg(test)]
 mod tests;
