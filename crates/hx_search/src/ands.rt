@@ -34,7 +34,8 @@ fn settle_chain(
 ) -> Result<Tried, Memory>
     requires { right < length set.old.present.links }
     ensures grown { IsGrown set.old set.new }
-    ensures tried { IfOk result (IsTried set.new (IsChainSettled set.new own end.now to.now right right)) }
+    ensures tried { IfOk result (IsTried set.new
+        (IsChainSettled set.new own end.now to.now right right)) }
 {
     let mut next = set.first_of(Kind::Full, *end, *to);
     loop {
@@ -78,7 +79,8 @@ fn settle_end(set: &mut LinkSet, end: &Vertex, right: u32) -> Result<Tried, Memo
 fn settle_row(set: &mut LinkSet, right: u32) -> Result<Tried, Memory>
     requires { right < length set.old.present.links }
     ensures grown { IsGrown set.old set.new }
-    ensures tried { IfOk result (IsTried set.new ((left : ℕ) → left < right → IsPairSettled set.new left right)) }
+    ensures tried { IfOk result (IsTried set.new
+        ((left : ℕ) → left < right → IsPairSettled set.new left right)) }
 {
     let Some(link) = set.link(right) else {
         return Ok(Tried::Settled);
@@ -102,7 +104,8 @@ fn settle_row(set: &mut LinkSet, right: u32) -> Result<Tried, Memory>
 pub(crate) fn settle_ands(set: &mut LinkSet, from: u32) -> Result<Tried, Memory>
     requires { AreRowsSettled set.old from }
     ensures grown { IsGrown set.old set.new }
-    ensures tried { IfOk result (IsTried set.new (AreRowsSettled set.new (length set.new.present.links))) }
+    ensures tried { IfOk result (IsTried set.new
+        (AreRowsSettled set.new (length set.new.present.links))) }
 {
     let mut right = from;
     loop {

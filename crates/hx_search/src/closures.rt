@@ -24,6 +24,11 @@ pub enum Closure {
     Limit { links: u32 },
 }
 
+/// The set holds all the links that it can.
+const LIMIT: Closure = Closure::Limit {
+    links: MOST_LINKS as u32,
+};
+
 /// Adds links until the set is closed or there is no room. Whatever the answer, want of memory included, the links that
 /// were live stay live at their indices, and position, player and plays are as before; each live link comes by a step from
 /// live links before it. Closed says three things of the live links: two vertices that are joined have a Full link on no
@@ -38,9 +43,7 @@ pub fn close(set: &mut LinkSet) -> Result<Closure, Memory>
     set.keeps();
     match added {
         Ok(Tried::Settled) => Ok(Closure::Closed),
-        Ok(Tried::Stopped) => Ok(Closure::Limit {
-            links: MOST_LINKS as u32,
-        }),
+        Ok(Tried::Stopped) => Ok(LIMIT),
         Err(Memory) => Err(Memory),
     }
 }

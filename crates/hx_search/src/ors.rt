@@ -25,7 +25,8 @@ pub(crate) enum Passed {
 /// Tries an Or of two vertices.
 fn join(set: &mut LinkSet, a: &Vertex, b: &Vertex) -> Result<Passed, Memory>
     ensures grown { IsGrown set.old set.new }
-    ensures passed { IfOk result (IsPassed set.old set.new (IsJoinedWhereForked set.new a.now b.now)) }
+    ensures passed { IfOk result (IsPassed set.old set.new
+        (IsJoinedWhereForked set.new a.now b.now)) }
 {
     let None = set.first_of(Kind::Full, *a, *b) else {
         return Ok(Passed::Same);
@@ -47,7 +48,8 @@ fn join(set: &mut LinkSet, a: &Vertex, b: &Vertex) -> Result<Passed, Memory>
 /// Tries an Or of a vertex with each vertex from a number on.
 fn join_from(set: &mut LinkSet, a: &Vertex, from: u8) -> Result<Passed, Memory>
     ensures grown { IsGrown set.old set.new }
-    ensures passed { IfOk result (IsPassed set.old set.new (AreForksOf set.new a.now from VERTICES)) }
+    ensures passed { IfOk result (IsPassed set.old set.new
+        (AreForksOf set.new a.now from VERTICES)) }
 {
     let size = set.position().size();
     let mut more = false;

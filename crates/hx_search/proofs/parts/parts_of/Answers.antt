@@ -28,7 +28,7 @@ pub returns-then-done : goal.returns-then-done
 returns-then-done c =
     let P : List ℕ → Type 0 = λ xs. IsFork c.args.set.now c.args.a.now c.args.b.now xs in
     subst P (sym c.new.ensures) (fork-of c.args.set.now c.keeps.ensures.right c.args.a.now c.args.b.now c.loop-shared.parts.items c.loop-shared.shared
-    (c.is_empty-done.ensures.empty c.if-done.true) c.loop-shared.invariant.parts_ok)
+    (c.is_empty-done.ensures.empty.0 c.if-done.true) c.loop-shared.invariant.parts_ok)
 
 pub returns-in_default-next_of : goal.returns-in_default-next_of
 returns-in_default-next_of c =
@@ -53,7 +53,7 @@ loop-shared-preserved-then-has_all c =
       parts_ok = c.loop-shared.invariant.parts_ok;
       all_share = share-same c.args.set.now c.keeps.ensures.right c.args.a.now c.args.b.now c.loop-shared.parts.items c.loop-shared.shared c.loop-shared.last c.in-Some-next_of.next c.carrier-carrier.result
           c.loop-shared.invariant.at c.loop-shared.invariant.parts_ok c.loop-shared.invariant.all_share is (c.carrier-carrier.ensures.held is.is.link is.is.there)
-          (sym c.minus.ensures.set ∙ c.is_empty-has_all.ensures.empty c.if-has_all.true);
+          (sym c.minus.ensures.set ∙ c.is_empty-has_all.ensures.empty.0 c.if-has_all.true);
     }
 
 pub loop-shared-smaller : goal.loop-shared-smaller
