@@ -146,26 +146,63 @@ fn tally_of(alloc: Global, rows: u8, cols: u8, stones: u32, games: u32) -> Resul
 
 #[test]
 fn four_by_four(rt: HostRuntime) -> Result<(), Fail> {
-    assert_eq!(rt; tally_of(rt.alloc(), 4, 4, 2, 20)?, NONE);
+    let expected = Tally {
+        calls: 69,
+        decided: 17,
+        full: 5205,
+        semi: 10695,
+        new_full: 2588,
+        new_semi: 4385,
+        ..NONE
+    };
+    assert_eq!(rt; tally_of(rt.alloc(), 4, 4, 2, 20)?, expected);
     Ok(())
 }
 
 #[test]
 fn five_by_five(rt: HostRuntime) -> Result<(), Fail> {
-    assert_eq!(rt; tally_of(rt.alloc(), 5, 5, 4, 20)?, NONE);
+    let expected = Tally {
+        calls: 71,
+        decided: 18,
+        full: 9708,
+        semi: 21852,
+        new_full: 6386,
+        new_semi: 13155,
+        ..NONE
+    };
+    assert_eq!(rt; tally_of(rt.alloc(), 5, 5, 4, 20)?, expected);
     Ok(())
 }
 
 #[test]
 fn six_by_six(rt: HostRuntime) -> Result<(), Fail> {
-    assert_eq!(rt; tally_of(rt.alloc(), 6, 6, 8, 12)?, NONE);
+    let expected = Tally {
+        calls: 57,
+        decided: 9,
+        full: 21394,
+        semi: 42796,
+        new_full: 11046,
+        new_semi: 23009,
+        not_as_closed: 1,
+        ..NONE
+    };
+    assert_eq!(rt; tally_of(rt.alloc(), 6, 6, 8, 12)?, expected);
     Ok(())
 }
 
 /// On boards with more than eight rows or columns there are fewer links of each two ends.
 #[test]
 fn nine_by_four(rt: HostRuntime) -> Result<(), Fail> {
-    assert_eq!(rt; tally_of(rt.alloc(), 9, 4, 6, 10)?, NONE);
+    let expected = Tally {
+        calls: 65,
+        decided: 5,
+        full: 20267,
+        semi: 51418,
+        new_full: 7320,
+        new_semi: 13163,
+        ..NONE
+    };
+    assert_eq!(rt; tally_of(rt.alloc(), 9, 4, 6, 10)?, expected);
     Ok(())
 }
 
