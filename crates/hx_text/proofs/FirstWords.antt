@@ -5,7 +5,7 @@ use Rattle.std.proofs.Common.{◌≡◌, ℕ, zero, suc, ◌+◌, ◌<◌, ◌�
 use Rattle.std.proofs.lemmas.Grind.{same_number_lists}
 use Rattle.std.specs.Prelude.{codes}
 use Rattle.std.specs.Option.{MatchOption, IfSome, IfNone}
-use Rattle.std.specs.Result.{IfOk}
+use Rattle.std.specs.Result.{IfOk, OnErr}
 use Rattle.std.specs.Fmt.{decimal}
 use Rattle.hx_board.specs.declared.vertices.Vertex.{Vertex}
 use Rattle.hx_board.specs.Cells.{Extent, IsExtent}
@@ -16,7 +16,7 @@ use Rattle.hx_tree.specs.Steps.{most_steps}
 use Rattle.hx_text.specs.declared.node_lines.Opening.{Opening}
 use Rattle.hx_text.specs.declared.node_lines.Opening.TheVariants.{Links, Fill}
 use Rattle.hx_text.specs.Words.{Reads, IsNumber, words_in}
-use Rattle.hx_text.specs.StepTexts.{vertex_word, step_words, step_line, StepFits}
+use Rattle.hx_text.specs.StepTexts.{vertex_word, step_words, step_line, StepFits, BeginWithManyParts, BeginsLongOr}
 use Rattle.hx_text.specs.FillTexts.{most_fills}
 use Rattle.hx_text.specs.TreeTexts.{opening_words, OpeningFits}
 use Rattle.hx_text.proofs.Cursors.{rest_same, word_then}
@@ -107,6 +107,12 @@ pub step_reads : {E : Type 0} (size : Extent) (line : List ℕ) (words : List (L
 step_reads size line words (Ok (Some step)) extent same reads = (reads.0, line_from_words same reads.1)
 step_reads size line words (Ok None) extent same reads = λ value fits e. reads value fits (same ∙ words_in-step_line size line value extent fits e)
 step_reads size line words (Err error) extent same reads = tt
+
+-- the words of a long Or are those of its line
+pub long_or_line : {T E : Type 0} (line : List ℕ) (words : List (List ℕ)) (found : Result T E) → words ≡ words_in line
+    → OnErr found ((parts : List (List ℕ)) × (words ≡ codes "or" ∷ parts) × BeginWithManyParts parts) → OnErr found (BeginsLongOr line)
+long_or_line line words (Ok done) same is = tt
+long_or_line line words (Err error) same is = record { words = is.0; many = is.2; same = line_from_words same is.1 }
 
 -- ---- openings
 

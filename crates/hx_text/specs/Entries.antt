@@ -74,8 +74,8 @@ EachEntryFits size [] = Unit {0}
 EachEntryFits size (entry ∷ entries) = EntryFits size entry × EachEntryFits size entries
 
 -- an entry of this kind on a board of this size
-abbrev pub IsEntry : Extent → EntryKind → Entry → Type 0
-IsEntry size kind entry = EntryFits size entry × (kind_of entry ≡ kind)
+abbrev pub IsEntryLine : Extent → EntryKind → Entry → Type 0
+IsEntryLine size kind entry = EntryFits size entry × (kind_of entry ≡ kind)
 
 -- the entries for these steps, threats, answers and fill steps
 abbrev pub entries_for : List Step → List ℕ → List Line → List FillStep → List Entry

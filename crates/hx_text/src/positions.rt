@@ -10,12 +10,14 @@ ghost use Rattle.hx_text.specs.Grammars.{IsFaultyLine};
 ghost use Rattle.hx_text.specs.PositionTexts.{ArePositionLines, position_text, position_title, size_line, stones_line, move_line};
 ghost use Rattle.hx_text.specs.PositionReads.{ReadsFrom};
 
+use crate::marks::cut;
 use crate::lines;
-use crate::words::cut;
 use hx_board::{Colour, Mask, Position, Size};
+use thiserror::Error;
 
 /// The first line of a text, counted from 1, that is not of the grammar in its place.
-#[derive(Clone, Copy, PartialEq, Eq, Debug)]
+#[derive(Clone, Copy, PartialEq, Eq, Debug, Error)]
+#[error("line {line} is not of the grammar in its place")]
 pub struct TextFault {
     pub line: u64,
 }

@@ -1,6 +1,6 @@
 use Rattle.std.proofs.Common.{◌∙◌, ap, arith, ◌++◌, ◌∷◌, [], List, ℕ}
 use Rattle.hx_text.proofs.Spelled.{hex_none, hex_next, length-digits}
-use Rattle.hx_text.proofs.spelling.Text.put_mask.Goals as goal
+use Rattle.hx_text.proofs.texts.Text.put_mask.Goals as goal
 
 pub loop-place-init : goal.loop-place-init
 loop-place-init c = hex_none c.args.self.now _

@@ -1,11 +1,11 @@
 use Rattle.std.proofs.Common.{arith}
 use Rattle.std.proofs.lemmas.Str.Parse.{digit_at}
 use Rattle.hx_text.proofs.Numbers.{read_digit, value_bound}
-use Rattle.hx_text.proofs.values.decimal_value.Goals as goal
+use Rattle.hx_text.proofs.values.read_digits.Goals as goal
 
-pub returns-then-not-is_ascii_digit-clause-none : goal.returns-then-not-is_ascii_digit-clause-none
-returns-then-not-is_ascii_digit-clause-none c = λ digits.
-    let digit = digit_at c.args.word.now c.loop-byte.byte-index digits (omega arith) in
+pub returns-then-not-is_ascii_digit : goal.returns-then-not-is_ascii_digit
+returns-then-not-is_ascii_digit c = λ value is.
+    let digit = digit_at c.args.word.now c.loop-byte.byte-index is.0 (omega arith) in
     let other = c.if-not-is_ascii_digit.ensures.cases in
     grind (arith, digit, other)
 
