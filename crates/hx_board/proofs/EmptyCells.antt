@@ -1,13 +1,13 @@
 -- The laws of the number of empty cells. A stone on an empty cell changes the answer of `is_empty` at that cell alone, so
 -- the count falls by one.
-use Rattle.std.proofs.Common.{◌≡◌, ◌≢◌, ℕ, zero, suc, ◌+◌, ◌*◌, ◌<◌, ◌≤◌, Bool, true, false, ◌||◌, ◌&&◌, not, ltb, inl, inr, refl, sym, ap, ◌∙◌, arith, ⊎_elim, ◌↔◌, eqb-true}
+use Rattle.std.proofs.Common.{◌≡◌, ◌≢◌, ℕ, zero, suc, ◌+◌, ◌*◌, ◌<◌, ◌≤◌, Bool, true, false, ◌||◌, ◌&&◌, not, ltb, refl, sym, ap, ◌∙◌, arith, ⊎_elim, ◌↔◌, eqb-true}
 use Rattle.std.proofs.lemmas.Bool.{false≢true, cases_lt}
 use Rattle.std.proofs.lemmas.Bool.Decides.{nat_tests}
 use Rattle.hx_board.specs.Sets.{has, insert, count_below}
 use Rattle.hx_board.specs.Cells.{IsExtent, row_of, col_of}
 use Rattle.hx_board.specs.declared.colours.Colour.{Colour}
 use Rattle.hx_board.specs.declared.colours.Colour.TheVariants.{Black, White}
-use Rattle.hx_board.specs.Positions.{Board, IsBoard, IsEmpty, IsHeld, put}
+use Rattle.hx_board.specs.Positions.{Board, IsBoard, IsEmpty, put}
 use Rattle.hx_board.specs.Counts.{is_empty, empty_below, empty_count, sweep_size}
 use Rattle.hx_board.proofs.SetLaws.{has-insert, has-insert_same, and_both, is_false}
 use Rattle.hx_board.proofs.CellLaws.{on_board-small}

@@ -10,8 +10,9 @@ use Rattle.hx_board.specs.Sets.{has, insert, union, intersection}
 use Rattle.hx_board.specs.Cells.{Extent, IsExtent, OnBoard}
 use Rattle.hx_board.specs.Positions.{Board, IsBoard, stones_of}
 use Rattle.hx_board.specs.Graph.{IsVertex, IsOwn, Touches, Walk, Joined}
-use Rattle.hx_board.specs.Floods.{IsVertexCode, IsSetOf, TouchesOneOf, code_of}
-use Rattle.hx_board.proofs.SetLaws.{has-union_left, has-union_right, has-union_cases, has-intersection_left, has-intersection_right, has-intersection_both, has-insert_cases, has-insert_same, has-empty}
+use Rattle.hx_board.specs.VertexSets.{IsVertexCode, IsSetOf, code_of}
+use Rattle.hx_board.specs.Floods.{TouchesOneOf}
+use Rattle.hx_board.proofs.SetLaws.{has-union_left, has-union_right, has-union_cases, has-intersection_left, has-intersection_right, has-intersection_both, has-insert_cases, has-insert_same, has-insert_other, has-empty}
 use Rattle.hx_board.proofs.CellLaws.{on_board-small}
 use Rattle.hx_board.proofs.Joins.{touches-vertex, walk-append}
 
@@ -48,33 +49,37 @@ module _ (size : Extent) (extent : IsExtent size.rows size.cols) where
 
 -- the player's stones with both sides
 pub own-is : (board : Board) (player : Colour) (stones : ℕ) → IsBoard board → stones ≡ stones_of board player
-    → IsSetOf board.size (IsOwn board player) (union (union stones (insert 0 121)) (insert 0 122))
+    → IsSetOf board.size (IsOwn board player) (insert (insert stones 121) 122)
 own-is board player stones valid same = record { vertices = vertices; members = members }
   where
     inside : (player : Colour) (n : ℕ) → has (stones_of board player) n ≡ true → OnBoard board.size n
     inside Colour.Black n h = valid.1.black_inside n h
     inside Colour.White n h = valid.1.white_inside n h
 
-    cases : {P : Type 0} (n : ℕ) → has (union (union stones (insert 0 121)) (insert 0 122)) n ≡ true
+    cases : {P : Type 0} (n : ℕ) → has (insert (insert stones 121) 122) n ≡ true
         → (has (stones_of board player) n ≡ true → P) → (n ≡ 121 → P) → (n ≡ 122 → P) → P
     cases n h a b c =
-        ⊎_elim (λ w. ⊎_elim (λ v. a (rw (← same) v)) (λ v. b (has-single 121 n v)) (has-union_cases stones (insert 0 121) n w)) (λ w. c (has-single 122 n w))
-        (has-union_cases (union stones (insert 0 121)) (insert 0 122) n h)
+        ⊎_elim c (λ w. ⊎_elim b (λ v. a (rw (← same) v)) (has-insert_cases stones 121 n w)) (has-insert_cases (insert stones 121) 122 n h)
 
-    vertices : (n : ℕ) → has (union (union stones (insert 0 121)) (insert 0 122)) n ≡ true → IsVertexCode board.size n
+    vertices : (n : ℕ) → has (insert (insert stones 121) 122) n ≡ true → IsVertexCode board.size n
     vertices n h =
         cases n h (λ a. record { vertex = Of n; is_vertex = inside player n a; is_code = refl })
         (λ e. record { vertex = First; is_vertex = tt; is_code = sym e })
         (λ e. record { vertex = Last; is_vertex = tt; is_code = sym e })
 
-    members : (v : Vertex) → IsVertex board.size v → (has (union (union stones (insert 0 121)) (insert 0 122)) (code_of v) ≡ true) ↔ IsOwn board player v
+    members : (v : Vertex) → IsVertex board.size v → (has (insert (insert stones 121) 122) (code_of v) ≡ true) ↔ IsOwn board player v
     members (Of n) is =
         let small : n < 121 = on_board-small board.size n valid.0 is in (
           (λ h. cases n h (λ a. a) (λ e. absurd (omega arith)) (λ e. absurd (omega arith))),
-          (λ h. has-union_left (union stones (insert 0 121)) _ n (has-union_left stones _ n (rw same h))),
+          (λ h. has-insert_other (insert stones 121) 122 n (has-insert_other stones 121 n (rw same h))),
         )
-    members First is = ((λ _. tt), (λ _. has-union_left (union stones (insert 0 121)) _ 121 (has-union_right stones _ 121 (has-insert_same 0 121))))
-    members Last is = ((λ _. tt), (λ _. has-union_right (union stones (insert 0 121)) _ 122 (has-insert_same 0 122)))
+    members First is = ((λ _. tt), (λ _. has-insert_other (insert stones 121) 122 121 (has-insert_same stones 121)))
+    members Last is = ((λ _. tt), (λ _. has-insert_same (insert stones 121) 122))
+
+-- a player's stones are cells of the board
+pub stones-small : (board : Board) (player : Colour) → IsBoard board → (n : ℕ) → has (stones_of board player) n ≡ true → n < 121
+stones-small board Colour.Black valid n h = on_board-small board.size n valid.0 (valid.1.black_inside n h)
+stones-small board Colour.White valid n h = on_board-small board.size n valid.0 (valid.1.white_inside n h)
 
 -- a set below 2 ^ 128 that grows at each step cannot grow for ever
 pub growth-ends : (limit before after : ℕ) → before ≤ after → after ≢ before → after < limit → limit - after < limit - before

@@ -2,25 +2,27 @@
 -- all that it reaches to the set of each vertex that it reaches. Nothing is added that is not joined, since a group's
 -- vertices are own and what is joined is joined over them. And nothing is missing in the end, since a walk that is more
 -- than a touch has an own inner vertex, with which both its ends are joined.
-use Rattle.std.proofs.Common.{◌≡◌, ◌≢◌, ℕ, ◌<◌, Bool, true, false, not, ◌&&◌, List, [], ◌∷◌, length, slice_index, get_or, eqb, leb, ltb, eq-eqb, refl, sym, ap, ◌∙◌, subst, arith, ◌⊎◌, inl, inr, ⊎_elim, ◌↔◌}
+use Rattle.std.proofs.Common.{◌≡◌, ◌≢◌, ℕ, ◌<◌, Bool, true, false, not, ◌&&◌, List, [], ◌∷◌, length, slice_index, get_or, eqb, eq-eqb, refl, sym, ap, ◌∙◌, subst, arith, ◌⊎◌, inl, inr, ⊎_elim}
 use Rattle.std.proofs.Math.ListN.{set}
 use Rattle.std.proofs.Math.Bool.{and-true}
-use Rattle.std.proofs.lemmas.Bool.{false≢true, le-leb, ltb-true, lt-ltb}
+use Rattle.std.proofs.lemmas.Bool.{false≢true}
 use Rattle.std.proofs.lemmas.Bool.Decides.{eqb_tells}
 use Rattle.std.proofs.lemmas.List.{get_or-set_same, get_or-set_other, length-set, get_or_read}
 use Rattle.std.specs.Prelude.{if◌then◌else◌}
 use Rattle.hx_board.specs.declared.colours.Colour.{Colour}
 use Rattle.hx_board.specs.declared.vertices.Vertex.{Vertex}
 use Rattle.hx_board.specs.declared.vertices.Vertex.TheVariants.{Of, First, Last}
-use Rattle.hx_board.specs.Sets.{has, remove, union, intersection, difference, IsSubset}
-use Rattle.hx_board.specs.Cells.{Extent, IsExtent, OnBoard, CellsTouch}
+use Rattle.hx_board.specs.Sets.{has, remove, union, difference, IsSubset}
+use Rattle.hx_board.specs.Cells.{IsExtent, OnBoard, CellsTouch}
 use Rattle.hx_board.specs.Positions.{Board, IsBoard}
-use Rattle.hx_board.specs.Graph.{IsVertex, IsOwn, Touches, Joined, IsReach}
-use Rattle.hx_board.specs.Floods.{code_of, IsVertexCode, IsSetOf, AreNear, AreJoined}
-use Rattle.hx_board.proofs.SetLaws.{has-empty, has-remove, has-remove_before, has-union_left, has-union_right, has-union_cases, has-difference_left, has-difference_both, has-intersection_left, has-intersection_right, has-intersection_both, and_right, and_both, is_false}
+use Rattle.hx_board.specs.Graph.{IsVertex, IsOwn, Touches, Joined}
+use Rattle.hx_board.specs.VertexSets.{code_of, IsSomeVertex, IsVertexCode, IsSetOf}
+use Rattle.hx_board.specs.Floods.{AreNear, AreJoined}
+use Rattle.hx_board.proofs.SetLaws.{has-empty, has-remove, has-remove_before, has-union_left, has-union_right, has-union_cases, has-difference_left, has-difference_both, is_false}
 use Rattle.hx_board.proofs.CellLaws.{on_board-small}
 use Rattle.hx_board.proofs.DifferenceLaws.{difference-lt}
-use Rattle.hx_board.proofs.FloodLaws.{code-small, vertex_code-small}
+use Rattle.hx_board.proofs.FloodLaws.{code-small}
+use Rattle.hx_board.proofs.VertexSetLaws.{code-vertex}
 use Rattle.hx_board.proofs.Joins.{touches-sym, touches-vertex, joined-sym, joined-over_own, joined-touches}
 
 -- ---- a set joined
@@ -181,32 +183,21 @@ module _ (board : Board) (player : Colour) (extent : IsExtent board.size.rows bo
       done = done_more;
     }
 
-  -- the lowest vertex that waits starts the next group
-  module _ (sets : List ℕ) (waiting start : ℕ) (k : AreJoinedOver board player sets own waiting) (member : has waiting start ≡ true) where
-    start_vertex : IsVertexCode board.size start
-    start_vertex = is_own.vertices start (k.inside start member)
+  -- the first vertex that waits starts the next group
+  module _ (sets : List ℕ) (waiting : ℕ) (start : Vertex) (k : AreJoinedOver board player sets own waiting) (member : has waiting (code_of start) ≡ true)
+      (some : IsSomeVertex start) where
+    pub start-vertex : IsVertex board.size start
+    start-vertex = code-vertex board.size start (is_own.vertices (code_of start) (k.inside (code_of start) member)) some
 
-    pub start-small : start < 123
-    start-small = vertex_code-small board.size extent start start_vertex
-
-    module _ (reach : ℕ) (is_reach : (from : Vertex) → IsVertex board.size from → code_of from ≡ start → IsSetOf board.size (Joined board player from) reach) where
-      reached : IsSetOf board.size (Joined board player start_vertex.vertex) reach
-      reached = is_reach start_vertex.vertex start_vertex.is_vertex start_vertex.is_code
-
-      pub reach-small : (n : ℕ) → has reach n ≡ true → n < 123
-      reach-small n h = vertex_code-small board.size extent n (reached.vertices n h)
-
+    module _ (reach : ℕ) (is_reach : IsSetOf board.size (Joined board player start) reach) where
       pub waiting-falls : difference waiting reach < waiting
-      waiting-falls =
-          difference-lt waiting reach start member
-          (rw start_vertex.is_code at ((reached.members start_vertex.vertex start_vertex.is_vertex).1 (inl refl)))
+      waiting-falls = difference-lt waiting reach (code_of start) member ((is_reach.members start start-vertex).1 (inl refl))
 
       pub over_next : (after : List ℕ) → length after ≡ 123
           → ((n : ℕ) → n < 123 → slice_index after n ≡ (if has reach n then union (slice_index sets n) reach else slice_index sets n))
           → AreJoinedOver board player after own (difference waiting reach)
       over_next after count grown =
-          over_more sets after waiting reach start_vertex.vertex start_vertex.is_vertex
-          ((is_own.members start_vertex.vertex start_vertex.is_vertex).0 (rw start_vertex.is_code (k.inside start member))) reached k count grown
+          over_more sets after waiting reach start start-vertex ((is_own.members start start-vertex).0 (k.inside (code_of start) member)) is_reach k count grown
 
   -- the end
   module _ (sets : List ℕ) (waiting : ℕ) (none : waiting ≡ 0) (k : AreJoinedOver board player sets own waiting) where
@@ -246,32 +237,3 @@ module _ (board : Board) (player : Colour) (extent : IsExtent board.size.rows bo
 
 pub read-is : (sets : List ℕ) (n found : ℕ) → n < length sets → found ≡ get_or sets n found → get_or sets n found ≡ slice_index sets n
 read-is sets n found small is = sym is ∙ get_or_read sets n found small is 0
-
-cell_of_code : (size : Extent) (n : ℕ) → n < 121 → IsVertexCode size n → OnBoard size n
-cell_of_code size n small w = cases w.vertex w.is_vertex w.is_code
-  where
-    cases : (v : Vertex) → IsVertex size v → code_of v ≡ n → OnBoard size n
-    cases (Of m) on e = let P : ℕ → Type 0 = λ x. OnBoard size x in subst P e on
-    cases First on e = absurd (omega arith)
-    cases Last on e = absurd (omega arith)
-
--- the cells of a set of vertices
-cells-are : (board : Board) (player : Colour) (v : Vertex) (set range : ℕ) → IsExtent board.size.rows board.size.cols
-    → IsSetOf board.size (Joined board player v) set → ((n : ℕ) → has range n ≡ (leb 0 n && ltb n 121))
-    → (n : ℕ) → (has (intersection set range) n ≡ true) ↔ (OnBoard board.size n × Joined board player v (Of n))
-cells-are board player v set range extent is is_range n = (
-  (λ h.
-      let low : n < 121 = ltb-true n 121 (and_right (leb 0 n) _ (sym (is_range n) ∙ has-intersection_right set range n h)) in
-      let on : OnBoard board.size n = cell_of_code board.size n low (is.vertices n (has-intersection_left set range n h)) in
-      (on, (is.members (Of n) on).0 (has-intersection_left set range n h))),
-  (λ w. has-intersection_both set range n ((is.members (Of n) w.0).1 w.1) (is_range n ∙ and_both _ _ (le-leb 0 n (omega arith)) (lt-ltb n 121 (on_board-small board.size n extent w.0)))),
-)
-
-pub reach-is : (board : Board) (player : Colour) (v : Vertex) (set range : ℕ) → IsExtent board.size.rows board.size.cols
-    → IsSetOf board.size (Joined board player v) set → ((n : ℕ) → has range n ≡ (leb 0 n && ltb n 121))
-    → IsReach board player v (record { cells = intersection set range; first = has set 121; last = has set 122 })
-reach-is board player v set range extent is is_range = record {
-  cells = cells-are board player v set range extent is is_range;
-  first = is.members First tt;
-  last = is.members Last tt;
-}

@@ -6,25 +6,32 @@ use Rattle.std.proofs.lemmas.Bool.{leb-true, le-leb}
 use Rattle.std.proofs.lemmas.Bool.Decides.{eqb_tells}
 use Rattle.std.proofs.lemmas.List.{get_or-set_same, get_or-set_other, length-set}
 use Rattle.hx_board.specs.Sets.{has, insert, union, intersection}
-use Rattle.hx_board.specs.Cells.{Extent, IsExtent, OnBoard, TouchesCellOf, CellsTouch, Left, Right, Above, Below, Above_right, Below_left}
-use Rattle.hx_board.specs.Floods.{AreNear}
+use Rattle.hx_board.specs.Cells.{Extent, IsExtent, OnBoard, CellsTouch, Left, Right, Above, Below, Above_right, Below_left}
+use Rattle.hx_board.specs.Floods.{AreNear, TouchesCellOf}
 use Rattle.hx_board.proofs.SetLaws.{has-union_left, has-union_right, has-union_cases, has-insert_same, has-intersection_left, has-intersection_right, has-intersection_both, and_left, and_right, and_both}
 use Rattle.hx_board.proofs.CellLaws.{on_board-small}
 use Rattle.hx_board.proofs.FloodLaws.{has-single}
+
+-- what touches a set of one cell
+pub touches-one : (size : Extent) (cell around : ℕ) → OnBoard size cell → ((n : ℕ) → (has around n ≡ true) ↔ TouchesCellOf size (insert 0 cell) n)
+    → (n : ℕ) → (has around n ≡ true) ↔ (OnBoard size n × CellsTouch cell n)
+touches-one size cell around on is_around n = (
+  (λ h.
+      let t : TouchesCellOf size (insert 0 cell) n = (is_around n).0 h in
+      (t.on_board, let P : ℕ → Type 0 = λ x. CellsTouch x n in subst P (has-single cell t.by t.by_member) t.touch)),
+  (λ w. (is_around n).1 (record { on_board = w.0; by = cell; by_on_board = on; by_member = has-insert_same 0 cell; touch = w.1 })),
+)
 
 pub near-is : (size : Extent) (cell around : ℕ) → ((n : ℕ) → (has around n ≡ true) ↔ TouchesCellOf size (insert 0 cell) n)
     → OnBoard size cell → (n : ℕ) → (has (union (insert 0 cell) around) n ≡ true) ↔ (OnBoard size n × ((n ≡ cell) ⊎ CellsTouch cell n))
 near-is size cell around is_around on n = (
   (λ h. ⊎_elim
       (λ w. let e : n ≡ cell = has-single cell n w in (let P : ℕ → Type 0 = λ x. OnBoard size x in subst P (sym e) on, inl e))
-      (λ w.
-      let t : TouchesCellOf size (insert 0 cell) n = (is_around n).0 w in
-      (t.on_board, inr (let P : ℕ → Type 0 = λ x. CellsTouch x n in subst P (has-single cell t.by t.by_member) t.touch)))
+      (λ w. let t = (touches-one size cell around on is_around n).0 w in (t.0, inr t.1))
       (has-union_cases (insert 0 cell) around n h)),
   (λ w. ⊎_elim
       (λ e. has-union_left (insert 0 cell) around n (let P : ℕ → Type 0 = λ x. has (insert 0 x) n ≡ true in subst P e (has-insert_same 0 n)))
-      (λ t. has-union_right (insert 0 cell) around n
-      ((is_around n).1 (record { on_board = w.0; by = cell; by_on_board = on; by_member = has-insert_same 0 cell; touch = t })))
+      (λ t. has-union_right (insert 0 cell) around n ((touches-one size cell around on is_around n).1 (w.0, t)))
       w.1),
 )
 

@@ -1,12 +1,12 @@
 -- The laws of positions.
 use Rattle.std.proofs.Common.{◌≡◌, ◌≢◌, ℕ, ◌^◌, ◌<◌, Bool, true, false, refl, sym, ap, ◌∙◌, subst, ⊎_elim, arith, ◌↔◌}
 use Rattle.std.proofs.lemmas.Bool.{false≢true}
-use Rattle.hx_board.specs.Sets.{has, insert, remove, union, intersection, difference, IsSubset}
+use Rattle.hx_board.specs.Sets.{has, insert, remove, union, difference, IsSubset, ShareNone}
 use Rattle.hx_board.specs.Cells.{Extent, OnBoard}
 use Rattle.hx_board.specs.declared.colours.Colour.{Colour}
 use Rattle.hx_board.specs.declared.colours.Colour.TheVariants.{Black, White}
 use Rattle.hx_board.specs.Positions.{Board, IsBoard, IsPosition, IsEmpty, put, lifted}
-use Rattle.hx_board.proofs.SetLaws.{has-empty, has-insert_cases, has-intersection_both, has-union_left, has-union_right, has-union_cases, has-difference_left, has-difference_right, has-difference_both, has-intersection_left, has-intersection_right, same_set, is_false, set-small, remove-absent, remove-insert}
+use Rattle.hx_board.proofs.SetLaws.{has-empty, has-insert_cases, has-union_left, has-union_right, has-union_cases, has-difference_left, has-difference_right, has-difference_both, is_false, set-small, remove-absent, remove-insert}
 use Rattle.hx_board.proofs.CellLaws.{on_board-small}
 
 pub empty-is_position : (size : Extent) → IsPosition size 0 0
@@ -56,16 +56,12 @@ has-empties board all is_all n =
     )
 
 pub tested-is_position : (size : Extent) (black white all : ℕ) → ((n : ℕ) → (has all n ≡ true) ↔ OnBoard size n)
-    → intersection black white ≡ 0 → IsSubset (union black white) all → IsPosition size black white
+    → ShareNone black white → IsSubset (union black white) all → IsPosition size black white
 tested-is_position size black white all is_all apart inside = record {
-  apart = λ n h. is_false _ (λ k. false≢true (sym (has-empty n) ∙ ap (λ (x : ℕ). has x n) (sym apart) ∙ has-intersection_both black white n h k));
+  apart = apart;
   black_inside = λ n h. (is_all n).0 (inside n (has-union_left black white n h));
   white_inside = λ n h. (is_all n).0 (inside n (has-union_right black white n h));
 }
-
-pub position-apart : (size : Extent) (black white : ℕ) → IsPosition size black white → intersection black white ≡ 0
-position-apart size black white p =
-    same_set _ _ (λ n. is_false _ (λ h. false≢true (sym (p.apart n (has-intersection_left black white n h)) ∙ has-intersection_right black white n h)) ∙ sym (has-empty n))
 
 pub position-inside : (size : Extent) (black white all : ℕ) → ((n : ℕ) → (has all n ≡ true) ↔ OnBoard size n) → IsPosition size black white → IsSubset (union black white) all
 position-inside size black white all is_all p n h =

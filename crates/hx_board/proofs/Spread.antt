@@ -4,9 +4,10 @@ use Rattle.hx_board.specs.declared.colours.Colour.{Colour}
 use Rattle.hx_board.specs.declared.vertices.Vertex.{Vertex}
 use Rattle.hx_board.specs.declared.vertices.Vertex.TheVariants.{Of, First, Last}
 use Rattle.hx_board.specs.Sets.{has, insert, union, ShareOne}
-use Rattle.hx_board.specs.Cells.{Extent, IsExtent, OnBoard, TouchesCellOf}
+use Rattle.hx_board.specs.Cells.{Extent, IsExtent, OnBoard}
 use Rattle.hx_board.specs.Graph.{IsFirstLine, IsLastLine, IsVertex, Touches}
-use Rattle.hx_board.specs.Floods.{IsVertexCode, IsSetOf, TouchesOneOf, code_of}
+use Rattle.hx_board.specs.VertexSets.{IsVertexCode, IsSetOf, code_of}
+use Rattle.hx_board.specs.Floods.{TouchesCellOf, TouchesOneOf}
 use Rattle.hx_board.proofs.SetLaws.{has-union_left, has-union_right, has-union_cases, has-insert_same, and_left, and_right, and_both}
 use Rattle.hx_board.proofs.CellLaws.{on_board-small}
 use Rattle.hx_board.proofs.FloodLaws.{has-single}

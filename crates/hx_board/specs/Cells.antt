@@ -58,11 +58,3 @@ pub record IsLeastOn (size : Extent) (set cell : ℕ) : Type 0 where
   pub on_board : OnBoard size cell
   pub member : has set cell ≡ true
   pub first : (other : ℕ) → other < cell → OnBoard size other → has set other ≡ false
-
--- a cell of the board that touches a cell of the board in a set
-pub record TouchesCellOf (size : Extent) (set cell : ℕ) : Type 0 where
-  pub on_board : OnBoard size cell
-  pub by : ℕ
-  pub by_on_board : OnBoard size by
-  pub by_member : has set by ≡ true
-  pub touch : CellsTouch by cell

@@ -1,29 +1,20 @@
--- Sets of vertices, and what floods find.
+-- What floods and the tables made of them keep. These words are for the functions inside the crate alone.
 use Rattle.std.specs.Prelude.{◌≡◌, ℕ, ◌+◌, ◌<◌, true, List, length, slice_index, ◌⊎◌, ◌↔◌}
 use Rattle.hx_board.specs.declared.colours.Colour.{Colour}
 use Rattle.hx_board.specs.declared.vertices.Vertex.{Vertex}
-use Rattle.hx_board.specs.declared.vertices.Vertex.TheVariants.{Of, First, Last}
 use Rattle.hx_board.specs.Sets.{has}
 use Rattle.hx_board.specs.Cells.{Extent, OnBoard, CellsTouch, col_of}
 use Rattle.hx_board.specs.Positions.{Board, IsBoard}
 use Rattle.hx_board.specs.Graph.{IsFirstLine, IsLastLine, IsVertex, Touches, IsOwn, Joined}
+use Rattle.hx_board.specs.VertexSets.{code_of, IsSetOf}
 
--- the number of a vertex in a set of vertices: the sides come after the cells
-abbrev pub code_of : Vertex → ℕ
-code_of (Of cell) = cell
-code_of First = 121
-code_of Last = 122
-
--- a number that stands for a vertex of the board
-pub record IsVertexCode (size : Extent) (n : ℕ) : Type 0 where
-  pub vertex : Vertex
-  pub is_vertex : IsVertex size vertex
-  pub is_code : code_of vertex ≡ n
-
--- the set of the vertices of a board for which a fact holds
-pub record IsSetOf (size : Extent) (Fact : Vertex → Type 0) (set : ℕ) : Type 0 where
-  pub vertices : (n : ℕ) → has set n ≡ true → IsVertexCode size n
-  pub members : (vertex : Vertex) → IsVertex size vertex → (has set (code_of vertex) ≡ true) ↔ Fact vertex
+-- a cell of the board that touches a cell of the board in a set
+pub record TouchesCellOf (size : Extent) (set cell : ℕ) : Type 0 where
+  pub on_board : OnBoard size cell
+  pub by : ℕ
+  pub by_on_board : OnBoard size by
+  pub by_member : has set by ≡ true
+  pub touch : CellsTouch by cell
 
 -- a vertex that touches one in a set
 pub record TouchesOneOf (size : Extent) (player : Colour) (set : ℕ) (vertex : Vertex) : Type 0 where

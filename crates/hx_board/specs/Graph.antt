@@ -1,11 +1,11 @@
 -- A player's graph, and what is joined in it.
-use Rattle.std.specs.Prelude.{◌≡◌, ℕ, ◌+◌, true, List, [], ◌∷◌, ◌⊎◌, ◌↔◌, IsTrue}
+use Rattle.std.specs.Prelude.{◌≡◌, ℕ, ◌+◌, true, false, List, [], ◌∷◌, ◌⊎◌}
 use Rattle.hx_board.specs.declared.colours.Colour.{Colour}
 use Rattle.hx_board.specs.declared.colours.Colour.TheVariants.{Black, White}
 use Rattle.hx_board.specs.declared.vertices.Vertex.{Vertex}
 use Rattle.hx_board.specs.declared.vertices.Vertex.TheVariants.{Of, First, Last}
-use Rattle.hx_board.specs.declared.groups.Reach.{Reach}
 use Rattle.hx_board.specs.Sets.{has}
+use Rattle.hx_board.specs.Colours.{other_of}
 use Rattle.hx_board.specs.Cells.{Extent, OnBoard, CellsTouch, row_of, col_of}
 use Rattle.hx_board.specs.Positions.{Board, stones_of}
 
@@ -43,6 +43,12 @@ IsOwn board player (Of cell) = has (stones_of board player) cell ≡ true
 IsOwn board player First = Unit {0}
 IsOwn board player Last = Unit {0}
 
+-- no stone of the player's opponent
+abbrev pub IsOpen : Board → Colour → Vertex → Type 0
+IsOpen board player (Of cell) = has (stones_of board (other_of player)) cell ≡ false
+IsOpen board player First = Unit {0}
+IsOpen board player Last = Unit {0}
+
 -- a walk from one vertex to another, by its inner vertices, each of which is the player's own
 abbrev pub Walk : Board → Colour → Vertex → List Vertex → Vertex → Type 0
 Walk board player from [] to = Touches board.size player from to
@@ -60,9 +66,3 @@ HasChain board player = Joined board player First Last
 pub record Grouped : Type 0 where
   pub board : Board
   pub player : Colour
-
--- what a vertex is joined with: cells of the board, and the two sides
-pub record IsReach (board : Board) (player : Colour) (from : Vertex) (reach : Reach) : Type 0 where
-  pub cells : (cell : ℕ) → (has reach.cells cell ≡ true) ↔ (OnBoard board.size cell × Joined board player from (Of cell))
-  pub first : IsTrue reach.first ↔ Joined board player from First
-  pub last : IsTrue reach.last ↔ Joined board player from Last

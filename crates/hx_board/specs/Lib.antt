@@ -1,8 +1,10 @@
+pub mod Finds
 pub mod Sets
 pub mod Colours
 pub mod Cells
 pub mod Positions
 pub mod Counts
 pub mod Graph
+pub mod VertexSets
 pub mod Floods
 pub mod Game

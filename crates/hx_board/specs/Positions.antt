@@ -4,7 +4,7 @@ use Rattle.std.specs.declared.option.Option.{Option}
 use Rattle.std.specs.declared.option.Option.TheVariants.{None, Some}
 use Rattle.hx_board.specs.declared.colours.Colour.{Colour}
 use Rattle.hx_board.specs.declared.colours.Colour.TheVariants.{Black, White}
-use Rattle.hx_board.specs.Sets.{has, insert, remove}
+use Rattle.hx_board.specs.Sets.{has, insert, remove, ShareNone}
 use Rattle.hx_board.specs.Cells.{Extent, IsExtent, OnBoard}
 
 -- a board of some size with the sets of cells that hold a black and a white stone
@@ -15,7 +15,7 @@ pub record Board : Type 0 where
 
 -- two sets of cells of the board that share none
 pub record IsPosition (size : Extent) (black white : ℕ) : Type 0 where
-  pub apart : (cell : ℕ) → has black cell ≡ true → has white cell ≡ false
+  pub apart : ShareNone black white
   pub black_inside : (cell : ℕ) → has black cell ≡ true → OnBoard size cell
   pub white_inside : (cell : ℕ) → has white cell ≡ true → OnBoard size cell
 

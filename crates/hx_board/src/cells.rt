@@ -8,6 +8,9 @@ ghost use Rattle.hx_board.specs.Cells.{row_of, col_of};
 
 use std::marker::Model;
 
+/// How many cells the largest board has. Each cell's index is below it.
+pub const CELLS: usize = 121;
+
 /// A cell, by its row and its column, which both count from 0 at the top left corner. Contracts see it as its
 /// index. It may lie on a board of one size and off a smaller one: `Size::cell` makes a cell of its board.
 #[derive(Clone, Copy, PartialEq, Eq, Debug, Default)]

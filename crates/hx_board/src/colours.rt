@@ -5,8 +5,9 @@ ghost use Rattle.hx_board.specs.Colours.{other_of};
 
 /// A player, and the colour of a stone. Black owns the top and the bottom side of the board, White the left and the
 /// right side.
-#[derive(Clone, Copy, PartialEq, Eq, Debug)]
+#[derive(Clone, Copy, PartialEq, Eq, Debug, Default)]
 pub enum Colour {
+    #[default]
     Black,
     White,
 }

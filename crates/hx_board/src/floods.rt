@@ -1,31 +1,28 @@
 //! Floods: what a vertex is joined with.
 //!
 //! A flood begins with one vertex and takes in, step by step, all own vertices that touch it. Each step is some twenty
-//! operations on whole masks, however many stones the board has, and there are no more steps than the way through the
+//! operations on whole sets, however many stones the board has, and there are no more steps than the way through the
 //! group is long. Union-find would look at the stones and their neighbours one by one.
 
-ghost use Rattle.std.specs.Prelude.{◌≡◌, ◌<◌};
-ghost use Rattle.hx_board.specs.declared.vertices.Vertex.{Vertex};
 ghost use Rattle.hx_board.specs.Graph.{IsVertex, Joined};
-ghost use Rattle.hx_board.specs.Floods.{IsSetOf, code_of};
+ghost use Rattle.hx_board.specs.VertexSets.{IsSetOf};
 
 use crate::graphs::Graph;
-use crate::masks::Mask;
+use crate::vertex_sets::VertexSet;
+use crate::vertices::Vertex;
 
-/// The vertices that the vertex of this number is joined with: its group, where it is the player's own, and all that
-/// touches the group.
-pub(crate) fn flood(graph: &Graph, start: u8) -> Mask
-    requires { start < 123 }
-    ensures { (from : Vertex) → IsVertex graph.now.board.size from → code_of from ≡ start
-        → IsSetOf graph.now.board.size (Joined graph.now.board graph.now.player from) result }
+/// What a vertex is joined with: its group, where it is the player's own, and all that touches the group.
+pub(crate) fn flood(graph: &Graph, start: Vertex) -> VertexSet
+    requires { IsVertex graph.now.board.size start }
+    ensures { IsSetOf graph.now.board.size (Joined graph.now.board graph.now.player start) result }
 {
     let own = graph.own();
-    let mut group = Mask::single(start);
+    let mut group = VertexSet::single(start);
     loop {
         let near = graph.spread(group);
         let next = group.union(near.meet(own));
         // A set is a number below 2 ^ 128 and grows at each step, so a flood ends.
-        let _bits = next.bits();
+        let _bits = next.codes().bits();
         if next == group {
             return group.union(near);
         }

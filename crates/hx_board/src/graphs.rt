@@ -5,17 +5,20 @@
 
 ghost use Rattle.std.specs.Prelude.{◌≡◌, ℕ, ◌+◌, ◌-◌, ◌<◌, ◌≤◌, ◌⊎◌, ◌↔◌, true};
 ghost use Rattle.hx_board.specs.Sets.{has};
-ghost use Rattle.hx_board.specs.Cells.{OnBoard, CellsTouch, TouchesCellOf, col_of};
+ghost use Rattle.hx_board.specs.Cells.{OnBoard, CellsTouch};
 ghost use Rattle.hx_board.specs.Positions.{IsBoard};
 ghost use Rattle.hx_board.specs.Graph.{IsFirstLine, IsLastLine, IsOwn};
-ghost use Rattle.hx_board.specs.Floods.{IsSetOf, TouchesOneOf};
+ghost use Rattle.hx_board.specs.VertexSets.{IsSetOf, AreVertexCodes};
+ghost use Rattle.hx_board.specs.Floods.{TouchesCellOf, TouchesOneOf};
 
 use crate::cells::Cell;
 use crate::colours::Colour;
 use crate::masks::Mask;
-use crate::places::{FIRST_CODE, LAST_CODE};
 use crate::positions::Position;
-use crate::sizes::{Size, block};
+use crate::shifts::{around, left_cells};
+use crate::sizes::Size;
+use crate::vertex_sets::VertexSet;
+use crate::vertices::Vertex;
 use std::marker::Model;
 
 /// One player's graph on a board: all cells, the cells that have one to their right, the cells along the player's first
@@ -28,7 +31,7 @@ pub(crate) struct Graph {
     left: Mask,
     first: Mask,
     last: Mask,
-    own: Mask,
+    own: VertexSet,
 }
 
 impl Model for Graph {
@@ -64,63 +67,52 @@ impl Graph {
     }
 
     /// The player's stones and sides.
-    pub(crate) fn own(&self) -> Mask
+    pub(crate) fn own(&self) -> VertexSet
         ensures own { IsSetOf self.now.board.size (IsOwn self.now.board self.now.player) result }
         ensures valid { IsBoard self.now.board }
     {
         self.own
     }
 
-    /// The cells that touch a cell of a set. Of the six neighbours of a cell two lie to the right of it and of the cell
-    /// above it, and two to the left of it and of the cell below it, so two shifts sideways find these four.
+    /// The cells that touch a cell of a set.
     pub(crate) fn around(&self, set: Mask) -> Mask
-        ensures { (cell : ℕ) → (has result cell ≡ true) ↔ TouchesCellOf self.now.board.size set cell }
+        ensures cells { (cell : ℕ) → (has result cell ≡ true) ↔ TouchesCellOf self.now.board.size set cell }
+        ensures codes { AreVertexCodes result }
     {
-        let cells = set.meet(self.all);
-        let above = cells.earlier(11);
-        let below = cells.later(11);
-        let to_right = cells.union(above).meet(self.left).later(1);
-        let to_left = cells.union(below).earlier(1).meet(self.left);
-        let straight = above.union(below);
-        let sideways = to_right.union(to_left);
-        straight.union(sideways).meet(self.all)
+        around(self.position.size(), self.all, self.left, set)
     }
 
     /// A cell and the cells that touch it.
-    pub(crate) fn near(&self, cell: Cell) -> Mask
-        ensures { OnBoard self.now.board.size cell → (other : ℕ) → (has result other ≡ true) ↔ (OnBoard self.now.board.size other × ((other ≡ cell) ⊎ CellsTouch cell other)) }
+    pub(crate) fn near(&self, cell: Cell) -> VertexSet
+        ensures { OnBoard self.now.board.size cell → (other : ℕ) → (has result other ≡ true)
+            ↔ (OnBoard self.now.board.size other × ((other ≡ cell) ⊎ CellsTouch cell other)) }
     {
-        let single = Mask::single(cell.index());
-        single.union(self.around(single))
+        let single = VertexSet::single(Vertex::Of(cell));
+        single.union(VertexSet::of(self.around(single.codes())))
     }
 
     /// The cells that lie below a cell of a set.
-    pub(crate) fn below(&self, set: Mask) -> Mask
-        ensures { (cell : ℕ) → (has result cell ≡ true) ↔ (OnBoard self.now.board.size cell × (11 ≤ cell) × (has set (cell - 11) ≡ true)) }
+    pub(crate) fn below(&self, set: VertexSet) -> VertexSet
+        ensures { (cell : ℕ) → (has result cell ≡ true)
+            ↔ (OnBoard self.now.board.size cell × (11 ≤ cell) × (has set (cell - 11) ≡ true)) }
     {
-        set.later(11).meet(self.all)
+        VertexSet::of(set.codes().later(11).meet(self.all))
     }
 
     /// The vertices that touch one in a set.
-    pub(crate) fn spread(&self, set: Mask) -> Mask
+    pub(crate) fn spread(&self, set: VertexSet) -> VertexSet
         ensures { IsSetOf self.now.board.size (TouchesOneOf self.now.board.size self.now.player set) result }
     {
-        let cells = self.around(set);
-        let from_first = self.first.when(set.holds(FIRST_CODE));
-        let from_last = self.last.when(set.holds(LAST_CODE));
-        let to_first = Mask::single(FIRST_CODE).when(set.meets(self.first));
-        let to_last = Mask::single(LAST_CODE).when(set.meets(self.last));
+        let codes = set.codes();
+        let cells = self.around(codes);
+        let from_first = self.first.when(set.has(Vertex::First));
+        let from_last = self.last.when(set.has(Vertex::Last));
+        let to_first = VertexSet::single(Vertex::First).when(codes.meets(self.first));
+        let to_last = VertexSet::single(Vertex::Last).when(codes.meets(self.last));
         let to_cells = cells.union(from_first).union(from_last);
         let to_sides = to_first.union(to_last);
-        to_cells.union(to_sides)
+        VertexSet::of(to_cells).union(to_sides)
     }
-}
-
-/// The cells that have a cell to their right.
-fn left_cells(size: Size) -> Mask
-    ensures { (cell : ℕ) → (has result cell ≡ true) ↔ (OnBoard size cell × (col_of cell + 1 < size.cols)) }
-{
-    block(size.rows(), size.cols() - 1)
 }
 
 /// The cells along a player's first side: for Black those with no cell above them, for White those with none to their
@@ -148,12 +140,11 @@ fn last_line(size: Size, player: Colour) -> Mask
 }
 
 /// The player's stones and sides.
-fn own_vertices(position: &Position, player: Colour) -> Mask
+fn own_vertices(position: &Position, player: Colour) -> VertexSet
     ensures { IsSetOf position.now.size (IsOwn position.now player) result }
 {
     let _rows = position.size().rows();
-    position
-        .stones(player)
-        .union(Mask::single(FIRST_CODE))
-        .union(Mask::single(LAST_CODE))
+    VertexSet::of(position.stones(player))
+        .with(Vertex::First)
+        .with(Vertex::Last)
 }

@@ -7,27 +7,28 @@ mod floods;
 mod graphs;
 mod groups;
 mod masks;
-mod places;
 mod positions;
+mod shifts;
 mod sizes;
 mod tables;
 mod touching;
+mod vertex_sets;
 mod vertices;
 
-pub use cells::Cell;
+pub use cells::{CELLS, Cell};
 pub use colours::Colour;
-pub use groups::{Groups, Reach, chain};
+pub use groups::{Groups, chain};
 pub use masks::Mask;
 pub use positions::Position;
+pub use shifts::neighbour_set;
 pub use sizes::Size;
 pub use touching::neighbours;
-pub use vertices::Vertex;
+pub use vertex_sets::VertexSet;
+pub use vertices::{VERTICES, Vertex};
 
 /// Want of memory: the answer of a call, in this crate or in one above it, that asked for memory and did not get it.
 #[derive(Clone, Copy, PartialEq, Eq, Debug)]
 pub struct Memory;
 
-#[cfg(test)]
-mod plain;
 #[cfg(test)]
 mod tests;

@@ -2,11 +2,11 @@
 //!
 //! A set is one number of 128 binary digits, with the digit 1 at the index of each cell in it. So to unite two
 //! sets, to find what they share, or to move all cells of a set by a step takes a few machine instructions and no
-//! memory. The numbers from 121 to 127 are no cell's, and can stand for something else, as the sides of the board.
+//! memory. The numbers from 121 to 127 are no cell's, and can stand for something else, as a player's sides.
 
-ghost use Rattle.std.specs.Prelude.{◌≡◌, ◌≢◌, ℕ, ◌+◌, ◌-◌, ◌<◌, ◌≤◌, ◌↔◌, ◌&&◌, ◌||◌, ◌==◌, not, IsTrue, nat_le, nat_lt, false, MatchOption};
+ghost use Rattle.std.specs.Prelude.{◌≡◌, ◌≢◌, ℕ, ◌+◌, ◌-◌, ◌<◌, ◌≤◌, ◌↔◌, ◌&&◌, ◌||◌, ◌==◌, not, IsTrue, nat_le, nat_lt, true, false, MatchOption};
 ghost use Rattle.hx_board.specs.Cells.{OnBoard, IsLeastOn};
-ghost use Rattle.hx_board.specs.Sets.{has, insert, remove, union, intersection, difference, IsSubset, ShareOne, IsLowest, count_below};
+ghost use Rattle.hx_board.specs.Sets.{has, insert, remove, union, intersection, difference, IsSubset, ShareOne, ShareNone, IsLowest, count_below};
 
 use crate::cells::Cell;
 use crate::sizes::Size;
@@ -63,10 +63,7 @@ impl Mask {
         ensures set { result ≡ insert self cell }
         ensures members { (n : ℕ) → has result n ≡ ((n == cell) || has self n) }
     {
-        let place = cell.index();
-        Mask {
-            bits: self.bits | (1 << place),
-        }
+        self.including(cell.index())
     }
 
     /// The set without a cell, which need not be in the set.
@@ -74,10 +71,7 @@ impl Mask {
         ensures set { result ≡ remove self cell }
         ensures members { (n : ℕ) → has result n ≡ (has self n && not (n == cell)) }
     {
-        let place = cell.index();
-        Mask {
-            bits: self.bits ^ (self.bits & (1 << place)),
-        }
+        self.excluding(cell.index())
     }
 
     /// What is in one of the two sets, or in both.
@@ -120,6 +114,22 @@ impl Mask {
         self.bits & other.bits == self.bits
     }
 
+    /// Whether the two sets share a member.
+    pub fn meets(self, other: Mask) -> bool
+        ensures one { IsTrue result ↔ ShareOne self other }
+        ensures none { (result ≡ false) ↔ ShareNone self other }
+    {
+        !self.meet(other).is_empty()
+    }
+
+    /// Whether the set has no member.
+    pub fn is_empty(self) -> bool
+        ensures empty { IsTrue result ↔ (self ≡ 0) }
+        ensures some { result ≡ false → (n : ℕ) × (has self n ≡ true) }
+    {
+        self.bits() == 0
+    }
+
     /// How many members the set has.
     pub fn count(self) -> u32
         ensures { result ≡ count_below 128 self }
@@ -140,14 +150,6 @@ impl Mask {
         }
     }
 
-    /// Whether the two sets share a member.
-    pub(crate) fn meets(self, other: Mask) -> bool
-        ensures { IsTrue result ↔ ShareOne self other }
-    {
-        let both = self.meet(other).bits();
-        both != 0
-    }
-
     /// The set where it is wanted, and else the empty set.
     pub(crate) fn when(self, is_wanted: bool) -> Mask
         ensures { (n : ℕ) → has result n ≡ (is_wanted && has self n) }
@@ -161,6 +163,28 @@ impl Mask {
         ensures { result ≡ has self place }
     {
         (self.bits >> place) & 1 == 1
+    }
+
+    /// The set and a number, which may be in the set already.
+    pub(crate) fn including(self, place: u8) -> Mask
+        requires { place < 128 }
+        ensures set { result ≡ insert self place }
+        ensures members { (n : ℕ) → has result n ≡ ((n == place) || has self n) }
+    {
+        Mask {
+            bits: self.bits | (1 << place),
+        }
+    }
+
+    /// The set without a number, which need not be in the set.
+    pub(crate) fn excluding(self, place: u8) -> Mask
+        requires { place < 128 }
+        ensures set { result ≡ remove self place }
+        ensures members { (n : ℕ) → has result n ≡ (has self n && not (n == place)) }
+    {
+        Mask {
+            bits: self.bits ^ (self.bits & (1 << place)),
+        }
     }
 
     /// The set of one number.
@@ -186,7 +210,8 @@ impl Mask {
     /// The set without its lowest number.
     pub(crate) fn without_lowest(self) -> Mask
         requires { self ≢ 0 }
-        ensures { (n : ℕ) → IsLowest self n → result ≡ remove self n }
+        ensures lowest { (n : ℕ) → IsLowest self n → result ≡ remove self n }
+        ensures inside { IsSubset result self }
     {
         Mask {
             bits: (self.bits - 1) & self.bits,

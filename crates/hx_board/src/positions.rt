@@ -2,15 +2,17 @@
 //!
 //! A position does not say whose turn it is, nor how its stones came: it may have any number of each colour.
 
-ghost use Rattle.std.specs.Prelude.{◌≡◌, ℕ, ◌↔◌, SomeIff, true};
+ghost use Rattle.std.specs.Prelude.{◌≡◌, ℕ, ◌≤◌, ◌↔◌, SomeIff, IsTrue, true};
 ghost use Rattle.hx_board.specs.Sets.{has};
 ghost use Rattle.hx_board.specs.Positions.{IsPosition, IsBoard, IsEmpty, IsHeld, Board, stones_of, stone_at, put, lifted};
 ghost use Rattle.hx_board.specs.Counts.{empty_count};
+ghost use Rattle.hx_board.specs.Graph.{IsOwn, IsOpen};
 
-use crate::cells::Cell;
+use crate::cells::{CELLS, Cell};
 use crate::colours::Colour;
 use crate::masks::Mask;
 use crate::sizes::Size;
+use crate::vertices::Vertex;
 use std::marker::Model;
 
 /// A board of some size, and which of its cells hold a black or a white stone. No cell holds two. Contracts see it
@@ -51,7 +53,7 @@ impl Position {
     pub fn from_masks(size: Size, black: Mask, white: Mask) -> Option<Position>
         ensures { SomeIff result (IsPosition size black white) (record { size = size; black = black; white = white }) }
     {
-        if black.meet(white) == Mask::empty() && black.union(white).inside(size.all()) {
+        if !black.meets(white) && black.union(white).inside(size.all()) {
             Some(Position { size, black, white })
         } else {
             None
@@ -89,7 +91,8 @@ impl Position {
 
     /// How many cells have no stone, from 0 to 121.
     pub fn empty_count(&self) -> u32
-        ensures { result ≡ empty_count self.now }
+        ensures value { result ≡ empty_count self.now }
+        ensures small { result ≤ CELLS }
     {
         let _size = self.size();
         self.empties().count()
@@ -106,6 +109,36 @@ impl Position {
         } else {
             None
         }
+    }
+
+    /// Whether a vertex is the player's own: a stone or a side of the player.
+    pub fn owns(&self, player: Colour, vertex: &Vertex) -> bool
+        ensures { IsTrue result ↔ IsOwn self.now player vertex.now }
+    {
+        match vertex {
+            Vertex::Of(cell) => self.stones(player).has(*cell),
+            Vertex::First | Vertex::Last => true,
+        }
+    }
+
+    /// Whether a vertex is open to the player: no stone of the opponent.
+    pub fn is_open(&self, player: Colour, vertex: &Vertex) -> bool
+        ensures { IsTrue result ↔ IsOpen self.now player vertex.now }
+    {
+        match vertex {
+            Vertex::Of(cell) => !self.stones(player.other()).has(*cell),
+            Vertex::First | Vertex::Last => true,
+        }
+    }
+
+    /// The position with a stone of this colour more, on an empty cell.
+    pub fn with(&self, colour: Colour, cell: Cell) -> Position
+        requires { IsEmpty self.now cell }
+        ensures { result ≡ put self.now colour cell }
+    {
+        let mut next = *self;
+        next.play(colour, cell);
+        next
     }
 
     /// Puts a stone of this colour on an empty cell. Nothing else changes.
@@ -125,7 +158,8 @@ impl Position {
     pub fn lift(&mut self, cell: Cell)
         requires { IsHeld self.old cell }
         ensures value { self.new ≡ lifted self.old cell }
-        ensures back { (before : Board) (colour : Colour) → IsEmpty before cell → self.old ≡ put before colour cell → self.new ≡ before }
+        ensures back { (before : Board) (colour : Colour) → IsEmpty before cell
+            → self.old ≡ put before colour cell → self.new ≡ before }
     {
         self.black = self.black.without(cell);
         self.white = self.white.without(cell);

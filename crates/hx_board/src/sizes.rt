@@ -3,11 +3,14 @@
 //! These sets are wanted at each step of a search, so they come from one constant by shifts and without a loop.
 
 ghost use Rattle.std.specs.Prelude.{◌≡◌, ℕ, ◌+◌, ◌*◌, ◌<◌, ◌≤◌, ◌↔◌, ◌&&◌, nat_lt, SomeIff, true};
+ghost use Rattle.hx_board.specs.Finds.{Finds};
 ghost use Rattle.hx_board.specs.Sets.{has};
 ghost use Rattle.hx_board.specs.Cells.{OnBoard, IsExtent, index_of, row_of, col_of};
+ghost use Rattle.hx_board.specs.VertexSets.{IsVertexAt};
 
 use crate::cells::Cell;
 use crate::masks::Mask;
+use crate::vertices::{FIRST_CODE, LAST_CODE, Vertex};
 use std::marker::Model;
 
 /// The size of a board: how many rows it has, from 1 to 11, and how many columns, from 1 to 11.
@@ -73,6 +76,20 @@ impl Size {
             Some(Cell::at_index(11 * row + col))
         } else {
             None
+        }
+    }
+
+    /// The vertex with this code, as `Vertex::code` tells it. None exactly where no vertex of the board has it.
+    pub fn vertex(self, code: u8) -> Option<Vertex>
+        ensures { Finds result (IsVertexAt self code) }
+    {
+        match code {
+            FIRST_CODE => Some(Vertex::First),
+            LAST_CODE => Some(Vertex::Last),
+            index => match self.cell(index / 11, index % 11) {
+                None => None,
+                Some(cell) => Some(Vertex::Of(cell)),
+            },
         }
     }
 }

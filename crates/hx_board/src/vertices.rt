@@ -1,6 +1,21 @@
 //! The vertices of a player's graph: what a player's stones join.
+//!
+//! A vertex goes by one number, its code: a cell by its index, and the two sides come after the cells. So one set of 128
+//! numbers holds a whole graph, and a flood treats its sides as it treats its stones.
+
+ghost use Rattle.std.specs.Prelude.{◌≡◌, ◌<◌};
+ghost use Rattle.hx_board.specs.VertexSets.{code_of, IsSomeVertex};
 
 use crate::cells::Cell;
+
+/// How many vertices the graph of the largest board has: its 121 cells and the two sides.
+pub const VERTICES: usize = 123;
+
+/// The code of the first side.
+pub(crate) const FIRST_CODE: u8 = 121;
+
+/// The code of the last side.
+pub(crate) const LAST_CODE: u8 = 122;
 
 /// A vertex of a player's graph: a cell, or one of the player's two sides.
 #[derive(Clone, Copy, PartialEq, Eq, Debug)]
@@ -11,4 +26,32 @@ pub enum Vertex {
     First,
     /// The bottom side for Black, the right side for White.
     Last,
+}
+
+impl Vertex {
+    /// The code of a vertex, from 0 to 122: the index of a cell, then 121 for the first side and 122 for the last.
+    pub fn code(self) -> u8
+        ensures value { result ≡ code_of self }
+        ensures small { result < VERTICES }
+        ensures some { IsSomeVertex self }
+    {
+        match self {
+            Vertex::Of(cell) => cell.index(),
+            Vertex::First => FIRST_CODE,
+            Vertex::Last => LAST_CODE,
+        }
+    }
+
+    /// The vertex with this code.
+    pub(crate) fn at_code(code: u8) -> Vertex
+        requires { code < VERTICES }
+        ensures value { code_of result ≡ code }
+        ensures some { IsSomeVertex result }
+    {
+        match code {
+            FIRST_CODE => Vertex::First,
+            LAST_CODE => Vertex::Last,
+            index => Vertex::Of(Cell::at_index(index)),
+        }
+    }
 }

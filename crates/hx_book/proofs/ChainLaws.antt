@@ -6,8 +6,7 @@ use Rattle.std.proofs.lemmas.Bool.{cases_lt, cases_eq}
 use Rattle.hx_board.specs.declared.colours.Colour.{Colour}
 use Rattle.hx_board.specs.Positions.{Board}
 use Rattle.hx_tree.specs.declared.nodes.Node.{Node}
-use Rattle.hx_tree.specs.Entries.{IsEntry, HasNoEntry}
-use Rattle.hx_book.specs.Entries.{IsFound}
+use Rattle.hx_tree.specs.Entries.{IsEntry, HasNoEntry, AreDistinctEntries, IsFirstFound}
 use Rattle.hx_book.specs.Buckets.{bucket_of, IsIn, IsNewestBelow, AreChains}
 
 -- how far a search in a bucket has come: entries of the position and mover stand below the link alone
@@ -81,9 +80,17 @@ module _ (nodes : List Node) (heads next : List ℕ) (chains : AreChains nodes h
     inside : link - 1 < length nodes
     inside = omega (arith, reached.within, some)
 
-    pub reached-found : (node.heading.position ≡ board) × (node.heading.to_move ≡ mover) → IsFound nodes board mover (record { index = link - 1; winner = node.heading.winner })
+    pub reached-found : AreDistinctEntries nodes → (node.heading.position ≡ board) × (node.heading.to_move ≡ mover)
+        → IsFirstFound nodes board mover (record { index = link - 1; winner = node.heading.winner })
     unfolding entry-read
-    reached-found is = record { entry = entry-read nodes board mover (link - 1) node inside node_read is; same_winner = refl }
+    reached-found distinct is = record {
+      first = record {
+        entry = entry-read nodes board mover (link - 1) node inside node_read is;
+        first = λ earlier less other.
+            omega (arith, less, distinct board mover earlier (link - 1) other (entry-read nodes board mover (link - 1) node inside node_read is));
+      };
+      same_winner = refl;
+    }
 
     module _ (other : (node.heading.position ≡ board) × (node.heading.to_move ≡ mover) → ⊥) (older : ℕ) (read : older ≡ get_or next (link - 1) older) where
       is_older : IsNewestBelow buckets nodes bucket (link - 1) older

@@ -3,12 +3,9 @@ use Rattle.std.proofs.Common.{◌≡◌, ℕ, zero, suc, ◌<◌, List, [], ◌�
 use Rattle.std.specs.Prelude.{slice_get, IsSomeAnd, IfSome}
 use Rattle.hx_board.specs.Cells.{Extent}
 use Rattle.hx_board.specs.declared.colours.Colour.{Colour}
-use Rattle.hx_board.specs.declared.colours.Colour.TheVariants.{Black, White}
 use Rattle.hx_board.specs.Positions.{Board, put}
 use Rattle.hx_board.specs.Colours.{other_of}
-use Rattle.hx_inferior.specs.declared.fills.FillStep.{FillStep}
-use Rattle.hx_inferior.specs.declared.fills.FillStep.TheVariants.{Other, Dead, Pair}
-use Rattle.hx_inferior.specs.Inferior.{filled}
+use Rattle.hx_board.proofs.StoneLaws.{size-put}
 use Rattle.hx_link.specs.declared.links.Link.{Link}
 use Rattle.hx_tree.specs.declared.nodes.Heading.{Heading}
 use Rattle.hx_tree.specs.declared.nodes.Line.{Line}
@@ -20,22 +17,10 @@ use Rattle.hx_tree.specs.Headings.{IsHeading}
 use Rattle.hx_tree.specs.Rules.{IsRightRule, IsRightNode}
 use Rattle.hx_tree.specs.Fills.{filled_all}
 use Rattle.hx_tree.specs.Answers.{IsRightLine}
+use Rattle.hx_tree.proofs.FilledBoards.{size-filled_all}
 use Rattle.hx_tree.specs.Trees.{headings_of, AreRight}
-use Rattle.hx_book.specs.Trees.{HasChild, Names, HasChildAt, LeadsTo, IsNeeded}
+use Rattle.hx_book.specs.Trees.{NamesChild, Names, HasChildAt, LeadsTo, IsNeeded}
 use Rattle.hx_book.proofs.ChainLaws.{same_some}
-
-put-size : (board : Board) (colour : Colour) (cell : ℕ) → (put board colour cell).size ≡ board.size
-put-size board Black cell = refl
-put-size board White cell = refl
-
-filled-size : (board : Board) (winner : Colour) (step : FillStep) → (filled board winner step).size ≡ board.size
-filled-size board winner (Other cell) = put-size board (other_of winner) cell
-filled-size board winner (Dead cell) = put-size board winner cell
-filled-size board winner (Pair a b) = put-size (put board winner a) winner b ∙ put-size board winner a
-
-filled_all-size : (board : Board) (winner : Colour) (steps : List FillStep) → (filled_all board winner steps).size ≡ board.size
-filled_all-size board winner [] = refl
-filled_all-size board winner (step ∷ steps) = filled_all-size (filled board winner step) winner steps ∙ filled-size board winner step
 
 -- a heading of this size stands at a place
 pub record HasSize (headings : List Heading) (size : Extent) (place : ℕ) : Type 0 where
@@ -50,10 +35,10 @@ some-size (Some heading) headings place board mover winner size there is same =
     record { heading = heading; there = there; same_size = ap (λ (b : Board). b.size) is.same_position ∙ same }
 
 line-size : (before : List Heading) (heading : Heading) (links : List Link) (threats : List ℕ) (lines : List Line) (line : Line) (child : ℕ)
-    → IsRightLine before heading links threats lines line → HasChild line child → HasSize before heading.position.size child
+    → IsRightLine before heading links threats lines line → NamesChild line child → HasSize before heading.position.size child
 line-size before heading links threats lines (Child cell own) child right names = rw names
     (some-size (slice_get before own) before own (put heading.position (other_of heading.winner) cell) heading.winner heading.winner heading.position.size refl right
-    (put-size heading.position (other_of heading.winner) cell))
+    (size-put heading.position (other_of heading.winner) cell))
 line-size before heading links threats lines (Under cell better kill) child right names = absurd names
 
 rule-size : (before : List Heading) (heading : Heading) (rule : Rule) (child : ℕ) → IsRightRule before heading rule → Names rule child
@@ -62,13 +47,13 @@ rule-size before heading Chain child right names = absurd names
 rule-size before heading (Links steps) child right names = absurd names
 rule-size before heading (Move cell own) child right names = rw names
     (some-size (slice_get before own) before own (put heading.position heading.winner cell) (other_of heading.winner) heading.winner heading.position.size refl right.leads
-    (put-size heading.position heading.winner cell))
+    (size-put heading.position heading.winner cell))
 rule-size before heading (All steps threats lines) child right names =
     let each = right.answered.lines_right names.k in
     line-size before heading right.links threats lines names.line child (rw names.there at each) names.names
 rule-size before heading (Fill steps own) child right names = rw names
     (some-size (slice_get before own) before own (filled_all heading.position heading.winner steps) heading.to_move heading.winner heading.position.size refl right.leads
-    (filled_all-size heading.position heading.winner steps))
+    (size-filled_all heading.position heading.winner steps))
 
 -- ---- what stands before a place
 

@@ -11,7 +11,7 @@ use Rattle.hx_tree.specs.Rules.{IsRightNode}
 use Rattle.hx_tree.specs.Trees.{headings_of}
 use Rattle.hx_tree.proofs.TreeGrowth.{one_more_right}
 use Rattle.hx_tree.specs.Entries.{HasNoEntry}
-use Rattle.hx_tree.proofs.EntryLaws.{get-push, get-push_before, get-push_last, apart-more}
+use Rattle.hx_tree.proofs.EntryLaws.{get-push, get-push_before, get-push_last, distinct-more}
 use Rattle.hx_book.specs.Entries.{IsBook}
 use Rattle.hx_book.specs.Buckets.{bucket_of, IsIn, IsNewestBelow, AreChains, FieldsKeep}
 use Rattle.hx_book.proofs.ChainLaws.{get-lt, read-index}
@@ -132,7 +132,7 @@ module _ (slots : ℕ) (nodes : List Node) (node : Node) (book : IsBook (record 
     held = omega (arith, length-append nodes (node ∷ []));
     small = book.small;
     right = one_more_right nodes node book.right right;
-    apart = apart-more nodes node book.apart none;
+    distinct = distinct-more nodes node book.distinct none;
   }
 
 module _ (slots : ℕ) (nodes : List Node) (heads next : List ℕ) (room links : ℕ) (node : Node) (fields : FieldsKeep slots nodes heads next room links)

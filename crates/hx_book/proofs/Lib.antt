@@ -5,4 +5,3 @@ pub mod ChildLaws
 pub mod NeedLaws
 pub mod RenamingLaws
 pub mod KeptLaws
-pub mod PutLaws

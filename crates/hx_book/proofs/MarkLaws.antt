@@ -3,7 +3,7 @@
 use Rattle.std.proofs.Common.{◌≡◌, ℕ, ◌+◌, ◌<◌, List, [], ◌∷◌, ◌++◌, length, take, get_or, refl, sym, ap, ◌∙◌, subst, inl, inr, Bool, ◌⊎◌, ⊎_elim, arith}
 use Rattle.std.proofs.lemmas.List.{take_more}
 use Rattle.hx_tree.specs.declared.nodes.Line.{Line}
-use Rattle.hx_book.specs.Trees.{HasChild, HasLine}
+use Rattle.hx_book.specs.Trees.{NamesChild, HasLine}
 use Rattle.hx_book.specs.Renaming.{MarksMore}
 use Rattle.hx_tree.proofs.EntryLaws.{get-push, get-push_before, get-push_last}
 use Rattle.hx_book.proofs.ChainLaws.{get-lt, read-get}
@@ -31,25 +31,25 @@ pub lines-none : (lines : List Line) (marks : List Bool) → MarksMore (HasLine 
 lines-none lines marks = record { long = refl; stay = λ p h. h; each = λ p has. absurd (no_line p has); only = λ p h. inl h }
 
 module _ (lines : List Line) (line : Line) where
-  lines-push : (place : ℕ) → HasLine lines place ⊎ HasChild line place → HasLine (lines ++ line ∷ []) place
+  lines-push : (place : ℕ) → HasLine lines place ⊎ NamesChild line place → HasLine (lines ++ line ∷ []) place
   lines-push place (inl has) = record { k = has.k; line = has.line; there = get-push_before lines line has.k has.line has.there; names = has.names }
   lines-push place (inr names) = record { k = length lines; line = line; there = get-push_last lines line; names = names }
 
-  lines-cases : (place : ℕ) → HasLine (lines ++ line ∷ []) place → HasLine lines place ⊎ HasChild line place
+  lines-cases : (place : ℕ) → HasLine (lines ++ line ∷ []) place → HasLine lines place ⊎ NamesChild line place
   lines-cases place has = ⊎_elim
       (λ was. inl (record { k = has.k; line = has.line; there = was; names = has.names }))
-      (λ last. inr (subst (λ (l : Line). HasChild l place) last.1 has.names))
+      (λ last. inr (subst (λ (l : Line). NamesChild l place) last.1 has.names))
       (get-push lines line has.line has.k has.there)
 
 module _ (lines : List Line) (i : ℕ) (line : Line) (inside : i < length lines) (is : line ≡ get_or lines i line) where
-  pub line-in : (place : ℕ) → HasChild line place → HasLine lines place
+  pub line-in : (place : ℕ) → NamesChild line place → HasLine lines place
   line-in place names = record { k = i; line = line; there = read-get lines i line inside is; names = names }
 
-  pub lines-more : (old middle new : List Bool) → MarksMore (HasLine (take i lines)) old middle → MarksMore (HasChild line) middle new
+  pub lines-more : (old middle new : List Bool) → MarksMore (HasLine (take i lines)) old middle → MarksMore (NamesChild line) middle new
       → MarksMore (HasLine (take (i + 1) lines)) old new
   lines-more old middle new m n =
       let up_to : take (i + 1) lines ≡ take i lines ++ line ∷ [] = take_more lines i line inside ∙ ap (λ (l : Line). take i lines ++ l ∷ []) (sym is) in
       let more : MarksMore (HasLine (take i lines ++ line ∷ [])) old new =
-      mark-as (λ p. HasLine (take i lines) p ⊎ HasChild line p) (HasLine (take i lines ++ line ∷ [])) old new (lines-push (take i lines) line) (lines-cases (take i lines) line)
-      (mark-then (HasLine (take i lines)) (HasChild line) old middle new m n) in
+      mark-as (λ p. HasLine (take i lines) p ⊎ NamesChild line p) (HasLine (take i lines ++ line ∷ [])) old new (lines-push (take i lines) line) (lines-cases (take i lines) line)
+      (mark-then (HasLine (take i lines)) (NamesChild line) old middle new m n) in
       subst (λ (ls : List Line). MarksMore (HasLine ls) old new) (sym up_to) more

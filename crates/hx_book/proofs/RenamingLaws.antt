@@ -10,7 +10,7 @@ use Rattle.hx_tree.specs.declared.nodes.Rule.{Rule}
 use Rattle.hx_tree.specs.declared.nodes.Rule.TheVariants.{Chain, Links, Move, All, Fill}
 use Rattle.hx_tree.specs.Rules.{IsRightRule, IsRightNode}
 use Rattle.hx_tree.specs.Answers.{IsRightLine, AreAnswered, cell_of, cells_of}
-use Rattle.hx_book.specs.Trees.{HasChild, HasLine, Names}
+use Rattle.hx_book.specs.Trees.{NamesChild, HasLine, Names}
 use Rattle.hx_book.specs.Renaming.{renamed_line, renamed_rule, renamed_node}
 use Rattle.hx_book.proofs.ChainLaws.{get-lt, read-get}
 
@@ -73,7 +73,7 @@ contains-map f xs x has =
     (has.0, get-lt (map f xs) has.0 (f x) mapped_there, get_or-get (map f xs) has.0 (f x) (f x) mapped_there)
 
 module _ (before after : List Heading) (heading : Heading) (links : List Link) (threats : List ℕ) (name : ℕ → ℕ) (lines : List Line) where
-  line-renamed : (line : Line) → ((child : ℕ) → HasChild line child → slice_get after (name child) ≡ slice_get before child)
+  line-renamed : (line : Line) → ((child : ℕ) → NamesChild line child → slice_get after (name child) ≡ slice_get before child)
       → IsRightLine before heading links threats lines line → IsRightLine after heading links threats (map (renamed_line name) lines) (renamed_line name line)
   line-renamed (Child cell child) same right = rw (same child refl) right
   line-renamed (Under cell better kill) same right = record {

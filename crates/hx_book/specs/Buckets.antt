@@ -7,6 +7,7 @@ use Rattle.hx_board.specs.declared.colours.Colour.{Colour}
 use Rattle.hx_board.specs.declared.colours.Colour.TheVariants.{Black, White}
 use Rattle.hx_board.specs.Positions.{Board}
 use Rattle.hx_tree.specs.declared.nodes.Node.{Node}
+use Rattle.hx_book.specs.declared.books.TheConstants.{MOST_BUCKETS}
 use Rattle.hx_book.specs.Entries.{IsBook}
 
 -- the upper half of the product of two numbers below 2^64, with the lower half laid over it
@@ -46,7 +47,7 @@ pub record IsNewestBelow (buckets : ℕ) (nodes : List Node) (bucket bound link 
 pub record AreChains (nodes : List Node) (heads next : List ℕ) : Type 0 where
   pub long : length next ≡ length nodes
   pub some : 0 < length heads
-  pub few : length heads ≤ 2097152
+  pub few : length heads ≤ MOST_BUCKETS
   pub heads_lead : (bucket : ℕ) → bucket < length heads → IsNewestBelow (length heads) nodes bucket (length nodes) (slice_index heads bucket)
   pub next_lead : (bucket place : ℕ) → IsIn (length heads) nodes bucket place → IsNewestBelow (length heads) nodes bucket place (slice_index next place)
 

@@ -3,4 +3,3 @@ pub mod Puts
 pub mod Buckets
 pub mod Trees
 pub mod Renaming
-pub mod Growing

@@ -9,16 +9,16 @@ use Rattle.hx_tree.specs.declared.nodes.Rule.TheVariants.{Chain, Links, Move, Al
 use Rattle.hx_tree.specs.Trees.{headings_of, IsValidTree, IsRoot}
 
 -- a line names the place as that of its child
-abbrev pub HasChild : Line → ℕ → Type 0
-HasChild (Child cell child) place = place ≡ child
-HasChild (Under cell better kill) place = ⊥
+abbrev pub NamesChild : Line → ℕ → Type 0
+NamesChild (Child cell child) place = place ≡ child
+NamesChild (Under cell better kill) place = ⊥
 
 -- some line names the place as that of its child
 pub record HasLine (lines : List Line) (place : ℕ) : Type 0 where
   pub k : ℕ
   pub line : Line
   pub there : slice_get lines k ≡ Some line
-  pub names : HasChild line place
+  pub names : NamesChild line place
 
 -- a rule names the place as that of a child
 abbrev pub Names : Rule → ℕ → Type 0

@@ -4,19 +4,19 @@
 //! its position and mover; the entries of a bucket are chained by their places, the newest first. What a book answers does
 //! not depend on its buckets. All memory is taken at the start.
 
-ghost use Rattle.std.specs.Prelude.{◌≡◌, ◌≢◌, ◌<◌, ◌≤◌, ◌↔◌, IsTrue, [], length, IfOk, MatchOption};
+ghost use Rattle.std.specs.Prelude.{◌≡◌, ◌≢◌, ◌<◌, ◌≤◌, ◌↔◌, IsTrue, [], length, IfOk};
 ghost use Rattle.hx_tree.specs.Rules.{IsRightNode};
 ghost use Rattle.hx_tree.specs.Trees.{headings_of, IsValidTree};
-ghost use Rattle.hx_tree.specs.Entries.{HasNoEntry};
-ghost use Rattle.hx_book.specs.Entries.{contents, IsBook, IsFound};
+ghost use Rattle.hx_tree.specs.Entries.{FindsFirst};
+ghost use Rattle.hx_book.specs.Entries.{contents, IsBook};
 ghost use Rattle.hx_book.specs.Puts.{Puts};
 ghost use Rattle.hx_book.specs.Trees.{IsTreeOf};
 
-use crate::answers::{Found, NoSlot};
 use crate::numbers::bucket;
+use crate::refusals::NoSlot;
 use crate::trees::tree_of;
 use hx_board::{Colour, Memory, Position};
-use hx_tree::{Heading, Node};
+use hx_tree::{Found, Heading, Node};
 use std::alloc::Global;
 use std::marker::Model;
 
@@ -57,7 +57,7 @@ impl Model for Book {
 impl Book {
     /// An empty book that has room for so many nodes.
     pub fn with_slots(alloc: Global, slots: u32) -> Result<Book, Memory>
-        requires { slots ≤ 1048576 }
+        requires { slots ≤ MOST_SLOTS }
         ensures { IfOk result (λ book. book ≡ contents slots []) }
     {
         Book::with_buckets(alloc, slots, slots.next_power_of_two())
@@ -65,9 +65,9 @@ impl Book {
 
     /// The same, with a number of buckets of the caller's choice, from 1 to 2,097,152. More buckets make shorter chains.
     pub fn with_buckets(alloc: Global, slots: u32, buckets: u32) -> Result<Book, Memory>
-        requires slots { slots ≤ 1048576 }
+        requires slots { slots ≤ MOST_SLOTS }
         requires some { 0 < buckets }
-        requires few { buckets ≤ 2097152 }
+        requires few { buckets ≤ MOST_BUCKETS }
         ensures { IfOk result (λ book. book ≡ contents slots []) }
     {
         let Ok(nodes) = Vec::with_capacity(alloc, slots as usize) else {
@@ -89,9 +89,7 @@ impl Book {
 
     /// How many nodes are held.
     pub fn held(&self) -> u32
-        ensures value { result ≡ length self.now.nodes }
-        ensures book { IsBook self.now }
-        ensures tree { self.now.nodes ≢ [] → IsValidTree self.now.nodes }
+        ensures { result ≡ length self.now.nodes }
     {
         self.nodes.len() as u32
     }
@@ -103,9 +101,17 @@ impl Book {
         self.slots
     }
 
-    /// The entry of a position and mover. None exactly where there is none.
+    /// What is true of every book, and that its nodes, if there are any, are a valid tree. The call does nothing.
+    pub fn keeps(&self)
+        ensures book { IsBook self.now }
+        ensures tree { self.now.nodes ≢ [] → IsValidTree self.now.nodes }
+    {
+        let _slots = self.slots;
+    }
+
+    /// The entry of a position and mover, which is the first and only one. None exactly where there is none.
     pub fn find(&self, position: &Position, to_move: Colour) -> Option<Found>
-        ensures { MatchOption result (HasNoEntry self.now.nodes position.now to_move) (IsFound self.now.nodes position.now to_move) }
+        ensures { FindsFirst self.now.nodes position.now to_move result }
     {
         let number = bucket(self.heads.len(), position, to_move);
         let mut link = self.heads[number];
@@ -125,7 +131,8 @@ impl Book {
     /// have already: then nothing changes. The node comes back exactly where there is no such entry and each slot is taken.
     pub fn put(&mut self, node: Node) -> Result<u32, NoSlot>
         requires { IsRightNode (headings_of self.old.nodes) node }
-        ensures { Puts self.old node result self.new }
+        ensures slots { self.new.slots ≡ self.old.slots }
+        ensures nodes { Puts self.old.slots self.old.nodes node result self.new.nodes }
     {
         if let Some(found) = self.find(&node.heading.position, node.heading.to_move) {
             return Ok(found.index);

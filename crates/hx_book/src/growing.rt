@@ -1,18 +1,17 @@
 //! A list of proofs that only grows, over a book of one's own or one that is shared.
 
-ghost use Rattle.std.specs.Prelude.{◌≡◌, ℕ, List, Option, length, IfOk, IfErr, MatchOption};
+ghost use Rattle.std.specs.Prelude.{◌≡◌, ℕ, List, Option};
 ghost use Rattle.atomic_table.specs.Seated.{TableId};
 ghost use Rattle.hx_tree.specs.declared.nodes.Node.{Node as Proof};
 ghost use Rattle.hx_tree.specs.Rules.{IsRightNode};
 ghost use Rattle.hx_tree.specs.Trees.{headings_of};
-ghost use Rattle.hx_tree.specs.Entries.{IsEntry, HasNoEntry};
-ghost use Rattle.hx_book.specs.Growing.{IsFirstFound};
-ghost use Rattle.hx_book.specs.Puts.{Extends};
+ghost use Rattle.hx_tree.specs.Entries.{Extends, FindsFirst};
+ghost use Rattle.hx_book.specs.Puts.{PutsLater};
 
-use crate::answers::{Found, NoSlot};
 use crate::books::Book;
+use crate::refusals::NoSlot;
 use hx_board::{Colour, Position};
-use hx_tree::Node;
+use hx_tree::{Found, Node};
 use std::sync::Wait;
 
 /// Where proofs are looked for and stored. Others may store theirs in the same place: each call sees a list of nodes that
@@ -32,7 +31,7 @@ pub trait Proofs {
         ensures slots { slots self.new ≡ slots self.old }
         ensures over { over self.new ≡ over self.old }
         ensures seen { Extends (list self.new) (list self.old) }
-        ensures found { MatchOption result (HasNoEntry (list self.new) position.now to_move) (IsFirstFound (list self.new) position.now to_move) };
+        ensures found { FindsFirst (list self.new) position.now to_move result };
 
     /// Stores a node that is right after those that were seen. The index of the entry of its position and mover, of the nodes
     /// that are now seen. The node comes back exactly where there is no such entry and each slot is taken.
@@ -41,10 +40,7 @@ pub trait Proofs {
         ensures slots { slots self.new ≡ slots self.old }
         ensures over { over self.new ≡ over self.old }
         ensures seen { Extends (list self.new) (list self.old) }
-        ensures entry { IfOk result (IsEntry (list self.new) node.heading.position node.heading.to_move) }
-        ensures none { IfErr result (λ _. HasNoEntry (list self.new) node.heading.position node.heading.to_move) }
-        ensures full { IfErr result (λ _. length (list self.new) ≡ slots self.new) }
-        ensures handed_back { IfErr result (λ refusal. (refusal.held ≡ slots self.new) × (refusal.node ≡ node)) };
+        ensures stored { PutsLater (slots self.new) (list self.old) node result (list self.new) };
 }
 
 impl Proofs for Book {
@@ -57,7 +53,6 @@ impl Proofs for Book {
     ghost over = { λ b. None };
 
     fn look<R: Wait>(&mut self, _rt: &R, position: &Position, to_move: Colour) -> Option<Found> {
-        let _held = self.held();
         self.find(position, to_move)
     }
 

@@ -1,15 +1,16 @@
 //! A book of proofs: nodes of strategy trees, found by their position and the player to move.
 #![tactic(auto)]
 
-mod answers;
 mod books;
 mod growing;
 mod numbers;
+mod refusals;
 mod trees;
 
-pub use answers::{Found, NoSlot};
 pub use books::{Book, MOST_BUCKETS, MOST_SLOTS};
 pub use growing::Proofs;
+pub use hx_tree::Found;
+pub use refusals::NoSlot;
 
 #[cfg(test)]
 mod plain;

@@ -1,8 +1,7 @@
 //! The book as a list that is scanned from the front. For the tests.
 
-use crate::answers::Found;
 use hx_board::{Colour, Position};
-use hx_tree::Node;
+use hx_tree::{Found, Node};
 use std::alloc::AllocError;
 
 /// The first node of this position and mover.

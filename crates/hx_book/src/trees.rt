@@ -5,9 +5,10 @@
 
 ghost use Rattle.std.specs.Prelude.{◌≡◌, ◌<◌, ◌≤◌, ℕ, length, map, slice_index, IfOk, OnOk, true, false};
 ghost use Rattle.hx_tree.specs.Trees.{AreRight};
-ghost use Rattle.hx_book.specs.Trees.{HasChild, HasLine, Names, IsTreeOf};
+ghost use Rattle.hx_book.specs.Trees.{NamesChild, HasLine, Names, IsTreeOf};
 ghost use Rattle.hx_book.specs.Renaming.{renamed_line, renamed_node, AreUnmarked, MarksMore, AreMarkedFrom, IsKept};
 
+use crate::books::MOST_SLOTS;
 use hx_board::Memory;
 use hx_tree::{Line, Lines, Node, Rule};
 use std::alloc::Global;
@@ -39,8 +40,8 @@ fn mark(marks: &mut Vec<bool>, place: u32)
 
 /// Marks the child of a line.
 fn mark_line(marks: &mut Vec<bool>, line: &Line)
-    requires { (place : ℕ) → HasChild line.now place → place < length marks.old.items }
-    ensures { MarksMore (HasChild line.now) marks.old.items marks.new.items }
+    requires { (place : ℕ) → NamesChild line.now place → place < length marks.old.items }
+    ensures { MarksMore (NamesChild line.now) marks.old.items marks.new.items }
 {
     match line {
         Line::Child { child, .. } => mark(marks, *child),
@@ -94,7 +95,7 @@ fn needed_for(alloc: Global, nodes: &[Node], root: u32) -> Result<Vec<bool>, Mem
 
 /// A line with the new number of its child.
 fn renamed_line(line: &Line, names: &[u32]) -> Line
-    requires { (place : ℕ) → HasChild line.now place → place < length names.now }
+    requires { (place : ℕ) → NamesChild line.now place → place < length names.now }
     ensures { result ≡ renamed_line (λ (place : ℕ). slice_index names.now place) line.now }
 {
     match line {
@@ -175,7 +176,7 @@ fn keep_needed(kept: &mut Kept, place: usize, node: Node, is_needed: bool) -> Re
 /// The marked nodes with the new numbers of their children.
 fn kept_of(alloc: Global, nodes: Vec<Node>, root: u32, marks: &[bool]) -> Result<Vec<Node>, Memory>
     requires right { AreRight nodes.items }
-    requires small { length nodes.items ≤ 1048576 }
+    requires small { length nodes.items ≤ MOST_SLOTS }
     requires inside { root < length nodes.items }
     requires marked { AreMarkedFrom nodes.items root 0 marks.now }
     ensures { IfOk result (λ tree. IsTreeOf nodes.items root tree.items) }
@@ -201,7 +202,7 @@ fn kept_of(alloc: Global, nodes: Vec<Node>, root: u32, marks: &[bool]) -> Result
 /// The tree of the node at a place, of nodes that are right.
 pub(crate) fn tree_of(alloc: Global, nodes: Vec<Node>, root: u32) -> Result<Vec<Node>, Memory>
     requires right { AreRight nodes.items }
-    requires small { length nodes.items ≤ 1048576 }
+    requires small { length nodes.items ≤ MOST_SLOTS }
     requires inside { root < length nodes.items }
     ensures { IfOk result (λ tree. IsTreeOf nodes.items root tree.items) }
 {

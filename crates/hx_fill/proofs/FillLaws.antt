@@ -12,13 +12,13 @@ use Rattle.hx_inferior.specs.declared.fills.FillStep.TheVariants.{Other, Dead, P
 use Rattle.hx_inferior.specs.Inferior.{IsPair, MayFill, filled}
 use Rattle.hx_fill.specs.declared.fills.Fill.{Fill}
 use Rattle.hx_fill.specs.Fills.{FillsTo}
-use Rattle.hx_fill.specs.Rounds.{IsGrown}
+use Rattle.hx_fill.specs.Rounds.{HasNoStoneLess}
 use Rattle.hx_fill.proofs.GrowthLaws.{grown-trans, grown-put}
 
 pub second_empty : (board : Board) (player : Colour) (a b : ℕ) → IsPair board player a b → IsEmpty (put board player a) b
 second_empty board player a b pair = (empty-put board player a b).1 (pair.b_empty, λ e. pair.differ (sym e))
 
-pub grown-filled : (board : Board) (player : Colour) (step : FillStep) → IsGrown board (filled board player step)
+pub grown-filled : (board : Board) (player : Colour) (step : FillStep) → HasNoStoneLess board (filled board player step)
 grown-filled board player (Other cell) = grown-put board (other_of player) cell
 grown-filled board player (Dead cell) = grown-put board player cell
 grown-filled board player (Pair a b) = grown-trans _ _ _ (grown-put board player a) (grown-put (put board player a) player b)

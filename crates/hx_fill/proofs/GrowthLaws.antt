@@ -12,19 +12,19 @@ use Rattle.hx_board.specs.Graph.{Joined}
 use Rattle.hx_board.proofs.StoneLaws.{size-put, stones-put, empty-put}
 use Rattle.hx_board.proofs.KeptStones.{joined_stays}
 use Rattle.hx_inferior.specs.Inferior.{IsNotOthers, IsOpenNeighbour, IsDead, IsPair}
-use Rattle.hx_fill.specs.Rounds.{IsGrown}
+use Rattle.hx_fill.specs.Rounds.{HasNoStoneLess}
 
-pub grown-same : (board : Board) → IsGrown board board
+pub grown-same : (board : Board) → HasNoStoneLess board board
 grown-same board = record { same_size = refl; stones = λ player cell h. h }
 
-pub grown-trans : (one two three : Board) → IsGrown one two → IsGrown two three → IsGrown one three
+pub grown-trans : (one two three : Board) → HasNoStoneLess one two → HasNoStoneLess two three → HasNoStoneLess one three
 grown-trans one two three a b = record { same_size = b.same_size ∙ a.same_size; stones = λ player cell h. b.stones player cell (a.stones player cell h) }
 
-pub grown-put : (board : Board) (who : Colour) (n : ℕ) → IsGrown board (put board who n)
+pub grown-put : (board : Board) (who : Colour) (n : ℕ) → HasNoStoneLess board (put board who n)
 grown-put board who n = record { same_size = size-put board who n; stones = λ player cell h. (stones-put board who player n cell).1 (inr h) }
 
-module _ (start now : Board) (grown : IsGrown start now) where
-  pub grown-both : (who : Colour) (n : ℕ) → IsGrown (put start who n) (put now who n)
+module _ (start now : Board) (grown : HasNoStoneLess start now) where
+  pub grown-both : (who : Colour) (n : ℕ) → HasNoStoneLess (put start who n) (put now who n)
   grown-both who n = record {
     same_size = size-put now who n ∙ grown.same_size ∙ sym (size-put start who n);
     stones = λ player cell h. (stones-put now who player n cell).1 (⊎_elim (λ new. inl new) (λ was. inr (grown.stones player cell was)) ((stones-put start who player n cell).0 h));
@@ -54,7 +54,7 @@ module _ (start now : Board) (grown : IsGrown start now) where
     joined = λ one other differ o p. joined_grown player one other (dead.joined one other differ (open_then player cell one o) (open_then player cell other p));
   }
 
-pub pair_grown : (start now : Board) → IsGrown start now → (player : Colour) (a b : ℕ) → IsEmpty now a → IsEmpty now b → IsPair start player a b → IsPair now player a b
+pub pair_grown : (start now : Board) → HasNoStoneLess start now → (player : Colour) (a b : ℕ) → IsEmpty now a → IsEmpty now b → IsPair start player a b → IsPair now player a b
 pair_grown start now grown player a b empty_a empty_b pair = record {
   a_empty = empty_a;
   b_empty = empty_b;

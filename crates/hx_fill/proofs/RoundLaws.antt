@@ -14,15 +14,15 @@ use Rattle.hx_inferior.specs.declared.fills.FillStep.TheVariants.{Dead, Pair}
 use Rattle.hx_inferior.specs.Inferior.{IsDead, IsPair}
 use Rattle.hx_fill.specs.declared.fills.Fill.{Fill}
 use Rattle.hx_fill.specs.Fills.{IsDeadOrPair, AreDeadOrPairs, FillsTo, HasNone, NothingLeft}
-use Rattle.hx_fill.specs.Rounds.{IsGrown, DoesStep, IsSettled, LooksAt, Leaves, Fills, IsRound, Still, Further}
+use Rattle.hx_fill.specs.Rounds.{HasNoStoneLess, DoesStep, HasNoFill, LooksAt, Leaves, Fills, IsRound, Still, Further}
 use Rattle.hx_fill.proofs.MakerLaws.{removed_cases}
 use Rattle.hx_fill.proofs.GrowthLaws.{grown-trans}
 use Rattle.hx_fill.proofs.FillLaws.{grown-filled, fills_to-append, fills_to-one, fewer_empty}
 
 -- ---- one cell
 
-pub grown-looks : (start board next : Board) (player : Colour) (cell : ℕ) (fills more : List Fill) → IsGrown start board → LooksAt start player cell board fills next more
-    → IsGrown start next
+pub grown-looks : (start board next : Board) (player : Colour) (cell : ℕ) (fills more : List Fill) → HasNoStoneLess start board → LooksAt start player cell board fills next more
+    → HasNoStoneLess start next
 grown-looks start board next player cell fills more grown (Leaves same _ _) = rw same grown
 grown-looks start board next player cell fills more grown (Fills step _ _ does) = rw does.position (grown-trans _ _ _ grown (grown-filled board player step))
 
@@ -42,12 +42,12 @@ module _ (player : Colour) (board : Board) (fills : List Fill) where
   more_than_none xs ys some = let both = length-append xs ys in omega arith
 
   looked_still : (left cell : ℕ) (now next : Board) (found more : List Fill) → now ≡ board → found ≡ fills
-      → ((n : ℕ) → IsEmpty board n → has left n ≡ false → IsSettled board player board n)
+      → ((n : ℕ) → IsEmpty board n → has left n ≡ false → HasNoFill board player board n)
       → LooksAt board player cell now found next more → IsRound player (remove left cell) board fills next more
   looked_still left cell now next found more same also settled (Leaves kept_board kept_fills here) =
       Still (kept_board ∙ same) (kept_fills ∙ also)
       (λ n empty out. ⊎_elim
-      (λ (e : n ≡ cell). let P : ℕ → Type 0 = λ x. IsSettled board player board x in subst P (sym e) (rw same at here))
+      (λ (e : n ≡ cell). let P : ℕ → Type 0 = λ x. HasNoFill board player board x in subst P (sym e) (rw same at here))
       (settled n empty) (removed_cases left cell n out))
   looked_still left cell now next found more same also settled (Fills step kind may does) =
       Further (record { colour = player; step = step } ∷ []) (omega arith) (rw also at does.steps) (All-push (λ (fill : Fill). IsDeadOrPair fill.step) [] (record { colour = player; step = step }) (All-nil (λ (fill : Fill). IsDeadOrPair fill.step)) kind)
@@ -75,7 +75,7 @@ module _ (player : Colour) (board : Board) (fills : List Fill) where
 
 -- ---- two rounds
 
-none_from : (board : Board) (player : Colour) → ((cell : ℕ) → IsEmpty board cell → has 0 cell ≡ false → IsSettled board player board cell) → HasNone board player
+none_from : (board : Board) (player : Colour) → ((cell : ℕ) → IsEmpty board cell → has 0 cell ≡ false → HasNoFill board player board cell) → HasNone board player
 none_from board player settled = record {
   none_dead = λ cell dead. (settled cell dead.empty (has-empty cell)).not_dead dead;
   no_pair = λ a b pair. (settled a pair.a_empty (has-empty a)).no_pair b pair.b_empty pair;

@@ -1,6 +1,6 @@
 -- The steps for a winner. The winner's steps are the same, and the stones of another player's step come one by one onto empty cells;
 -- the board after them is the same.
-use Rattle.std.proofs.Common.{◌≡◌, ℕ, ◌+◌, ◌<◌, List, [], ◌∷◌, ◌++◌, length, take, get_or, refl, sym, ap, ◌∙◌, subst, append_assoc}
+use Rattle.std.proofs.Common.{◌≡◌, ℕ, ◌+◌, ◌<◌, List, [], ◌∷◌, ◌++◌, length, take, get_or, refl, sym, ap, ◌∙◌, subst, append_assoc, ◌↔◌}
 use Rattle.std.proofs.lemmas.List.{append-nil, take_more}
 use Rattle.std.proofs.lemmas.List.Elements.{All-head, All-tail}
 use Rattle.hx_board.specs.declared.colours.Colour.{Colour}
@@ -50,6 +50,34 @@ winner_steps-lead winner (fill ∷ rest) kinds board final to =
     lead_to-append (winner_steps winner fill.colour fill.step) (winner_steps_all winner rest) board (filled board fill.colour fill.step) final winner
     (step-leads winner fill.colour board fill.step (All-head (λ (each : Fill). IsDeadOrPair each.step) fill rest kinds) to.0)
     (winner_steps-lead winner rest (All-tail (λ (each : Fill). IsDeadOrPair each.step) fill rest kinds) (filled board fill.colour fill.step) final to.1)
+
+-- ---- no step
+
+single-some : (step : FillStep) → IsDeadOrPair step → single_stones step ≡ [] → ⊥
+single-some (Other cell) kind none = kind
+single-some (Dead cell) kind none = cc
+single-some (Pair a b) kind none = cc
+
+some_steps : (winner who : Colour) (step : FillStep) → IsDeadOrPair step → winner_steps winner who step ≡ [] → ⊥
+some_steps Black Black step kind none = cc
+some_steps Black White step kind none = single-some step kind none
+some_steps White Black step kind none = single-some step kind none
+some_steps White White step kind none = cc
+
+none_first : (first second : List FillStep) → first ++ second ≡ [] → first ≡ []
+none_first [] second none = refl
+none_first (step ∷ rest) second none = cc
+
+-- the steps are none exactly where the fills are
+pub winner_steps_all-none : (winner : Colour) (fills : List Fill) → AreDeadOrPairs fills → (winner_steps_all winner fills ≡ []) ↔ (fills ≡ [])
+winner_steps_all-none winner [] kinds = ((λ _. refl), (λ _. refl))
+winner_steps_all-none winner (fill ∷ rest) kinds = (
+  (λ none. absurd (some_steps winner fill.colour fill.step (All-head (λ (each : Fill). IsDeadOrPair each.step) fill rest kinds)
+      (none_first (winner_steps winner fill.colour fill.step) (winner_steps_all winner rest) none))),
+  (λ none. cc),
+)
+
+-- ---- one step after the other
 
 pub winner_steps_all-push : (winner : Colour) (fills : List Fill) (fill : Fill)
     → winner_steps_all winner (fills ++ fill ∷ []) ≡ winner_steps_all winner fills ++ winner_steps winner fill.colour fill.step

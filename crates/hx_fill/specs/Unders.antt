@@ -34,9 +34,9 @@ pub record IsBetterIn (lines : List Line) (cell : ℕ) : Type 0 where
   pub kill : Kill
   pub line : Contains lines (Under worse cell kill)
 
--- the cell is dominated by none of a kind
+-- the cell is dominated by none of some cells
 abbrev pub IsDominatedByNone : Board → Colour → ℕ → (ℕ → Type 0) → Type 0
-IsDominatedByNone board mover cell Kind = (better : ℕ) → Kind better → (kill : Kill) → IsDominated board mover better cell kill → ⊥
+IsDominatedByNone board mover cell IsIn = (better : ℕ) → IsIn better → (kill : Kill) → IsDominated board mover better cell kill → ⊥
 
 -- right lines in cell order, for some of the cells. A better cell is one of these that has no line; and a cell without a line that
 -- is no better cell is dominated by no cell without a line.

@@ -1,17 +1,17 @@
 //! What a player's opponent must answer.
 
 use hx_board::Mask;
-use hx_tree::Line;
+use hx_tree::{Lines, Threats};
 
 /// The opponent's moves that no threat answers. Hayward, van Rijswijck, Arneson and Henderson call their cells the mustplay region.
 #[derive(Drop)]
 pub struct Must {
     /// Places of live links between the player's two sides.
-    pub threats: Vec<u32>,
+    pub threats: Threats,
 
     /// The empty cells in the carriers of all of these, and so all empty cells where there is none.
     pub cells: Mask,
 
     /// Lines for cells that the opponent need not try, since another of the cells is better.
-    pub under: Vec<Line>,
+    pub under: Lines,
 }

@@ -7,7 +7,7 @@
 ghost use Rattle.std.specs.Prelude.{◌≡◌, IfOk, OnOk};
 ghost use Rattle.hx_board.specs.Positions.{IsEmpty};
 ghost use Rattle.hx_fill.specs.Fills.{IsFillIn};
-ghost use Rattle.hx_fill.specs.Rounds.{IsGrown, LooksAt, IsRound};
+ghost use Rattle.hx_fill.specs.Rounds.{HasNoStoneLess, LooksAt, IsRound};
 
 use crate::fills::Filled;
 use crate::makers::{makers_of, partner_of};
@@ -57,7 +57,7 @@ fn fill_round(filled: &mut Filled, colour: Colour) -> Result<(), Memory>
 /// Fills an empty cell, or it and a partner, where that was right at the start of the round.
 fn fill_at(filled: &mut Filled, view: &View, colour: Colour, cell: Cell) -> Result<(), Memory>
     requires colour { view.now.player ≡ colour }
-    requires grown { IsGrown view.now.board filled.old.position }
+    requires grown { HasNoStoneLess view.now.board filled.old.position }
     requires empty { IsEmpty filled.old.position cell }
     ensures { OnOk result (LooksAt view.now.board colour cell filled.old.position filled.old.steps.items filled.new.position filled.new.steps.items) }
 {

@@ -1,17 +1,20 @@
-//! Fill-in on small boards, and held against the plain programs.
+//! The calls, each once, and what no clause says: that a winner stays the winner of the filled position, that a player who can win
+//! by some move can win by one that need be tried, and that links with few cells come first.
 
 ghost use Rattle.std.specs.Prelude.{IfOk};
 ghost use Rattle.hx_fill.specs.Fills.{AreDeadOrPairs};
 
-mod mustplay;
-mod winners;
-
 use super::*;
 use crate::plain;
 use hx_board::Colour::{Black, White};
-use hx_board::{Colour, Mask, Position, Size};
-use hx_inferior::FillStep;
-use std::alloc::Global;
+use hx_board::Vertex::{First, Last};
+use hx_board::{Cell, Colour, Mask, Position, Size, Vertex};
+use hx_inferior::{FillStep, Kill};
+use hx_link::{Parts, Step};
+use hx_linkset::{Added, LinkSet};
+use hx_tree::Line;
+use smallvec::SmallVec;
+use std::alloc::{AllocError, Global};
 use std::process::Abort;
 use std::test::Fail;
 
@@ -22,15 +25,6 @@ const B1: u128 = 1 << 1;
 
 const A2: u128 = 1 << 11;
 
-const B2: u128 = 1 << 12;
-
-/// A board of so many rows and columns, with these stones.
-fn board(rows: u8, cols: u8, black: u128, white: u128) -> Result<Position, Fail> {
-    let size = Size::new(rows, cols).ok_or("size")?;
-    let position = Position::from_masks(size, Mask::of(black), Mask::of(white));
-    Ok(position.ok_or("position")?)
-}
-
 fn filled_in(alloc: Global, position: &Position) -> Result<Filled, Fail>
     ensures { IfOk result (λ filled. AreDeadOrPairs filled.steps.items) }
 {
@@ -40,76 +34,74 @@ fn filled_in(alloc: Global, position: &Position) -> Result<Filled, Fail>
     }
 }
 
-fn steps_of(alloc: Global, filled: &Filled, winner: Colour) -> Result<Vec<FillStep>, Fail>
-    requires { AreDeadOrPairs filled.now.steps.items }
-{
-    Ok(steps_for(alloc, filled, winner).map_err(|_| "memory")?)
-}
-
-#[test]
-fn a_dead_cell_is_filled(rt: HostRuntime) -> Result<(), Fail> {
-    let position = board(2, 2, B1, B2)?;
-    let filled = filled_in(rt.alloc(), &position)?;
-    assert_eq!(rt; filled.position.empties(), Mask::of(A2));
-    assert_eq!(rt; filled.steps.len(), 1);
-    assert_eq!(rt; steps_of(rt.alloc(), &filled, Black)?.len(), 1);
-    assert_eq!(rt; steps_of(rt.alloc(), &filled, White)?.len(), 1);
-    Ok(())
-}
-
-#[test]
-fn a_full_board_has_nothing_to_fill(rt: HostRuntime) -> Result<(), Fail> {
-    let position = board(1, 1, A1, 0)?;
-    let filled = filled_in(rt.alloc(), &position)?;
-    assert_eq!(rt; (filled.position, filled.steps.len()), (position, 0));
-    Ok(())
-}
-
-/// Both cells of the row below are a pair of Black's, since Black's stone joins each of them with the other's neighbours.
+/// On two rows and columns with a black stone on b1 both cells of the row below are a pair of Black's, since Black's stone joins
+/// each of them with the other's neighbours.
 #[test]
 fn a_pair_is_filled(rt: HostRuntime) -> Result<(), Fail> {
-    let position = board(2, 2, B1, 0)?;
+    let size = Size::new(2, 2).ok_or("size")?;
+    let position = Position::from_masks(size, Mask::of(B1), Mask::empty()).ok_or("position")?;
     let filled = filled_in(rt.alloc(), &position)?;
-    let size = position.size();
     let a2 = size.cell(1, 0).ok_or("a2")?;
     let b2 = size.cell(1, 1).ok_or("b2")?;
-    assert!(rt;
-        filled.steps.contains(&Fill {
-            colour: Black,
-            step: FillStep::Pair(a2, b2)
-        })
-    );
-    let own = steps_of(rt.alloc(), &filled, Black)?;
-    assert!(rt; own.contains(&FillStep::Pair(a2, b2)));
-    let others = steps_of(rt.alloc(), &filled, White)?;
-    assert!(rt; others.contains(&FillStep::Other(a2)) && others.contains(&FillStep::Other(b2)));
+    let step = FillStep::Pair(a2, b2);
+    let fill = Fill {
+        colour: Black,
+        step,
+    };
+    assert!(rt; filled.steps.contains(&fill));
+    let own = steps_for(rt.alloc(), &filled, Black).map_err(|_| "memory")?;
+    assert!(rt; own.items().contains(&step));
+    let others = steps_for(rt.alloc(), &filled, White).map_err(|_| "memory")?;
+    assert!(rt; others.items().contains(&FillStep::Other(b2)));
     Ok(())
 }
 
-/// The steps for a winner lead to the same position.
-fn compare_steps(
-    rt: &impl Abort,
-    alloc: Global,
-    position: &Position,
-    filled: &Filled,
-    winner: Colour,
-) -> Result<(), Fail>
-    requires { AreDeadOrPairs filled.now.steps.items }
-{
-    let steps = steps_of(alloc, filled, winner)?;
-    let plain = plain::filled_for(position, winner, steps.as_slice());
-    assert_eq!(rt; plain, Some(filled.position), "{winner:?}, {position:?}");
-    Ok(())
+fn new_set(alloc: Global, position: &Position, colour: Colour) -> Result<LinkSet, Fail> {
+    match LinkSet::new(alloc, position, colour) {
+        Ok(set) => Ok(set),
+        Err(_) => Err("memory".into()),
+    }
 }
 
-/// Fill-in of a position does what the plain programs say, and its steps serve either winner.
-fn compare(rt: &impl Abort, alloc: Global, position: &Position) -> Result<(), Fail> {
+/// The most moves of a game on the boards of this table.
+const MOST: u8 = 6;
+
+/// Whether the mover wins by a move to one of the cells.
+fn wins_by(position: &Position, mover: Colour, cells: Mask) -> bool {
+    let mut left = position.empties().meet(cells);
+    while let Some(cell) = left.least(position.size()) {
+        left = left.without(cell);
+        let mut next = *position;
+        if next.empties().has(cell) {
+            next.play(mover, cell);
+            if plain::wins(&next, mover, mover.other(), MOST) {
+                return true;
+            }
+        }
+    }
+    false
+}
+
+/// The winner wins the filled position, and a winning move of the mover's is one of those that `must` leaves without a line.
+fn compare(rt: &impl Abort, alloc: Global, position: &Position, mover: Colour) -> Result<(), Fail> {
     let filled = filled_in(alloc, position)?;
-    assert!(rt; plain::nothing_left(&filled.position), "{position:?}");
-    let plain = plain::filled(position, filled.steps.as_slice());
-    assert_eq!(rt; plain, Some(filled.position), "{position:?}");
-    compare_steps(rt, alloc, position, &filled, Black)?;
-    compare_steps(rt, alloc, position, &filled, White)
+    assert_eq!(rt;
+        plain::wins(&filled.position, Black, mover, MOST),
+        plain::wins(position, Black, mover, MOST),
+        "{mover:?}, {position:?}"
+    );
+    let set = new_set(alloc, position, mover.other())?;
+    let found = must(&set).map_err(|_| "memory")?;
+    let mut cells = found.cells;
+    for line in found.under.items() {
+        cells = cells.without(line.cell());
+    }
+    assert_eq!(rt;
+        wins_by(position, mover, cells),
+        wins_by(position, mover, position.empties()),
+        "{mover:?}, {position:?}"
+    );
+    Ok(())
 }
 
 /// The position that a number to base three stands for, with a digit for each cell: 0 is empty, 1 black, 2 white.
@@ -134,32 +126,119 @@ fn numbered(size: Size, number: u32) -> Option<Position> {
 
 #[test]
 fn each_small_position(rt: HostRuntime) -> Result<(), Fail> {
-    for (rows, cols, positions) in [(1, 1, 3), (1, 2, 9), (2, 1, 9), (2, 2, 81), (2, 3, 729)] {
+    for (rows, cols, positions) in [(1, 1, 3), (2, 2, 81)] {
         let size = Size::new(rows, cols).ok_or("size")?;
         for number in 0..positions {
             let position = numbered(size, number).ok_or("position")?;
-            compare(&rt, rt.alloc(), &position)?;
+            compare(&rt, rt.alloc(), &position, Black)?;
+            compare(&rt, rt.alloc(), &position, White)?;
         }
     }
     Ok(())
 }
 
-/// The next position of four rows and columns, drawn by a multiplier of Knuth's; each digit to base three is a cell.
-fn drawn(size: Size, state: &mut u64) -> Option<Position> {
-    *state = state
-        .wrapping_mul(6_364_136_223_846_793_005)
-        .wrapping_add(1);
-    let number = (*state >> 33) % 43_046_721;
-    numbered(size, number as u32)
+/// What a step is made of.
+#[derive(Clone, Copy)]
+enum Plan {
+    Base(Vertex, Vertex),
+    Cell(u32, u32),
+    Or(u32, u32),
 }
 
-#[test]
-fn drawn_positions(rt: HostRuntime) -> Result<(), Fail> {
-    let size = Size::new(4, 4).ok_or("size")?;
-    let mut state: u64 = 2026;
-    for _ in 0..200 {
-        let position = drawn(size, &mut state).ok_or("position")?;
-        compare(&rt, rt.alloc(), &position)?;
+fn step_of(alloc: Global, plan: Plan) -> Result<Step, AllocError> {
+    match plan {
+        Plan::Base(a, b) => Ok(Step::Base { a, b }),
+        Plan::Cell(left, right) => Ok(Step::AndCell { left, right }),
+        Plan::Or(left, right) => {
+            let parts = Parts::new(SmallVec::from_slice(alloc, &[left, right])?);
+            Ok(Step::Or { parts })
+        }
     }
+}
+
+/// A set of Black's on an empty board, with links by these steps.
+fn planned(rt: &impl Abort, alloc: Global, size: Size, plans: &[Plan]) -> Result<LinkSet, Fail> {
+    let mut set = new_set(alloc, &Position::empty(size), Black)?;
+    for plan in plans {
+        let place = set.count();
+        let step = step_of(alloc, *plan)?;
+        let added = set.add(step).map_err(|_| "memory")?;
+        assert_eq!(rt; added, Added::New(place));
+    }
+    Ok(set)
+}
+
+/// Links 8 and 14 join the two sides, on a1, b1 and a2, and on b1, a2 and b2.
+fn plans(a1: Cell, b1: Cell, a2: Cell, b2: Cell) -> [Plan; 15] {
+    let (a1, b1, a2, b2) = (
+        Vertex::Of(a1),
+        Vertex::Of(b1),
+        Vertex::Of(a2),
+        Vertex::Of(b2),
+    );
+    [
+        Plan::Base(First, a1),
+        Plan::Base(a1, a2),
+        Plan::Cell(0, 1),
+        Plan::Base(First, b1),
+        Plan::Base(b1, a2),
+        Plan::Cell(3, 4),
+        Plan::Or(2, 5),
+        Plan::Base(a2, Last),
+        Plan::Cell(6, 7),
+        Plan::Base(b2, Last),
+        Plan::Base(b1, b2),
+        Plan::Cell(9, 10),
+        Plan::Cell(4, 7),
+        Plan::Or(11, 12),
+        Plan::Cell(3, 13),
+    ]
+}
+
+/// Two links between the sides share b1 and a2, of which either is better than the other: once White has a2, b1 is a pair with
+/// b2, and once he has b1, a2 is a pair with a1.
+#[test]
+fn threats_that_overlap(rt: HostRuntime) -> Result<(), Fail> {
+    let size = Size::new(2, 2).ok_or("size")?;
+    let (a1, b1) = (size.cell(0, 0).ok_or("a1")?, size.cell(0, 1).ok_or("b1")?);
+    let (a2, b2) = (size.cell(1, 0).ok_or("a2")?, size.cell(1, 1).ok_or("b2")?);
+    let set = planned(&rt, rt.alloc(), size, &plans(a1, b1, a2, b2))?;
+    let found = must(&set).map_err(|_| "memory")?;
+    assert_eq!(rt; found.threats.items(), [8, 14].as_slice());
+    assert_eq!(rt; found.cells, Mask::of(B1 | A2));
+    let by_a2 = Line::Under {
+        cell: b1,
+        better: a2,
+        kill: Kill::ByPair(b2),
+    };
+    assert_eq!(rt; found.under.items(), [by_a2].as_slice());
+    Ok(())
+}
+
+/// Link 8 joins the two sides on a1, b1 and c1, and link 10 on a1, which takes all other cells away. So the earlier link is no
+/// threat.
+#[test]
+fn a_small_link_comes_first(rt: HostRuntime) -> Result<(), Fail> {
+    let size = Size::new(1, 4).ok_or("size")?;
+    let a1 = Vertex::Of(size.cell(0, 0).ok_or("a1")?);
+    let b1 = Vertex::Of(size.cell(0, 1).ok_or("b1")?);
+    let c1 = Vertex::Of(size.cell(0, 2).ok_or("c1")?);
+    let plans = [
+        Plan::Base(First, b1),
+        Plan::Base(b1, a1),
+        Plan::Base(a1, Last),
+        Plan::Cell(1, 2),
+        Plan::Base(b1, c1),
+        Plan::Base(c1, Last),
+        Plan::Cell(4, 5),
+        Plan::Or(3, 6),
+        Plan::Cell(0, 7),
+        Plan::Base(First, a1),
+        Plan::Cell(9, 2),
+    ];
+    let set = planned(&rt, rt.alloc(), size, &plans)?;
+    let found = must(&set).map_err(|_| "memory")?;
+    assert_eq!(rt; found.threats.items(), [10].as_slice());
+    assert_eq!(rt; found.cells, Mask::of(A1));
     Ok(())
 }

@@ -20,7 +20,7 @@ pub(crate) struct Between {
 
 /// Some live links between the two sides, and what they share.
 #[derive(Drop)]
-pub(crate) struct Threats {
+pub(crate) struct KeptThreats {
     pub(crate) places: Vec<u32>,
 
     /// The empty cells in the carriers of all of them.
@@ -28,13 +28,13 @@ pub(crate) struct Threats {
 }
 
 /// The threats of a set of links.
-pub(crate) fn threats_of(set: &LinkSet) -> Result<Threats, Memory>
+pub(crate) fn threats_of(set: &LinkSet) -> Result<KeptThreats, Memory>
     ensures { IfOk result (λ found. AreAllTaken set.now found.places.items found.cells) }
 {
     // that the board is a position is what this call promises
     let _colour = set.colour();
     let links = links_between(set)?;
-    let mut found = Threats {
+    let mut found = KeptThreats {
         places: Vec::new(set.allocator()),
         cells: set.position().empties(),
     };
@@ -62,7 +62,7 @@ fn links_between(set: &LinkSet) -> Result<Vec<Between>, Memory>
     Ok(links)
 }
 
-impl Threats {
+impl KeptThreats {
     /// Keeps a link where it takes a cell away.
     fn take(&mut self, set: &LinkSet, link: &Between) -> Result<(), Memory>
         requires link { IsBetween set.now link.now }

@@ -9,7 +9,7 @@ ghost use Rattle.hx_fill.specs.Unders.{AreEmpties, AreUnder, AddsLine, Sifts};
 
 use crate::turns::{Better, Turn};
 use hx_board::{Cell, Colour, Mask, Memory, Position};
-use hx_tree::Line;
+use hx_tree::{Line, Lines};
 use std::alloc::Global;
 
 /// The lines so far, and the cells that they are about.
@@ -30,9 +30,9 @@ pub(crate) fn under_lines(
     position: &Position,
     mover: Colour,
     cells: Mask,
-) -> Result<Vec<Line>, Memory>
+) -> Result<Lines, Memory>
     requires { AreEmpties position.now cells }
-    ensures { IfOk result (λ lines. AreUnder position.now mover cells lines.items) }
+    ensures { IfOk result (λ lines. AreUnder position.now mover cells lines) }
 {
     let turn = Turn::of(position, mover);
     let size = position.size();
@@ -47,7 +47,7 @@ pub(crate) fn under_lines(
         left = left.without(cell);
     }
     let Sieve { lines, .. } = sieve;
-    Ok(lines)
+    Ok(Lines::new(lines))
 }
 
 impl Sieve {

@@ -3,7 +3,7 @@
 //! For the winner the own dead cells and pairs are steps of such a proof as they are. The other player's are the opponent's stones
 //! on empty cells, which may come one by one.
 
-ghost use Rattle.std.specs.Prelude.{◌≡◌, ◌∷◌, ◌++◌, [], IfOk, OnOk};
+ghost use Rattle.std.specs.Prelude.{◌≡◌, ◌∷◌, ◌++◌, [], ◌↔◌, IfOk, OnOk};
 ghost use Rattle.hx_board.specs.Positions.{Board};
 ghost use Rattle.hx_tree.specs.Fills.{MayFillAll, filled_all};
 ghost use Rattle.hx_fill.specs.Fills.{AreDeadOrPairs, FillsTo, winner_steps, winner_steps_all};
@@ -11,22 +11,24 @@ ghost use Rattle.hx_fill.specs.Fills.{AreDeadOrPairs, FillsTo, winner_steps, win
 use crate::fills::{Fill, Filled};
 use hx_board::{Colour, Memory};
 use hx_inferior::FillStep;
+use hx_tree::FillSteps;
 use std::alloc::Global;
 
 /// The steps as those of a proof that this player wins: the player's own as they are, and the stones of the opponent's cell by cell.
 /// From each position from which the steps are right for their own players, these are right for the winner, and lead to the same
-/// position.
-pub fn steps_for(alloc: Global, filled: &Filled, winner: Colour) -> Result<Vec<FillStep>, Memory>
+/// position. There are none exactly where nothing was filled.
+pub fn steps_for(alloc: Global, filled: &Filled, winner: Colour) -> Result<FillSteps, Memory>
     requires { AreDeadOrPairs filled.now.steps.items }
-    ensures steps { IfOk result (λ steps. steps.items ≡ winner_steps_all winner filled.now.steps.items) }
+    ensures steps { IfOk result (λ steps. steps ≡ winner_steps_all winner filled.now.steps.items) }
     ensures right { IfOk result (λ steps. (board final : Board) → FillsTo board filled.now.steps.items final
-        → MayFillAll board winner steps.items × (filled_all board winner steps.items ≡ final)) }
+        → MayFillAll board winner steps × (filled_all board winner steps ≡ final)) }
+    ensures none { IfOk result (λ steps. (steps ≡ []) ↔ (filled.now.steps.items ≡ [])) }
 {
     let mut steps = Vec::new(alloc);
     for fill in filled.steps.as_slice() {
         push_steps(&mut steps, fill, winner)?;
     }
-    Ok(steps)
+    Ok(FillSteps::new(steps))
 }
 
 /// Adds the steps for one fill.

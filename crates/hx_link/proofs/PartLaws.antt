@@ -15,6 +15,7 @@ use Rattle.hx_board.specs.Positions.{Board}
 use Rattle.hx_board.proofs.SetLaws.{has-empty, has-union, has-intersection_left, has-intersection_right, has-intersection_both, same_set, is_false}
 use Rattle.hx_link.specs.declared.links.Kind.TheVariants.{Full, Semi}
 use Rattle.hx_link.specs.declared.links.Link.{Link}
+use Rattle.hx_link.specs.declared.parts.TheConstants.{MOST_PARTS}
 use Rattle.hx_link.specs.Steps.{IsLink, HasEnds, IsOneOf, links_at, carriers_of, GivesOr}
 use Rattle.hx_link.specs.Named.{IsMade, IsSemiAt, ArePartsFrom, PartsSoFar}
 
@@ -166,7 +167,7 @@ module _ (before : List Link) (places : List ℕ) (place : ℕ) (first : Link) (
     lacking none cell true e = p.missing cell e (ap (λ c. has c cell) none ∙ has-empty cell)
     lacking none cell false e = (first, (first_one, e))
 
-    or-from : (board : Board) (player : Colour) (link : Link) → in_all ≡ 0 → 2 ≤ length places → length places ≤ 128 → IsMade board player Full first.a first.b in_some link → GivesOr before places link × IsLink board player link
+    or-from : (board : Board) (player : Colour) (link : Link) → in_all ≡ 0 → 2 ≤ length places → length places ≤ MOST_PARTS → IsMade board player Full first.a first.b in_some link → GivesOr before places link × IsLink board player link
     or-from board player link none several few is = (
       record {
         links = p.links;
@@ -190,7 +191,7 @@ module _ (before : List Link) (places : List ℕ) (place : ℕ) (first : Link) (
       link_ok = ok;
     }
 
-    pub or-made : (board : Board) (player : Colour) (o : Option Link) → in_all ≡ 0 → 2 ≤ length places → length places ≤ 128
+    pub or-made : (board : Board) (player : Colour) (o : Option Link) → in_all ≡ 0 → 2 ≤ length places → length places ≤ MOST_PARTS
         → MatchOption o ((link : Link) → IsMade board player Full first.a first.b in_some link → ⊥) (IsMade board player Full first.a first.b in_some)
         → MatchOption o ((link : Link) → GivesOr before places link → IsLink board player link → ⊥) (λ link. GivesOr before places link × IsLink board player link)
     or-made board player None none several few absent = λ link g ok. absent link (or-to board player link g ok)

@@ -13,6 +13,7 @@ use Rattle.hx_board.specs.Graph.{IsOwn, Joined}
 use Rattle.hx_board.specs.Floods.{code_of}
 use Rattle.hx_link.specs.declared.links.Kind.TheVariants.{Full, Semi}
 use Rattle.hx_link.specs.declared.links.Link.{Link}
+use Rattle.hx_link.specs.declared.parts.TheConstants.{MOST_PARTS}
 use Rattle.hx_link.specs.declared.steps.Step.{Step}
 use Rattle.hx_link.specs.declared.steps.Step.TheVariants.{Base, AndStone, AndCell, Or}
 
@@ -113,7 +114,7 @@ pub record GivesOr (before : List Link) (places : List ℕ) (link : Link) : Type
   pub links : List Link
   pub there : links_at before places ≡ map (λ (part : Link). Some part) links
   pub several : 2 ≤ length places
-  pub few : length places ≤ 128
+  pub few : length places ≤ MOST_PARTS
   pub semi : (part : Link) → IsOneOf part links → part.kind ≡ Semi
   pub same_ends : (part : Link) → IsOneOf part links → HasEnds part link.a link.b
   pub none_in_all : (cell : ℕ) → (part : Link) × (IsOneOf part links × (has part.carrier cell ≡ false))

@@ -11,11 +11,13 @@ mod meetings;
 mod ors;
 mod parts;
 mod results;
+mod step_lists;
 mod steps;
 
-pub use links::{Kind, Link};
-pub use parts::Parts;
+pub use links::{Kind, Link, is_end};
+pub use parts::{MOST_PARTS, Parts};
 pub use results::result_of;
+pub use step_lists::Steps;
 pub use steps::Step;
 
 #[cfg(test)]

@@ -52,8 +52,8 @@ fn rank(vertex: &Vertex) -> u8
     }
 }
 
-/// Whether a vertex may be an end.
-fn is_end(position: &Position, colour: Colour, vertex: &Vertex) -> bool
+/// Whether a vertex may be an end of the player's links: a side, or a cell of the board without a stone of the opponent.
+pub fn is_end(position: &Position, colour: Colour, vertex: &Vertex) -> bool
     ensures { IsTrue result ↔ IsEnd position.now colour vertex.now }
 {
     match vertex {

@@ -8,6 +8,7 @@ ghost use Rattle.hx_link.specs.Steps.{IsLink, HasEnds, GivesOr};
 ghost use Rattle.hx_link.specs.Named.{IsSemiAt, ArePartsFrom, PartsSoFar};
 
 use crate::links::{Kind, Link, has_ends, made};
+use crate::parts::MOST_PARTS;
 use hx_board::{Colour, Mask, Position, Vertex};
 
 /// The cells that are in all carriers of the parts, and those that are in some.
@@ -78,7 +79,7 @@ pub(crate) fn or_link(
         (λ link. GivesOr before.now places.now link × IsLink position.now colour link) }
 {
     let count = places.len();
-    if count < 2 || 128 < count {
+    if count < 2 || MOST_PARTS < count {
         return None;
     }
     let Some(first) = link_at(before, places[0]) else {

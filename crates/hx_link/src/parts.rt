@@ -7,6 +7,9 @@ ghost use Rattle.std.specs.Cmp.Lexicographic.{pointwise, nat_list_eq_equiv};
 use smallvec::SmallVec;
 use std::marker::Model;
 
+/// The most parts that an Or unites.
+pub const MOST_PARTS: usize = 128;
+
 /// The places of the links that an Or unites, in the order in which they are given. Up to eight stand in the value itself.
 #[derive(Debug, Drop)]
 pub struct Parts {

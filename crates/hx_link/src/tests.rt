@@ -1,4 +1,5 @@
-//! Single steps, one for each clause of the table and both answers, beside the plain program.
+//! A bridge, step by step; the lists of parts and of steps; and the table of steps beside the plain program, over all
+//! positions on the smallest boards.
 
 use super::plain::plain_result;
 use super::*;
@@ -10,389 +11,252 @@ use std::alloc::{AllocError, Global};
 use std::process::Abort;
 use std::test::Fail;
 
-/// The cells of a board of three rows and columns, as numbers of a set: a letter for the column, a number for the row.
-const A1: u128 = 1;
-
-const B1: u128 = 1 << 1;
-
-const C1: u128 = 1 << 2;
-
-const A2: u128 = 1 << 11;
-
-const B2: u128 = 1 << 12;
-
-const C2: u128 = 1 << 13;
-
-const A3: u128 = 1 << 22;
-
-const B3: u128 = 1 << 23;
-
-const C3: u128 = 1 << 24;
-
-/// The cell beside c1, which is on no board of three columns.
-const D1: u128 = 1 << 3;
-
-/// The vertex of the one cell in a set.
-fn of(cell: u128) -> Result<Vertex, Fail> {
-    let size = Size::new(11, 11).ok_or("size")?;
-    Ok(Vertex::Of(Mask::of(cell).least(size).ok_or("cell")?))
-}
-
-fn three_by_three(black: u128, white: u128) -> Result<Position, Fail> {
-    let size = Size::new(3, 3).ok_or("size")?;
-    let position = Position::from_masks(size, Mask::of(black), Mask::of(white));
-    Ok(position.ok_or("position")?)
-}
-
-fn full(a: Vertex, b: Vertex, carrier: u128) -> Link {
-    let kind = Kind::Full;
-    let carrier = Mask::of(carrier);
-    Link {
-        kind,
-        a,
-        b,
-        carrier,
-    }
-}
-
-fn semi(a: Vertex, b: Vertex, carrier: u128) -> Link {
-    let kind = Kind::Semi;
-    let carrier = Mask::of(carrier);
-    Link {
-        kind,
-        a,
-        b,
-        carrier,
-    }
-}
-
 fn or_of(alloc: Global, places: &[u32]) -> Result<Step, AllocError> {
-    let items = SmallVec::from_slice(alloc, places)?;
-    let parts = Parts::new(items);
+    let parts = Parts::new(SmallVec::from_slice(alloc, places)?);
     Ok(Step::Or { parts })
 }
 
-/// A player on a board, whose steps are tried.
-#[derive(Clone, Copy, Debug)]
-struct Side {
-    position: Position,
-    player: Colour,
+/// Black has a stone on a2 of a board of two rows and columns. It touches the bottom, and over a1 and over b1 it can be
+/// joined with the top: that is a bridge.
+#[test]
+fn bridge_to_the_top(rt: HostRuntime) -> Result<(), Fail> {
+    let size = Size::new(2, 2).ok_or("size")?;
+    let a1 = size.cell(0, 0).ok_or("a1")?;
+    let b1 = size.cell(0, 1).ok_or("b1")?;
+    let a2 = size.cell(1, 0).ok_or("a2")?;
+    let black = Mask::empty().with(a2);
+    let position = Position::from_masks(size, black, Mask::empty()).ok_or("position")?;
+    let (over_a1, over_b1, stone) = (Vertex::Of(a1), Vertex::Of(b1), Vertex::Of(a2));
+    assert!(rt; is_end(&position, Black, &stone) && !is_end(&position, White, &stone));
+    let steps = [
+        Step::Base {
+            a: over_a1,
+            b: First,
+        },
+        Step::Base {
+            a: over_a1,
+            b: stone,
+        },
+        Step::AndCell { left: 0, right: 1 },
+        Step::Base {
+            a: over_b1,
+            b: First,
+        },
+        Step::Base {
+            a: over_b1,
+            b: stone,
+        },
+        Step::AndCell { left: 3, right: 4 },
+        or_of(rt.alloc(), &[2, 5])?,
+        Step::Base { a: stone, b: Last },
+        Step::AndStone { left: 6, right: 7 },
+    ];
+    let groups = Groups::of(&position, Black);
+    let mut links = Vec::new(rt.alloc());
+    for step in &steps {
+        let link = result_of(&position, Black, &groups, links.as_slice(), step).ok_or("link")?;
+        links.push(link)?;
+    }
+    let chain = Link {
+        kind: Kind::Full,
+        a: First,
+        b: Last,
+        carrier: Mask::empty().with(a1).with(b1),
+    };
+    assert_eq!(rt; links.last().copied(), Some(chain));
+    assert!(rt; chain.joins_sides());
+    assert_eq!(rt; links.get(6).map(Link::joins_sides), Some(false));
+    Ok(())
 }
 
-impl Side {
-    /// The table and the plain program both give this.
-    fn gives(&self, rt: &impl Abort, before: &[Link], step: &Step, expected: Option<Link>) {
-        let plain = plain_result(&self.position, self.player, before, step);
-        assert_eq!(rt; plain, expected, "{self:?}, {before:?}, {step:?}");
-        self.agrees(rt, before, step);
+#[test]
+fn lists_are_their_items(rt: HostRuntime) -> Result<(), Fail> {
+    let numbers = [4, 2, 4, 2, 4, 2, 4, 2, 4, 2];
+    let many = Parts::new(SmallVec::from_slice(rt.alloc(), &numbers)?);
+    assert_eq!(rt; many.items(), numbers.as_slice());
+    let two = Parts::new(SmallVec::from_slice(rt.alloc(), &numbers[..2])?);
+    assert!(rt; two != many);
+    assert_eq!(rt; many.into_inner().as_slice(), numbers.as_slice());
+
+    let mut steps = Vec::new(rt.alloc());
+    steps.push(Step::AndStone { left: 0, right: 1 })?;
+    let one = Steps::new(steps);
+    assert_eq!(rt;
+        one.items(),
+        [Step::AndStone { left: 0, right: 1 }].as_slice()
+    );
+    assert!(rt; one != Steps::new(Vec::new(rt.alloc())));
+    assert_eq!(rt; one.into_inner().len(), 1);
+    Ok(())
+}
+
+/// Numbers that look drawn by chance and are the same in each run: Marsaglia's xorshift.
+#[derive(Drop)]
+struct Numbers {
+    state: u64,
+}
+
+impl Numbers {
+    /// A number below a limit.
+    fn below(&mut self, limit: u64) -> u64 {
+        let mut number = self.state;
+        number ^= number << 13;
+        number ^= number >> 7;
+        number ^= number << 17;
+        self.state = number;
+        number.checked_rem(limit).unwrap_or(0)
     }
 
-    /// They both give this of an Or of the links at these places.
-    fn or_gives(
-        &self,
-        rt: &impl Abort,
-        alloc: Global,
-        before: &[Link],
-        places: &[u32],
-        expected: Option<Link>,
-    ) {
-        match or_of(alloc, places) {
-            Ok(step) => self.gives(rt, before, &step, expected),
-            Err(_) => assert!(rt; false, "no memory for {places:?}"),
+    /// A link of some of these vertices, on some cells of the smallest boards.
+    fn link(&mut self, vertices: &[Vertex; 7]) -> Link {
+        let kind = if self.below(2) == 0 {
+            Kind::Full
+        } else {
+            Kind::Semi
+        };
+        let first = self.below(7);
+        let second = first + 1 + self.below(6);
+        let a = vertices.get(first as usize % 7).copied().unwrap_or(First);
+        let b = vertices.get(second as usize % 7).copied().unwrap_or(Last);
+        let cells = self.below(16) & self.below(16);
+        let carrier = Mask::of((cells & 3 | (cells & 12) << 9) as u128);
+        Link {
+            kind,
+            a,
+            b,
+            carrier,
+        }
+    }
+}
+
+/// The four cells of a board of two rows and columns, one beside it, and the two sides.
+fn vertices() -> Result<[Vertex; 7], Fail> {
+    let size = Size::new(2, 3).ok_or("size")?;
+    let a1 = Vertex::Of(size.cell(0, 0).ok_or("a1")?);
+    let b1 = Vertex::Of(size.cell(0, 1).ok_or("b1")?);
+    let c1 = Vertex::Of(size.cell(0, 2).ok_or("c1")?);
+    let a2 = Vertex::Of(size.cell(1, 0).ok_or("a2")?);
+    let b2 = Vertex::Of(size.cell(1, 1).ok_or("b2")?);
+    Ok([a1, b1, c1, a2, b2, First, Last])
+}
+
+/// How many links each rule gave.
+#[derive(Clone, Copy, Debug, Default)]
+struct Given {
+    bases: u32,
+    over_stones: u32,
+    over_cells: u32,
+    ors: u32,
+}
+
+impl Given {
+    fn count(&mut self, step: &Step) {
+        let count = match step {
+            Step::Base { .. } => &mut self.bases,
+            Step::AndStone { .. } => &mut self.over_stones,
+            Step::AndCell { .. } => &mut self.over_cells,
+            Step::Or { .. } => &mut self.ors,
+        };
+        *count = count.saturating_add(1);
+    }
+}
+
+/// A player on a position, whose steps after some links are tried.
+#[derive(Clone, Copy, Debug)]
+struct Trial {
+    position: Position,
+    player: Colour,
+    links: [Link; 8],
+}
+
+impl Trial {
+    /// The table and the plain program give the same.
+    fn agrees(&self, rt: &impl Abort, step: &Step, given: &mut Given) {
+        let groups = Groups::of(&self.position, self.player);
+        let link = result_of(&self.position, self.player, &groups, &self.links, step);
+        let plain = plain_result(&self.position, self.player, &self.links, step);
+        assert_eq!(rt; link, plain, "{self:?}, {step:?}");
+        if link.is_some() {
+            given.count(step);
         }
     }
 
-    /// The table and the plain program give the same.
-    fn agrees(&self, rt: &impl Abort, before: &[Link], step: &Step) {
-        let groups = Groups::of(&self.position, self.player);
-        let link = result_of(&self.position, self.player, &groups, before, step);
-        let plain = plain_result(&self.position, self.player, before, step);
-        assert_eq!(rt; link, plain, "{self:?}, {before:?}, {step:?}");
+    /// They give the same for all steps of one or two parts, and for all Ors of three.
+    fn agrees_on_all(
+        &self,
+        rt: &impl Abort,
+        alloc: Global,
+        vertices: &[Vertex; 7],
+        given: &mut Given,
+    ) -> Result<(), AllocError> {
+        for a in vertices {
+            for b in vertices {
+                self.agrees(rt, &Step::Base { a: *a, b: *b }, given);
+            }
+        }
+        // One place more than there are links.
+        for left in 0..9 {
+            self.agrees(rt, &or_of(alloc, &[left])?, given);
+            for right in 0..9 {
+                self.agrees(rt, &Step::AndStone { left, right }, given);
+                self.agrees(rt, &Step::AndCell { left, right }, given);
+                self.agrees(rt, &or_of(alloc, &[left, right])?, given);
+                for third in 0..9 {
+                    self.agrees(rt, &or_of(alloc, &[left, right, third])?, given);
+                }
+            }
+        }
+        Ok(())
     }
 }
 
-/// Black on a board with these stones.
-fn black_with(black: u128, white: u128) -> Result<Side, Fail> {
-    let position = three_by_three(black, white)?;
-    let player = Black;
-    Ok(Side { position, player })
-}
-
-#[test]
-fn base_of_what_is_joined(rt: HostRuntime) -> Result<(), Fail> {
-    let side = black_with(B2, 0)?;
-    let (a1, b1, c1, b2) = (of(A1)?, of(B1)?, of(C1)?, of(B2)?);
-    let (a2, c2, d1) = (of(A2)?, of(C2)?, of(D1)?);
-    let rows = [
-        (b2, b1, Some(full(b1, b2, 0))),
-        (c2, a2, Some(full(a2, c2, 0))),
-        (First, b1, Some(full(b1, First, 0))),
-        (a1, b2, None),
-        (Last, First, None),
-        // The ends are one, or one lies off the board.
-        (b2, b2, None),
-        (Last, Last, None),
-        (c1, d1, None),
-    ];
-    for (a, b, expected) in rows {
-        side.gives(&rt, &[], &Step::Base { a, b }, expected);
+/// The set of the cells whose places in cell order have this digit in a number to base three.
+fn with_digit(size: Size, number: u32, digit: u32) -> Mask {
+    let mut set = Mask::empty();
+    let mut rest = number;
+    for row in 0..size.rows() {
+        for col in 0..size.cols() {
+            if rest % 3 == digit
+                && let Some(cell) = size.cell(row, col)
+            {
+                set = set.with(cell);
+            }
+            rest /= 3;
+        }
     }
-    Ok(())
+    set
 }
 
 #[test]
-fn base_on_other_boards(rt: HostRuntime) -> Result<(), Fail> {
-    let (a1, b1, b2) = (of(A1)?, of(B1)?, of(B2)?);
-    let chain = full(First, Last, 0);
-    let rows = [
-        (Black, B1 | B2 | B3, 0, Last, First, Some(chain)),
-        // An end is a stone of the opponent.
-        (Black, B2, B1, b1, b2, None),
-        (Black, B2, B1, First, b1, None),
-        (White, B2, B1, First, b1, None),
-        (White, B2, B1, First, a1, Some(full(a1, First, 0))),
-        (White, B2, B1, First, b2, None),
-    ];
-    for (player, black, white, a, b, expected) in rows {
-        let position = three_by_three(black, white)?;
-        let side = Side { position, player };
-        side.gives(&rt, &[], &Step::Base { a, b }, expected);
+fn steps_on_the_smallest_boards(rt: HostRuntime) -> Result<(), Fail> {
+    let vertices = vertices()?;
+    let mut numbers = Numbers { state: 2026 };
+    let mut given = Given::default();
+    for (rows, cols, positions) in [(1, 1, 3), (1, 2, 9), (2, 1, 9), (2, 2, 81)] {
+        let size = Size::new(rows, cols).ok_or("size")?;
+        for number in 0..positions {
+            let black = with_digit(size, number, 1);
+            let white = with_digit(size, number, 2);
+            let position = Position::from_masks(size, black, white).ok_or("position")?;
+            for player in [Black, White] {
+                let mut links = [numbers.link(&vertices); 8];
+                for link in &mut links {
+                    *link = numbers.link(&vertices);
+                }
+                let trial = Trial {
+                    position,
+                    player,
+                    links,
+                };
+                trial.agrees_on_all(&rt, rt.alloc(), &vertices, &mut given)?;
+            }
+        }
     }
-    Ok(())
-}
-
-#[test]
-fn and_over_a_stone(rt: HostRuntime) -> Result<(), Fail> {
-    let side = black_with(B2, 0)?;
-    let (a1, b2) = (of(A1)?, of(B2)?);
-    let before = [
-        full(b2, First, B1 | C1),
-        full(b2, Last, A3 | B3),
-        full(a1, b2, B1 | A2),
-        semi(b2, Last, B3),
-        full(a1, First, 0),
-    ];
-    let sides = Some(full(First, Last, B1 | C1 | A3 | B3));
-    let corner = Some(full(a1, Last, A2 | B1 | A3 | B3));
-    let rows = [
-        (0, 1, sides),
-        (1, 0, sides),
-        (1, 2, corner),
-        // Both carriers have b1.
-        (0, 2, None),
-        // One of the two is Semi.
-        (0, 3, None),
-        (3, 0, None),
-        // They share no end, or both ends.
-        (1, 4, None),
-        (0, 0, None),
-        // Nothing stands there, as where a step names its own place.
-        (0, 5, None),
-        (5, 0, None),
-        (0, 4_294_967_295, None),
-    ];
-    for (left, right, expected) in rows {
-        let step = Step::AndStone { left, right };
-        side.gives(&rt, &before, &step, expected);
-    }
-    Ok(())
-}
-
-#[test]
-fn and_over_other_vertices(rt: HostRuntime) -> Result<(), Fail> {
-    // In these b1 is empty, the opponent's, and own.
-    let (empty, held, own) = (
-        black_with(B2, 0)?,
-        black_with(B2, B1)?,
-        black_with(B1 | B2, 0)?,
-    );
-    let (a1, b1, c1, b2) = (of(A1)?, of(B1)?, of(C1)?, of(B2)?);
-    let before = [
-        full(a1, First, 0),
-        full(c1, First, C2),
-        full(a1, b1, 0),
-        full(b1, c1, 0),
-        full(b2, First, B1 | C1),
-        full(b1, b2, 0),
-    ];
-    let rows = [
-        (empty, 0, 1, Some(full(a1, c1, C2))),
-        (empty, 2, 3, None),
-        (held, 2, 3, None),
-        (own, 2, 3, Some(full(a1, c1, 0))),
-        // The end b1 lies in a carrier, where it may lie once it is a stone of the player.
-        (empty, 4, 5, None),
-        (held, 4, 5, None),
-        (own, 4, 5, Some(full(b1, First, B1 | C1))),
-    ];
-    for (side, left, right, expected) in rows {
-        side.gives(&rt, &before, &Step::AndStone { left, right }, expected);
-    }
-    Ok(())
-}
-
-#[test]
-fn and_over_a_cell(rt: HostRuntime) -> Result<(), Fail> {
-    let side = black_with(B2, 0)?;
-    let (b1, b2, c1, a2) = (of(B1)?, of(B2)?, of(C1)?, of(A2)?);
-    let before = [
-        full(b1, First, 0),
-        full(b1, b2, 0),
-        full(b1, a2, A1),
-        full(b1, First, A1),
-        semi(b1, b2, 0),
-        full(b1, c1, B1),
-        full(c1, First, 0),
-    ];
-    let by_b1 = Some(semi(b2, First, B1));
-    let rows = [
-        (0, 1, by_b1),
-        (1, 0, by_b1),
-        (0, 2, Some(semi(a2, First, A1 | B1))),
-        // Both carriers have a1.
-        (3, 2, None),
-        // One of the two is Semi.
-        (0, 4, None),
-        (4, 0, None),
-        // The middle, b1, lies in one of the carriers.
-        (5, 1, None),
-        (1, 5, None),
-        // They share a side, no end, and both ends.
-        (0, 6, None),
-        (1, 6, None),
-        (0, 3, None),
-        // Nothing stands there.
-        (0, 7, None),
-        (7, 0, None),
-    ];
-    for (left, right, expected) in rows {
-        let step = Step::AndCell { left, right };
-        side.gives(&rt, &before, &step, expected);
-    }
-    Ok(())
-}
-
-#[test]
-fn and_over_other_cells(rt: HostRuntime) -> Result<(), Fail> {
-    // In these b1 and c1 are empty; b1 is own, and the opponent's; and c1 is.
-    let (empty, own, held) = (
-        black_with(B2, 0)?,
-        black_with(B1 | B2, 0)?,
-        black_with(B2, B1)?,
-    );
-    let (own_end, held_end) = (black_with(B2 | C1, 0)?, black_with(B2, C1)?);
-    let (b1, b2, c1) = (of(B1)?, of(B2)?, of(C1)?);
-    let before = [full(b1, b2, 0), full(b1, c1, 0), full(b1, b2, C1)];
-    let rows = [
-        (empty, 0, Some(semi(c1, b2, B1))),
-        (own, 0, None),
-        (held, 0, None),
-        (held_end, 0, None),
-        // The end c1 lies in a carrier, where it may lie once it is a stone of the player.
-        (empty, 2, None),
-        (own_end, 2, Some(semi(c1, b2, B1 | C1))),
-    ];
-    let right = 1;
-    for (side, left, expected) in rows {
-        side.gives(&rt, &before, &Step::AndCell { left, right }, expected);
-    }
-    Ok(())
-}
-
-#[test]
-fn or_of_several(rt: HostRuntime) -> Result<(), Fail> {
-    let side = black_with(B2, 0)?;
-    let (a1, b2) = (of(A1)?, of(B2)?);
-    let before = [
-        semi(b2, First, B1),
-        semi(b2, First, C1),
-        semi(First, b2, B1 | C1),
-        full(b2, First, A1),
-        semi(b2, Last, B3),
-        semi(a1, First, B1),
-    ];
-    let bridge = Some(full(b2, First, B1 | C1));
-    let rows = [
-        ([0, 1, 0], 2, bridge),
-        ([2, 1, 0], 3, bridge),
-        ([0, 1, 0], 3, bridge),
-        // All have b1, or c1.
-        ([0, 2, 0], 3, None),
-        ([2, 1, 0], 2, None),
-        // One part or none.
-        ([0, 1, 0], 1, None),
-        ([0, 1, 0], 0, None),
-        // A Full part, and other ends.
-        ([0, 3, 1], 3, None),
-        ([3, 0, 1], 3, None),
-        ([0, 1, 4], 3, None),
-        ([0, 1, 5], 3, None),
-        // Nothing stands there.
-        ([0, 1, 6], 3, None),
-        ([6, 0, 1], 3, None),
-    ];
-    for (places, count, expected) in &rows {
-        side.or_gives(&rt, rt.alloc(), &before, &places[..*count], *expected);
-    }
-    Ok(())
-}
-
-#[test]
-fn or_to_other_ends(rt: HostRuntime) -> Result<(), Fail> {
-    let b2 = of(B2)?;
-    let before = [semi(b2, First, B1 | B2), semi(b2, First, C1)];
-    let on_all = full(b2, First, B1 | B2 | C1);
-    // The end b2 lies in a carrier: it is empty, then the opponent's, then own.
-    let (empty, held, own) = (black_with(0, 0)?, black_with(0, B2)?, black_with(B2, 0)?);
-    for (side, expected) in [(empty, None), (held, None), (own, Some(on_all))] {
-        side.or_gives(&rt, rt.alloc(), &before, &[0, 1], expected);
-    }
-    Ok(())
-}
-
-#[test]
-fn or_of_many(rt: HostRuntime) -> Result<(), Fail> {
-    let side = black_with(B2, 0)?;
-    let (a1, b2) = (of(A1)?, of(B2)?);
-    let before = [
-        semi(b2, First, B1),
-        semi(b2, First, C1),
-        semi(a1, First, B1),
-    ];
-    let mut places: SmallVec<u32, 8> = SmallVec::new(rt.alloc());
-    for place in 0..129u32 {
-        places.push(place % 2)?;
-    }
-    side.or_gives(&rt, rt.alloc(), &before, &places, None);
-    places.truncate(128);
-    let bridge = full(b2, First, B1 | C1);
-    side.or_gives(&rt, rt.alloc(), &before, &places, Some(bridge));
-    Ok(())
-}
-
-#[test]
-fn parts_are_their_items(rt: HostRuntime) -> Result<(), Fail> {
-    let numbers = [4, 2, 4, 2, 4, 2, 4, 2, 4, 2];
-    let items: SmallVec<u32, 8> = SmallVec::from_slice(rt.alloc(), &numbers)?;
-    let many = Parts::new(items);
-    assert_eq!(rt; many.items(), numbers.as_slice());
-    let items: SmallVec<u32, 8> = SmallVec::from_slice(rt.alloc(), &numbers[..2])?;
-    let two = Parts::new(items);
-    assert!(rt; two != many);
-    let mut back = many.into_inner();
-    back.truncate(2);
-    assert_eq!(rt; Parts::new(back), two);
-    Ok(())
-}
-
-#[test]
-fn links_between_the_sides(rt: HostRuntime) -> Result<(), Fail> {
-    let (b1, b2) = (of(B1)?, of(B2)?);
-    let chain = semi(First, Last, B2);
-    let to_first = full(b1, First, 0);
-    let to_last = full(b2, Last, 0);
-    assert!(rt; chain.joins_sides());
-    assert!(rt; !to_first.joins_sides());
-    assert!(rt; !to_last.joins_sides());
+    let least = given
+        .bases
+        .min(given.over_stones)
+        .min(given.over_cells)
+        .min(given.ors);
+    assert!(rt; least >= 100, "{given:?}");
     Ok(())
 }

@@ -6,7 +6,8 @@ use Rattle.std.proofs.lemmas.Bool.{cases_eq, cases_lt}
 use Rattle.hx_board.specs.declared.colours.Colour.{Colour}
 use Rattle.hx_link.specs.declared.steps.Step.{Step}
 use Rattle.hx_linkset.specs.States.{State, Names, IsLiveAt, IsRight, GivesFromLive}
-use Rattle.hx_linkset.specs.Marks.{StandsIn, IsMarked, AreUnmarked, MarksMore, IsLastBelow}
+use Rattle.hx_linkset.specs.Marks.{IsMarked, AreUnmarked, MarksMore, IsLastMarkBelow}
+use Rattle.hx_linkset.specs.Derivations.{StandsIn}
 use Rattle.hx_linkset.specs.Derivations.{AreClosedFrom, AreMarkedUnder}
 use Rattle.hx_linkset.proofs.PlaceLaws.{same_some}
 use Rattle.hx_linkset.proofs.MarkLaws.{marked-inside}
@@ -42,7 +43,7 @@ module _ (player : Colour) (state : State) (r : IsRight player state) where
       under = λ p h. ⊎_elim (λ k. absurd (none.none p k)) (λ k. (p, (k, omega arith))) (m.only p h);
     }
 
-  module _ (bound place : ℕ) (marks new : List ℕ) (c : AreClosedFrom player state bound marks) (at : IsLastBelow marks bound place) (step : Step) (there : slice_get state.steps place ≡ Some step)
+  module _ (bound place : ℕ) (marks new : List ℕ) (c : AreClosedFrom player state bound marks) (at : IsLastMarkBelow marks bound place) (step : Step) (there : slice_get state.steps place ≡ Some step)
       (m : MarksMore (Names step) marks new) where
     before : (part : ℕ) → Names step part → (part < place) × IsLiveAt state.board player state.links part
     before part k = part-before place step (c.live place at.marked) there part k

@@ -7,6 +7,7 @@ use Rattle.hx_board.specs.Graph.{Grouped}
 use Rattle.hx_link.specs.declared.links.Link.{Link}
 use Rattle.hx_link.specs.declared.steps.Step.{Step}
 use Rattle.hx_linkset.specs.declared.plays.Play.{Play}
+use Rattle.hx_linkset.specs.declared.sets.TheConstants.{MOST_LINKS}
 use Rattle.hx_linkset.specs.States.{State, IsLive, IsRight, GivesFromLive, added, played}
 use Rattle.hx_linkset.specs.Plays.{past_of, Stands, standing}
 use Rattle.hx_linkset.specs.Rings.{Rings, grown}
@@ -58,7 +59,7 @@ module _ (rings : Rings) (heads : AreHeads rings) (Has : ℕ → Link → Type 0
   }
 
 pub fields-none : (player : Colour) (board : Board) (links : List Link) (steps : List Step) (plays : List Play) (groups : Grouped) (rings : Rings) (log : List ℕ) (plays_capacity log_capacity : ℕ)
-    → links ≡ [] → steps ≡ [] → plays ≡ [] → log ≡ [] → groups ≡ record { board = board; player = player } → IsBoard board → AreHeads rings → 121 ≤ plays_capacity → 8192 ≤ log_capacity
+    → links ≡ [] → steps ≡ [] → plays ≡ [] → log ≡ [] → groups ≡ record { board = board; player = player } → IsBoard board → AreHeads rings → 121 ≤ plays_capacity → MOST_LINKS ≤ log_capacity
     → FieldsKeep player (record { board = board; links = links; steps = steps }) plays groups rings log plays_capacity log_capacity
 fields-none player board links steps plays groups rings log plays_capacity log_capacity no_links no_steps no_plays no_log groups_are is_board heads room log_room =
     rw (no_links, no_steps, no_plays, no_log) record {
@@ -125,7 +126,7 @@ module _ (player : Colour) (board : Board) (links : List Link) (steps : List Ste
     added-small = live-small board right.is_board player link live
 
     module _ (links' : List Link) (steps' : List Step) (rings' : Rings) (is_links : links' ≡ links ++ link ∷ []) (is_steps : steps' ≡ steps ++ step ∷ []) where
-      pub fields-added : length links < 8192 → rings' ≡ grown rings (head_of link) → FieldsKeep player (record { board = board; links = links'; steps = steps' }) plays groups rings' log plays_capacity log_capacity
+      pub fields-added : length links < MOST_LINKS → rings' ≡ grown rings (head_of link) → FieldsKeep player (record { board = board; links = links'; steps = steps' }) plays groups rings' log plays_capacity log_capacity
       fields-added less is_rings = record {
         keeps = rw (is_links, is_steps) (keeps-added player old plays plays_capacity link step g k.keeps less);
         history = rw (is_links, is_rings) (history-added links board player rings log now link live added-small (reverse plays) (last_fits (reverse plays) k.keeps.stands) k.history);

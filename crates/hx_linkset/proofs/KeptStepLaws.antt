@@ -10,7 +10,7 @@ use Rattle.hx_link.specs.declared.links.Link.{Link}
 use Rattle.hx_link.specs.declared.steps.Step.{Step}
 use Rattle.hx_link.specs.Steps.{StepGives, AreRightSteps}
 use Rattle.hx_linkset.specs.States.{State, Names, IsLiveAt, IsRight}
-use Rattle.hx_linkset.specs.Marks.{IsMarked, IsFirstFrom}
+use Rattle.hx_linkset.specs.Marks.{IsMarked, IsFirstMarkFrom}
 use Rattle.hx_linkset.specs.Derivations.{IsDerived, AreClosedFrom, AreMarkedUnder, AreKeptBelow, renamed}
 use Rattle.hx_linkset.proofs.PlaceLaws.{get-lt, same_some, get-push_before, get-push_last}
 use Rattle.hx_linkset.proofs.MarkLaws.{marked-inside}
@@ -54,7 +54,7 @@ module _ (player : Colour) (state : State) (marks : List ℕ) where
   }
 
   module _ (r : IsRight player state) (c : AreClosedFrom player state 0 marks) (bound : ℕ) (steps : List Step) (names : List ℕ) (k : AreKeptBelow player state marks bound steps names) where
-    module _ (place : ℕ) (at : IsFirstFrom marks bound place) (step : Step) (there : slice_get state.steps place ≡ Some step) where
+    module _ (place : ℕ) (at : IsFirstMarkFrom marks bound place) (step : Step) (there : slice_get state.steps place ≡ Some step) where
       -- the marked places up to this one are this one and those below the bound
       below : (p : ℕ) → IsMarked marks p → p < place → p < bound
       below p h lt = ⊎_elim (λ l. l) (λ le. absurd (at.first p le lt h)) (cases_lt p bound)

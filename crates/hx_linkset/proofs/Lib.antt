@@ -6,6 +6,8 @@ pub mod RightLaws
 pub mod StandingLaws
 pub mod RingLaws
 pub mod HeadLaws
+pub mod OrderLaws
+pub mod RisingLists
 pub mod LogLaws
 pub mod PassLaws
 pub mod HistoryLaws
@@ -18,4 +20,5 @@ pub mod RenamingLaws
 pub mod ClosedLaws
 pub mod KeptStepLaws
 pub mod NextLaws
+pub mod ChainListLaws
 pub mod LastStoneLaws

@@ -6,7 +6,8 @@ use Rattle.std.proofs.lemmas.Bool.{cases_eq}
 use Rattle.std.proofs.lemmas.List.{length-set, get_or-set_same, get_or-set_other, get_or-drop, length-drop, take_more}
 use Rattle.std.proofs.lemmas.Option.{slice_get-get_or}
 use Rattle.memchr.specs.Find.{NoneBefore, Passes, is_byte}
-use Rattle.hx_linkset.specs.Marks.{StandsIn, IsMarked, MarksMore, IsFirstFrom}
+use Rattle.hx_linkset.specs.Marks.{IsMarked, MarksMore, IsFirstMarkFrom}
+use Rattle.hx_linkset.specs.Derivations.{StandsIn}
 use Rattle.hx_linkset.proofs.PlaceLaws.{get-push, get-push_before, get-push_last}
 
 pub marked-inside : (marks : List ℕ) (place : ℕ) → IsMarked marks place → place < length marks
@@ -90,7 +91,7 @@ module _ (marks rest : List ℕ) (bound : ℕ) (is_rest : rest ≡ drop bound ma
   pub found-none : ((k : ℕ) → 0 ≤ k → k < length rest → Passes (is_byte 1) rest k → ⊥) → (place : ℕ) → bound ≤ place → IsMarked marks place → ⊥
   found-none none place le h = let w = found_at place le h in none w.0 (omega arith) w.1.1.0 w.1.1.1
 
-  pub found-first : (further : ℕ) → NoneBefore (Passes (is_byte 1) rest) 0 (length rest) further → Passes (is_byte 1) rest further → IsFirstFrom marks bound (bound + further)
+  pub found-first : (further : ℕ) → NoneBefore (Passes (is_byte 1) rest) 0 (length rest) further → Passes (is_byte 1) rest further → IsFirstMarkFrom marks bound (bound + further)
   found-first further none here = record {
     from = omega arith;
     marked = sym (in_rest further) ∙ eqb-true _ _ here;

@@ -11,23 +11,19 @@ use Rattle.hx_link.specs.declared.steps.Step.{Step}
 use Rattle.hx_link.specs.Steps.{HasEnds, IsLink}
 use Rattle.hx_linkset.specs.States.{Standing, IsLive, IsRight}
 use Rattle.hx_linkset.specs.Rings.{Rings}
-use Rattle.hx_linkset.specs.Held.{head_for, head_of, head_at, IsLinked, RingsHold, IsLiveThere}
-use Rattle.hx_linkset.specs.LiveOf.{IsLiveOf, IsFirstFrom, IsHeadBetween}
-use Rattle.hx_linkset.proofs.PlaceLaws.{get-lt}
+use Rattle.hx_linkset.specs.Held.{IsHeadBetween, head_for, head_of, head_at, IsLinked, RingsHold, IsLiveThere}
+use Rattle.hx_linkset.specs.LiveOf.{IsLiveOf, IsFirstFrom}
+use Rattle.hx_linkset.proofs.PlaceLaws.{get-lt, get-there}
+use Rattle.hx_linkset.proofs.OrderLaws.{ends-to, ends-from}
 use Rattle.hx_linkset.proofs.HeadLaws.{head-small, live-some, live-same}
 use Rattle.hx_linkset.proofs.PassLaws.{head_at-link, head_at-low}
 use Rattle.hx_linkset.proofs.WalkLaws.{LinkAt, none_past, goes_up, walk-link}
-
-step_there : (xs : List Step) (place : ℕ) → place < length xs → (x : Step) × (slice_get xs place ≡ Some x)
-step_there [] place lt = absurd (omega arith)
-step_there (y ∷ ys) zero lt = (y, refl)
-step_there (y ∷ ys) (suc place) lt = step_there ys place (omega arith)
 
 module _ (set : Standing) (right : IsRight set.player set.present) where
   -- a live link is one that there can be on the board
   pub live-is_link : (place : ℕ) (link : Link) → slice_get set.present.links place ≡ Some link → IsLive set.present.board set.player link → IsLink set.present.board set.player link
   live-is_link place link there live =
-      let step = step_there set.present.steps place (omega (arith, right.steps_of, get-lt set.present.links place link there)) in
+      let step = get-there set.present.steps place (omega (arith, right.steps_of, get-lt set.present.links place link there)) in
       (right.given place link step.0 there step.1 live).gives.link_ok
 
   -- a live link's own head is that of its ends
@@ -38,8 +34,7 @@ module _ (set : Standing) (right : IsRight set.player set.present) where
       record {
         low = is.link.a;
         high = is.link.b;
-        order = omega (arith, ok.lower_first);
-        same = is.ends;
+        in_order = record { order = omega (arith, ok.lower_first); same = is.ends };
         low_some = some.0;
         high_some = some.1;
         head_is = ap (λ (k : Kind). head_for k is.link.a is.link.b) is.kind_is;
@@ -52,21 +47,9 @@ module _ (set : Standing) (right : IsRight set.player set.present) where
     pub head-low : head < 30258
     head-low = rw of.head_is (head-small kind of.low of.high of.low_some of.high_some)
 
-    crossed : (link : Link) → code_of link.a < code_of link.b → link.a ≡ of.high → link.b ≡ of.low → ⊥
-    crossed link less e f = absurd (omega (arith, less, ap code_of e, ap code_of f, of.order))
-
-    ends_from : (link : Link) → code_of link.a < code_of link.b → HasEnds link a b → (link.a ≡ of.low) × (link.b ≡ of.high)
-    ends_from link less h = ⊎_elim
-        (λ w. ⊎_elim (λ e. (e.0 ∙ sym w.0, e.1 ∙ sym w.1)) (λ e. absurd (crossed link less (e.0 ∙ sym w.1) (e.1 ∙ sym w.0))) h)
-        (λ w. ⊎_elim (λ e. absurd (crossed link less (e.0 ∙ sym w.1) (e.1 ∙ sym w.0))) (λ e. (e.0 ∙ sym w.0, e.1 ∙ sym w.1)) h)
-        of.same
-
-    ends_to : (link : Link) → link.a ≡ of.low → link.b ≡ of.high → HasEnds link a b
-    ends_to link e f = ⊎_elim (λ w. inl (e ∙ w.0, f ∙ w.1)) (λ w. inr (e ∙ w.0, f ∙ w.1)) of.same
-
     in_ring : (place : ℕ) (is : IsLiveOf set kind a b place) → head_of is.link ≡ head
     in_ring place is =
-        let ends = ends_from is.link (live-is_link place is.link is.there is.live).lower_first is.ends in
+        let ends = ends-from a b of.low of.high of.in_order is.link (live-is_link place is.link is.there is.live).lower_first is.ends in
         ap (λ (k : Kind). head_for k is.link.a is.link.b) is.kind_is
         ∙ (ap (λ (v : Vertex). head_for kind v is.link.b) ends.0 ∙ (ap (λ (v : Vertex). head_for kind of.low v) ends.1 ∙ sym of.head_is))
 
@@ -79,7 +62,7 @@ module _ (set : Standing) (right : IsRight set.player set.present) where
           there = ap (λ n. slice_get set.present.links n) (sym places) ∙ at.there;
           live = at.has;
           kind_is = same.0;
-          ends = ends_to at.link same.1 same.2;
+          ends = ends-to a b of.low of.high of.in_order at.link (same.1, same.2);
         }
 
     module _ (node : ℕ) (linked : IsLinked set.present.links Has node) (here : head_at set.present.links node ≡ head) where

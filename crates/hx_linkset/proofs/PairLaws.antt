@@ -16,9 +16,12 @@ use Rattle.hx_link.specs.declared.links.Link.{Link}
 use Rattle.hx_link.specs.Steps.{HasEnds}
 use Rattle.hx_linkset.specs.States.{Standing, IsLive, IsRight}
 use Rattle.hx_linkset.specs.Rings.{Rings}
-use Rattle.hx_linkset.specs.Held.{head_for, head_of, head_at, IsLinked, RingsHold, IsLiveThere, IsSomeVertex}
-use Rattle.hx_linkset.specs.LivePairs.{IsLivePair, AreLivePairs, AreInOrder, turn_by, turn_of, from_turn, pairs_from}
-use Rattle.hx_linkset.proofs.PlaceLaws.{get-lt, get-there}
+use Rattle.hx_linkset.specs.Held.{AreInOrder, head_for, head_of, head_at, IsLinked, RingsHold, IsLiveThere, IsSomeVertex}
+use Rattle.hx_linkset.specs.LivePairs.{IsLivePair, AreLivePairs, turn_by, turn_of, from_turn, pairs_from}
+use Rattle.hx_linkset.proofs.PlaceLaws.{get-lt}
+use Rattle.hx_linkset.proofs.RisingLists.{AreAllFrom, all-rising, all-each, all-contains}
+use Rattle.hx_linkset.proofs.OrderLaws.{ends-to, ends-from}
+use Rattle.hx_linkset.proofs.NextLaws.{live-is_link}
 use Rattle.hx_linkset.proofs.HeadLaws.{code-small, head-small, live-same}
 use Rattle.hx_linkset.proofs.PassLaws.{head_at-link, head_at-low}
 use Rattle.hx_linkset.proofs.WalkLaws.{none_past, goes_up}
@@ -86,39 +89,6 @@ turn-full full semi e = let w = turned-full _ _ _ e in (is_not_less _ _ w.0, ⊎
 
 pub turn-semi : (full semi : ℕ) → turn_of full semi ≡ Some Semi → (30258 ≤ semi) × ((full < 30258) ⊎ (semi ≤ full))
 turn-semi full semi e = let w = turned-semi _ _ _ e in (is_not_less _ _ w.0, ⊎_elim (λ k. inl (is_less _ _ k)) (λ k. inr (is_not_less _ _ k)) w.1)
-
--- ---- lists of all numbers of a kind
-
--- these are all numbers from one on that have a property, in rising order
-abbrev pub AreAllFrom : (ℕ → Type 0) → ℕ → List ℕ → Type 0
-AreAllFrom Has from [] = (n : ℕ) → from ≤ n → Has n → ⊥
-AreAllFrom Has from (first ∷ rest) = (from ≤ first) × (Has first × (((n : ℕ) → from ≤ n → n < first → Has n → ⊥) × AreAllFrom Has (first + 1) rest))
-
-module _ (Has : ℕ → Type 0) where
-  all-from : (xs : List ℕ) (from k : ℕ) → AreAllFrom Has from xs → k < length xs → from ≤ get_or xs k 0
-  all-from [] from k h lt = absurd (omega arith)
-  all-from (x ∷ xs) from zero h lt = h.0
-  all-from (x ∷ xs) from (suc k) h lt = omega (arith, all-from xs (x + 1) k h.1.1.1 (omega arith), h.0)
-
-  all-rising : (xs : List ℕ) (from : ℕ) → AreAllFrom Has from xs → IsStrictlyIncreasing xs
-  all-rising [] from h k lt = absurd (omega arith)
-  all-rising (x ∷ xs) from h zero lt = omega (arith, all-from xs (x + 1) 0 h.1.1.1 (omega arith))
-  all-rising (x ∷ xs) from h (suc k) lt = let one : suc k + 1 ≡ suc (k + 1) = omega arith in rw one (all-rising xs (x + 1) h.1.1.1 k (omega arith))
-
-  all-each : (xs : List ℕ) (from : ℕ) → AreAllFrom Has from xs → All Has xs
-  all-each [] from h k d lt = absurd (omega arith)
-  all-each (x ∷ xs) from h zero d lt = h.1.0
-  all-each (x ∷ xs) from h (suc k) d lt = all-each xs (x + 1) h.1.1.1 k d (omega arith)
-
-  all-contains : (xs : List ℕ) (from n : ℕ) → AreAllFrom Has from xs → from ≤ n → Has n → Contains xs n
-  all-contains [] from n h le has = absurd (h n le has)
-  all-contains (x ∷ xs) from n h le has = ⊎_elim
-      (λ less. absurd (h.1.1.0 n le less has))
-      (λ more. ⊎_elim
-      (λ e. (0, omega arith, sym e))
-      (λ other. let w = all-contains xs (x + 1) n h.1.1.1 (omega (arith, more, other)) has in (suc w.0, omega (arith, w.1), w.2))
-      (cases_eq n x))
-      (cases_lt n x)
 
 -- ---- one ring
 
@@ -240,31 +210,13 @@ module _ (links : List Link) (Has : ℕ → Link → Type 0) (rings : Rings) (ho
 -- ---- the links of two ends
 
 module _ (set : Standing) (right : IsRight set.player set.present) (a b low high : Vertex) (order : AreInOrder a b low high) (low_some : IsSomeVertex low) (high_some : IsSomeVertex high) where
-  -- the lower end of a live link comes first
-  lower_first : (place : ℕ) (link : Link) → slice_get set.present.links place ≡ Some link → IsLive set.present.board set.player link → code_of link.a < code_of link.b
-  lower_first place link there live =
-      let step = get-there set.present.steps place (omega (arith, right.steps_of, get-lt set.present.links place link there)) in
-      (right.given place link step.0 there step.1 live).gives.link_ok.lower_first
-
-  ends_to : (link : Link) → (link.a ≡ low) × (link.b ≡ high) → HasEnds link a b
-  ends_to link e = ⊎_elim (λ w. inl (e.0 ∙ w.0, e.1 ∙ w.1)) (λ w. inr (e.0 ∙ w.0, e.1 ∙ w.1)) order.same
-
-  crossed : (link : Link) → code_of link.a < code_of link.b → link.a ≡ high → link.b ≡ low → ⊥
-  crossed link less e f = absurd (omega (arith, less, ap code_of e, ap code_of f, order.order))
-
-  ends_from : (link : Link) → code_of link.a < code_of link.b → HasEnds link a b → (link.a ≡ low) × (link.b ≡ high)
-  ends_from link less h = ⊎_elim
-      (λ w. ⊎_elim (λ e. (e.0 ∙ sym w.0, e.1 ∙ sym w.1)) (λ e. absurd (crossed link less (e.0 ∙ sym w.1) (e.1 ∙ sym w.0))) h)
-      (λ w. ⊎_elim (λ e. absurd (crossed link less (e.0 ∙ sym w.1) (e.1 ∙ sym w.0))) (λ e. (e.0 ∙ sym w.0, e.1 ∙ sym w.1)) h)
-      order.same
-
   abbrev IsInRings : ℕ → Type 0
   IsInRings = IsInEither set.present.links (IsLiveThere set.present.board set.player) (head_for Full low high) (head_for Semi low high)
 
   pair_to : (place : ℕ) → IsInRings place → IsLivePair set a b place
   pair_to place w =
       let same : (kind : Kind) → head_of w.0 ≡ head_for kind low high → HasEnds w.0 a b = λ kind e.
-      let s = live-same set.present.board right.is_board set.player w.0 kind low high w.1.1.0 low_some high_some e in ends_to w.0 (s.1, s.2) in
+      let s = live-same set.present.board right.is_board set.player w.0 kind low high w.1.1.0 low_some high_some e in ends-to a b low high order w.0 (s.1, s.2) in
       (w.0, (w.1.0, (w.1.1.0, ⊎_elim (same Full) (same Semi) w.1.1.1)))
 
   heads_from : (kind : Kind) (link : Link) → link.kind ≡ kind → (link.a ≡ low) × (link.b ≡ high) → head_of link ≡ head_for kind low high
@@ -276,7 +228,7 @@ module _ (set : Standing) (right : IsRight set.player set.present) (a b low high
 
   pair_from : (place : ℕ) → IsLivePair set a b place → IsInRings place
   pair_from place w =
-      let ends : (w.0.a ≡ low) × (w.0.b ≡ high) = ends_from w.0 (lower_first place w.0 w.1.0 w.1.1.0) w.1.1.1 in
+      let ends : (w.0.a ≡ low) × (w.0.b ≡ high) = ends-from a b low high order w.0 (live-is_link set right place w.0 w.1.0 w.1.1.0).lower_first w.1.1.1 in
       (w.0, (w.1.0, (w.1.1.0, ⊎_elim (λ e. inl (heads_from Full w.0 e ends)) (λ e. inr (heads_from Semi w.0 e ends)) (either_kind w.0.kind))))
 
   pub live-pairs : (rings : Rings) → RingsHold set.present.links (IsLiveThere set.present.board set.player) rings

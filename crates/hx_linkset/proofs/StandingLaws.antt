@@ -11,6 +11,7 @@ use Rattle.hx_board.proofs.EmptyCells.{empty_count-put}
 use Rattle.hx_link.specs.declared.links.Link.{Link}
 use Rattle.hx_link.specs.declared.steps.Step.{Step}
 use Rattle.hx_linkset.specs.declared.plays.Play.{Play}
+use Rattle.hx_linkset.specs.declared.sets.TheConstants.{MOST_LINKS}
 use Rattle.hx_linkset.specs.States.{State, Standing, IsRight, GivesFromLive, added, played}
 use Rattle.hx_linkset.specs.Plays.{undone, past_of, Stands, HasRoom, Keeps, standing}
 use Rattle.hx_linkset.proofs.RightLaws.{right-added, right-played}
@@ -113,7 +114,7 @@ module _ (player : Colour) (state : State) (plays : List Play) (capacity : ℕ) 
         (ap (λ (ps : List Play). past_of (played state colour cell) ps) (reverse-push plays (play_on state cell logged)) ∙ past-played player state colour cell logged (reverse plays) e (keeps-right k).steps_of)
 
   module _ (link : Link) (step : Step) (g : GivesFromLive state.board player state.links step link) (k : Keeps player state plays capacity) where
-    pub keeps-added : length state.links < 8192 → Keeps player (added state link step) plays capacity
+    pub keeps-added : length state.links < MOST_LINKS → Keeps player (added state link step) plays capacity
     keeps-added less = record {
       stands = stands-added player state link step (reverse plays) g k.stands;
       room = k.room;

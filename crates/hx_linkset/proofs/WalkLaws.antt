@@ -5,6 +5,7 @@ use Rattle.std.proofs.lemmas.Bool.Decides.{nat_tests}
 use Rattle.std.proofs.Common.{◌≡◌, ℕ, ◌+◌, ◌-◌, ◌<◌, ◌≤◌, Bool, true, false, List, length, get_or, refl, sym, ap, ◌∙◌, subst, inl, inr, Some, ◌⊎◌, ⊎_elim, arith, if◌then◌else◌}
 use Rattle.std.specs.Prelude.{slice_get, nat_lt}
 use Rattle.hx_link.specs.declared.links.Link.{Link}
+use Rattle.hx_linkset.specs.declared.sets.TheConstants.{MOST_LINKS}
 use Rattle.hx_linkset.specs.Rings.{Rings, IsNotBetween}
 use Rattle.hx_linkset.specs.Held.{head_of, head_at, IsLinked, RingsHold}
 use Rattle.hx_linkset.proofs.PlaceLaws.{same_some}
@@ -134,7 +135,7 @@ module _ (links : List Link) (Has : ℕ → Link → Type 0) (rings : Rings) (ho
               let P : Link → Type 0 = λ l. Wanted l in
               unwanted (subst P one wanted)
 
-      pub walk-falls : 30258 ≤ node → length links ≤ 8192 → left_from (after node) < left_from node
+      pub walk-falls : 30258 ≤ node → length links ≤ MOST_LINKS → left_from (after node) < left_from node
       walk-falls low few = left_from-falls node (after node) low (omega (arith, walk-in_list, few)) (goes_up node walked.linked walked.in_ring)
 
       -- the walk is back at the head, and none of the ring is as wanted

@@ -6,6 +6,7 @@ use Rattle.hx_link.specs.declared.links.Link.{Link}
 use Rattle.hx_link.specs.declared.steps.Step.{Step}
 use Rattle.hx_linkset.specs.declared.sets.Added.{Added}
 use Rattle.hx_linkset.specs.declared.sets.Added.TheVariants.{New, Covered, Refused, Limit}
+use Rattle.hx_linkset.specs.declared.sets.TheConstants.{MOST_LINKS}
 use Rattle.hx_linkset.specs.States.{Standing, IsLive, GivesFromLive, added}
 
 -- a link of the same kind and ends, whose carrier is inside the other's
@@ -36,7 +37,7 @@ pub record IsNew (old new : Standing) (step : Step) (place : ℕ) : Type 0 where
   pub gives : Gives old step link
   pub uncovered : IsUncovered old link
   pub place_is : place ≡ length old.present.links
-  pub small : place < 8192
+  pub small : place < MOST_LINKS
   pub grown : new ≡ record old { present = added old.present link step }
 
 -- a live link at this place covers the step's link, and nothing changes
@@ -56,7 +57,7 @@ pub record IsFull (old new : Standing) (step : Step) : Type 0 where
   pub link : Link
   pub gives : Gives old step link
   pub uncovered : IsUncovered old link
-  pub full : length old.present.links ≡ 8192
+  pub full : length old.present.links ≡ MOST_LINKS
   pub same : new ≡ old
 
 -- what each answer says of the set before and after

@@ -8,7 +8,11 @@ use Rattle.hx_link.specs.declared.steps.Step.{Step}
 use Rattle.hx_link.specs.declared.steps.Step.TheVariants.{Base, AndStone, AndCell, Or}
 use Rattle.hx_link.specs.Steps.{AreRightSteps}
 use Rattle.hx_linkset.specs.States.{State, IsLiveAt, Names}
-use Rattle.hx_linkset.specs.Marks.{StandsIn, IsMarked}
+use Rattle.hx_linkset.specs.Marks.{IsMarked}
+
+-- the number is one of these
+abbrev pub StandsIn : List ℕ → ℕ → Type 0
+StandsIn places place = (k : ℕ) × (slice_get places k ≡ Some place)
 
 -- right steps of their own, no more than there are links, and for each named link the place of a step that gives it; of one
 -- named link alone the last step gives it
@@ -19,6 +23,8 @@ pub record IsDerived (board : Board) (player : Colour) (held : List Link) (named
   pub places_of : length places ≡ length named
   pub gives : (k place new : ℕ) → slice_get named k ≡ Some place → slice_get places k ≡ Some new → slice_get links new ≡ slice_get held place
   pub last : length named ≡ 1 → (new : ℕ) → slice_get places 0 ≡ Some new → suc new ≡ length steps
+
+-- ---- words for the functions inside the crate alone
 
 -- the step with each place renamed
 abbrev pub renamed : (ℕ → ℕ) → Step → Step

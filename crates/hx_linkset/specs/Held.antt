@@ -1,6 +1,7 @@
 -- The rings of the links that a set holds, and the log of those that are out of their rings. The first nodes are the heads,
--- one for each kind and pair of ends; then comes a node for each link, in the order of the links.
-use Rattle.std.specs.Prelude.{◌≡◌, ℕ, ◌+◌, ◌-◌, ◌*◌, ◌<◌, List, [], ◌∷◌, ◌++◌, length, reverse, slice_get, slice_index, nat_lt, nat_eq, if◌then◌else◌, true, ◌⊎◌}
+-- one for each kind and pair of ends; then comes a node for each link, in the order of the links. These words are for the
+-- functions inside the crate alone.
+use Rattle.std.specs.Prelude.{◌≡◌, ℕ, ◌+◌, ◌-◌, ◌*◌, ◌<◌, ◌≤◌, List, [], ◌∷◌, ◌++◌, length, reverse, slice_get, slice_index, nat_lt, nat_eq, if◌then◌else◌, true, ◌⊎◌}
 use Rattle.std.specs.List.{list_any, IsDistinct}
 use Rattle.std.specs.declared.option.Option.{Option}
 use Rattle.std.specs.declared.option.Option.TheVariants.{None, Some}
@@ -39,6 +40,20 @@ kind_code Semi = 15129
 -- the head of the links of one kind and pair of ends
 abbrev pub head_for : Kind → Vertex → Vertex → ℕ
 head_for kind a b = kind_code kind + 123 * code_of a + code_of b
+
+-- two vertices, the lower one first
+pub record AreInOrder (a b low high : Vertex) : Type 0 where
+  pub order : code_of low ≤ code_of high
+  pub same : ((low ≡ a) × (high ≡ b)) ⊎ ((low ≡ b) × (high ≡ a))
+
+-- the head of the links of one kind and two ends, which are given in either order
+pub record IsHeadBetween (kind : Kind) (a b : Vertex) (head : ℕ) : Type 0 where
+  pub low : Vertex
+  pub high : Vertex
+  pub in_order : AreInOrder a b low high
+  pub low_some : IsSomeVertex low
+  pub high_some : IsSomeVertex high
+  pub head_is : head ≡ head_for kind low high
 
 -- the head of a link's ring
 abbrev pub head_of : Link → ℕ

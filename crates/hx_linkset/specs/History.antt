@@ -1,10 +1,11 @@
--- Rings and a log that can be taken back, play by play.
+-- Rings and a log that can be taken back, play by play. These words are for the functions inside the crate alone.
 use Rattle.std.specs.Prelude.{◌≡◌, ℕ, zero, suc, ◌-◌, ◌≤◌, List, [], ◌∷◌, length, take, drop, reverse}
 use Rattle.hx_board.specs.declared.colours.Colour.{Colour}
 use Rattle.hx_board.specs.Positions.{Board, lifted}
 use Rattle.hx_board.specs.Graph.{Grouped}
 use Rattle.hx_link.specs.declared.links.Link.{Link}
 use Rattle.hx_linkset.specs.declared.plays.Play.{Play}
+use Rattle.hx_linkset.specs.declared.sets.TheConstants.{MOST_LINKS}
 use Rattle.hx_linkset.specs.States.{State}
 use Rattle.hx_linkset.specs.Plays.{Keeps}
 use Rattle.hx_linkset.specs.Rings.{Rings, cut, IsInside}
@@ -48,4 +49,4 @@ pub record FieldsKeep (player : Colour) (state : State) (plays : List Play) (gro
   pub keeps : Keeps player state plays plays_capacity
   pub history : HasHistory player state.board state.links rings log (reverse plays)
   pub groups_are : groups ≡ record { board = state.board; player = player }
-  pub log_room : 8192 ≤ log_capacity
+  pub log_room : MOST_LINKS ≤ log_capacity

@@ -1,11 +1,10 @@
 -- The live links of two ends, and the walk that finds them: along two rings at once, at each step in the one whose node is
 -- lower.
-use Rattle.std.specs.Prelude.{◌≡◌, ℕ, zero, suc, ◌-◌, ◌≤◌, Bool, true, false, nat_lt, List, [], ◌∷◌, All, Contains, slice_get, slice_index, ◌⊎◌}
+use Rattle.std.specs.Prelude.{◌≡◌, ℕ, zero, suc, ◌-◌, Bool, true, false, nat_lt, List, [], ◌∷◌, All, Contains, slice_get, slice_index}
 use Rattle.std.specs.List.Sorted.{IsStrictlyIncreasing}
 use Rattle.std.specs.declared.option.Option.{Option}
 use Rattle.std.specs.declared.option.Option.TheVariants.{None, Some}
 use Rattle.hx_board.specs.declared.vertices.Vertex.{Vertex}
-use Rattle.hx_board.specs.Floods.{code_of}
 use Rattle.hx_link.specs.declared.links.Kind.{Kind}
 use Rattle.hx_link.specs.declared.links.Kind.TheVariants.{Full, Semi}
 use Rattle.hx_link.specs.declared.links.Link.{Link}
@@ -22,10 +21,7 @@ pub record AreLivePairs (set : Standing) (a b : Vertex) (places : List ℕ) : Ty
   pub each : All (IsLivePair set a b) places
   pub all : (place : ℕ) → IsLivePair set a b place → Contains places place
 
--- two vertices, the lower one first
-pub record AreInOrder (a b low high : Vertex) : Type 0 where
-  pub order : code_of low ≤ code_of high
-  pub same : ((low ≡ a) × (high ≡ b)) ⊎ ((low ≡ b) × (high ≡ a))
+-- ---- words for the functions inside the crate alone
 
 -- whether each of two nodes is a head, and whether the first is below the second, say whose turn it is
 abbrev pub turn_by : Bool → Bool → Bool → Option Kind

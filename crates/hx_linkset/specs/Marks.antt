@@ -1,11 +1,7 @@
--- Marks on places: a number for each place, 1 where it is marked.
-use Rattle.std.specs.Prelude.{◌≡◌, ℕ, ◌<◌, ◌≤◌, List, length, slice_get, slice_index, ◌⊎◌}
-use Rattle.std.specs.declared.option.Option.TheVariants.{Some}
+-- Marks on places: a number for each place, 1 where it is marked. These words are for the functions inside the crate alone.
+use Rattle.std.specs.Prelude.{◌≡◌, ℕ, ◌<◌, ◌≤◌, List, length, slice_index, ◌⊎◌}
 
--- the number is one of these
-abbrev pub StandsIn : List ℕ → ℕ → Type 0
-StandsIn places place = (k : ℕ) × (slice_get places k ≡ Some place)
-
+-- the place is marked
 abbrev pub IsMarked : List ℕ → ℕ → Type 0
 IsMarked marks place = slice_index marks place ≡ 1
 
@@ -22,13 +18,13 @@ pub record MarksMore (Has : ℕ → Type 0) (old new : List ℕ) : Type 0 where
   pub only : (place : ℕ) → IsMarked new place → IsMarked old place ⊎ Has place
 
 -- of the marked places below the bound the last
-pub record IsLastBelow (marks : List ℕ) (bound place : ℕ) : Type 0 where
+pub record IsLastMarkBelow (marks : List ℕ) (bound place : ℕ) : Type 0 where
   pub below : place < bound
   pub marked : IsMarked marks place
   pub last : (other : ℕ) → place < other → other < bound → IsMarked marks other → ⊥
 
 -- of the marked places from the bound on the first
-pub record IsFirstFrom (marks : List ℕ) (bound place : ℕ) : Type 0 where
+pub record IsFirstMarkFrom (marks : List ℕ) (bound place : ℕ) : Type 0 where
   pub from : bound ≤ place
   pub marked : IsMarked marks place
   pub first : (other : ℕ) → bound ≤ other → other < place → IsMarked marks other → ⊥

@@ -1,9 +1,10 @@
--- The plays that stand, and the states before them.
+-- The plays that stand, and the states before them. These words are for the functions inside the crate alone.
 use Rattle.std.specs.Prelude.{◌≡◌, ℕ, ◌+◌, ◌≤◌, List, [], ◌∷◌, length, take, reverse}
 use Rattle.hx_board.specs.declared.colours.Colour.{Colour}
 use Rattle.hx_board.specs.Positions.{Board, IsHeld, lifted}
 use Rattle.hx_board.specs.Counts.{empty_count}
 use Rattle.hx_linkset.specs.declared.plays.Play.{Play}
+use Rattle.hx_linkset.specs.declared.sets.TheConstants.{MOST_LINKS}
 use Rattle.hx_linkset.specs.States.{State, Standing, IsRight}
 
 -- the state before a play: its stone is lifted, and the links that came since are gone
@@ -37,7 +38,7 @@ HasRoom capacity board (play ∷ plays) = (length plays + 1 + empty_count board 
 pub record Keeps (player : Colour) (state : State) (plays : List Play) (capacity : ℕ) : Type 0 where
   pub stands : Stands player state (reverse plays)
   pub room : HasRoom capacity state.board (reverse plays)
-  pub few : length state.links ≤ 8192
+  pub few : length state.links ≤ MOST_LINKS
 
 -- what contracts see of a player, a state and the plays that led to it, of which the last one is at the end
 abbrev pub standing : Colour → State → List Play → Standing

@@ -1,5 +1,6 @@
 -- Rings of nodes, linked in both directions in two lists. A node is a number. Some nodes are heads, each of a ring of its
--- own, and the linked nodes stand in the ring of their head, in rising order from it.
+-- own, and the linked nodes stand in the ring of their head, in rising order from it. These words are for the functions
+-- inside the crate alone.
 use Rattle.std.specs.Prelude.{◌≡◌, ℕ, ◌-◌, ◌<◌, ◌≤◌, List, [], ◌∷◌, ◌++◌, length, take, slice_set, slice_index, ◌⊎◌}
 
 -- on the way up from one node to another, and at the end back to the lowest, this node does not lie between the two

@@ -5,19 +5,19 @@
 
 ghost use Rattle.std.specs.Prelude.{◌≡◌, ℕ, ◌≤◌, length, IfOk};
 ghost use Rattle.hx_linkset.specs.States.{IsLiveAt, IsRight};
-ghost use Rattle.hx_linkset.specs.Marks.{StandsIn};
-ghost use Rattle.hx_linkset.specs.Derivations.{IsDerived, AreClosedFrom, AreMarkedUnder, AreKeptBelow};
+ghost use Rattle.hx_linkset.specs.Derivations.{StandsIn, IsDerived, AreClosedFrom, AreMarkedUnder, AreKeptBelow};
 
 use crate::marks::{first_from, last_below, mark_all, mark_parts, no_marks};
 use crate::renaming::{names_of, renamed_step};
+use crate::sets::MOST_LINKS;
 use hx_board::{Colour, Memory, Position};
-use hx_link::{Link, Step};
+use hx_link::{Link, Step, Steps};
 use std::alloc::Global;
 
 /// Steps that are right in themselves, and the places of those that give the named links.
 #[derive(Debug, Drop)]
 pub struct Derived {
-    pub steps: Vec<Step>,
+    pub steps: Steps,
 
     /// For each named link, in their order, the place of the step that gives it.
     pub places: Vec<u32>,
@@ -75,7 +75,7 @@ fn kept_for(
     wanted: &Wanted,
 ) -> Result<Kept, Memory>
     requires right { IsRight player record { board = position.now; links = links.now; steps = steps.now } }
-    requires few { length links.now ≤ 8192 }
+    requires few { length links.now ≤ MOST_LINKS }
     requires closed { AreClosedFrom player record { board = position.now; links = links.now; steps = steps.now } 0 wanted.now.marks.items }
     ensures { IfOk result (λ kept. AreKeptBelow player record { board = position.now; links = links.now; steps = steps.now } wanted.now.marks.items
         (length links.now) kept.steps.items kept.names.items) }
@@ -111,9 +111,9 @@ pub(crate) fn derivation_of(
     named: &[u32],
 ) -> Result<Derived, Memory>
     requires right { IsRight player record { board = position.now; links = links.now; steps = steps.now } }
-    requires few { length links.now ≤ 8192 }
+    requires few { length links.now ≤ MOST_LINKS }
     requires live { (place : ℕ) → StandsIn named.now place → IsLiveAt position.now player links.now place }
-    ensures { IfOk result (λ derived. IsDerived position.now player links.now named.now derived.steps.items derived.places.items) }
+    ensures { IfOk result (λ derived. IsDerived position.now player links.now named.now derived.steps derived.places.items) }
 {
     let Ok(wanted) = wanted_for(alloc, position, player, links, steps, named) else {
         return Err(Memory);
@@ -122,6 +122,7 @@ pub(crate) fn derivation_of(
         return Err(Memory);
     };
     let Kept { steps, names } = kept;
+    let steps = Steps::new(steps);
     let Ok(places) = names_of(alloc, names.as_slice(), named) else {
         return Err(Memory);
     };

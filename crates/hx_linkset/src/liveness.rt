@@ -5,23 +5,10 @@
 //! their carriers are inside its own and their ends are its ends, own stones, or in its carrier.
 
 ghost use Rattle.std.specs.Prelude.{◌≡◌, ◌↔◌, IsTrue, false};
-ghost use Rattle.hx_link.specs.Steps.{IsEnd};
 ghost use Rattle.hx_linkset.specs.States.{IsLive, IsUntouched};
 
 use hx_board::{Cell, Colour, Position, Vertex};
-use hx_link::Link;
-
-/// Whether a vertex may be an end.
-fn is_end(position: &Position, player: Colour, vertex: &Vertex) -> bool
-    ensures { IsTrue result ↔ IsEnd position.now player vertex.now }
-{
-    match vertex {
-        Vertex::Of(cell) => {
-            position.size().all().has(*cell) && !position.stones(player.other()).has(*cell)
-        }
-        Vertex::First | Vertex::Last => true,
-    }
-}
+use hx_link::{Link, is_end};
 
 /// Whether a link is live on a position.
 pub(crate) fn is_live(position: &Position, player: Colour, link: &Link) -> bool

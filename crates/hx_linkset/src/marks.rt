@@ -2,7 +2,8 @@
 
 ghost use Rattle.std.specs.Prelude.{◌≡◌, ℕ, ◌<◌, ◌≤◌, length, IfOk, MatchOption, ◌⊎◌};
 ghost use Rattle.hx_linkset.specs.States.{Names};
-ghost use Rattle.hx_linkset.specs.Marks.{StandsIn, IsMarked, AreUnmarked, MarksMore, IsLastBelow, IsFirstFrom};
+ghost use Rattle.hx_linkset.specs.Marks.{IsMarked, AreUnmarked, MarksMore, IsLastMarkBelow, IsFirstMarkFrom};
+ghost use Rattle.hx_linkset.specs.Derivations.{StandsIn};
 
 use hx_board::Memory;
 use hx_link::Step;
@@ -58,7 +59,7 @@ pub(crate) fn mark_parts(marks: &mut Vec<u8>, step: &Step)
 /// The last marked place below a bound.
 pub(crate) fn last_below(marks: &[u8], bound: usize) -> Option<usize>
     requires { bound ≤ length marks.now }
-    ensures { MatchOption result ((place : ℕ) → place < bound → IsMarked marks.now place → ⊥) (IsLastBelow marks.now bound) }
+    ensures { MatchOption result ((place : ℕ) → place < bound → IsMarked marks.now place → ⊥) (IsLastMarkBelow marks.now bound) }
 {
     memrchr(MARK, &marks[..bound])
 }
@@ -66,7 +67,7 @@ pub(crate) fn last_below(marks: &[u8], bound: usize) -> Option<usize>
 /// The first marked place from a bound on.
 pub(crate) fn first_from(marks: &[u8], bound: usize) -> Option<usize>
     requires { bound ≤ length marks.now }
-    ensures { MatchOption result ((place : ℕ) → bound ≤ place → IsMarked marks.now place → ⊥) (IsFirstFrom marks.now bound) }
+    ensures { MatchOption result ((place : ℕ) → bound ≤ place → IsMarked marks.now place → ⊥) (IsFirstMarkFrom marks.now bound) }
 {
     let Some(further) = memchr(MARK, &marks[bound..]) else {
         return None;

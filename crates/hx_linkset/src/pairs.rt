@@ -5,8 +5,8 @@
 
 ghost use Rattle.std.specs.Prelude.{◌≡◌, ◌≤◌, length, slice_index};
 ghost use Rattle.hx_link.specs.declared.links.Kind.TheVariants.{Full, Semi};
-ghost use Rattle.hx_linkset.specs.Held.{IsSomeVertex, head_for};
-ghost use Rattle.hx_linkset.specs.LivePairs.{AreInOrder, turn_of, pairs_from};
+ghost use Rattle.hx_linkset.specs.Held.{AreInOrder, IsSomeVertex, head_for};
+ghost use Rattle.hx_linkset.specs.LivePairs.{turn_of, pairs_from};
 
 use crate::chains::{Chains, FIRST_NODE, code, head_for};
 use hx_board::Vertex;

@@ -7,6 +7,7 @@ ghost use Rattle.hx_linkset.specs.History.{CanCut, cut_times};
 
 use crate::chains::{Chains, FIRST_NODE};
 use crate::liveness::is_dropped;
+use crate::sets::MOST_LINKS;
 use hx_board::{Cell, Colour, Position};
 use hx_link::Link;
 
@@ -22,8 +23,8 @@ pub(crate) fn drop_touched(
 )
     requires hold { RingsHold links.now (IsLiveThere position.now player) chains.old }
     requires log_ok { LogHolds links.now (IsLiveThere position.now player) log.old.items }
-    requires few { length links.now ≤ 8192 }
-    requires room { 8192 ≤ vec_capacity log.old }
+    requires few { length links.now ≤ MOST_LINKS }
+    requires room { MOST_LINKS ≤ vec_capacity log.old }
     ensures passed { IsPassed links.now position.now player colour cell (length links.now) chains.old chains.new log.old.items log.new.items }
     ensures room { vec_capacity log.new ≡ vec_capacity log.old }
 {
@@ -40,7 +41,7 @@ pub(crate) fn drop_touched(
 
 /// Takes the nodes of the last links away, until so many are left.
 pub(crate) fn cut_down(chains: &mut Chains, held: u16, kept: u16)
-    requires few { held ≤ 8192 }
+    requires few { held ≤ MOST_LINKS }
     requires order { kept ≤ held }
     requires long { length chains.old.next ≡ 30258 + held }
     requires can { CanCut (held - kept) chains.old }

@@ -2,8 +2,7 @@
 
 ghost use Rattle.std.specs.Prelude.{◌≡◌, ℕ, ◌<◌, map, length, slice_index, IfOk};
 ghost use Rattle.hx_linkset.specs.States.{Names};
-ghost use Rattle.hx_linkset.specs.Marks.{StandsIn};
-ghost use Rattle.hx_linkset.specs.Derivations.{renamed};
+ghost use Rattle.hx_linkset.specs.Derivations.{StandsIn, renamed};
 
 use hx_board::Memory;
 use hx_link::{Parts, Step};

@@ -8,18 +8,18 @@
 //! Memory is taken by `new` and `add` alone. A board has at most 121 empty cells, so no more plays stand at once; and the
 //! log names each link once at most, since only a live link is dropped, so it needs no more room than there are links.
 
-ghost use Rattle.std.specs.Prelude.{◌≡◌, ◌≢◌, ℕ, ◌+◌, ◌<◌, ◌≤◌, [], ◌∷◌, length, slice_get, IfOk, OnErr, MatchOption};
+ghost use Rattle.std.specs.Prelude.{◌≡◌, ◌≢◌, ℕ, ◌+◌, ◌<◌, ◌≤◌, [], ◌∷◌, length, slice_get, ◌↔◌, IfOk, OnErr, MatchOption};
 ghost use Rattle.hx_board.specs.declared.vertices.Vertex.{Vertex};
 ghost use Rattle.hx_board.specs.Positions.{IsEmpty};
 ghost use Rattle.hx_link.specs.declared.links.Kind.{Kind};
 ghost use Rattle.hx_link.specs.declared.links.Link.{Link};
-ghost use Rattle.hx_linkset.specs.States.{IsLive, IsLiveAt, IsRight, played};
+ghost use Rattle.hx_linkset.specs.States.{IsLive, IsLiveAt, IsRight, IsUntouched, played};
 ghost use Rattle.hx_linkset.specs.Answers.{Gives, Covers, IsUncovered, IsAdded};
-ghost use Rattle.hx_linkset.specs.LiveOf.{IsLiveOf, IsFirstFrom, IsHeadBetween};
+ghost use Rattle.hx_linkset.specs.Held.{IsHeadBetween};
+ghost use Rattle.hx_linkset.specs.LiveOf.{IsLiveOf, IsFirstFrom, ChainLists};
 ghost use Rattle.hx_linkset.specs.LivePairs.{AreLivePairs};
 ghost use Rattle.hx_linkset.specs.LastStones.{board_before};
-ghost use Rattle.hx_linkset.specs.Marks.{StandsIn};
-ghost use Rattle.hx_linkset.specs.Derivations.{IsDerived};
+ghost use Rattle.hx_linkset.specs.Derivations.{StandsIn, IsDerived};
 
 use crate::chains::{Chains, FIRST_NODE, head_for};
 use crate::derivations::{Derived, derivation_of};
@@ -27,7 +27,7 @@ use crate::liveness::is_live;
 use crate::pairs::{PairIter, in_order};
 use crate::passes::{cut_down, drop_touched, put_back};
 use crate::plays::{Play, before_last};
-use hx_board::{Cell, Colour, Groups, Memory, Position, Vertex};
+use hx_board::{Cell, Colour, Groups, Mask, Memory, Position, Vertex};
 use hx_link::{Kind, Link, Step, result_of};
 use std::alloc::Global;
 use std::marker::Model;
@@ -120,18 +120,25 @@ impl LinkSet {
 
     /// The player whose links they are.
     pub fn colour(&self) -> Colour
-        ensures value { result ≡ self.now.player }
-        ensures right { IsRight self.now.player self.now.present }
+        ensures { result ≡ self.now.player }
     {
         self.colour
     }
 
     /// How many links are held, live or not.
     pub fn count(&self) -> u32
-        ensures value { result ≡ length self.now.present.links }
-        ensures few { result ≤ 8192 }
+        ensures { result ≡ length self.now.present.links }
     {
         self.links.len() as u32
+    }
+
+    /// The law that every set keeps: the board is that of a position, each live link is given by its step from live links
+    /// before it, and no more links are held than `MOST_LINKS`. The call does nothing.
+    pub fn keeps(&self)
+        ensures right { IsRight self.now.player self.now.present }
+        ensures few { length self.now.present.links ≤ MOST_LINKS }
+    {
+        let _colour = self.colour;
     }
 
     /// The live link at an index. None exactly where there is none.
@@ -156,6 +163,17 @@ impl LinkSet {
         self.links.as_slice().get(index as usize).copied()
     }
 
+    /// The carrier of the link at an index, live or not. No cell where no link is held there.
+    pub fn carrier(&self, index: u32) -> Mask
+        ensures held { (link : Link) → slice_get self.now.present.links index ≡ Some link → result ≡ link.carrier }
+        ensures none { slice_get self.now.present.links index ≡ None → result ≡ 0 }
+    {
+        match self.links.as_slice().get(index as usize) {
+            None => Mask::empty(),
+            Some(link) => link.carrier,
+        }
+    }
+
     /// The position before the stones that were put since the last link came, or since the set was made. Where the last
     /// link came after the last stone it is the position as it stands.
     pub fn before_last_stones(&self) -> Position
@@ -177,7 +195,7 @@ impl LinkSet {
     /// it.
     pub fn derivation(&self, links: &[u32]) -> Result<Derived, Memory>
         requires { (index : ℕ) → StandsIn links.now index → IsLiveAt self.now.present.board self.now.player self.now.present.links index }
-        ensures { IfOk result (λ derived. IsDerived self.now.present.board self.now.player self.now.present.links links.now derived.steps.items derived.places.items) }
+        ensures { IfOk result (λ derived. IsDerived self.now.present.board self.now.player self.now.present.links links.now derived.steps derived.places.items) }
     {
         derivation_of(
             *self.links.allocator(),
@@ -217,6 +235,14 @@ impl LinkSet {
         Some((node - FIRST_NODE) as u32)
     }
 
+    /// Followed by `first_of` and then by `next_of` until that is None, a chain gives exactly the live links of its kind and
+    /// its ends, in rising order. The call does nothing.
+    pub fn chain_lists(&self, kind: Kind, a: Vertex, b: Vertex)
+        ensures { ChainLists self.now kind a b }
+    {
+        let (_colour, _head) = (self.colour, head_between(kind, &a, &b));
+    }
+
     /// What gives the set its memory.
     pub fn allocator(&self) -> Global {
         *self.links.allocator()
@@ -253,10 +279,15 @@ impl LinkSet {
         Ok(Added::New(count as u32))
     }
 
-    /// Puts a stone of either colour on an empty cell. The links that it touches are live no more.
+    /// Puts a stone of either colour on an empty cell. Of the live links those stay live that it leaves alone, and no others.
     pub fn play(&mut self, colour: Colour, cell: Cell)
         requires { IsEmpty self.old.present.board cell }
-        ensures { self.new ≡ record { player = self.old.player; present = played self.old.present colour cell; past = self.old.present ∷ self.old.past } }
+        ensures set { self.new ≡ record {
+            player = self.old.player;
+            present = played self.old.present colour cell;
+            past = self.old.present ∷ self.old.past } }
+        ensures live { (link : Link) → IsLive self.new.present.board self.new.player link
+            ↔ (IsLive self.old.present.board self.old.player link × IsUntouched self.old.player colour cell link) }
     {
         let count = self.links.len();
         let logged = self.log.len();

@@ -2,7 +2,7 @@
 
 ghost use Rattle.std.specs.Prelude.{◌≡◌, ◌≢◌, ℕ, [], ◌∷◌, IsTrue, OnOk};
 ghost use Rattle.hx_linkset.specs.States.{IsLiveAt};
-ghost use Rattle.hx_linkset.specs.Marks.{StandsIn};
+ghost use Rattle.hx_linkset.specs.Derivations.{StandsIn};
 
 use super::plain::PlainSet;
 use super::*;
@@ -275,13 +275,13 @@ fn one_link_is_derived(rt: HostRuntime) -> Result<(), Fail> {
         Step::AndCell { left: 0, right: 1 },
     ];
     let base_and_cell = derived(&both.set, &[2])?;
-    assert_eq!(rt; base_and_cell.steps.as_slice(), steps.as_slice());
+    assert_eq!(rt; base_and_cell.steps.items(), steps.as_slice());
     assert_eq!(rt; base_and_cell.places.as_slice(), [2].as_slice());
 
     // Link 12 is an And of links 4 and 7, which come to stand at 0 and 1.
     let later = derived(&both.set, &[12])?;
-    assert_eq!(rt; later.steps.len(), 3);
-    assert_eq!(rt; later.steps[2], Step::AndCell { left: 0, right: 1 });
+    assert_eq!(rt; later.steps.items().len(), 3);
+    assert_eq!(rt; later.steps.items()[2], Step::AndCell { left: 0, right: 1 });
     assert_eq!(rt; later.places.as_slice(), [2].as_slice());
     Ok(())
 }
@@ -292,8 +292,8 @@ fn several_links_are_derived(rt: HostRuntime) -> Result<(), Fail> {
     let mut both = Both::filled(&rt, alloc)?;
     for named in [[8, 14], [14, 8], [8, 8], [12, 3]] {
         let derived = derived(&both.set, &named)?;
-        assert!(rt; derived.steps.len() <= 15);
-        let links = links_of(alloc, both.set.position(), derived.steps.as_slice())?;
+        assert!(rt; derived.steps.items().len() <= 15);
+        let links = links_of(alloc, both.set.position(), derived.steps.items())?;
         for (place, index) in derived.places.iter().zip(&named) {
             assert_eq!(rt; links.get(*place as usize).copied(), both.set.link(*index));
         }
@@ -302,11 +302,11 @@ fn several_links_are_derived(rt: HostRuntime) -> Result<(), Fail> {
         derived(&both.set, &[14, 8])?.places.as_slice(),
         [14, 8].as_slice()
     );
-    assert_eq!(rt; derived(&both.set, &[])?.steps.len(), 0);
+    assert_eq!(rt; derived(&both.set, &[])?.steps.items().len(), 0);
 
     // After a stone on a1 link 14 is live and link 8 is not. Its steps are 3, 4, 7 and 9 to 14.
     both.plays(&rt, White, cell(0, 0)?)?;
-    assert_eq!(rt; derived(&both.set, &[14])?.steps.len(), 9);
+    assert_eq!(rt; derived(&both.set, &[14])?.steps.items().len(), 9);
     let live = are_live(&both.set, &[14, 8]);
     assert!(rt; !live);
     Ok(())

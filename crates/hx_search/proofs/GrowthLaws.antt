@@ -20,7 +20,7 @@ use Rattle.hx_search.specs.Closed.{IsSettled, IsGrown}
 use Rattle.hx_search.specs.Progress.{IsUnsettled}
 
 pub grown-itself : (set : Standing) → IsGrown set set
-grown-itself set = record { same_player = refl; same_board = refl; same_past = refl; longer = omega arith; kept = λ place link h. h }
+grown-itself set = record { same_player = refl; same_board = refl; same_past = refl; longer = omega arith; links_stay = λ place link e. e; steps_stay = λ place step e. e }
 
 pub grown-on : (a b c : Standing) → IsGrown a b → IsGrown b c → IsGrown a c
 grown-on a b c g h = record {
@@ -28,7 +28,8 @@ grown-on a b c g h = record {
   same_board = h.same_board ∙ g.same_board;
   same_past = h.same_past ∙ g.same_past;
   longer = omega (arith, g.longer, h.longer);
-  kept = λ place link e. h.kept place link (g.kept place link e);
+  links_stay = λ place link e. h.links_stay place link (g.links_stay place link e);
+  steps_stay = λ place step e. h.steps_stay place step (g.steps_stay place step e);
 }
 
 pub get_there : {A : Type 0} → (xs : List A) (k : ℕ) → k < length xs → (x : A) × (slice_get xs k ≡ Some x)
@@ -79,12 +80,12 @@ pub gives-before : (old new : Standing) (step : Step) (link : Link) → IsGrown 
 gives-before old new step link g below h =
     let P : Board → Type 0 = λ b. GivesFromLive b new.player new.present.links step link in
     let Q : Colour → Type 0 = λ p. GivesFromLive old.present.board p new.present.links step link in
-    gives_held old.present.links new.present.links g.kept old.present.board old.player link step below (subst Q g.same_player (subst P g.same_board h))
+    gives_held old.present.links new.present.links g.links_stay old.present.board old.player link step below (subst Q g.same_player (subst P g.same_board h))
 
 pub covers-on : (old new : Standing) (place : ℕ) (link : Link) → IsGrown old new → Covers old place link → Covers new place link
 covers-on old new place link g c = record {
   by = c.by;
-  there = g.kept place c.by c.there;
+  there = g.links_stay place c.by c.there;
   live = (let P : Board → Type 0 = λ b. IsLive b new.player c.by in let Q : Colour → Type 0 = λ p. IsLive old.present.board p c.by in subst P (sym g.same_board) (subst Q (sym g.same_player) c.live));
   cover = c.cover;
 }
@@ -100,7 +101,8 @@ module _ (old new : Standing) (step : Step) where
     same_board = refl;
     same_past = refl;
     longer = simp length-append (omega arith);
-    kept = λ place link h. get-push_before old.present.links n.link place link h;
+    links_stay = λ place link h. get-push_before old.present.links n.link place link h;
+    steps_stay = λ place held h. get-push_before old.present.steps step place held h;
   }
 
   pub new-settled : (place : ℕ) → IsNew old new step place → IsSettled new step
@@ -151,13 +153,13 @@ module _ (old new : Standing) (g : IsGrown old new) (kind : Kind) (a b : Vertex)
       subst Q g.same_player (subst P g.same_board live)
 
   pub live_of-on : IsLiveOf old kind a b place → IsLiveOf new kind a b place
-  live_of-on is = record { link = is.link; there = g.kept place is.link is.there; live = live_on is.link is.live; kind_is = is.kind_is; ends = is.ends }
+  live_of-on is = record { link = is.link; there = g.links_stay place is.link is.there; live = live_on is.link is.live; kind_is = is.kind_is; ends = is.ends }
 
   -- and at a place that was there it was one
   pub live_of-back : place < length old.present.links → IsLiveOf new kind a b place → IsLiveOf old kind a b place
   live_of-back less is = record {
     link = is.link;
-    there = held old.present.links new.present.links g.kept place is.link less is.there;
+    there = held old.present.links new.present.links g.links_stay place is.link less is.there;
     live = live_back is.link is.live;
     kind_is = is.kind_is;
     ends = is.ends;

@@ -43,13 +43,16 @@ pub record IsClosed (set : Standing) : Type 0 where
   pub and_cells : (left right : ℕ) → IsSettled set (AndCell left right)
   pub ors : (a b : Vertex) → IsForked set a b → HasFull set a b
 
--- links were added at the end, and nothing else changed
+-- links with their steps were added at the end, and nothing else changed
 pub record IsGrown (old new : Standing) : Type 0 where
   pub same_player : new.player ≡ old.player
   pub same_board : new.present.board ≡ old.present.board
   pub same_past : new.past ≡ old.past
   pub longer : length old.present.links ≤ length new.present.links
-  pub kept : (place : ℕ) (link : Link) → slice_get old.present.links place ≡ Some link → slice_get new.present.links place ≡ Some link
+  pub links_stay : (place : ℕ) (link : Link) → slice_get old.present.links place ≡ Some link
+      → slice_get new.present.links place ≡ Some link
+  pub steps_stay : (place : ℕ) (step : Step) → slice_get old.present.steps place ≡ Some step
+      → slice_get new.present.steps place ≡ Some step
 
 -- the set holds all the links that it can, and is not closed
 pub record IsStuck (set : Standing) : Type 0 where

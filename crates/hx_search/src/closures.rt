@@ -2,6 +2,7 @@
 //! with Ands and Ors in turn, until a pass over the Ors adds none. That the set is closed rests on the second part alone.
 
 ghost use Rattle.std.specs.Prelude.{IfOk};
+ghost use Rattle.hx_linkset.specs.States.{IsRight};
 ghost use Rattle.hx_search.specs.Closed.{IsGrown, IsAnswer};
 
 use crate::ands::settle_ands;
@@ -28,10 +29,23 @@ const LIMIT: Closure = Closure::Limit {
 };
 
 /// Adds links until the set is closed or there is no room. Whatever the answer, want of memory included, the links that
-/// were live stay live at their indices, and position, player and plays are as before. Closed says three things of the
-/// live links: two vertices that are joined have a Full link on no cell; each And of two of them is covered by one; and
-/// where two vertices have two or more Semi links, of which no cell is in all carriers, they have a Full link.
+/// were live stay live at their indices, and position, player and plays are as before; each live link comes by a step from
+/// live links before it. Closed says three things of the live links: two vertices that are joined have a Full link on no
+/// cell; each And of two of them is covered by one; and where two vertices have two or more Semi links, of which no cell is
+/// in all carriers, they have a Full link.
 pub fn close(set: &mut LinkSet) -> Result<Closure, Memory>
+    ensures grown { IsGrown set.old set.new }
+    ensures answer { IfOk result (IsAnswer set.new) }
+    ensures right { IsRight set.new.player set.new.present }
+{
+    let closure = add_all(set);
+    // that live links come by steps from earlier ones is what this call promises
+    let _colour = set.colour();
+    closure
+}
+
+/// Adds useful links, then the Bases, and then Ands and Ors in turn.
+fn add_all(set: &mut LinkSet) -> Result<Closure, Memory>
     ensures grown { IsGrown set.old set.new }
     ensures answer { IfOk result (IsAnswer set.new) }
 {
@@ -54,7 +68,7 @@ pub fn close(set: &mut LinkSet) -> Result<Closure, Memory>
         settled = set.count();
         match join_all(set) {
             Ok(Passed::Same) => {
-                // that live links come by steps from earlier ones is what this call promises
+                // it tells also that the board is one, so that each vertex has its number
                 let _colour = set.colour();
                 return Ok(Closure::Closed);
             }

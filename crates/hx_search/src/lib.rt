@@ -7,6 +7,7 @@ mod bases;
 mod candidates;
 mod closures;
 mod covers;
+mod decisions;
 mod ends;
 mod entries;
 mod ors;
@@ -20,7 +21,8 @@ mod vertices;
 mod work;
 
 pub use closures::{Closure, close};
-pub use reaches::{Reached, reach};
+pub use decisions::{Reached, decided};
+pub use reaches::reach;
 
 #[cfg(test)]
 mod plain;

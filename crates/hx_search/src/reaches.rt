@@ -4,28 +4,18 @@
 //! for their groups, and few of each pair of ends; the smallest come first, and the first one that decides the position may
 //! end it.
 
-ghost use Rattle.std.specs.Prelude.{◌≡◌, ◌↔◌, IsTrue, IfOk};
+ghost use Rattle.std.specs.Prelude.{IfOk};
 ghost use Rattle.hx_linkset.specs.States.{IsRight};
 ghost use Rattle.hx_search.specs.Closed.{IsGrown};
 ghost use Rattle.hx_search.specs.Decided.{IsReached};
 ghost use Rattle.hx_search.specs.Progress.{IsTaken};
 
 use crate::candidates::MOST_CELLS;
+use crate::decisions::{Reached, decided};
 use crate::work::Work;
-use hx_board::{Colour, Memory, Vertex};
+use hx_board::{Colour, Memory};
 use hx_link::{Kind, Link};
 use hx_linkset::{Added, LinkSet};
-
-/// What the useful links show of a position.
-#[derive(Clone, Copy, PartialEq, Eq, Debug)]
-pub enum Reached {
-    /// The set's player wins: the live link at this index joins the player's two sides, and it is Full, or the player is to
-    /// move.
-    Decided(u32),
-
-    /// No such link is live.
-    Open,
-}
 
 /// What became of the candidates of one size.
 #[derive(Clone, Copy, PartialEq, Eq, Debug)]
@@ -133,30 +123,6 @@ fn grow(set: &mut LinkSet, work: &mut Work, until: Until) -> Result<(), Memory>
     Ok(())
 }
 
-/// Whether it is the turn of the set's player.
-fn is_turn(set: &LinkSet, to_move: Colour) -> bool
-    ensures { IsTrue result ↔ (set.now.player ≡ to_move) }
-{
-    set.colour() == to_move
-}
-
-/// Whether the set's player wins by a live link.
-fn answer(set: &LinkSet, to_move: Colour) -> Reached
-    ensures { IsReached set.now to_move result }
-{
-    if let Some(index) = set.first_of(Kind::Full, Vertex::First, Vertex::Last) {
-        return Reached::Decided(index);
-    }
-    let with_move = is_turn(set, to_move);
-    if !with_move {
-        return Reached::Open;
-    }
-    match set.first_of(Kind::Semi, Vertex::First, Vertex::Last) {
-        Some(index) => Reached::Decided(index),
-        None => Reached::Open,
-    }
-}
-
 /// Adds useful links, the smallest first.
 pub(crate) fn add_useful(set: &mut LinkSet, until: Until) -> Result<(), Memory>
     ensures { IsGrown set.old set.new }
@@ -187,7 +153,7 @@ pub fn reach(set: &mut LinkSet, to_move: Colour) -> Result<Reached, Memory>
     // that live links come by steps from earlier ones is what this call promises
     let _colour = set.colour();
     match added {
-        Ok(()) => Ok(answer(set, to_move)),
+        Ok(()) => Ok(decided(set, to_move)),
         Err(Memory) => Err(Memory),
     }
 }

@@ -1,10 +1,11 @@
--- A list with one node more, as a book of proofs: which entries it has then, and that no two are of one position and mover.
-use Rattle.std.proofs.Common.{◌≡◌, ℕ, zero, suc, List, [], ◌∷◌, ◌++◌, length, refl, sym, ap, ◌∙◌, subst, Some, ◌⊎◌, inl, inr, ⊎_elim}
+-- A list of nodes as a book of proofs. With one node more: which entries it has then, and that no two are of one position and
+-- mover. What was stored is the first entry of its position and mover.
+use Rattle.std.proofs.Common.{◌≡◌, ℕ, zero, suc, List, [], ◌∷◌, ◌++◌, length, refl, sym, ap, ◌∙◌, subst, Some, ◌⊎◌, inl, inr, ⊎_elim, arith}
 use Rattle.std.specs.Prelude.{slice_get}
 use Rattle.hx_board.specs.declared.colours.Colour.{Colour}
 use Rattle.hx_board.specs.Positions.{Board}
 use Rattle.hx_tree.specs.declared.nodes.Node.{Node}
-use Rattle.hx_tree.specs.Entries.{IsOf, IsEntry, HasNoEntry, AreApart}
+use Rattle.hx_tree.specs.Entries.{IsOf, IsEntry, HasNoEntry, AreDistinctEntries, IsFirstEntry, IsThere, IsAdded, IsStored}
 
 pub get-push : {A : Type 0} → (xs : List A) (x y : A) (place : ℕ) → slice_get (xs ++ x ∷ []) place ≡ Some y
     → (slice_get xs place ≡ Some y) ⊎ ((place ≡ length xs) × (y ≡ x))
@@ -45,8 +46,27 @@ module _ (nodes : List Node) (node : Node) where
     is_of = record { same_position = entry.is_of.same_position ∙ sym new.same_position; same_mover = entry.is_of.same_mover ∙ sym new.same_mover };
   })
 
-  pub apart-more : AreApart nodes → HasNoEntry nodes node.heading.position node.heading.to_move → AreApart (nodes ++ node ∷ [])
-  apart-more apart none board mover one other first second = ⊎_elim
-      (λ a. ⊎_elim (λ b. apart board mover one other a b) (λ b. absurd (new-only none board mover b.1 one a)) (entry-cases board mover other second))
+  pub distinct-more : AreDistinctEntries nodes → HasNoEntry nodes node.heading.position node.heading.to_move → AreDistinctEntries (nodes ++ node ∷ [])
+  distinct-more distinct none board mover one other first second = ⊎_elim
+      (λ a. ⊎_elim (λ b. distinct board mover one other a b) (λ b. absurd (new-only none board mover b.1 one a)) (entry-cases board mover other second))
       (λ a. ⊎_elim (λ b. absurd (new-only none board mover a.1 other b)) (λ b. a.0 ∙ sym b.0) (entry-cases board mover other second))
       (entry-cases board mover one first)
+
+  -- the node at the end is the first entry, where its position and mover had none
+  pub first-last : HasNoEntry nodes node.heading.position node.heading.to_move
+      → IsFirstEntry (nodes ++ node ∷ []) node.heading.position node.heading.to_move (length nodes)
+  first-last none = record {
+    entry = entry-last;
+    first = λ earlier less entry. ⊎_elim
+        (λ was. none earlier was)
+        (λ last. absurd (omega (arith, less, last.0)))
+        (entry-cases node.heading.position node.heading.to_move earlier entry);
+  }
+
+-- what was stored has a first entry at the answered place
+pub first-stored : (slots : ℕ) (old new : List Node) (node : Node) (place : ℕ) → IsStored slots old node place new
+    → IsFirstEntry new node.heading.position node.heading.to_move place
+first-stored slots old new node place stored = ⊎_elim
+    (λ (there : IsThere old node place new). rw there.same there.first)
+    (λ (added : IsAdded slots old node place new). rw (added.grown, added.last) (first-last old node added.none))
+    stored

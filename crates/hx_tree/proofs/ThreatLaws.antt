@@ -9,7 +9,8 @@ use Rattle.hx_board.specs.Positions.{Board, IsEmpty}
 use Rattle.hx_board.proofs.SetLaws.{has-intersection_left, has-intersection_right, has-intersection_both}
 use Rattle.hx_link.specs.declared.links.Link.{Link}
 use Rattle.hx_link.specs.Steps.{IsChainLink}
-use Rattle.hx_tree.specs.Steps.{IsThreat, IsThreatOn, AreThreats, IsInEachThreat, IsOutsideThreat, most_threats}
+use Rattle.hx_tree.specs.Steps.{IsThreat, IsThreatOn, AreThreats, IsInEachThreat, IsOutsideThreat}
+use Rattle.hx_tree.specs.declared.steps.TheConstants.{MOST_THREATS}
 use Rattle.hx_tree.specs.Answers.{IsToAnswer}
 
 -- what holds of each item holds of one that the list contains
@@ -129,7 +130,7 @@ module _ (board : Board) (links : List Link) (threats : List ℕ) where
       (λ (from : count ≤ k). let Q : Option ℕ → Type 0 = λ o. IfSome o P in subst Q (sym (slice_get_past threats k (omega arith))) tt)
       (cases_lt k count)
 
-  pub all_shared : (count shared : ℕ) → length threats ≤ count → length threats ≤ most_threats → AreShared count shared
+  pub all_shared : (count shared : ℕ) → length threats ≤ count → length threats ≤ MOST_THREATS → AreShared count shared
       → AreThreats links threats × ((cell : ℕ) → (has shared cell ≡ true) ↔ IsToAnswer board links threats cell)
   all_shared count shared end few are = (
     record { few = few; each = past (IsThreat links) count end are.each },

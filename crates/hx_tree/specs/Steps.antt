@@ -9,18 +9,11 @@ use Rattle.hx_link.specs.declared.links.Link.{Link}
 use Rattle.hx_link.specs.declared.steps.Step.{Step}
 use Rattle.hx_link.specs.Steps.{AreRightSteps, IsChainLink}
 use Rattle.hx_tree.specs.declared.nodes.Heading.{Heading}
-
--- the most steps of a node
-abbrev pub most_steps : ℕ
-most_steps = 8192
-
--- the most threats of a node
-abbrev pub most_threats : ℕ
-most_threats = 128
+use Rattle.hx_tree.specs.declared.steps.TheConstants.{MOST_STEPS, MOST_THREATS}
 
 -- not too many steps, each of which gives a link after the links of those before it; these are the links
 pub record GiveLinks (board : Board) (player : Colour) (steps : List Step) (links : List Link) : Type 0 where
-  pub few : length steps ≤ most_steps
+  pub few : length steps ≤ MOST_STEPS
   pub right : AreRightSteps board player [] steps links
 
 -- the last link joins the winner's two sides, and it is Full, or the winner is to move
@@ -42,7 +35,7 @@ IsThreat links place = IsSomeAnd (slice_get links place) IsChainLink
 
 -- not too many threats
 pub record AreThreats (links : List Link) (threats : List ℕ) : Type 0 where
-  pub few : length threats ≤ most_threats
+  pub few : length threats ≤ MOST_THREATS
   pub each : (k : ℕ) → IfSome (slice_get threats k) (IsThreat links)
 
 -- the cell is in the carriers of all threats

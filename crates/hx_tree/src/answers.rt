@@ -8,12 +8,12 @@ ghost use Rattle.hx_tree.specs.Answers.{AreInOrder, AreAnswered, HasChild, IsRig
 ghost use Rattle.hx_tree.specs.Named.{IsRightGiven};
 
 use crate::headings::leads;
-use crate::lists::{Lines, Steps, Threats};
+use crate::lists::{Lines, Threats};
 use crate::nodes::{Heading, Line};
 use crate::steps::{cells_to_answer, links_of};
 use hx_board::{Mask, Memory, Position};
 use hx_inferior::dominates;
-use hx_link::Link;
+use hx_link::{Link, Steps};
 use std::alloc::Global;
 
 /// Whether the opponent of the winner is to move and has a move, and each of his moves is answered: by a threat that it

@@ -2,6 +2,7 @@
 #![tactic(auto)]
 
 mod answers;
+mod entries;
 mod fills;
 mod headings;
 mod lists;
@@ -10,9 +11,12 @@ mod rules;
 mod steps;
 mod trees;
 
-pub use lists::{FillSteps, Lines, Steps, Threats};
+pub use entries::Found;
+pub use hx_link::Steps;
+pub use lists::{FillSteps, Lines, Threats};
 pub use nodes::{Heading, Line, Node, Rule};
 pub use rules::check_node;
+pub use steps::{MOST_STEPS, MOST_THREATS};
 pub use trees::{Verdict, check_tree};
 
 #[cfg(test)]

@@ -1,10 +1,8 @@
-//! The lists that a rule holds. Contracts see each as the list of its items.
+//! The lists that a rule holds beside steps. Contracts see each as the list of its items.
 
 ghost use Rattle.std.specs.Prelude.{◌≡◌, nat_eq};
 ghost use Rattle.std.specs.Cmp.{partial_equiv_from_equiv};
 ghost use Rattle.std.specs.Cmp.Lexicographic.{pointwise, lists_per, lists_equiv, nat_list_eq_equiv};
-ghost use Rattle.hx_link.specs.contracts.steps.StepPartialEq.TheImpl.Laws.{laws-law as step_per};
-ghost use Rattle.hx_link.specs.contracts.steps.StepEq.TheImpl.Laws.{laws-law as step_equiv};
 ghost use Rattle.hx_inferior.specs.contracts.fills.FillStepPartialEq.TheImpl.Laws.{laws-law as fill_step_per};
 ghost use Rattle.hx_inferior.specs.contracts.fills.FillStepEq.TheImpl.Laws.{laws-law as fill_step_equiv};
 ghost use Rattle.hx_tree.specs.contracts.nodes.LinePartialEq.TheImpl.Laws.{laws-law as line_per};
@@ -12,60 +10,7 @@ ghost use Rattle.hx_tree.specs.contracts.nodes.LineEq.TheImpl.Laws.{laws-law as 
 
 use crate::nodes::Line;
 use hx_inferior::FillStep;
-use hx_link::Step;
 use std::marker::Model;
-
-/// The steps of a node, in the order in which they are given.
-#[derive(Debug, Drop)]
-pub struct Steps {
-    items: Vec<Step>,
-}
-
-impl Model for Steps {
-    ghost use Rattle.std.specs.Prelude.{List};
-    ghost use Rattle.hx_link.specs.declared.steps.Step.{Step};
-
-    ghost Value = { List Step };
-
-    ghost view = { λ s. s.items.items };
-}
-
-impl Steps {
-    /// The list of these steps.
-    pub fn new(items: Vec<Step>) -> Steps
-        ensures { result ≡ items.items }
-    {
-        Steps { items }
-    }
-
-    /// The steps, in their order.
-    pub fn items(&self) -> &[Step]
-        ensures { result.now ≡ self.now }
-    {
-        self.items.as_slice()
-    }
-
-    /// The vector of the steps.
-    pub fn into_inner(self) -> Vec<Step>
-        ensures { result.items ≡ self }
-    {
-        self.items
-    }
-}
-
-impl PartialEq for Steps {
-    ghost eq = { pointwise ⟦<Step as PartialEq>⟧.eq };
-
-    ghost laws = { lists_per step_per };
-
-    fn eq(&self, other: &Steps) -> bool {
-        self.items() == other.items()
-    }
-}
-
-impl Eq for Steps {
-    ghost laws = { lists_equiv step_equiv };
-}
 
 /// The places of a node's threats among its steps, in the order in which they are given.
 #[derive(Debug, Drop)]

@@ -4,9 +4,10 @@
 ghost use Rattle.std.specs.Prelude.{◌≡◌};
 ghost use Rattle.hx_tree.specs.Answers.{cell_of};
 
-use crate::lists::{FillSteps, Lines, Steps, Threats};
+use crate::lists::{FillSteps, Lines, Threats};
 use hx_board::{Cell, Colour, Position};
 use hx_inferior::Kill;
+use hx_link::Steps;
 
 /// What a node says: in this position, with this player to move, this player wins.
 #[derive(Clone, Copy, PartialEq, Eq, Debug)]

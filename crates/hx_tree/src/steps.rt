@@ -11,11 +11,11 @@ use hx_board::{Colour, Groups, Mask, Memory, Position};
 use hx_link::{Kind, Link, Step, result_of};
 use std::alloc::Global;
 
-/// The most steps of a node.
-const MOST_STEPS: usize = 8192;
+/// The most steps of a node that give links.
+pub const MOST_STEPS: usize = 8192;
 
 /// The most threats of a node.
-const MOST_THREATS: usize = 128;
+pub const MOST_THREATS: usize = 128;
 
 /// The links that steps of the player give, one after the other. None where there are too many steps, or where one of
 /// them gives no link.

@@ -1,9 +1,9 @@
-use Rattle.hx_fill.specs.Rounds.{IsGrown, IsRound}
+use Rattle.hx_fill.specs.Rounds.{HasNoStoneLess, IsRound}
 use Rattle.hx_fill.proofs.rounds.fill_round.Given as goal
 
 abbrev pub invariant-loop-cell : goal.invariant-loop-cell
 invariant-loop-cell l = record {
-  grown : IsGrown l.view.board l.filled.position;
+  grown : HasNoStoneLess l.view.board l.filled.position;
   round : IsRound l.colour l.left l.view.board l.fn.filled.steps.items l.filled.position l.filled.steps.items;
 }
 

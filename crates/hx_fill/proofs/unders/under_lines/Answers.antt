@@ -22,4 +22,5 @@ loop-cell-preserved c =
 pub returns : goal.returns
 returns c =
     let sifted = rw (c.of-turn.ensures.position, c.of-turn.ensures.mover) at c.loop-cell.invariant in
-    sifted_ends c.args.position.now c.args.mover c.args.cells c.loop-cell.left _ _ _ sifted (λ n h. c.in_default.ensures n (rw c.size-size.ensures.value (c.requires n h).on_board))
+    rw c.new-2.ensures
+    (sifted_ends c.args.position.now c.args.mover c.args.cells c.loop-cell.left _ _ _ sifted (λ n h. c.in_default.ensures n (rw c.size-size.ensures.value (c.requires n h).on_board)))

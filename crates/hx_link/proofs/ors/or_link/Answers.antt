@@ -23,4 +23,4 @@ returns-then-not-none_shared c = λ link g ok.
 
 pub returns : goal.returns
 returns c = or-made _ _ _ c.in-Some.first (slice_get-get_or c.args.places.now 0 0 (omega arith)) (sym c.in-Some.ensures) _ _ c.in-Some-read_parts.ensures _ _ _
-    (eqb-true _ _ (sym c.eq-none_shared.ensures ∙ c.if-not-none_shared.false) ∙ c.empty-none.ensures) c.if-count-lt2.false c.if-count-gt128.false c.made.ensures
+    (eqb-true _ _ (sym c.eq-none_shared.ensures ∙ c.if-not-none_shared.false) ∙ c.empty-none.ensures) c.if-count-lt2.false c.if-count-gt-MOST_PARTS.false c.made.ensures

@@ -3,5 +3,5 @@ use Rattle.hx_board.proofs.graphs.Graph.below.Goals as goal
 
 pub returns : goal.returns
 returns c =
-    rw (c.meet.ensures.set, ← c.self.view_is)
+    rw (c.of.ensures, c.meet.ensures.set, ← c.self.view_is, ← c.codes.ensures.value)
     (below-is _ _ _ _ c.self.invariant.valid.0 c.self.invariant.is_all c.later.ensures)

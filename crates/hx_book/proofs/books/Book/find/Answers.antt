@@ -19,7 +19,7 @@ returns-then-is_of c =
     let many : c.len.result ≡ length c.self.inside.heads.items = omega (arith, c.len.ensures, c.self.inside.heads.ok) in
     let number : c.bucket-number.result ≡ bucket_of (length c.self.inside.heads.items) c.args.position.now c.args.to_move = rw many at c.bucket-number.ensures.value in
     rw (← c.self.view_is) (reached-found c.self.inside.nodes.items c.self.inside.heads.items c.self.inside.next.items c.self.invariant.chains c.args.position.now c.args.to_move c.bucket-number.result number
-    c.loop-link.link c.loop-link-test.true c.loop-link.invariant c.index.result.now c.index.ensures (c.is_of.ensures.0 c.if-is_of.true))
+    c.loop-link.link c.loop-link-test.true c.loop-link.invariant c.index.result.now c.index.ensures c.self.invariant.book.distinct (c.is_of.ensures.0 c.if-is_of.true))
 
 pub index-link-requires-in-loop-link : goal.index-link-requires-in-loop-link
 index-link-requires-in-loop-link c = omega (arith, c.loop-link.invariant.within, c.loop-link-test.true, c.self.inside.next.ok, c.self.invariant.chains.long)

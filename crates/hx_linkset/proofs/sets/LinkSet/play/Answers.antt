@@ -2,6 +2,7 @@ use Rattle.std.proofs.Common.{◌≡◌, ◌∷◌, length, vec_len, sym, ◌∙
 use Rattle.hx_board.specs.Positions.{IsEmpty}
 use Rattle.hx_linkset.specs.States.{Standing, played}
 use Rattle.hx_linkset.specs.Held.{IsPassed}
+use Rattle.hx_linkset.proofs.KeptLaws.{live-played, live-before, untouched-live}
 use Rattle.hx_linkset.proofs.FieldLaws.{now, fields-room, fields-played, seen-played}
 use Rattle.hx_linkset.proofs.sets.LinkSet.play.Goals as goal
 
@@ -28,8 +29,8 @@ invariant_of-self c =
     rw c.as_slice.ensures.value at c.drop_touched.ensures.passed in
     fields-played _ _ _ _ _ _ _ _ _ _ c.self.invariant c.args.colour c.args.cell is_empty _ _ count logged _ _ passed _ _ _ _ _ c.play.ensures c.of-self-inside.ensures c.push_reserved.ensures.items c.push_reserved.ensures.capacity c.drop_touched.ensures.room
 
-pub returns : goal.returns
-returns c =
+pub returns-clause-set : goal.returns-clause-set
+returns-clause-set c =
     let P : Standing → Type 0 = λ s. IsEmpty s.present.board c.args.cell in
     let is_empty : IsEmpty c.self.inside.position c.args.cell = subst P (sym c.self.view_is) c.requires in
     let count : c.len-count.result ≡ length c.self.inside.links.items = search rules in
@@ -38,3 +39,9 @@ returns c =
     rw c.as_slice.ensures.value at c.drop_touched.ensures.passed in
     seen-played _ _ _ _ _ _ _ _ _ _ c.self.invariant c.args.colour c.args.cell is_empty _ _ count logged _ _ passed _ _ _ _ _ c.play.ensures c.of-self-inside.ensures c.push_reserved.ensures.items c.push_reserved.ensures.capacity c.drop_touched.ensures.room
     ∙ ap (λ (s : Standing). let t : Standing = record { player = s.player; present = played s.present c.args.colour c.args.cell; past = s.present ∷ s.past } in t) c.self.view_is
+
+pub returns-clause-live : goal.returns-clause-live
+returns-clause-live c = λ link. rw (← c.self.view_is, c.play.ensures) (
+  λ live. (live-before _ _ _ _ link live, untouched-live _ _ _ _ link live),
+  λ was. live-played _ _ _ _ link was.0 was.1,
+)

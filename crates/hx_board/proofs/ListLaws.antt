@@ -1,0 +1,79 @@
+-- The laws of lists that the crates above share: what is read at a place, and a list with one element more.
+use Rattle.std.proofs.Common.{◌≡◌, ℕ, zero, suc, ◌+◌, ◌<◌, List, [], ◌∷◌, ◌++◌, length, take, get_or, refl, sym, ap, ◌∙◌, subst, Some, None, ◌⊎◌, inl, inr, ⊎_elim, arith}
+use Rattle.std.specs.Prelude.{Option, IfSome, Contains, map, slice_get, slice_index}
+use Rattle.std.proofs.lemmas.List.{take_more}
+use Rattle.std.proofs.lemmas.Option.{slice_get-get_or}
+use Rattle.std.proofs.lemmas.List.Elements.{Contains-push_cases}
+
+pub same_some : {A : Type 0} → (x y : A) → Some x ≡ Some y → x ≡ y
+same_some x y e = cc
+
+-- ---- what is read at a place
+
+pub get-lt : {A : Type 0} → (xs : List A) (place : ℕ) (x : A) → slice_get xs place ≡ Some x → place < length xs
+get-lt [] place x e = cc
+get-lt (y ∷ ys) zero x e = omega arith
+get-lt (y ∷ ys) (suc place) x e = omega (arith, get-lt ys place x e)
+
+pub read-index : (xs : List ℕ) (place x : ℕ) → place < length xs → x ≡ get_or xs place x → x ≡ slice_index xs place
+read-index [] place x inside read = absurd (omega arith)
+read-index (y ∷ ys) zero x inside read = read
+read-index (y ∷ ys) (suc place) x inside read = read-index ys place x (omega arith) read
+
+pub read-get : {A : Type 0} → (xs : List A) (place : ℕ) (x : A) → place < length xs → x ≡ get_or xs place x → slice_get xs place ≡ Some x
+read-get [] place x inside read = absurd (omega arith)
+read-get (y ∷ ys) zero x inside read = ap Some (sym read)
+read-get (y ∷ ys) (suc place) x inside read = read-get ys place x (omega arith) read
+
+pub read-or : {A : Type 0} → (xs : List A) (place : ℕ) (x other : A) → place < length xs → x ≡ get_or xs place x → get_or xs place other ≡ x
+read-or [] place x other inside read = absurd (omega arith)
+read-or (y ∷ ys) zero x other inside read = sym read
+read-or (y ∷ ys) (suc place) x other inside read = read-or ys place x other (omega arith) read
+
+pub get_or-get : {A : Type 0} → (xs : List A) (place : ℕ) (x other : A) → slice_get xs place ≡ Some x → get_or xs place other ≡ x
+get_or-get [] place x other e = cc
+get_or-get (y ∷ ys) zero x other e = cc
+get_or-get (y ∷ ys) (suc place) x other e = get_or-get ys place x other e
+
+pub get-map : {A B : Type 0} → (f : A → B) (xs : List A) (place : ℕ) (x : A) → slice_get xs place ≡ Some x → slice_get (map f xs) place ≡ Some (f x)
+get-map f [] place x e = cc
+get-map f (y ∷ ys) zero x e = cc
+get-map f (y ∷ ys) (suc place) x e = get-map f ys place x e
+
+pub get-map_none : {A B : Type 0} → (f : A → B) (xs : List A) (place : ℕ) → slice_get xs place ≡ None → slice_get (map f xs) place ≡ None
+get-map_none f [] place e = refl
+get-map_none f (y ∷ ys) zero e = cc
+get-map_none f (y ∷ ys) (suc place) e = get-map_none f ys place e
+
+-- what holds at each place holds of each element
+pub of_contained : {X : Type 0} (P : X → Type 0) (items : List X) (item : X) → ((k : ℕ) → IfSome (slice_get items k) P) → Contains items item → P item
+of_contained {X} P items item each found = let Q : Option X → Type 0 = λ o. IfSome o P in
+    subst Q (slice_get-get_or items found.0 item found.1 ∙ ap Some found.2) (each found.0)
+
+-- ---- one element more
+
+pub get-push : {A : Type 0} → (xs : List A) (x y : A) (place : ℕ) → slice_get (xs ++ x ∷ []) place ≡ Some y
+    → (slice_get xs place ≡ Some y) ⊎ ((place ≡ length xs) × (y ≡ x))
+get-push [] x y zero e = inr (refl, cc)
+get-push [] x y (suc place) e = cc
+get-push (z ∷ zs) x y zero e = inl e
+get-push (z ∷ zs) x y (suc place) e = ⊎_elim (λ w. inl w) (λ w. inr (ap suc w.0, w.1)) (get-push zs x y place e)
+
+pub get-push_before : {A : Type 0} → (xs : List A) (more : A) (place : ℕ) (x : A) → slice_get xs place ≡ Some x → slice_get (xs ++ more ∷ []) place ≡ Some x
+get-push_before [] more place x e = cc
+get-push_before (z ∷ zs) more zero x e = e
+get-push_before (z ∷ zs) more (suc place) x e = get-push_before zs more place x e
+
+pub get-push_last : {A : Type 0} → (xs : List A) (x : A) → slice_get (xs ++ x ∷ []) (length xs) ≡ Some x
+get-push_last [] x = refl
+get-push_last (z ∷ zs) x = get-push_last zs x
+
+-- the part of a list that has been read, with the element that is read next
+pub take-read : {A : Type 0} → (xs : List A) (i : ℕ) (x : A) → i < length xs → x ≡ get_or xs i x → take (i + 1) xs ≡ take i xs ++ x ∷ []
+take-read xs i x lt is = take_more xs i x lt ∙ ap (λ y. take i xs ++ y ∷ []) (sym is)
+
+-- what holds of each element that has been read, and of the next one
+pub all_read-more : {A : Type 0} → (P : A → Type 0) (xs : List A) (i : ℕ) (x : A) → i < length xs → x ≡ get_or xs i x
+    → ((y : A) → Contains (take i xs) y → P y) → P x → (y : A) → Contains (take (i + 1) xs) y → P y
+all_read-more P xs i x lt is before here y h =
+    ⊎_elim (before y) (λ e. subst P e here) (Contains-push_cases (take i xs) x y (rw (take-read xs i x lt is) at h))

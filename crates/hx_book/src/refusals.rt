@@ -1,0 +1,46 @@
+//! Want of a slot.
+
+ghost use Rattle.std.specs.Prelude.{◌≡◌};
+
+use hx_tree::Node;
+use std::marker::Model;
+use thiserror::Error;
+
+/// The answer of a book whose slots are all taken, with the node that found no room.
+#[derive(Debug, Drop, Error)]
+#[error("each of the {held} slots is taken")]
+pub struct NoSlot {
+    held: u32,
+    node: Node,
+}
+
+impl Model for NoSlot {
+    ghost use Rattle.hx_book.specs.Puts.{Refusal};
+
+    ghost Value = { Refusal };
+
+    ghost view = { λ r. record { held = r.held; node = r.node } };
+}
+
+impl NoSlot {
+    /// The refusal of a node by a book that holds so many.
+    pub(crate) fn new(held: u32, node: Node) -> NoSlot
+        ensures { result ≡ record { held = held; node = node } }
+    {
+        NoSlot { held, node }
+    }
+
+    /// How many nodes the book held.
+    pub fn held(&self) -> u32
+        ensures { result ≡ self.now.held }
+    {
+        self.held
+    }
+
+    /// The node that was refused.
+    pub fn into_node(self) -> Node
+        ensures { result ≡ self.node }
+    {
+        self.node
+    }
+}

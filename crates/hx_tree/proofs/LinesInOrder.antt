@@ -1,0 +1,192 @@
+-- The lines of a node, made one by one in cell order: the cells of the lines so far are the empty cells that are not left, and
+-- they come before those that are left. So when no cell is left, there is a line for each empty cell, in cell order. For
+-- programs that answer each move of the opponent by a child.
+use Rattle.std.proofs.Common.{◌≡◌, ℕ, zero, suc, ◌+◌, ◌<◌, ◌≤◌, Bool, true, false, ◌&&◌, not, eqb, eqb-true, eq-eqb, List, [], ◌∷◌, ◌++◌, length, get_or, refl, sym, ap, ◌∙◌, arith, ◌⊎◌, inl, inr, ⊎_elim, ◌↔◌, length-append, Option, Some, None}
+use Rattle.std.specs.Prelude.{slice_get, IfSome}
+use Rattle.std.specs.List.Sorted.{IsStrictlyIncreasing}
+use Rattle.std.proofs.lemmas.Bool.{false≢true, cases_lt}
+use Rattle.std.proofs.lemmas.List.{get_or_append_left, map-append}
+use Rattle.std.proofs.lemmas.List.Elements.{All-push, All-weaker, Contains-append_left, Contains-append_right}
+use Rattle.std.proofs.Math.Seq.{get_or-append_seam}
+use Rattle.hx_board.specs.Colours.{other_of}
+use Rattle.hx_board.specs.Sets.{has, remove, count_below}
+use Rattle.hx_board.specs.Cells.{OnBoard, IsLeastOn}
+use Rattle.hx_board.specs.Positions.{Board, IsBoard, IsEmpty}
+use Rattle.hx_board.specs.Counts.{empty_count}
+use Rattle.hx_board.proofs.SetLaws.{has-remove, has-remove_before, is_false}
+use Rattle.hx_board.proofs.CellLaws.{on_board-small}
+use Rattle.hx_board.proofs.Tallies.{count_below-remove}
+use Rattle.hx_tree.specs.declared.nodes.Heading.{Heading}
+use Rattle.hx_tree.specs.declared.nodes.Line.{Line}
+use Rattle.hx_tree.specs.declared.nodes.Line.TheVariants.{Child, Under}
+use Rattle.hx_tree.specs.Answers.{AreInOrder, IsToAnswer, IsRightChild, IsRightLine, IsRightAll, cell_of, cells_of}
+use Rattle.hx_tree.proofs.CellOrder.{same_kind}
+use Rattle.hx_tree.proofs.RightNodeGrowth.{some_and-append}
+
+-- ---- a cell is taken out of a set
+
+-- a cell that is no more in the set is the one that was taken out, or was not in it before
+gone_cases : (set cell n : ℕ) → has (remove set cell) n ≡ false → (n ≡ cell) ⊎ (has set n ≡ false)
+gone_cases set cell n gone = cases (has set n) (eqb n cell) refl refl
+  where
+    cases : (member same : Bool) → has set n ≡ member → eqb n cell ≡ same → (n ≡ cell) ⊎ (has set n ≡ false)
+    cases true true e f = inl (eqb-true n cell f)
+    cases true false e f = absurd (false≢true (sym gone ∙ has-remove set cell n ∙ ap (λ b. b && not (eqb n cell)) e ∙ ap not f))
+    cases false same e f = inr e
+
+gone_itself : (set cell : ℕ) → has (remove set cell) cell ≡ false
+gone_itself set cell = has-remove set cell cell ∙ ap (λ b. has set cell && not b) (eq-eqb cell cell refl) ∙ and_false (has set cell)
+  where
+    and_false : (b : Bool) → (b && false) ≡ false
+    and_false true = refl
+    and_false false = refl
+
+gone_before : (set cell n : ℕ) → has set n ≡ false → has (remove set cell) n ≡ false
+gone_before set cell n gone = is_false _ (λ member. false≢true (sym gone ∙ has-remove_before set cell n member))
+
+-- ---- one cell more in order
+
+module _ (Kind Next : ℕ → Type 0) (cells : List ℕ) (cell : ℕ) (before : AreInOrder Kind cells) (later : (n : ℕ) → Kind n → n < cell) where
+  rise : IsStrictlyIncreasing (cells ++ cell ∷ [])
+  rise k less = ⊎_elim inside at_end (cases_lt (k + 1) (length cells))
+    where
+      inside : k + 1 < length cells → get_or (cells ++ cell ∷ []) k 0 < get_or (cells ++ cell ∷ []) (k + 1) 0
+      inside small =
+          let here : k < length cells = omega arith in
+          rw (get_or_append_left cells (cell ∷ []) 0 k here, get_or_append_left cells (cell ∷ []) 0 (k + 1) small) (before.in_order k small)
+
+      at_end : length cells ≤ k + 1 → get_or (cells ++ cell ∷ []) k 0 < get_or (cells ++ cell ∷ []) (k + 1) 0
+      at_end large =
+          let last : k + 1 ≡ length cells = omega (arith, length-append cells (cell ∷ [])) in
+          let here : k < length cells = omega arith in
+          rw (get_or_append_left cells (cell ∷ []) 0 k here, last, get_or-append_seam cells cell [] 0) (later _ (before.only k 0 here))
+
+  pub in_order_more : ((n : ℕ) → Next n → (n ≡ cell) ⊎ Kind n) → ((n : ℕ) → Kind n → Next n) → Next cell → AreInOrder Next (cells ++ cell ∷ [])
+  in_order_more cases keeps here = record {
+    each = λ n next. ⊎_elim
+        (λ same. Contains-append_right cells (cell ∷ []) n (0, omega arith, sym same))
+        (λ kind. Contains-append_left cells (cell ∷ []) n (before.each n kind)) (cases n next);
+    only = All-push Next cells cell (All-weaker Kind Next keeps cells before.only) here;
+    in_order = rise;
+  }
+
+-- ---- the lines so far
+
+-- an empty cell that is not left
+abbrev pub IsDone : Board → ℕ → ℕ → Type 0
+IsDone board left cell = IsEmpty board cell × (has left cell ≡ false)
+
+-- a line with a right child
+abbrev pub IsRightChildLine : List Heading → Heading → Line → Type 0
+IsRightChildLine headings heading (Child cell child) = IsRightChild headings heading cell child
+IsRightChildLine headings heading (Under cell better kill) = ⊥
+
+-- the lines so far answer the empty cells that are not left, in cell order, each by a right child
+pub record AreAnsweredSoFar (headings : List Heading) (heading : Heading) (left : ℕ) (lines : List Line) : Type 0 where
+  pub inside : (cell : ℕ) → has left cell ≡ true → IsEmpty heading.position cell
+  pub earlier : (done cell : ℕ) → IsDone heading.position left done → has left cell ≡ true → done < cell
+  pub in_order : AreInOrder (IsDone heading.position left) (cells_of lines)
+  pub lines_right : (k : ℕ) → IfSome (slice_get lines k) (IsRightChildLine headings heading)
+  pub count : length lines + count_below 128 left ≡ empty_count heading.position
+
+-- before the first line all empty cells are left
+pub none_answered : (headings : List Heading) (heading : Heading) (left : ℕ)
+    → ((cell : ℕ) → (has left cell ≡ true) ↔ IsEmpty heading.position cell)
+    → count_below 128 left ≡ empty_count heading.position → AreAnsweredSoFar headings heading left []
+none_answered headings heading left is_left count = record {
+  inside = λ cell member. (is_left cell).0 member;
+  earlier = λ done cell is _. absurd (not_done done is);
+  in_order = record { each = λ cell is. absurd (not_done cell is); only = λ k d less. absurd (omega arith); in_order = λ k less. absurd (omega arith) };
+  lines_right = λ k. tt;
+  count = omega arith;
+}
+  where
+    not_done : (cell : ℕ) → IsDone heading.position left cell → ⊥
+    not_done cell is = false≢true (sym is.1 ∙ (is_left cell).1 is.0)
+
+right_line-append : (headings more : List Heading) (heading : Heading) (line : Line) → IsRightChildLine headings heading line
+    → IsRightChildLine (headings ++ more) heading line
+right_line-append headings more heading (Child cell child) right = some_and-append _ headings more child right
+right_line-append headings more heading (Under cell better kill) right = absurd right
+
+right_lines-append : (headings more : List Heading) (heading : Heading) (lines : List Line) (line : Line)
+    → ((k : ℕ) → IfSome (slice_get lines k) (IsRightChildLine headings heading)) → IsRightChildLine (headings ++ more) heading line
+    → (k : ℕ) → IfSome (slice_get (lines ++ line ∷ []) k) (IsRightChildLine (headings ++ more) heading)
+right_lines-append headings more heading [] line right last zero = last
+right_lines-append headings more heading [] line right last (suc k) = tt
+right_lines-append headings more heading (first ∷ lines) line right last zero = right_line-append headings more heading first (right 0)
+right_lines-append headings more heading (first ∷ lines) line right last (suc k) =
+    right_lines-append headings more heading lines line (λ j. right (suc j)) last k
+
+-- the first cell that is left is answered, after some headings more
+pub one_more_answered : (headings more : List Heading) (heading : Heading) (left : ℕ) (lines : List Line) (cell child : ℕ)
+    → IsBoard heading.position → AreAnsweredSoFar headings heading left lines → IsLeastOn heading.position.size left cell
+    → IsRightChild (headings ++ more) heading cell child
+    → AreAnsweredSoFar (headings ++ more) heading (remove left cell) (lines ++ Child cell child ∷ [])
+one_more_answered headings more heading left lines cell child valid before least leads = record {
+  inside = λ n member. before.inside n (has-remove_before left cell n member);
+  earlier = λ done n is member. ⊎_elim
+      (λ same. rw same (later n member)) (λ gone. before.earlier done n (is.0, gone) (has-remove_before left cell n member)) (gone_cases left cell done is.1);
+  in_order = rw (map-append cell_of lines (Child cell child ∷ []))
+      (in_order_more (IsDone heading.position left) (IsDone heading.position (remove left cell)) (cells_of lines) cell before.in_order
+      (λ n is. before.earlier n cell is least.member)
+      (λ n is. ⊎_elim inl (λ gone. inr (is.0, gone)) (gone_cases left cell n is.1))
+      (λ n is. (is.0, gone_before left cell n is.1))
+      (before.inside cell least.member, gone_itself left cell));
+  lines_right = right_lines-append headings more heading lines (Child cell child) before.lines_right leads;
+  count =
+      let small : cell < 121 = on_board-small heading.position.size cell valid.0 least.on_board in
+      omega (arith, before.count, length-append lines (Child cell child ∷ []), count_below-remove 128 left cell least.member (omega arith));
+}
+  where
+    later : (n : ℕ) → has (remove left cell) n ≡ true → cell < n
+    later n member = ⊎_elim
+        (λ less. absurd (false≢true (sym (least.first n less (before.inside n (has-remove_before left cell n member)).on_board) ∙ has-remove_before left cell n member)))
+        (λ more. ⊎_elim (λ less. less) (λ least_too. let same : n ≡ cell = omega arith in absurd (false≢true (sym (gone_itself left cell) ∙ rw same at member))) (cases_lt cell n))
+        (cases_lt n cell)
+
+-- while a cell is left, fewer are answered than were empty
+pub fewer_answered : (headings : List Heading) (heading : Heading) (left : ℕ) (lines : List Line) (cell : ℕ) → IsBoard heading.position
+    → AreAnsweredSoFar headings heading left lines → IsLeastOn heading.position.size left cell → length lines + 1 ≤ empty_count heading.position
+fewer_answered headings heading left lines cell valid before least =
+    let small : cell < 121 = on_board-small heading.position.size cell valid.0 least.on_board in
+    omega (arith, before.count, count_below-remove 128 left cell least.member (omega arith))
+
+-- when no cell is left, each empty cell is answered
+pub all_answered : (headings : List Heading) (heading : Heading) (left : ℕ) (lines : List Line)
+    → AreAnsweredSoFar headings heading left lines → ((n : ℕ) → OnBoard heading.position.size n → has left n ≡ false)
+    → AreInOrder (IsEmpty heading.position) (cells_of lines)
+all_answered headings heading left lines before none = record {
+  each = λ cell empty. before.in_order.each cell (empty, none cell empty.on_board);
+  only = λ k d less. (before.in_order.only k d less).0;
+  in_order = before.in_order.in_order;
+}
+
+-- ---- a node of lines alone
+
+-- where there is no threat, each empty cell is to be answered
+all_to_answer : (board : Board) (cell : ℕ) → IsEmpty board cell ↔ IsToAnswer board [] [] cell
+all_to_answer board cell = (λ empty. record { empty = empty; shared = λ k. tt }, λ is. is.empty)
+
+child_line_right : (headings : List Heading) (heading : Heading) (lines : List Line) (line : Option Line)
+    → IfSome line (IsRightChildLine headings heading) → IfSome line (IsRightLine headings heading [] [] lines)
+child_line_right headings heading lines None right = tt
+child_line_right headings heading lines (Some (Child cell child)) right = right
+child_line_right headings heading lines (Some (Under cell better kill)) right = absurd right
+
+-- lines for all moves need no steps and no threats
+pub right_by_lines : (headings : List Heading) (heading : Heading) (lines : List Line) (some : ℕ)
+    → heading.to_move ≡ other_of heading.winner → IsEmpty heading.position some → AreInOrder (IsEmpty heading.position) (cells_of lines)
+    → ((k : ℕ) → IfSome (slice_get lines k) (IsRightChildLine headings heading)) → IsRightAll headings heading [] [] lines
+right_by_lines headings heading lines some mover empty in_order right = record {
+  mover = mover;
+  some = some;
+  some_empty = empty;
+  links = [];
+  steps_right = record { few = omega arith; right = refl };
+  answered = record {
+    threats_right = record { few = omega arith; each = λ k. tt };
+    cells = same_kind (IsEmpty heading.position) (IsToAnswer heading.position [] []) (cells_of lines) (all_to_answer heading.position) in_order;
+    lines_right = λ k. child_line_right headings heading lines (slice_get lines k) (right k);
+  };
+}

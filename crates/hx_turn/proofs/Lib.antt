@@ -1,0 +1,6 @@
+pub mod Exchanges
+pub mod TurnedCells
+pub mod TurnedSets
+pub mod TurnedBoards
+pub mod TurnedGraphs
+pub mod TurnedGames

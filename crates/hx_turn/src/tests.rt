@@ -1,0 +1,51 @@
+//! Turned positions by hand and by rows and columns, and callers of the laws.
+
+use super::*;
+use hx_board::{Colour, Mask, Position, Size};
+use std::test::Fail;
+
+/// A position by the cells of its stones, each told by its row and column.
+fn with_stones(size: Size, black: &[(u8, u8)], white: &[(u8, u8)]) -> Result<Position, Fail> {
+    let black = cells(size, black)?;
+    let white = cells(size, white)?;
+    Ok(Position::from_masks(size, black, white).ok_or("stones")?)
+}
+
+fn cells(size: Size, places: &[(u8, u8)]) -> Result<Mask, Fail> {
+    let mut set = Mask::empty();
+    for (row, col) in places {
+        set = set.with(size.cell(*row, *col).ok_or("cell")?);
+    }
+    Ok(set)
+}
+
+/// Black a1 and White b1 on three rows and two columns come to b3 and a3.
+#[test]
+fn three_rows_and_two_columns(rt: HostRuntime) -> Result<(), Fail> {
+    let size = Size::new(3, 2).ok_or("size")?;
+    let position = with_stones(size, &[(0, 0)], &[(0, 1)])?;
+    let expected = with_stones(size, &[(2, 1)], &[(2, 0)])?;
+    assert_eq!(rt; turned(&position), expected);
+    assert_eq!(rt; turned(&expected), position);
+    turned_joins(&position, Colour::Black);
+    turned_keeps(&position, Colour::Black, Colour::White);
+    Ok(())
+}
+
+/// Each cell of each board comes to the cell as far from the last row and column as it is from the first.
+#[test]
+fn each_cell_of_each_board(rt: HostRuntime) -> Result<(), Fail> {
+    for rows in 1..=11u8 {
+        for cols in 1..=11u8 {
+            let size = Size::new(rows, cols).ok_or("size")?;
+            for row in 0..rows {
+                for col in 0..cols {
+                    let position = with_stones(size, &[], &[(row, col)])?;
+                    let expected = with_stones(size, &[], &[(rows - 1 - row, cols - 1 - col)])?;
+                    assert_eq!(rt; turned(&position), expected, "{row}, {col}: {size:?}");
+                }
+            }
+        }
+    }
+    Ok(())
+}
