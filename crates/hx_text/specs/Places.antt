@@ -19,6 +19,7 @@ use Rattle.hx_text.specs.declared.places.Fed.TheVariants.{More, Node as Whole, E
 use Rattle.hx_text.specs.declared.places.Place.{Place}
 use Rattle.hx_text.specs.declared.places.Place.TheVariants.{Title, Size, Between, Inside, After, Failed}
 use Rattle.hx_text.specs.declared.places.Step.{Step}
+use Rattle.hx_text.specs.declared.places.TheConstants.{MOST_NODES}
 use Rattle.hx_text.specs.declared.places.TreeFault.{TreeFault}
 use Rattle.hx_text.specs.declared.places.TreeFault.TheVariants.{Text, TooMany as TooManyNodes, Memory as NoMemory}
 use Rattle.hx_text.specs.declared.places.Stop.{Stop}
@@ -30,7 +31,7 @@ use Rattle.hx_text.specs.TreeTexts.{AreTreeLines, AreTreeLinesOf, EachNodeFits, 
 
 -- the most nodes of a text
 abbrev pub most_nodes : ℕ
-most_nodes = 1048576
+most_nodes = MOST_NODES
 
 -- the winner in the last node's heading, if there is a node
 abbrev pub IsLastWinner : List Node → Option Colour → Type 0
@@ -124,6 +125,18 @@ Brings More new nodes lines = (new ≢ After) × Stands new nodes lines
 Brings (Whole node) new nodes lines = (new ≢ After) × Stands new (nodes ++ node ∷ []) lines
 Brings (End winner) new nodes lines = (new ≡ After) × ((size : Extent) × AreTreeLinesOf size nodes winner lines)
 
+-- what a reader says of one more line: old and new are the places before and after it, lines the lines with it
+abbrev pub Told : Place → List ℕ → Bool → ℕ → List Node → List (List ℕ) → Place → Result Fed TreeFault → Type 0
+Told old line ended number nodes lines new (Ok fed) = IsTrue ended × Brings fed new nodes lines
+-- the line is not ended, or is not of the grammar in its place
+Told old line ended number nodes lines new (Err (Text at_line)) = (at_line ≡ number) × (IsTrue ended → Begins AreTreeLines lines → ⊥)
+-- the line is a right first line of one node too many
+Told old line ended number nodes lines new (Err (TooManyNodes count)) = IsTrue ended × (count ≡ most_nodes) × (length nodes ≡ most_nodes) × IsNextNode old line
+-- the line takes memory
+Told old line ended number nodes lines new (Err NoMemory) = IsTrue ended × TakesMemory old line
+
+-- ---- words for the functions inside the crate alone
+
 -- what a step over a line says: the place and the nodes before the line, the line, the lines with it
 abbrev pub Follows : Place → List Node → List ℕ → List (List ℕ) → Result Step Stop → Type 0
 Follows old nodes line lines (Ok step) = Brings step.fed step.place nodes lines
@@ -201,16 +214,6 @@ abbrev pub AddsEntry : Begun → Entry → Result Step Stop → Type 0
 AddsEntry begun entry result =
     (nodes : List Node) (lines : List (List ℕ)) → StandsInside begun nodes lines → IsEntryLine begun.so_far.size (kind_due begun) entry
     → Follows (Inside begun) nodes (entry_line entry) (lines ++ entry_line entry ∷ []) result
-
--- what a reader says of one more line: old and new are the places before and after it, lines the lines with it
-abbrev pub Told : Place → List ℕ → Bool → ℕ → List Node → List (List ℕ) → Place → Result Fed TreeFault → Type 0
-Told old line ended number nodes lines new (Ok fed) = IsTrue ended × Brings fed new nodes lines
--- the line is not ended, or is not of the grammar in its place
-Told old line ended number nodes lines new (Err (Text at_line)) = (at_line ≡ number) × (IsTrue ended → Begins AreTreeLines lines → ⊥)
--- the line is a right first line of one node too many
-Told old line ended number nodes lines new (Err (TooManyNodes count)) = IsTrue ended × (count ≡ most_nodes) × (length nodes ≡ most_nodes) × IsNextNode old line
--- the line takes memory
-Told old line ended number nodes lines new (Err NoMemory) = IsTrue ended × TakesMemory old line
 
 -- the fault of the line with this number, which was not taken
 abbrev pub fault_of_stop : Stop → ℕ → TreeFault

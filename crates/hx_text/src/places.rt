@@ -80,7 +80,7 @@ pub enum Stop {
 }
 
 /// The most nodes of a text.
-pub(crate) const MOST_NODES: u32 = 1_048_576;
+pub const MOST_NODES: u32 = 1_048_576;
 
 /// Takes one more line, without its LF.
 pub(crate) fn advance(alloc: Global, place: Place, line: &[u8]) -> Result<Step, Stop>

@@ -5,16 +5,13 @@ ghost use Rattle.std.specs.Fmt.{decimal};
 ghost use Rattle.hx_board.specs.declared.vertices.Vertex.{Vertex};
 ghost use Rattle.hx_board.specs.Graph.{IsVertex};
 ghost use Rattle.hx_text.specs.Words.{Reads, IsNumber};
-ghost use Rattle.hx_text.specs.StepTexts.{most_parts, step_words, step_line, StepFits, BeginsLongOr, BeginWithManyParts, threat_line, vertex_word, AreNumbers};
+ghost use Rattle.hx_text.specs.StepTexts.{step_words, step_line, StepFits, BeginsLongOr, BeginWithManyParts, threat_line, vertex_word, AreNumbers};
 
 use crate::words::Words;
 use hx_board::{Memory, Size};
-use hx_link::{Parts, Step};
+use hx_link::{MOST_PARTS, Parts, Step};
 use smallvec::SmallVec;
 use std::alloc::Global;
-
-/// The most links that an Or names.
-const MOST_PARTS: usize = 128;
 
 /// The line of a step: `base VERTEX VERTEX`, `stone NUMBER NUMBER`, `cell NUMBER NUMBER`, or `or` and at most 128 numbers.
 /// It takes memory for the parts of an Or alone, where they are more than eight.
@@ -102,8 +99,8 @@ fn read_cell(words: &mut Words<'_>) -> Option<Step>
 /// The rest of a line `or`: at most 128 numbers, the places of its parts.
 fn read_or(alloc: Global, words: &mut Words<'_>) -> Result<Option<Step>, Memory>
     ensures reads { IfOk result (λ found. MatchOption found
-        ((parts : List ℕ) → length parts ≤ most_parts → AreNumbers parts → words.old ≡ map decimal parts → ⊥)
-        (λ step. (parts : List ℕ) × (step ≡ Step.Or parts) × (length parts ≤ most_parts) × AreNumbers parts
+        ((parts : List ℕ) → length parts ≤ MOST_PARTS → AreNumbers parts → words.old ≡ map decimal parts → ⊥)
+        (λ step. (parts : List ℕ) × (step ≡ Step.Or parts) × (length parts ≤ MOST_PARTS) × AreNumbers parts
         × (words.old ≡ map decimal parts))) }
     ensures memory { OnErr result (BeginWithManyParts words.old) }
 {

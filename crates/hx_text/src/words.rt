@@ -98,11 +98,11 @@ impl<'a> Words<'a> {
     }
 
     /// Takes a number that is no larger than this.
-    pub(crate) fn count(&mut self, most: u32) -> Option<u32>
+    pub(crate) fn count(&mut self, most: usize) -> Option<u32>
         ensures { Takes decimal (λ n. n ≤ most) self.old result self.new }
     {
         let number = self.number()?;
-        if number <= most { Some(number) } else { None }
+        if number as usize <= most { Some(number) } else { None }
     }
 
     /// Takes a set of cells.
