@@ -1,5 +1,5 @@
 -- A list with one item changed.
-use Rattle.std.proofs.Common.{◌≡◌, ◌≢◌, ℕ, zero, suc, ◌+◌, ◌<◌, List, [], ◌∷◌, length, get_or, set, refl, ap, ◌∙◌, arith}
+use Rattle.std.proofs.Common.{◌≡◌, ◌≢◌, ℕ, zero, suc, ◌+◌, ◌<◌, ◌≤◌, List, [], ◌∷◌, length, get_or, set, refl, ap, ◌∙◌, arith}
 use Rattle.std.specs.List.{sum_by}
 use Rattle.std.proofs.lemmas.List.Sums.{sum_by-cons, sum_by-set}
 use Rattle.hx_count.specs.Machine.{changed_at}
@@ -26,6 +26,21 @@ module _ {A : Type 0} where
   changed-elsewhere change (x ∷ xs) zero (suc other) d apart = refl
   changed-elsewhere change (x ∷ xs) (suc place) zero d apart = refl
   changed-elsewhere change (x ∷ xs) (suc place) (suc other) d apart = changed-elsewhere change xs place other d (λ same. apart (ap suc same))
+
+  -- a second change that takes the first one back
+  pub changed-back : (change back : A → A) → ((x : A) → back (change x) ≡ x) → (xs : List A) (place : ℕ)
+      → changed_at back (changed_at change xs place) place ≡ xs
+  changed-back change back takes_back [] place = refl
+  changed-back change back takes_back (x ∷ xs) zero = ap (λ y. y ∷ xs) (takes_back x)
+  changed-back change back takes_back (x ∷ xs) (suc place) = ap (λ l. x ∷ l) (changed-back change back takes_back xs place)
+
+  -- a sum grows by what the changed item's term grows at the most
+  pub sum_by-changed-le : (f : A → ℕ) (change : A → A) (more : ℕ) → ((x : A) → f (change x) ≤ f x + more) → (xs : List A) (place : ℕ)
+      → sum_by f (changed_at change xs place) ≤ sum_by f xs + more
+  sum_by-changed-le f change more most [] place = omega arith
+  sum_by-changed-le f change more most (x ∷ xs) zero = omega (arith, sum_by-cons f x xs, sum_by-cons f (change x) xs, most x)
+  sum_by-changed-le f change more most (x ∷ xs) (suc place) =
+      omega (arith, sum_by-cons f x xs, sum_by-cons f x (changed_at change xs place), sum_by-changed-le f change more most xs place)
 
   -- a sum grows by what the changed item's term grows
   pub sum_by-changed : (f : A → ℕ) (change : A → A) (xs : List A) (place : ℕ) (d : A) → place < length xs

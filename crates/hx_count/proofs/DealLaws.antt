@@ -5,7 +5,9 @@ use Rattle.std.proofs.lemmas.List.{get_or_append_left, get_or_at}
 use Rattle.atomic_table.specs.Seated.{TableId}
 use Rattle.hx_count.specs.declared.views.Limits.{Limits}
 use Rattle.hx_count.specs.Counted.{Seated, part, view, new_parts, all_but_first, only_first, joined}
-use Rattle.hx_count.specs.Seats.{Origin, Seat, seat, origin, seat_of, first_part, part_of, new_seats, IsNew}
+use Rattle.hx_count.specs.Machine.{HasNothing}
+use Rattle.hx_count.specs.Seats.{Origin, Seat, seat, origin, own, seat_of, first_part, part_of, new_seats, IsNew}
+use Rattle.hx_count.proofs.MachineLaws.{start-nothing}
 use Rattle.hx_count.proofs.PartLaws.{first-new, rest-new}
 
 -- one new part
@@ -56,3 +58,9 @@ pub new-made : (made : Origin) (first count : ℕ) → All (λ (s : Seat). s.mad
 new-made made first zero k d less = absurd (omega arith)
 new-made made first (suc count) zero d less = refl
 new-made made first (suc count) (suc k) d less = new-made made (first + 1) count k d (omega arith)
+
+-- a new seat's worker has nothing
+pub new-nothing : (made : Origin) (first count : ℕ) → All (λ (s : Seat). HasNothing (own s)) (new_seats made first count)
+new-nothing made first zero k d less = absurd (omega arith)
+new-nothing made first (suc count) zero d less = start-nothing made.limits.budget made.limits.words made.limits.workers first
+new-nothing made first (suc count) (suc k) d less = new-nothing made (first + 1) count k d (omega arith)

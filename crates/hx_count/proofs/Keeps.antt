@@ -8,11 +8,10 @@ use mathlib.Core.Option.{none, some, some-ne-none}
 use native.Mathlib.Decide.{dec_lt}
 use mathlib.Core.Logic.{dite}
 use lib.ListN.{get_elem?}
-use lib.Seq.{set-get_or}
 use Rattle.atomic_table.specs.Table.{State, step, keeps, opening, Allows, Splits, Joins}
 use Rattle.atomic_table.proofs.Lists.{at_set, at_snoc, set_else}
 use Rattle.hx_count.specs.declared.events.CountEvent.{CountEvent}
-use Rattle.hx_count.specs.declared.events.CountEvent.TheVariants.{Spend, Hold, Release}
+use Rattle.hx_count.specs.declared.events.CountEvent.TheVariants.{Spend, Hold, Release, Look}
 use Rattle.hx_count.specs.declared.views.Limits.{Limits}
 use Rattle.hx_count.specs.declared.views.Part.{Part}
 use Rattle.hx_count.specs.declared.views.View.{View}
@@ -262,36 +261,20 @@ module _ (limits : Limits) (slots id : ℕ) (p : Part) where
 
     -- ---- a look
 
-    abbrev looked : View
-    looked = view (part p.limits p.worker c.history ∷ [])
+    look-allowed : IsAllowed state (Look worker word)
+    look-allowed = (of_now, omega (arith, long, inside))
 
-    same-times : (n : ℕ) → sum_by (λ (u : View). times_in n u.parts) (set s.views id looked) ≡ sum_by (λ (u : View). times_in n u.parts) s.views
-    same-times n = omega (arith, sum-set (λ (u : View). times_in n u.parts) s.views id (view (p ∷ [])) looked there, times-single n p, times-single n (part p.limits worker c.history))
+    look-counted : Counted limits (record { words = set s.words (word + 1) number; homes = s.homes; views = set s.views id (seen_more limits s c id p there (Look p.worker word) refl) })
+    look-counted = counted-more limits s c id p there (Look p.worker word) refl (word + 1) number look-allowed
+        (word-zero_kept number ∙ c.spent)
+        (c.granted ∙ ap (λ n. min n limits.budget) (sym (word-zero_kept number)))
+        (losses-more number (Look worker word) (c.losses word inside) (λ other apart. refl))
 
-    looked-counted : Counted limits (record { words = s.words; homes = s.homes; views = set s.views id looked })
-    looked-counted = record {
-      history = c.history;
-      is_history = c.is_history;
-      small = c.small;
-      wide = c.wide;
-      spent = c.spent;
-      granted = c.granted;
-      losses = c.losses;
-      once = λ n below. same-times n ∙ c.once n below;
-      never = λ n far. same-times n ∙ c.never n far;
-      current = λ other u at. ⊎_elim
-          (λ (t : (other ≡ id) × (looked ≡ u)). subst (λ (v : View). AreCurrentParts limits c.history v.parts) t.1 (record { same_limits = same-limits limits s c id p there; goes_on = goes_on-now worker c.history }, tt))
-          (λ (t : (other ≢ id) × (get_elem? s.views other ≡ some u)). c.current other u t.1)
-          (at_set s.views id other looked u at);
-    }
-
-    look-told : IsLook p word number looked
+    look-told : IsLook p word number (seen_more limits s c id p there (Look p.worker word) refl)
+    unfolding next
     look-told = record {
-      history = c.history;
-      goes_on = (c.current id (view (p ∷ [])) there).0.goes_on;
-      is_history = subst (λ (l : Limits). IsHistory l c.history) (sym (same-limits limits s c id p there)) c.is_history;
+      next = next limits s c id p there (Look p.worker word) refl look-allowed;
       losses = c.losses word inside ∙ ap (λ (l : Limits). losses_at (state_after l c.history) word) (sym (same-limits limits s c id p there));
-      seen = refl;
     }
 
   pub holds-keep : (word : ℕ) → word < limits.words → held_in_all (account_of (state_after p.limits p.seen) p.worker) < 1024
@@ -326,11 +309,11 @@ module _ (limits : Limits) (slots id : ℕ) (p : Part) where
   pub looks-keep : (word : ℕ) → word < limits.words → Allows (Counted limits) slots id me (word + 1) (λ n. n) (looks (step slots (word + 1) 0 0 none) me)
   looks-keep word inside s c _ there _ =
       let n : ℕ = get_or s.words (word + 1) 0 in
-      let w = looked word inside s c there in (
+      let w = seen_more limits s c id p there (Look p.worker word) refl in (
         w,
         keeps,
         tt,
-        subst (λ (ws : List ℕ). Counted limits (record { words = ws; homes = s.homes; views = set s.views id w })) (sym (set-get_or s.words (word + 1) 0)) (looked-counted word inside s c there),
+        look-counted word inside s c there,
         (refl, λ q other same at. subst (λ (r : Part). IsLook r other n w) (first-same p q same) (subst (λ (k : ℕ). IsLook p k n w) (same-word word other at) (look-told word inside s c there))),
       )
 

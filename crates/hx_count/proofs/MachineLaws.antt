@@ -8,10 +8,10 @@ use Rattle.std.proofs.lemmas.Bool.{cases_lt, lt-ltb, le-ltb}
 use mathlib.Core.Logic.{dite}
 use native.Mathlib.Decide.{ℕ_discrete, dec_lt}
 use Rattle.hx_count.specs.declared.events.CountEvent.{CountEvent}
-use Rattle.hx_count.specs.declared.events.CountEvent.TheVariants.{Spend, Hold, Release}
-use Rattle.hx_count.specs.Machine.{Account, CountsState, no_account, account, counts_start, account_of, granted_to_all, refused_of_all, losses_at, held_in_all, held_by_all, has_units, changed_at, with_unit, with_refusal, holding, releasing, with_account, counts_step, counts_run, worker_of, IsAllowed, AreAllowed}
+use Rattle.hx_count.specs.declared.events.CountEvent.TheVariants.{Spend, Hold, Release, Look}
+use Rattle.hx_count.specs.Machine.{Account, CountsState, no_account, account, counts_start, account_of, granted_to_all, refused_of_all, losses_at, held_in_all, held_by_all, HasNothing, has_units, changed_at, with_unit, with_refusal, holding, releasing, with_account, counts_step, counts_run, worker_of, IsAllowed, AreAllowed}
 use Rattle.hx_count.specs.Histories.{AreOthers, GoesOn}
-use Rattle.hx_count.proofs.Changes.{length-changed, changed-here, changed-elsewhere, sum_by-changed, sum_by-unchanged}
+use Rattle.hx_count.proofs.Changes.{length-changed, changed-here, changed-elsewhere, changed-back, sum_by-changed, sum_by-changed-le, sum_by-unchanged}
 use Rattle.hx_count.proofs.Sums.{upto, sum-upto, sum_by-same, upto-sum_by}
 
 abbrev one_if : Bool → ℕ
@@ -33,16 +33,19 @@ pub step-budget : (state : CountsState) (event : CountEvent) → (counts_step st
 step-budget state (Spend worker) = refl
 step-budget state (Hold worker word) = refl
 step-budget state (Release worker word) = refl
+step-budget state (Look worker word) = refl
 
 pub step-workers : (state : CountsState) (event : CountEvent) → length (counts_step state event).accounts ≡ length state.accounts
 step-workers state (Spend worker) = length-changed (cond (has_units state) with_unit with_refusal) state.accounts worker
 step-workers state (Hold worker word) = length-changed (holding word) state.accounts worker
 step-workers state (Release worker word) = length-changed (releasing word) state.accounts worker
+step-workers state (Look worker word) = refl
 
 pub step-others : (state : CountsState) (event : CountEvent) (worker : ℕ) → worker_of event ≢ worker → account_of (counts_step state event) worker ≡ account_of state worker
 step-others state (Spend other) worker apart = changed-elsewhere (cond (has_units state) with_unit with_refusal) state.accounts other worker no_account apart
 step-others state (Hold other word) worker apart = changed-elsewhere (holding word) state.accounts other worker no_account apart
 step-others state (Release other word) worker apart = changed-elsewhere (releasing word) state.accounts other worker no_account apart
+step-others state (Look other word) worker apart = refl
 
 pub run-budget : (state : CountsState) (events : List CountEvent) → (counts_run state events).budget ≡ state.budget
 run-budget state [] = refl
@@ -149,6 +152,17 @@ held-releasing a word some =
     let inside : word < length a.held = dite (dec_lt word (length a.held)) (λ less. less) (λ not_less. absurd (omega (arith, get_or_past a.held word 0 (omega arith)))) in
     omega (arith, sum_by-changed (λ (n : ℕ). n) (λ n. n - 1) a.held word 0 inside)
 
+pub held-holding-le : (word : ℕ) (a : Account) → held_in_all (holding word a) ≤ held_in_all a + 1
+held-holding-le word a = sum_by-changed-le (λ (n : ℕ). n) (λ n. n + 1) 1 (λ n. omega arith) a.held word
+
+-- a release takes back a hold
+pub releasing-held : (word : ℕ) (a later : Account) → later.held ≡ (holding word a).held → (releasing word later).held ≡ a.held
+releasing-held word a later same = ap (λ held. changed_at (λ (n : ℕ). n - 1) held word) same
+    ∙ changed-back (λ (n : ℕ). n + 1) (λ n. n - 1) (λ n. omega arith) a.held word
+
+pub releasing-holding : (word : ℕ) (a : Account) → releasing word (holding word a) ≡ a
+releasing-holding word a = ap (λ held. account a.granted a.refused held) (releasing-held word a (holding word a) refl)
+
 -- each worker has a number for each loss word, and holds no more than it may
 pub record AreBounded (words : ℕ) (state : CountsState) : Type 0 where
   pub long : (worker : ℕ) → worker < length state.accounts → length (account_of state worker).held ≡ words
@@ -183,6 +197,7 @@ bounded-allowed words state (Release worker word) bounded allowed =
     bounded-step words state (Release worker word) bounded allowed.0
     (ap (λ b. length b.held) own ∙ (length-changed (λ (n : ℕ). n - 1) a.held word ∙ bounded.long worker allowed.0))
     (subst (λ b. held_in_all b ≤ 1024) (sym own) (omega (arith, held-releasing a word allowed.1, bounded.few worker)))
+bounded-allowed words state (Look worker word) bounded allowed = bounded
 
 bounded-run : (words : ℕ) (state : CountsState) (events : List CountEvent) → AreBounded words state → AreAllowed state events → AreBounded words (counts_run state events)
 bounded-run words state [] bounded allowed = bounded
@@ -202,15 +217,6 @@ index-zeros (suc count) (suc place) = index-zeros count place
 sum_by-copies : {A : Type 0} → (f : A → ℕ) (count : ℕ) (x : A) → f x ≡ 0 → sum_by f (replicate count x) ≡ 0
 sum_by-copies f zero x none = refl
 sum_by-copies f (suc count) x none = omega (arith, sum_by-cons f x (replicate count x), none, sum_by-copies f count x none)
-
-nothing : ℕ → Account
-nothing words = account 0 false (replicate words 0)
-
--- who has nothing
-pub record HasNothing (a : Account) : Type 0 where
-  pub granted : a.granted ≡ 0
-  pub refused : a.refused ≡ false
-  pub held : held_in_all a ≡ 0
 
 get-copies : {A : Type 0} → (P : A → Type 0) (count : ℕ) (x d : A) (place : ℕ) → P x → P d → P (get_or (replicate count x) place d)
 get-copies P zero x d place at_x at_d = at_d
@@ -322,6 +328,7 @@ in-budget-step state (Release worker word) is_worker is = record {
   within = omega (arith, granted-release state worker word, is.within);
   full = λ some. omega (arith, granted-release state worker word, is.full (omega (arith, some, refused-release state worker word)));
 }
+in-budget-step state (Look worker word) is_worker is = is
 
 pub in-budget-run : (state : CountsState) (events : List CountEvent) → AreAllowed state events → IsInBudget state → IsInBudget (counts_run state events)
 in-budget-run state [] allowed is = is

@@ -6,14 +6,14 @@ use mathlib.Core.Option.{none}
 use Rattle.atomic_table.specs.Seated.{TableId}
 use Rattle.atomic_table.specs.Table.{step, Allows}
 use Rattle.hx_count.specs.declared.events.CountEvent.{CountEvent}
-use Rattle.hx_count.specs.declared.events.CountEvent.TheVariants.{Spend, Hold, Release}
+use Rattle.hx_count.specs.declared.events.CountEvent.TheVariants.{Spend, Hold, Release, Look}
 use Rattle.hx_count.specs.declared.views.Limits.{Limits}
 use Rattle.hx_count.specs.declared.views.Part.{Part}
 use Rattle.hx_count.specs.declared.views.View.{View}
 use Rattle.hx_count.specs.Machine.{CountsState, Account, account_of, granted_to_all, losses_at, held_in_all, has_units, with_unit, with_refusal, holding, releasing, counts_step, counts_run, IsAllowed, AreAllowed}
 use Rattle.hx_count.specs.Histories.{GoesOn}
 use Rattle.hx_count.specs.Counted.{start_of, state_after, IsHistory, part, view, Counted, Seated, IsNext, IsSpend, IsLook, spends, holds, releases, looks}
-use Rattle.hx_count.specs.Seats.{Seat, seat, origin, own, state_seen, seat_of, first_part, SeatKeeps, Adds, Spends, Sees}
+use Rattle.hx_count.specs.Seats.{Seat, own, state_seen, seat_of, first_part, SeatKeeps, Adds, Spends}
 use Rattle.hx_count.proofs.MachineLaws.{run-append, run-budget, goes_on-account, spend-unit, spend-refusal, hold-own, release-own, held-holding, held-releasing, losses-own, granted-own, refused-own, history-in_budget}
 use Rattle.hx_count.proofs.Changes.{changed-here}
 use Rattle.hx_count.proofs.Keeps.{spends-keep, holds-keep, releases-keep, looks-keep}
@@ -76,6 +76,9 @@ module _ (limits : Limits) (worker : ℕ) (seen before : List CountEvent) (on : 
   pub account-release : (word : ℕ) → IsHistory limits (before ++ Release worker word ∷ []) → account_of (state_after limits (before ++ Release worker word ∷ [])) worker ≡ releasing word (account_of (state_after limits seen) worker)
   account-release word is = ap (λ (s : CountsState). account_of s worker) (after (Release worker word))
       ∙ (release-own (state_after limits before) worker (allowed-last (start_of limits) before (Release worker word) is).0 word ∙ ap (releasing word) was)
+
+  pub account-look : (word : ℕ) → account_of (state_after limits (before ++ Look worker word ∷ [])) worker ≡ account_of (state_after limits seen) worker
+  account-look word = ap (λ (s : CountsState). account_of s worker) (after (Look worker word)) ∙ was
 
 -- ---- the seat after its step
 
@@ -163,26 +166,17 @@ module _ (table table_after : TableId) (same : table_after ≡ table) (p : Part)
 
     -- a look
     module _ (word found : ℕ) (t : IsLook p word found me.0) where
-      looked-part : first_part me.0 ≡ part p.limits p.worker t.history
-      looked-part = only-first_part me.0 (part p.limits p.worker t.history) t.seen
-
-      looked-seat : new ≡ seat (origin table p.limits) p.worker t.history
-      looked-seat = λ i. seat_of (same i) (looked-part i)
-
-      sees-old : Sees (seat_of table p) (seat (origin table p.limits) p.worker t.history)
-      sees-old = record { same_made = refl; same_worker = refl; goes_on = t.goes_on; is_history = t.is_history }
-
-      pub sees-look : Sees old new
-      sees-look = subst (λ (o : Seat). Sees o new) is_old (subst (λ (n : Seat). Sees (seat_of table p) n) (sym looked-seat) sees-old)
-
-      pub made-look : new.made ≡ old.made
-      made-look = ap (λ (n : Seat). n.made) looked-seat ∙ ap (λ (o : Seat). o.made) is_old
+      pub adds-look : Adds old (Look old.worker word) new
+      adds-look = subst (λ (o : Seat). Adds o (Look o.worker word) new) is_old (adds-next (Look p.worker word) t.next)
 
       pub own-look : own new ≡ own old
-      own-look = ap own looked-seat ∙ (goes_on-account (start_of p.limits) p.worker p.seen t.history t.goes_on ∙ ap own is_old)
+      own-look = own-next (Look p.worker word) t.next ∙ (account-look p.limits p.worker p.seen t.next.before t.next.goes_on word ∙ ap own is_old)
 
       pub sum-look : found ≡ losses_at (state_seen new) word
-      sum-look = t.losses ∙ ap (λ (n : Seat). losses_at (state_seen n) word) (sym looked-seat)
+      sum-look =
+          let history = t.next.before ++ Look p.worker word ∷ [] in
+          let same : state_seen new ≡ state_after p.limits history = ap (λ (q : Part). state_after q.limits q.seen) (only-first_part me.0 (part p.limits p.worker history) t.next.seen) in
+          t.losses ∙ ap (λ (s : CountsState). losses_at s word) (sym (same ∙ run-append (start_of p.limits) t.next.before (Look p.worker word ∷ [])))
 
       pub least-look : slice_index (own old).held word ≤ found
       least-look = omega (arith, ap (λ (a : Account). slice_index a.held word) own-look, sum-look, losses-own (state_seen new) new.worker word)
@@ -250,8 +244,8 @@ module _ (me after_me : Seated) (granted held : ℕ) (refused : Bool) (k : SeatK
 
   pub keeps-look : (word found : ℕ) → IsLook q word found after_me.0 → SeatKeeps after_me granted held refused
   keeps-look word found t =
-      let mine = goes_on-account (start_of q.limits) q.worker q.seen t.history t.goes_on in
-      keeps-part after_me (part q.limits q.worker t.history) granted held refused t.seen stays-bare t.is_history
+      let mine = account-look q.limits q.worker q.seen t.next.before t.next.goes_on word in
+      keeps-part after_me (part q.limits q.worker (t.next.before ++ Look q.worker word ∷ [])) granted held refused t.next.seen stays-bare t.next.is_history
       (ap (λ (a : Account). a.granted) mine ∙ k.same_granted)
       (ap (λ (a : Account). a.refused) mine ∙ k.same_refused)
       (ap held_in_all mine ∙ k.same_held)

@@ -5,7 +5,7 @@ use mathlib.Core.Option.{some}
 use lib.ListN.{get_elem?}
 use Rattle.atomic_table.specs.Table.{State, Me, Step}
 use Rattle.hx_count.specs.declared.events.CountEvent.{CountEvent}
-use Rattle.hx_count.specs.declared.events.CountEvent.TheVariants.{Spend, Hold, Release}
+use Rattle.hx_count.specs.declared.events.CountEvent.TheVariants.{Spend, Hold, Release, Look}
 use Rattle.hx_count.specs.declared.views.Limits.{Limits}
 use Rattle.hx_count.specs.declared.views.Part.{Part}
 use Rattle.hx_count.specs.declared.views.View.{View}
@@ -92,11 +92,8 @@ pub record IsSpend (p : Part) (found : ℕ) (v : View) : Type 0 where
 
 -- a look at a loss word, and the number that it found there
 pub record IsLook (p : Part) (word found : ℕ) (v : View) : Type 0 where
-  pub history : List CountEvent
-  pub goes_on : GoesOn p.worker p.seen history
-  pub is_history : IsHistory p.limits history
-  pub losses : found ≡ losses_at (state_after p.limits history) word
-  pub seen : v ≡ view (part p.limits p.worker history ∷ [])
+  pub next : IsNext p (Look p.worker word) v
+  pub losses : found ≡ losses_at (state_after p.limits next.before) word
 
 -- what each step tells the seat that makes it, of itself before, the number found, and itself after
 abbrev pub spends : Step (Unit {0}) → Seated → ℕ → Seated → Type 0

@@ -1,8 +1,8 @@
--- The counts machine: a budget of units that workers spend, and loss words that they hold and release. Its state is what each
--- worker has. A history is the list of events from the start, the oldest first.
-use Rattle.std.specs.Prelude.{ℕ, zero, suc, ◌+◌, ◌-◌, ◌<◌, Bool, true, false, nat_lt, if◌then◌else◌, List, [], ◌∷◌, length, sum, sum_by, count_by, replicate, slice_index, slice_index_or}
+-- The counts machine: a budget of units that workers spend, and loss words that they hold, release and look at. Its state is what
+-- each worker has. A history is the list of events from the start, the oldest first.
+use Rattle.std.specs.Prelude.{◌≡◌, ℕ, zero, suc, ◌+◌, ◌-◌, ◌<◌, Bool, true, false, nat_lt, if◌then◌else◌, List, [], ◌∷◌, length, sum, sum_by, count_by, replicate, slice_index, slice_index_or}
 use Rattle.hx_count.specs.declared.events.CountEvent.{CountEvent}
-use Rattle.hx_count.specs.declared.events.CountEvent.TheVariants.{Spend, Hold, Release}
+use Rattle.hx_count.specs.declared.events.CountEvent.TheVariants.{Spend, Hold, Release, Look}
 
 -- what one worker has: the units granted to it, whether a spend of its was refused, and for each loss word how often it holds it
 pub record Account : Type 0 where
@@ -50,6 +50,12 @@ held_in_all a = sum a.held
 abbrev pub held_by_all : CountsState → ℕ
 held_by_all state = sum_by held_in_all state.accounts
 
+-- who has no unit, was refused none, and holds nothing
+pub record HasNothing (a : Account) : Type 0 where
+  pub granted : a.granted ≡ 0
+  pub refused : a.refused ≡ false
+  pub held : held_in_all a ≡ 0
+
 -- whether a unit is left: fewer than the budget are granted
 abbrev pub has_units : CountsState → Bool
 has_units state = nat_lt (granted_to_all state) state.budget
@@ -79,11 +85,12 @@ releasing word a = record a { held = changed_at (λ (n : ℕ). n - 1) a.held wor
 abbrev pub with_account : (Account → Account) → CountsState → ℕ → CountsState
 with_account change state worker = record state { accounts = changed_at change state.accounts worker }
 
--- a spend is granted while a unit is left, and else refused; a hold and a release change one number by one
+-- a spend is granted while a unit is left, and else refused; a hold and a release change one number by one; a look changes nothing
 abbrev pub counts_step : CountsState → CountEvent → CountsState
 counts_step state (Spend worker) = with_account (if has_units state then with_unit else with_refusal) state worker
 counts_step state (Hold worker word) = with_account (holding word) state worker
 counts_step state (Release worker word) = with_account (releasing word) state worker
+counts_step state (Look worker word) = state
 
 -- the state after some events, from a given one
 abbrev pub counts_run : CountsState → List CountEvent → CountsState
@@ -95,12 +102,15 @@ abbrev pub worker_of : CountEvent → ℕ
 worker_of (Spend worker) = worker
 worker_of (Hold worker word) = worker
 worker_of (Release worker word) = worker
+worker_of (Look worker word) = worker
 
--- what a worker with this account may do: hold a word while it holds fewer than 1,024 in all, and release one that it holds
+-- what a worker with this account may do: hold a word while it holds fewer than 1,024 in all, release one that it holds, and look
+-- at any
 abbrev pub MayDo : Account → CountEvent → Type 0
 MayDo a (Spend worker) = Unit {0}
 MayDo a (Hold worker word) = (word < length a.held) × (held_in_all a < 1024)
 MayDo a (Release worker word) = 0 < slice_index a.held word
+MayDo a (Look worker word) = word < length a.held
 
 -- an event of one of the workers, who may do it
 abbrev pub IsAllowed : CountsState → CountEvent → Type 0

@@ -58,13 +58,6 @@ abbrev pub after_spend : Result (Unit {0}) ℕ → Account → Account
 after_spend (Ok done) a = with_unit a
 after_spend (Err taken) a = with_refusal a
 
--- the seat has seen more of the history, and its worker has done nothing
-pub record Sees (old new : Seat) : Type 0 where
-  pub same_made : new.made ≡ old.made
-  pub same_worker : new.worker ≡ old.worker
-  pub goes_on : GoesOn old.worker old.seen new.seen
-  pub is_history : IsHistory new.made.limits new.seen
-
 -- the history when the counts are closed: all seats have seen fronts of it, and these are the sums after it
 pub record IsClosed (made : Origin) (seats : List Seat) (granted held : ℕ) : Type 0 where
   pub history : List CountEvent

@@ -5,10 +5,10 @@
 
 ghost use Rattle.std.specs.Prelude.{◌≡◌, ◌<◌, ◌≤◌, ◌^◌, [], true, false, map, sum_by, slice_index, IfOk, IfErr, IsErr, length};
 ghost use Rattle.std.specs.List.{All, Any};
-ghost use Rattle.hx_count.specs.declared.events.CountEvent.TheVariants.{Hold, Release};
-ghost use Rattle.hx_count.specs.Machine.{granted_to_all, losses_at, held_in_all, holding, releasing};
+ghost use Rattle.hx_count.specs.declared.events.CountEvent.TheVariants.{Hold, Release, Look};
+ghost use Rattle.hx_count.specs.Machine.{granted_to_all, losses_at, held_in_all, holding, releasing, HasNothing};
 ghost use Rattle.hx_count.specs.Counted.{view, first_view};
-ghost use Rattle.hx_count.specs.Seats.{part_of, Seat as SeatSeen, own, state_seen, new_seats, Adds, Spends, Sees, IsClosed, after_spend};
+ghost use Rattle.hx_count.specs.Seats.{part_of, Seat as SeatSeen, own, state_seen, new_seats, Adds, Spends, IsClosed, after_spend};
 
 use crate::rules::{AllParts, FirstPart, Holding, Looking, OneHistory, Releasing, Spending};
 use crate::seats::{CountSeat, Spent};
@@ -54,6 +54,7 @@ impl Counts {
         ensures limits { IfOk result (λ made. made.0.limits ≡ record { budget = budget; words = words; workers = seats }) }
         ensures seats { IfOk result (λ made. made.1.items ≡ new_seats made.0 0 seats) }
         ensures fit { IfOk result (λ made. All (λ s. s.made ≡ made.0) made.1.items) }
+        ensures nothing { IfOk result (λ made. All (λ s. HasNothing (own s)) made.1.items) }
     {
         let limits = Limits {
             budget,
@@ -147,19 +148,18 @@ impl Counts {
         seat.held -= 1;
     }
 
-    /// How often all workers together hold a loss word, at the step that this call makes.
+    /// How often all workers together hold a loss word. The look is an event too, which changes nothing.
     pub fn losses(&self, seat: &mut CountSeat, word: u32) -> u64
         requires seat { seat.old.made ≡ self.now }
         requires word { word < self.now.limits.words }
         ensures made { seat.new.made ≡ seat.old.made }
-        ensures sees { Sees seat.old seat.new }
+        ensures next { Adds seat.old (Look seat.old.worker word) seat.new }
         ensures own { own seat.new ≡ own seat.old }
         ensures sum { result ≡ losses_at (state_seen seat.new) word }
         ensures least { slice_index (own seat.old).held word ≤ result }
     {
-        self.table
-            .shared
-            .load::<Looking>(&mut seat.seat, word as usize + 1)
+        let place = word as usize + 1;
+        self.table.shared.load::<Looking>(&mut seat.seat, place)
     }
 
     /// Ends the counts, of which all seats are given back, and tells the sums over all workers.

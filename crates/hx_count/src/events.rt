@@ -11,4 +11,7 @@ pub enum CountEvent {
 
     /// The worker holds the word once less.
     Release { worker: u32, word: u32 },
+
+    /// The worker looks how often all workers together hold the word.
+    Look { worker: u32, word: u32 },
 }

@@ -34,7 +34,7 @@ impl Model for Hints {
 
 /// A number of a position whose winner is not known.
 fn open(number: u32) -> u32
-    ensures { (1 ≤ result) × (result < 2147483647) }
+    ensures { (1 ≤ result) × (result < INF) }
 {
     number.clamp(1, INF - 1)
 }
@@ -59,8 +59,8 @@ impl Hints {
 
     /// The numbers at a place, which is taken modulo the words. Both are at least 1 and below `INF`.
     pub fn get(&self, place: u32) -> Numbers
-        ensures phi { (1 ≤ result.phi) × (result.phi < 2147483647) }
-        ensures delta { (1 ≤ result.delta) × (result.delta < 2147483647) }
+        ensures phi { (1 ≤ result.phi) × (result.phi < INF) }
+        ensures delta { (1 ≤ result.delta) × (result.delta < INF) }
     {
         let hint = &self.hints[place as usize % self.hints.len()];
         Numbers {

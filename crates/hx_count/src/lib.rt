@@ -5,6 +5,7 @@
 mod counts;
 mod events;
 mod hints;
+mod laws;
 mod rules;
 mod seats;
 mod totals;
@@ -13,10 +14,9 @@ mod views;
 pub use counts::Counts;
 pub use events::CountEvent;
 pub use hints::Hints;
+pub use laws::{hold_adds_one, release_takes_back};
 pub use seats::{CountSeat, Spent};
 pub use totals::Totals;
 
-#[cfg(test)]
-mod plain;
 #[cfg(test)]
 mod tests;

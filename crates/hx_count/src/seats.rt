@@ -8,6 +8,7 @@ ghost use Rattle.hx_count.specs.Seats.{own, seat_of, first_part, part_of, IsNew}
 use crate::views::View;
 use atomic_table::Seat;
 use std::marker::Model;
+use thiserror::Error;
 
 /// What a worker steps on the counts with. A seat of `Counts::start` fits those counts alone.
 #[derive(Drop)]
@@ -29,7 +30,8 @@ impl Model for CountSeat {
 }
 
 /// Want of a unit: the answer of counts whose budget is all granted.
-#[derive(Debug, Drop)]
+#[derive(Debug, Drop, Error)]
+#[error("all {taken} units of the budget were granted")]
 pub struct Spent {
     taken: u64,
 }

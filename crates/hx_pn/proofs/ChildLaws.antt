@@ -4,16 +4,17 @@ use Rattle.std.proofs.Common.{◌≡◌, ℕ, zero, suc, ◌+◌, ◌<◌, ◌�
 use Rattle.std.specs.Prelude.{min, sum_by, slice_get}
 use Rattle.std.specs.List.{All}
 use Rattle.std.proofs.lemmas.List.{take_more}
-use Rattle.std.proofs.lemmas.List.Sums.{sum_by-append}
+use Rattle.std.proofs.lemmas.List.Sums.{sum_by-append, sum_by-cons}
 use Rattle.hx_pn.specs.declared.proof_numbers.Numbers.{Numbers}
 use Rattle.hx_pn.specs.declared.descents.Best.{Best}
-use Rattle.hx_pn.specs.Numbers.{inf, IsNumbers, least_delta, second_delta, IsBest}
+use Rattle.hx_pn.specs.declared.proof_numbers.TheConstants.{INF}
+use Rattle.hx_pn.specs.Numbers.{IsNumbers, least_delta, second_delta, IsBest}
 
 least_delta-push : (xs : List Numbers) (x : Numbers) → IsNumbers x → least_delta (xs ++ x ∷ []) ≡ min (least_delta xs) x.delta
 least_delta-push [] x is = omega (arith, is.delta)
 least_delta-push (y ∷ xs) x is = let rest = least_delta-push xs x is in omega (arith, rest)
 
-pub least_delta-small : (xs : List Numbers) → least_delta xs ≤ inf
+pub least_delta-small : (xs : List Numbers) → least_delta xs ≤ INF
 least_delta-small [] = omega arith
 least_delta-small (x ∷ xs) = let rest = least_delta-small xs in omega (arith, rest)
 
@@ -65,7 +66,7 @@ at_least [] y k e = cc
 at_least (z ∷ xs) y zero e = let same : z ≡ y = cc in omega (arith, ap (λ (n : Numbers). n.delta) same)
 at_least (z ∷ xs) y (suc k) e = omega (arith, at_least xs y k e)
 
-pub first_is_best : (x : Numbers) (best : Best) → IsNumbers x → best.place ≡ 0 → best.child ≡ x → best.second ≡ inf → IsBest (x ∷ []) best
+pub first_is_best : (x : Numbers) (best : Best) → IsNumbers x → best.place ≡ 0 → best.child ≡ x → best.second ≡ INF → IsBest (x ∷ []) best
 first_is_best x best is place child second = record {
   chosen = record {
     there = rw (place, child) refl;
@@ -105,7 +106,7 @@ module _ (xs : List Numbers) (x : Numbers) (best : Best) (is : IsNumbers x) (bef
 
 -- ---- bounds
 
-pub second_delta-small : (xs : List Numbers) (place : ℕ) → second_delta xs place ≤ inf
+pub second_delta-small : (xs : List Numbers) (place : ℕ) → second_delta xs place ≤ INF
 second_delta-small [] place = omega arith
 second_delta-small (x ∷ xs) zero = least_delta-small xs
 second_delta-small (x ∷ xs) (suc place) = omega (arith, second_delta-small xs place)
@@ -114,3 +115,9 @@ pub numbers_at : (xs : List Numbers) (y : Numbers) (k : ℕ) → All IsNumbers x
 numbers_at [] y k each e = cc
 numbers_at (z ∷ xs) y zero each e = let same : z ≡ y = cc in rw same at (each 0 z (omega arith))
 numbers_at (z ∷ xs) y (suc k) each e = numbers_at xs y k (λ j d less. each (suc j) d (omega arith)) e
+
+-- a child's phi is no more than the sum of all, unless the sum stops before
+pub phi-le-sum : (xs : List Numbers) (y : Numbers) (k : ℕ) → slice_get xs k ≡ Some y → y.phi ≤ sum_by (λ (x : Numbers). x.phi) xs
+phi-le-sum [] y k e = cc
+phi-le-sum (z ∷ xs) y zero e = let same : z ≡ y = cc in omega (arith, ap (λ (n : Numbers). n.phi) same, sum_by-cons (λ (x : Numbers). x.phi) z xs)
+phi-le-sum (z ∷ xs) y (suc k) e = omega (arith, phi-le-sum xs y k e, sum_by-cons (λ (x : Numbers). x.phi) z xs)

@@ -1,21 +1,18 @@
 -- Proof and disproof numbers, seen from the player who is to move, and what a node takes from its children.
 use Rattle.std.specs.Prelude.{◌≡◌, ℕ, zero, suc, ◌+◌, ◌-◌, ◌/◌, ◌<◌, ◌≤◌, min, List, [], ◌∷◌, sum_by, slice_get, ◌⊎◌}
 use Rattle.std.specs.declared.option.Option.TheVariants.{Some}
+use Rattle.hx_pn.specs.declared.proof_numbers.TheConstants.{INF}
 use Rattle.hx_pn.specs.declared.proof_numbers.Numbers.{Numbers}
 use Rattle.hx_pn.specs.declared.descents.Best.{Best}
 
--- the number of what cannot be
-abbrev pub inf : ℕ
-inf = 2147483647
-
--- no number is above it
+-- neither number is above that of what cannot be proved
 pub record IsNumbers (numbers : Numbers) : Type 0 where
-  pub phi : numbers.phi ≤ inf
-  pub delta : numbers.delta ≤ inf
+  pub phi : numbers.phi ≤ INF
+  pub delta : numbers.delta ≤ INF
 
 -- the least delta of some children, infinite where there is none
 abbrev pub least_delta : List Numbers → ℕ
-least_delta [] = inf
+least_delta [] = INF
 least_delta (child ∷ children) = min child.delta (least_delta children)
 
 -- what the mover must prove: the easiest child
@@ -24,7 +21,7 @@ phi_of children = least_delta children
 
 -- what the opponent must prove: all children
 abbrev pub delta_of : List Numbers → ℕ
-delta_of children = min (sum_by (λ (child : Numbers). child.phi) children) inf
+delta_of children = min (sum_by (λ (child : Numbers). child.phi) children) INF
 
 -- the child at this place has the least delta, and is the first that has it
 pub record IsChosen (children : List Numbers) (place : ℕ) (child : Numbers) : Type 0 where
@@ -34,14 +31,9 @@ pub record IsChosen (children : List Numbers) (place : ℕ) (child : Numbers) : 
 
 -- the least delta of the children but for the one at this place
 abbrev pub second_delta : List Numbers → ℕ → ℕ
-second_delta [] place = inf
+second_delta [] place = INF
 second_delta (child ∷ children) zero = least_delta children
 second_delta (child ∷ children) (suc place) = min child.delta (second_delta children place)
-
--- the chosen child, its place and the second least delta
-pub record IsBest (children : List Numbers) (best : Best) : Type 0 where
-  pub chosen : IsChosen children best.place best.child
-  pub second : best.second ≡ second_delta children best.place
 
 -- a node has reached a threshold
 abbrev pub HasReached : Numbers → List Numbers → Type 0
@@ -51,7 +43,7 @@ HasReached limit children = (limit.phi ≤ phi_of children) ⊎ (limit.delta ≤
 abbrev pub child_limit : Numbers → List Numbers → ℕ → Numbers → Numbers
 child_limit limit children place child = record {
   phi = limit.delta + child.phi - delta_of children;
-  delta = min limit.phi (min (second_delta children place + 1) inf);
+  delta = min limit.phi (min (second_delta children place + 1) INF);
 }
 
 -- of so many live children the first ones are looked at
@@ -60,4 +52,11 @@ focus_of live = min live (1 + (live + 3) / 4)
 
 -- a child looks harder by one for each holder
 abbrev pub worse_of : Numbers → ℕ → Numbers
-worse_of numbers holders = record { phi = numbers.phi; delta = min (numbers.delta + holders) inf }
+worse_of numbers holders = record { phi = numbers.phi; delta = min (numbers.delta + holders) INF }
+
+-- ---- words for the functions inside the crate alone
+
+-- the chosen child, its place and the second least delta
+pub record IsBest (children : List Numbers) (best : Best) : Type 0 where
+  pub chosen : IsChosen children best.place best.child
+  pub second : best.second ≡ second_delta children best.place

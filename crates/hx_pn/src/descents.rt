@@ -3,7 +3,7 @@
 //! This is the step of Nagai's df-pn: down to the child with the least delta, until that child is no longer the best one, or
 //! the node itself has reached a threshold.
 
-ghost use Rattle.std.specs.Prelude.{◌≡◌, [], ◌∷◌, ◌++◌, List, length, MatchOption};
+ghost use Rattle.std.specs.Prelude.{◌≡◌, ◌<◌, [], ◌∷◌, ◌++◌, List, length, MatchOption, IfSome};
 ghost use Rattle.std.specs.List.{All};
 ghost use Rattle.hx_pn.specs.declared.proof_numbers.Numbers.{Numbers as Child};
 ghost use Rattle.hx_pn.specs.Numbers.{IsNumbers, HasReached, IsBest, IsChosen, child_limit};
@@ -64,9 +64,13 @@ fn better(best: Best, place: usize, child: Numbers) -> Best
 pub fn thresholds(limit: Numbers, children: &[Numbers]) -> Option<(usize, Numbers)>
     requires limit { IsNumbers limit }
     requires children { All IsNumbers children.now }
-    ensures { MatchOption result (HasReached limit children.now)
+    ensures next { MatchOption result (HasReached limit children.now)
         (λ found. (¬ HasReached limit children.now) × ((child : Numbers) × (IsChosen children.now found.0 child
         × (found.1 ≡ child_limit limit children.now found.0 child)))) }
+
+    // A child's thresholds may be passed down again, to the child at that place.
+    ensures place { IfSome result (λ found. found.0 < length children.now) }
+    ensures numbers { IfSome result (λ found. IsNumbers found.1) }
 {
     let node = combine(children);
     if limit.phi <= node.phi || limit.delta <= node.delta {

@@ -8,6 +8,4 @@ pub use descents::thresholds;
 pub use proof_numbers::{INF, Numbers, combine, focus, worse};
 
 #[cfg(test)]
-mod plain;
-#[cfg(test)]
 mod tests;

@@ -21,7 +21,8 @@ pub struct Numbers {
 /// the sum of the children's phi, which stops at `INF`. Without children the mover has lost: phi is `INF` and delta 0.
 pub fn combine(children: &[Numbers]) -> Numbers
     requires { All IsNumbers children.now }
-    ensures { result ≡ record { phi = phi_of children.now; delta = delta_of children.now } }
+    ensures value { result ≡ record { phi = phi_of children.now; delta = delta_of children.now } }
+    ensures numbers { IsNumbers result }
 {
     let mut phi = INF;
     let mut delta = 0;
@@ -44,7 +45,8 @@ pub fn focus(live: u32) -> u32
 /// The numbers of a child that so many workers hold: it looks as if its delta were larger by their number.
 pub fn worse(numbers: Numbers, holders: u64) -> Numbers
     requires { IsNumbers numbers }
-    ensures { result ≡ worse_of numbers holders }
+    ensures value { result ≡ worse_of numbers holders }
+    ensures numbers { IsNumbers result }
 {
     let delta = u64::from(numbers.delta).saturating_add(holders);
     Numbers {

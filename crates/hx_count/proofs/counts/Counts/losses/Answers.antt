@@ -1,6 +1,8 @@
 use Rattle.std.proofs.Common.{◌<◌, ap, sym, ◌∙◌, refl, arith}
+use Rattle.hx_count.specs.declared.events.CountEvent.TheVariants.{Look}
+use Rattle.hx_count.specs.Counted.{IsLook}
 use Rattle.hx_count.specs.Seats.{first_part}
-use Rattle.hx_count.proofs.SeatLaws.{made-look, may-look, keeps-look, sees-look, own-look, sum-look, least-look}
+use Rattle.hx_count.proofs.SeatLaws.{made-next, may-look, keeps-look, adds-look, own-look, sum-look, least-look}
 use Rattle.hx_count.proofs.counts.Counts.losses.Goals as goal
 
 pub load-requires : goal.load-requires
@@ -18,10 +20,10 @@ invariant_of-seat c =
     keeps-look c.seat.inside.seat.me c.load.new.seat.me c.seat.inside.granted c.seat.inside.held c.seat.inside.refused i t.0 c.args.word c.load.result
     (t.1 (first_part c.seat.inside.seat.me.0) c.args.word (ap (λ m. m.0.parts) i.whole) refl)
 
-pub returns-clause-sees : goal.returns-clause-sees
-returns-clause-sees c =
+pub returns-clause-next : goal.returns-clause-next
+returns-clause-next c =
     let i = c.seat.invariant in let e = c.load.ensures in
-    sees-look c.seat.inside.seat.table_id c.load.new.seat.table_id e.0 (first_part c.seat.inside.seat.me.0) c.load.new.seat.me c.args.seat.now c.seat.view_is c.args.word c.load.result
+    adds-look c.seat.inside.seat.table_id c.load.new.seat.table_id e.0 (first_part c.seat.inside.seat.me.0) c.load.new.seat.me c.args.seat.now c.seat.view_is c.args.word c.load.result
     (e.2.1 (first_part c.seat.inside.seat.me.0) c.args.word (ap (λ m. m.0.parts) i.whole) refl)
 
 pub returns-clause-own : goal.returns-clause-own
@@ -44,6 +46,6 @@ returns-clause-least c =
 
 pub returns-clause-made : goal.returns-clause-made
 returns-clause-made c =
-    let i = c.seat.invariant in let e = c.load.ensures in
-    made-look c.seat.inside.seat.table_id c.load.new.seat.table_id e.0 (first_part c.seat.inside.seat.me.0) c.load.new.seat.me c.args.seat.now c.seat.view_is c.args.word c.load.result
-    (e.2.1 (first_part c.seat.inside.seat.me.0) c.args.word (ap (λ m. m.0.parts) i.whole) refl)
+    let i = c.seat.invariant in let e = c.load.ensures in let p = first_part c.seat.inside.seat.me.0 in
+    let t : IsLook p c.args.word c.load.result c.load.new.seat.me.0 = e.2.1 p c.args.word (ap (λ m. m.0.parts) i.whole) refl in
+    made-next c.seat.inside.seat.table_id c.load.new.seat.table_id e.0 p c.load.new.seat.me c.args.seat.now c.seat.view_is (Look p.worker c.args.word) t.next

@@ -1,5 +1,0 @@
-use Rattle.std.proofs.Common.{◌≡◌}
-use Rattle.hx_count.proofs.tests.do_much.Given as goal
-
-abbrev pub invariant-loop : goal.invariant-loop
-invariant-loop l = (l.first.made ≡ l.counts) × (l.second.made ≡ l.counts)
