@@ -1,19 +1,21 @@
 -- A cell is dead where it is empty and each open neighbour is joined with each. That the two differ need not be asked, since
 -- a vertex is joined with itself.
-use Rattle.std.proofs.Common.{◌≡◌, ◌≢◌, ℕ, true, List, ap, ◌⊎◌, inl, inr, ⊎_elim, ◌↔◌}
-use Rattle.std.specs.Prelude.{Contains}
+use Rattle.std.proofs.Common.{◌≡◌, ◌≢◌, ℕ, true, false, sym, ap, ◌∙◌, subst, ◌⊎◌, inl, inr, ⊎_elim}
+use Rattle.std.proofs.lemmas.Bool.{false≢true}
 use Rattle.std.proofs.lemmas.Bool.Decides.{eqb_tells}
 use Rattle.hx_board.specs.declared.colours.Colour.{Colour}
 use Rattle.hx_board.specs.declared.vertices.Vertex.{Vertex}
 use Rattle.hx_board.specs.declared.vertices.Vertex.TheVariants.{Of, First, Last}
-use Rattle.hx_board.specs.declared.groups.Reach.{Reach}
-use Rattle.hx_board.specs.Sets.{has}
-use Rattle.hx_board.specs.Cells.{Extent, OnBoard, CellsTouch}
+use Rattle.hx_board.specs.Sets.{has, remove, IsSubset, IsLowest}
+use Rattle.hx_board.specs.Cells.{IsExtent}
 use Rattle.hx_board.specs.Positions.{Board, IsEmpty}
-use Rattle.hx_board.specs.Graph.{IsVertex, IsReach}
-use Rattle.hx_inferior.specs.declared.open_neighbours.Surroundings.{Surroundings}
-use Rattle.hx_inferior.specs.Inferior.{IsDead}
-use Rattle.hx_inferior.specs.Named.{IsAmong, AreOpen, IsWithin, JoinsAll}
+use Rattle.hx_board.specs.Graph.{IsVertex, Joined}
+use Rattle.hx_board.specs.VertexSets.{code_of, IsSomeVertex, IsVertexCode, IsSetOf}
+use Rattle.hx_board.proofs.SetLaws.{has-empty, has-remove_before, removed_cases}
+use Rattle.hx_board.proofs.Joins.{touches-vertex}
+use Rattle.hx_board.proofs.FloodLaws.{same_vertex}
+use Rattle.hx_board.proofs.VertexSetLaws.{code-vertex}
+use Rattle.hx_inferior.specs.Inferior.{IsOpenNeighbour, IsDead}
 
 of_same : (n m : ℕ) → Of n ≡ Of m → n ≡ m
 of_same n m e = cc
@@ -29,46 +31,51 @@ same_or_differ Last (Of m) = inr (λ e. cc)
 same_or_differ Last First = inr (λ e. cc)
 same_or_differ Last Last = inl cc
 
--- the set lies within what a vertex reaches exactly where the vertex is joined with each of the set
-pub within-joins : (board : Board) (player : Colour) (around : Surroundings) (vertex : Vertex) (reach : Reach) → IsReach board player vertex reach
-    → ((n : ℕ) → has around.cells n ≡ true → OnBoard board.size n) → IsWithin around reach ↔ JoinsAll board player around vertex
-within-joins board player around vertex reach is on = (joins, within)
-  where
-    joins : IsWithin around reach → JoinsAll board player around vertex
-    joins w (Of n) h = ((is.cells n).0 (w.cells n h)).1
-    joins w First h = is.first.0 (w.first h)
-    joins w Last h = is.last.0 (w.last h)
+-- all of a set but those that still wait are joined with each one of the set
+pub record AreJoinedBut (board : Board) (player : Colour) (set waiting : ℕ) : Type 0 where
+  pub inside : IsSubset waiting set
+  pub joined : (v w : Vertex) → IsVertex board.size v → IsVertex board.size w → has set (code_of v) ≡ true → has waiting (code_of v) ≡ false
+      → has set (code_of w) ≡ true → Joined board player v w
 
-    within : JoinsAll board player around vertex → IsWithin around reach
-    within j = record {
-      cells = λ n h. (is.cells n).1 (on n h, j (Of n) h);
-      first = λ h. is.first.1 (j First h);
-      last = λ h. is.last.1 (j Last h);
-    }
+pub none-joined : (board : Board) (player : Colour) (set : ℕ) → AreJoinedBut board player set set
+none-joined board player set = record {
+  inside = λ n h. h;
+  joined = λ v w is_v is_w in_v out in_w. absurd (false≢true (sym out ∙ in_v));
+}
 
-pub among-vertex : (size : Extent) (around : Surroundings) (vertex : Vertex) → ((n : ℕ) → has around.cells n ≡ true → OnBoard size n)
-    → IsAmong around vertex → IsVertex size vertex
-among-vertex size around (Of n) on h = on n h
-among-vertex size around First on h = tt
-among-vertex size around Last on h = tt
+module _ (board : Board) (player : Colour) (cell around : ℕ) (is_around : IsSetOf board.size (IsOpenNeighbour board player cell) around) where
+  module _ (waiting : ℕ) (next : Vertex) (k : AreJoinedBut board player around waiting) (lowest : IsLowest waiting (code_of next)) (some : IsSomeVertex next) where
+    pub next-vertex : IsVertex board.size next
+    next-vertex = code-vertex board.size next (is_around.vertices (code_of next) (k.inside (code_of next) lowest.member)) some
 
-module _ (board : Board) (player : Colour) (cell : ℕ) (around : Surroundings) (open_ones : AreOpen board player cell around) where
-  pub among-on_board : (n : ℕ) → has around.cells n ≡ true → OnBoard board.size n
-  among-on_board n h = ((open_ones (Of n)).0 h).touch.1
+    module _ (reach : ℕ) (is_reach : IsSetOf board.size (Joined board player next) reach) where
+      -- the next vertex is joined with each one of the set
+      pub one_more-joined : IsExtent board.size.rows board.size.cols → IsSubset around reach → AreJoinedBut board player around (remove waiting (code_of next))
+      one_more-joined extent within = record {
+        inside = λ n h. k.inside n (has-remove_before waiting (code_of next) n h);
+        joined = λ v w is_v is_w in_v out in_w. ⊎_elim
+            (λ same. let P : Vertex → Type 0 = λ x. Joined board player x w in
+            subst P (sym (same_vertex board.size extent v next is_v next-vertex same)) ((is_reach.members w is_w).0 (within (code_of w) in_w)))
+            (λ still. k.joined v w is_v is_w in_v still in_w)
+            (removed_cases waiting (code_of next) (code_of v) out);
+      }
 
-  pub dead-joins : IsDead board player cell → (vertex : Vertex) → IsAmong around vertex → JoinsAll board player around vertex
-  dead-joins d v in_v w in_w = ⊎_elim inl (λ differ. d.joined v w differ ((open_ones v).0 in_v) ((open_ones w).0 in_w)) (same_or_differ v w)
+      -- where the cell is dead, it is joined with each one of the set
+      pub dead-within : IsDead board player cell → IsSubset around reach
+      dead-within dead n h =
+          let w : IsVertexCode board.size n = is_around.vertices n h in
+          let in_w : has around (code_of w.vertex) ≡ true = rw w.is_code h in
+          let joined : Joined board player next w.vertex = ⊎_elim inl
+          (λ differ. dead.joined next w.vertex differ ((is_around.members next next-vertex).0 (k.inside (code_of next) lowest.member))
+          ((is_around.members w.vertex w.is_vertex).0 in_w))
+          (same_or_differ next w.vertex) in
+          rw w.is_code at ((is_reach.members w.vertex w.is_vertex).1 joined)
 
-  -- the two sides are looked at by themselves, the cells by a list of those that touch the cell
-  pub joins-dead : (list : List ℕ) → ((n : ℕ) → Contains list n ↔ (OnBoard board.size n × CellsTouch cell n)) → IsEmpty board cell
-      → (IsAmong around First → JoinsAll board player around First) → (IsAmong around Last → JoinsAll board player around Last)
-      → ((n : ℕ) → Contains list n → IsAmong around (Of n) → JoinsAll board player around (Of n)) → IsDead board player cell
-  joins-dead list listed empty first last cells = record {
+  pub all-dead : IsEmpty board cell → (waiting : ℕ) → waiting ≡ 0 → AreJoinedBut board player around waiting → IsDead board player cell
+  all-dead empty waiting none k = record {
     empty = empty;
-    joined = λ one other differ o p. each one ((open_ones one).1 o) other ((open_ones other).1 p);
+    joined = λ one other differ o p.
+        let is_one : IsVertex board.size one = touches-vertex board.size player (Of cell) one o.touch in
+        let is_other : IsVertex board.size other = touches-vertex board.size player (Of cell) other p.touch in
+        k.joined one other is_one is_other ((is_around.members one is_one).1 o) (rw none (has-empty (code_of one))) ((is_around.members other is_other).1 p);
   }
-    where
-      each : (vertex : Vertex) → IsAmong around vertex → JoinsAll board player around vertex
-      each (Of n) h = let t = ((open_ones (Of n)).0 h).touch in cells n ((listed n).1 (t.1, t.2)) h
-      each First h = first h
-      each Last h = last h

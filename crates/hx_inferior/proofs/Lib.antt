@@ -1,2 +1,2 @@
-pub mod ListLaws
+pub mod OpenLaws
 pub mod DeadLaws

@@ -1,27 +1,20 @@
 -- Dead cells, captured pairs, fill steps, and cells that another one is better than.
-use Rattle.std.specs.Prelude.{◌≡◌, ◌≢◌, ℕ, false}
+use Rattle.std.specs.Prelude.{◌≢◌, ℕ}
 use Rattle.hx_board.specs.declared.colours.Colour.{Colour}
 use Rattle.hx_board.specs.declared.vertices.Vertex.{Vertex}
-use Rattle.hx_board.specs.declared.vertices.Vertex.TheVariants.{Of, First, Last}
-use Rattle.hx_board.specs.Sets.{has}
+use Rattle.hx_board.specs.declared.vertices.Vertex.TheVariants.{Of}
 use Rattle.hx_board.specs.Colours.{other_of}
-use Rattle.hx_board.specs.Positions.{Board, IsEmpty, stones_of, put}
-use Rattle.hx_board.specs.Graph.{Touches, Joined}
+use Rattle.hx_board.specs.Positions.{Board, IsEmpty, put}
+use Rattle.hx_board.specs.Graph.{IsOpen, Touches, Joined}
 use Rattle.hx_inferior.specs.declared.fills.FillStep.{FillStep}
 use Rattle.hx_inferior.specs.declared.fills.FillStep.TheVariants.{Other, Dead, Pair}
 use Rattle.hx_inferior.specs.declared.dominations.Kill.{Kill}
 use Rattle.hx_inferior.specs.declared.dominations.Kill.TheVariants.{ByDead, ByPair}
 
--- a vertex that is no stone of the opponent
-abbrev pub IsNotOthers : Board → Colour → Vertex → Type 0
-IsNotOthers board player (Of cell) = has (stones_of board (other_of player)) cell ≡ false
-IsNotOthers board player First = Unit {0}
-IsNotOthers board player Last = Unit {0}
-
 -- a neighbour of a cell in the player's graph, a cell or a side, that is no stone of the opponent
 pub record IsOpenNeighbour (board : Board) (player : Colour) (cell : ℕ) (vertex : Vertex) : Type 0 where
   pub touch : Touches board.size player (Of cell) vertex
-  pub not_others : IsNotOthers board player vertex
+  pub is_open : IsOpen board player vertex
 
 -- an empty cell of which any two different open neighbours are joined without it
 pub record IsDead (board : Board) (player : Colour) (cell : ℕ) : Type 0 where

@@ -8,7 +8,6 @@ ghost use Rattle.std.specs.Prelude.{◌↔◌, IsTrue};
 ghost use Rattle.hx_inferior.specs.Inferior.{IsKilled, IsDominated};
 
 use crate::dead_cells::dead;
-use crate::moves::after;
 use crate::pairs::pair;
 use hx_board::{Cell, Colour, Position};
 
@@ -42,6 +41,6 @@ pub fn dominates(position: &Position, mover: Colour, better: Cell, worse: Cell, 
     if better == worse || !are_empty {
         return false;
     }
-    let next = after(position, mover, better);
+    let next = position.with(mover, better);
     is_killed(&next, mover, worse, &kill)
 }

@@ -8,7 +8,6 @@ ghost use Rattle.std.specs.Prelude.{◌≡◌, ◌↔◌, IsTrue, SomeIff};
 ghost use Rattle.hx_inferior.specs.Inferior.{MayFill, filled};
 
 use crate::dead_cells::dead;
-use crate::moves::after;
 use crate::pairs::pair;
 use hx_board::{Cell, Colour, Position};
 
@@ -42,11 +41,11 @@ pub fn after_fill(position: &Position, winner: Colour, step: &FillStep) -> Posit
     ensures { result ≡ filled position.now winner step.now }
 {
     match step {
-        FillStep::Other(cell) => after(position, winner.other(), *cell),
-        FillStep::Dead(cell) => after(position, winner, *cell),
+        FillStep::Other(cell) => position.with(winner.other(), *cell),
+        FillStep::Dead(cell) => position.with(winner, *cell),
         FillStep::Pair(a, b) => {
-            let with_a = after(position, winner, *a);
-            after(&with_a, winner, *b)
+            let with_a = position.with(winner, *a);
+            with_a.with(winner, *b)
         }
     }
 }

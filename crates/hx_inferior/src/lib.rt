@@ -7,17 +7,14 @@
 mod dead_cells;
 mod dominations;
 mod fills;
-mod moves;
 mod open_neighbours;
 mod pairs;
 
 pub use dead_cells::dead;
 pub use dominations::{Kill, dominates};
 pub use fills::{FillStep, after_fill, fill_one};
-pub use open_neighbours::{Surroundings, is_among, is_within, open_around};
+pub use open_neighbours::open_around;
 pub use pairs::pair;
 
-#[cfg(test)]
-mod plain;
 #[cfg(test)]
 mod tests;

@@ -2,43 +2,34 @@
 //!
 //! A cell matters to the player only where it joins two of these that are not joined without it.
 
-ghost use Rattle.std.specs.Prelude.{◌≡◌, ℕ, ◌↔◌, IsTrue, Contains, true};
+ghost use Rattle.std.specs.Prelude.{◌≡◌, ℕ, ◌↔◌, ◌&&◌, ◌||◌, ◌==◌, IsTrue};
 ghost use Rattle.hx_board.specs.Sets.{has};
-ghost use Rattle.hx_board.specs.Cells.{OnBoard, CellsTouch};
+ghost use Rattle.hx_board.specs.Cells.{OnBoard};
 ghost use Rattle.hx_board.specs.Graph.{IsFirstLine, IsLastLine};
-ghost use Rattle.hx_inferior.specs.Named.{AreOpen, IsAmong, IsWithin};
+ghost use Rattle.hx_board.specs.VertexSets.{code_of, IsSetOf};
+ghost use Rattle.hx_inferior.specs.Inferior.{IsOpenNeighbour};
 
-use hx_board::{Cell, Colour, Mask, Position, Reach, Size, Vertex, neighbours};
+use hx_board::{Cell, Colour, Position, Size, Vertex, VertexSet, neighbour_set};
 
-/// The open neighbours of a cell: cells, and the player's two sides where the cell lies along them.
-#[derive(Clone, Copy, PartialEq, Eq, Debug)]
-pub struct Surroundings {
-    /// The cells among them.
-    pub cells: Mask,
-    /// Whether the player's first side is one of them.
-    pub first: bool,
-    /// Whether the player's last side is one of them.
-    pub last: bool,
+/// The open neighbours of a cell: of the cells and the player's sides that it touches those that are no stones of the
+/// opponent.
+pub fn open_around(position: &Position, player: Colour, cell: Cell) -> VertexSet
+    requires { OnBoard position.now.size cell }
+    ensures { IsSetOf position.now.size (IsOpenNeighbour position.now player cell) result }
+{
+    let size = position.size();
+    let touched = neighbour_set(size, cell);
+    let unheld = touched.minus(position.stones(player.other()));
+    let cells = VertexSet::of_cells(unheld);
+    let with_first = with_if(cells, Vertex::First, is_along_first(player, cell));
+    with_if(with_first, Vertex::Last, is_along_last(size, player, cell))
 }
 
-/// The set of the cells in a list.
-fn set_of(cells: &[Cell]) -> Mask
-    ensures { (cell : ℕ) → (has result cell ≡ true) ↔ Contains cells.now cell }
+/// The set, with a vertex where it is wanted.
+fn with_if(set: VertexSet, vertex: Vertex, is_wanted: bool) -> VertexSet
+    ensures { (n : ℕ) → has result n ≡ ((is_wanted && (n == code_of vertex)) || has set n) }
 {
-    let mut set = Mask::empty();
-    for cell in cells {
-        set = set.with(*cell);
-    }
-    set
-}
-
-/// The cells of the board that touch a cell.
-fn touching(size: Size, cell: Cell) -> Mask
-    requires { OnBoard size cell }
-    ensures { (other : ℕ) → (has result other ≡ true) ↔ (OnBoard size other × CellsTouch cell other) }
-{
-    let found = neighbours(size, cell);
-    set_of(found.as_slice())
+    if is_wanted { set.with(vertex) } else { set }
 }
 
 /// Whether a cell lies along the player's first side.
@@ -58,38 +49,5 @@ fn is_along_last(size: Size, player: Colour, cell: Cell) -> bool
     match player {
         Colour::Black => cell.row() + 1 == size.rows(),
         Colour::White => cell.col() + 1 == size.cols(),
-    }
-}
-
-/// The open neighbours of a cell.
-pub fn open_around(position: &Position, player: Colour, cell: Cell) -> Surroundings
-    requires { OnBoard position.now.size cell }
-    ensures { AreOpen position.now player cell result }
-{
-    let size = position.size();
-    let touched = touching(size, cell);
-    let cells = touched.minus(position.stones(player.other()));
-    let first = is_along_first(player, cell);
-    let last = is_along_last(size, player, cell);
-    Surroundings { cells, first, last }
-}
-
-/// Whether each of the open neighbours is one of the vertices that some vertex is joined with.
-pub fn is_within(around: &Surroundings, reach: &Reach) -> bool
-    ensures { IsTrue result ↔ IsWithin around.now reach.now }
-{
-    let has_first = !around.first || reach.first;
-    let has_last = !around.last || reach.last;
-    around.cells.inside(reach.cells) && has_first && has_last
-}
-
-/// Whether a vertex is one of the open neighbours.
-pub fn is_among(around: &Surroundings, vertex: &Vertex) -> bool
-    ensures { IsTrue result ↔ IsAmong around.now vertex.now }
-{
-    match vertex {
-        Vertex::Of(cell) => around.cells.has(*cell),
-        Vertex::First => around.first,
-        Vertex::Last => around.last,
     }
 }

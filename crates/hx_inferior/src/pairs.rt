@@ -8,7 +8,6 @@ ghost use Rattle.std.specs.Prelude.{◌↔◌, IsTrue};
 ghost use Rattle.hx_inferior.specs.Inferior.{IsPair};
 
 use crate::dead_cells::dead;
-use crate::moves::after;
 use hx_board::{Cell, Colour, Position};
 
 /// Whether two cells are a pair of a player: they are different and empty, and each is dead for the player after the player
@@ -21,7 +20,7 @@ pub fn pair(position: &Position, colour: Colour, a: Cell, b: Cell) -> bool
     if a == b || !are_empty {
         return false;
     }
-    let with_a = after(position, colour, a);
-    let with_b = after(position, colour, b);
+    let with_a = position.with(colour, a);
+    let with_b = position.with(colour, b);
     dead(&with_b, colour, a) && dead(&with_a, colour, b)
 }

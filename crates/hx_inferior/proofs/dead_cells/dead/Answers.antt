@@ -1,39 +1,40 @@
-use Rattle.std.proofs.Common.{sym, ◌∙◌}
+use Rattle.std.proofs.Common.{sym, ◌∙◌, refl}
 use Rattle.std.proofs.lemmas.Bool.{false≢true}
-use Rattle.hx_board.specs.declared.vertices.Vertex.TheVariants.{Of, First, Last}
-use Rattle.hx_inferior.proofs.DeadLaws.{among-on_board, dead-joins, joins-dead}
+use Rattle.hx_board.proofs.SetLaws.{remove-lt}
+use Rattle.hx_board.proofs.Lowest.{some_member}
+use Rattle.hx_inferior.proofs.DeadLaws.{none-joined, next-vertex, one_more-joined, dead-within, all-dead}
 use Rattle.hx_inferior.proofs.dead_cells.dead.Goals as goal
 
-pub joins_all-requires : goal.joins_all-requires
-joins_all-requires c = rw c.of-groups.ensures (among-on_board _ _ _ _ c.open_around-around.ensures)
+pub loop-vertex-init : goal.loop-vertex-init
+loop-vertex-init c = none-joined _ _ _
 
-pub returns-then-not-joins_all : goal.returns-then-not-joins_all
-returns-then-not-joins_all c = let told = rw c.of-groups.ensures at c.joins_all.ensures in (
+pub joined_with-requires : goal.joined_with-requires
+joined_with-requires c =
+    rw c.of-groups.ensures
+    (next-vertex _ _ _ _ c.open_around-around.ensures _ _ c.loop-vertex.invariant c.in-Some.ensures.first c.in-Some.ensures.some)
+
+pub returns-then-not-inside : goal.returns-then-not-inside
+returns-then-not-inside c = (
   (λ h. absurd (false≢true h)),
-  (λ d. sym c.if-not-joins_all.true ∙ told.1 (dead-joins _ _ _ _ c.open_around-around.ensures d First)),
+  (λ dead. sym c.if-not-inside.true ∙ c.inside.ensures.1 (dead-within _ _ _ _ c.open_around-around.ensures _ _ c.loop-vertex.invariant
+      c.in-Some.ensures.first c.in-Some.ensures.some _ (rw c.of-groups.ensures at c.joined_with.ensures) dead)),
 )
 
-pub joins_all-requires-2 : goal.joins_all-requires-2
-joins_all-requires-2 c = rw c.of-groups.ensures (among-on_board _ _ _ _ c.open_around-around.ensures)
+pub without_lowest-waiting-requires : goal.without_lowest-waiting-requires
+without_lowest-waiting-requires c = some_member _ _ c.in-Some.ensures.first
 
-pub returns-then-not-joins_all-2 : goal.returns-then-not-joins_all-2
-returns-then-not-joins_all-2 c = let told = rw c.of-groups.ensures at c.joins_all-2.ensures in (
-  (λ h. absurd (false≢true h)),
-  (λ d. sym c.if-not-joins_all-2.true ∙ told.1 (dead-joins _ _ _ _ c.open_around-around.ensures d Last)),
-)
+pub loop-vertex-preserved : goal.loop-vertex-preserved
+loop-vertex-preserved c =
+    rw (c.without_lowest-waiting.ensures _ c.in-Some.ensures.first)
+    (one_more-joined _ _ _ _ c.open_around-around.ensures _ _ c.loop-vertex.invariant c.in-Some.ensures.first c.in-Some.ensures.some _
+    (rw c.of-groups.ensures at c.joined_with.ensures) c.size-size.ensures.valid.0 (c.inside.ensures.0 c.if-not-inside.false))
 
-pub cells_join_all-requires : goal.cells_join_all-requires
-cells_join_all-requires c = rw c.of-groups.ensures (among-on_board _ _ _ _ c.open_around-around.ensures)
+pub loop-vertex-smaller : goal.loop-vertex-smaller
+loop-vertex-smaller c = rw (c.without_lowest-waiting.ensures _ c.in-Some.ensures.first) (remove-lt _ _ c.in-Some.ensures.first.member)
 
 pub returns : goal.returns
 returns c =
-    let groups = c.of-groups.ensures in
-    let around = c.open_around-around.ensures in
-    let first = rw groups at c.joins_all.ensures in
-    let last = rw groups at c.joins_all-2.ensures in
-    let cells = rw (groups, c.as_slice.ensures.value) at c.cells_join_all.ensures in
-    let listed = rw c.size.ensures.value at c.neighbours-list.ensures.touching in
     let empty = (c.empties.ensures c.args.cell).0 (sym c.has-is_empty.ensures ∙ c.if-not-is_empty.false) in (
-      (λ h. joins-dead _ _ _ _ around _ listed empty (first.0 c.if-not-joins_all.false) (last.0 c.if-not-joins_all-2.false) (cells.0 h)),
-      (λ d. cells.1 (λ n listed among. dead-joins _ _ _ _ around d (Of n) among)),
+      (λ _. all-dead _ _ _ _ c.open_around-around.ensures empty _ c.in_default.ensures.first c.loop-vertex.invariant),
+      (λ _. refl),
     )
