@@ -9,12 +9,13 @@ use Rattle.hx_tree.specs.declared.nodes.Node.{Node}
 use Rattle.hx_tree.specs.Rules.{IsRightNode}
 use Rattle.hx_tree.specs.Trees.{headings_of, AreRight}
 use Rattle.hx_tree.proofs.TreeGrowth.{headings_of-append, one_more_right, valid_tree}
-use Rattle.hx_book.specs.Trees.{Names, IsNeeded, IsTreeOf}
-use Rattle.hx_book.specs.Renaming.{renamed_node, IsMarked, AreMarkedFrom, IsKept, IsRest, EndsInRoot, AreKeptBelow}
-use Rattle.hx_book.proofs.ChainLaws.{get-lt}
+use Rattle.hx_book.specs.Trees.{Names, IsNeeded, IsAt, IsTreeOf, renamed_node}
+use Rattle.hx_book.specs.Renaming.{IsMarked, AreMarkedFrom, IsKept, IsRest, EndsInRoot, AreKeptBelow}
+use Rattle.hx_book.proofs.ChainLaws.{get-lt, same_some}
 use Rattle.hx_tree.proofs.EntryLaws.{get-push, get-push_before, get-push_last}
 use Rattle.hx_book.proofs.ChildLaws.{get-heading, take-heading, right-at, child-before, needed-size}
-use Rattle.hx_book.proofs.RenamingLaws.{node-renamed}
+use Rattle.hx_book.proofs.RenamingLaws.{node-renamed, node-same}
+use Rattle.hx_book.proofs.NeedLaws.{needed-marked}
 
 -- ---- what is left
 
@@ -49,6 +50,11 @@ heading-there : (nodes : List Node) (place : ℕ) → place < length nodes → (
 heading-there [] place less = absurd (omega arith)
 heading-there (node ∷ nodes) zero less = (node.heading, refl)
 heading-there (node ∷ nodes) (suc place) less = heading-there nodes place (omega arith)
+
+node-there : (nodes : List Node) (place : ℕ) → place < length nodes → (node : Node) × (slice_get nodes place ≡ Some node)
+node-there [] place less = absurd (omega arith)
+node-there (node ∷ nodes) zero less = (node, refl)
+node-there (node ∷ nodes) (suc place) less = node-there nodes place (omega arith)
 
 length-headings : (nodes : List Node) → length (headings_of nodes) ≡ length nodes
 length-headings [] = refl
@@ -86,9 +92,11 @@ kept-none nodes root marks names long = record {
   needed = record {
     as_many = refl;
     needed = λ k place e. absurd (omega (arith, get-lt {A = ℕ} [] k place e));
-    same_heading = λ k place e. absurd (omega (arith, get-lt {A = ℕ} [] k place e));
     in_order = λ j k one other less e f. absurd (omega (arith, get-lt {A = ℕ} [] k other f));
+    renamed = λ k place e. absurd (omega (arith, get-lt {A = ℕ} [] k place e));
+    same_node = λ k place node e there. absurd (omega (arith, get-lt {A = ℕ} [] k place e));
   };
+  each = λ place h less. absurd (omega (arith, less));
   below = λ k place e. absurd (omega (arith, get-lt {A = ℕ} [] k place e));
   last = λ less. absurd (omega (arith, less));
 }
@@ -107,6 +115,10 @@ module _ (nodes : List Node) (right : AreRight nodes) (root : ℕ) (marks : List
         (cases_eq place bound);
     places = old.places;
     needed = old.needed;
+    each = λ place h less. ⊎_elim
+        (λ (same : place ≡ bound). absurd (none (subst (λ (p : ℕ). IsMarked marks p) same h)))
+        (λ (different : place ≡ bound → ⊥). old.each place h (omega (arith, less, different)))
+        (cases_eq place bound);
     below = λ k place e. omega (arith, old.below k place e);
     last = λ less. ⊎_elim
         (λ (same : root ≡ bound). absurd (none (subst (λ (p : ℕ). IsMarked marks p) same marked.root_marked)))
@@ -172,17 +184,39 @@ module _ (nodes : List Node) (right : AreRight nodes) (root : ℕ) (marks : List
         (λ last. subst (λ (p : ℕ). IsNeeded nodes root p) (sym last.1) (marked.needed bound here))
         (get-push old.places bound place k e)
 
-    same-before : (k place : ℕ) → slice_get old.places k ≡ Some place → slice_get (headings_of more) k ≡ slice_get (headings_of nodes) place
-    same-before k place was =
-        let found = heading-there nodes place (omega (arith, old.below k place was, within)) in
-        heading-before kept new k (slice_get (headings_of nodes) place) found.0 (old.needed.same_heading k place was) found.1
+    abbrev new_name : ℕ → ℕ
+    new_name place = slice_index new_names place
 
-    same-last : (k place : ℕ) → k ≡ length old.places → place ≡ bound → slice_get (headings_of more) k ≡ slice_get (headings_of nodes) place
-    same-last k place at is =
-        ap (λ (p : ℕ). slice_get (headings_of more) p) (at ∙ old.needed.as_many) ∙ heading-last kept new ∙ sym own_heading ∙ ap (λ (p : ℕ). slice_get (headings_of nodes) p) (sym is)
+    -- what stands before has the name that it had
+    name-before : (place : ℕ) → place < bound → name place ≡ new_name place
+    name-before place less = sym (get_or-set_other names bound place (length kept) 0 (λ (same : place ≡ bound). omega (arith, same, less)))
 
-    same-more : (k place : ℕ) → slice_get new_places k ≡ Some place → slice_get (headings_of more) k ≡ slice_get (headings_of nodes) place
-    same-more k place e = ⊎_elim (λ was. same-before k place was) (λ last. same-last k place last.0 last.1) (get-push old.places bound place k e)
+    renamed-more : (k place : ℕ) → slice_get new_places k ≡ Some place → new_name place ≡ k
+    renamed-more k place e = ⊎_elim
+        (λ was. sym (name-before place (old.below k place was)) ∙ old.needed.renamed k place was)
+        (λ last. ap new_name last.1 ∙ get_or-set_same names bound (length kept) 0 (omega (arith, within, old.named)) ∙ sym (last.0 ∙ old.needed.as_many))
+        (get-push old.places bound place k e)
+
+    -- a node that stands before is renamed as it was
+    node-before : (place : ℕ) (at : Node) → place ≤ bound → slice_get nodes place ≡ Some at → renamed_node name at ≡ renamed_node new_name at
+    node-before place at less there_at =
+        node-same name new_name at (λ child names_it. name-before child (omega (arith, child-before nodes right place at there_at child names_it, less)))
+
+    node-more : (k place : ℕ) (at : Node) → slice_get new_places k ≡ Some place → slice_get nodes place ≡ Some at → slice_get more k ≡ Some (renamed_node new_name at)
+    node-more k place at e there_at = ⊎_elim
+        (λ was. get-push_before kept new k (renamed_node name at) (old.needed.same_node k place at was there_at)
+        ∙ ap Some (node-before place at (omega (arith, old.below k place was)) there_at))
+        (λ last.
+        let same : node ≡ at = same_some node at (sym there ∙ ap (λ (p : ℕ). slice_get nodes p) (sym last.1) ∙ there_at) in
+        ap (λ (j : ℕ). slice_get more j) (last.0 ∙ old.needed.as_many) ∙ get-push_last kept new
+        ∙ ap Some (node-before bound node (omega arith) there ∙ ap (λ (n : Node). renamed_node new_name n) same))
+        (get-push old.places bound place k e)
+
+    each-more : (place : ℕ) → IsMarked marks place → place < bound + 1 → IsAt new_places place
+    each-more place h less = ⊎_elim
+        (λ (same : place ≡ bound). (length old.places, get-push_last old.places bound ∙ ap Some (sym same)))
+        (λ (different : place ≡ bound → ⊥). let was = old.each place h (omega (arith, less, different)) in (was.0, get-push_before old.places bound was.0 place was.1))
+        (cases_eq place bound)
 
     order-more : (j k one other : ℕ) → j < k → slice_get new_places j ≡ Some one → slice_get new_places k ≡ Some other → one < other
     order-more j k one other less first second = ⊎_elim
@@ -215,9 +249,11 @@ module _ (nodes : List Node) (right : AreRight nodes) (root : ℕ) (marks : List
       needed = record {
         as_many = omega (arith, length-append old.places (bound ∷ []), length-append kept (new ∷ []), old.needed.as_many);
         needed = needed-more;
-        same_heading = same-more;
         in_order = order-more;
+        renamed = renamed-more;
+        same_node = node-more;
       };
+      each = each-more;
       below = below-more;
       last = last-more;
     }
@@ -245,7 +281,12 @@ module _ (nodes : List Node) (right : AreRight nodes) (root : ℕ) (marks : List
     size-of k node e =
         let within : k < length kept = get-lt kept k node e in
         let found = place-there old.places k (omega (arith, within, old.needed.as_many)) in
-        let at : slice_get (headings_of nodes) found.0 ≡ Some node.heading = sym (old.needed.same_heading k found.0 found.1) ∙ get-heading kept k node e in
+        let below : found.0 < length nodes = omega (arith, old.below k found.0 found.1, old.inside) in
+        let own = node-there nodes found.0 below in
+        let same : renamed_node (λ (place : ℕ). slice_index names place) own.0 ≡ node =
+        same_some _ node (sym (old.needed.same_node k found.0 own.0 found.1 own.1) ∙ e) in
+        let at : slice_get (headings_of nodes) found.0 ≡ Some node.heading =
+        get-heading nodes found.0 own.0 own.1 ∙ ap (λ (n : Node). Some n.heading) same in
         let path = old.needed.needed k found.0 found.1 in
         needed-size nodes right path.0 root found.0 end.last.heading node.heading path.1 end.same_heading at
 
@@ -257,6 +298,10 @@ module _ (nodes : List Node) (right : AreRight nodes) (root : ℕ) (marks : List
       is_root = record { front = end.front; same = end.same };
       same_heading = end.same_heading;
       places = old.places;
+      name = λ place. slice_index names place;
       needed = old.needed;
+      each = λ place need.
+          let h : IsMarked marks place = needed-marked nodes root marks marked root place need.0 marked.root_marked need.1 in
+          old.each place h (omega (arith, marked.under place h, inside, past));
       one_size = size-of;
     }

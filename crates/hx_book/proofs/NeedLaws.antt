@@ -1,11 +1,11 @@
 -- The marks from the root down. At each place below it the children of a marked node are marked, so at the end a marked node
 -- has no child without a mark.
-use Rattle.std.proofs.Common.{◌≡◌, ℕ, ◌+◌, ◌<◌, ◌≤◌, List, [], length, refl, sym, ◌∙◌, subst, Some, Bool, ⊎_elim, arith}
+use Rattle.std.proofs.Common.{◌≡◌, ℕ, ◌+◌, ◌<◌, ◌≤◌, List, [], ◌∷◌, length, refl, sym, ◌∙◌, subst, Some, Bool, ⊎_elim, arith}
 use Rattle.std.specs.Prelude.{slice_get}
 use Rattle.std.proofs.lemmas.Bool.{cases_eq}
 use Rattle.hx_tree.specs.declared.nodes.Node.{Node}
 use Rattle.hx_tree.specs.Trees.{AreRight}
-use Rattle.hx_book.specs.Trees.{Names, HasChildAt, IsNeeded}
+use Rattle.hx_book.specs.Trees.{Names, HasChildAt, LeadsTo, IsNeeded}
 use Rattle.hx_book.specs.Renaming.{IsMarked, AreUnmarked, MarksMore, AreMarkedFrom}
 use Rattle.hx_book.proofs.ChainLaws.{same_some}
 use Rattle.hx_book.proofs.ChildLaws.{child-before, leads-further}
@@ -65,3 +65,10 @@ module _ (nodes : List Node) (right : AreRight nodes) (root bound : ℕ) (marks 
       needed = needed_more;
       closed = closed_more;
     }
+
+-- all that the root needs is marked, once the children of all marked nodes are
+pub needed-marked : (nodes : List Node) (root : ℕ) (marks : List Bool) → AreMarkedFrom nodes root 0 marks → (first place : ℕ) (path : List ℕ) → IsMarked marks first
+    → LeadsTo nodes first path place → IsMarked marks place
+needed-marked nodes root marks marked first place [] here leads = subst (λ (p : ℕ). IsMarked marks p) leads here
+needed-marked nodes root marks marked first place (next ∷ path) here leads =
+    needed-marked nodes root marks marked next place path (marked.closed first next (omega arith) here leads.0) leads.1

@@ -10,8 +10,7 @@ use Rattle.hx_tree.specs.declared.nodes.Rule.{Rule}
 use Rattle.hx_tree.specs.declared.nodes.Rule.TheVariants.{Chain, Links, Move, All, Fill}
 use Rattle.hx_tree.specs.Rules.{IsRightRule, IsRightNode}
 use Rattle.hx_tree.specs.Answers.{IsRightLine, AreAnswered, cell_of, cells_of}
-use Rattle.hx_book.specs.Trees.{NamesChild, HasLine, Names}
-use Rattle.hx_book.specs.Renaming.{renamed_line, renamed_rule, renamed_node}
+use Rattle.hx_book.specs.Trees.{NamesChild, HasLine, Names, renamed_line, renamed_rule, renamed_node}
 use Rattle.hx_book.proofs.ChainLaws.{get-lt, read-get}
 
 -- ---- lists of which the first were mapped
@@ -121,6 +120,33 @@ module _ (before after : List Heading) (heading : Heading) (name : ℕ → ℕ) 
 pub node-renamed : (before after : List Heading) (name : ℕ → ℕ) (node : Node) → ((child : ℕ) → Names node.rule child → slice_get after (name child) ≡ slice_get before child)
     → IsRightNode before node → IsRightNode after (renamed_node name node)
 node-renamed before after name node same right = record { board = right.board; rule = rule-renamed before after node.heading name node.rule same right.rule }
+
+-- ---- the same new numbers
+
+module _ (one other : ℕ → ℕ) where
+  line-same : (line : Line) → ((child : ℕ) → NamesChild line child → one child ≡ other child) → renamed_line one line ≡ renamed_line other line
+  line-same (Child cell child) same = ap (λ (c : ℕ). Child cell c) (same child refl)
+  line-same (Under cell better kill) same = refl
+
+  lines-same : (lines : List Line) → ((child : ℕ) → HasLine lines child → one child ≡ other child) → map (renamed_line one) lines ≡ map (renamed_line other) lines
+  lines-same [] same = refl
+  lines-same (line ∷ lines) same =
+      let first : renamed_line one line ≡ renamed_line other line =
+      line-same line (λ child names. same child (record { k = 0; line = line; there = refl; names = names })) in
+      let rest : map (renamed_line one) lines ≡ map (renamed_line other) lines =
+      lines-same lines (λ child has. same child (record { k = suc has.k; line = has.line; there = has.there; names = has.names })) in
+      ap (λ (l : Line). l ∷ map (renamed_line one) lines) first ∙ ap (λ (ls : List Line). renamed_line other line ∷ ls) rest
+
+  rule-same : (rule : Rule) → ((child : ℕ) → Names rule child → one child ≡ other child) → renamed_rule one rule ≡ renamed_rule other rule
+  rule-same Chain same = refl
+  rule-same (Links steps) same = refl
+  rule-same (Move cell child) same = ap (λ (c : ℕ). Move cell c) (same child refl)
+  rule-same (All steps threats lines) same = ap (λ (ls : List Line). All steps threats ls) (lines-same lines same)
+  rule-same (Fill steps child) same = ap (λ (c : ℕ). Fill steps c) (same child refl)
+
+  -- a node is renamed alike by numbers that are the same for its children
+  pub node-same : (node : Node) → ((child : ℕ) → Names node.rule child → one child ≡ other child) → renamed_node one node ≡ renamed_node other node
+  node-same node same = ap (λ (r : Rule). record { heading = node.heading; rule = r }) (rule-same node.rule same)
 
 -- ---- the loop over the lines
 

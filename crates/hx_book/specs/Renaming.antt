@@ -1,29 +1,9 @@
--- Marks on the nodes that a root needs, and new numbers for them, for the functions inside the crate.
-use Rattle.std.specs.Prelude.{◌≡◌, ◌≤◌, ◌<◌, ◌+◌, ℕ, List, [], ◌∷◌, ◌++◌, map, length, set, slice_get, slice_index, slice_index_or, Bool, true, false, ◌⊎◌}
+-- Marks on the nodes that a root needs, and those that were kept so far, for the functions inside the crate.
+use Rattle.std.specs.Prelude.{◌≡◌, ◌≤◌, ◌<◌, ◌+◌, ℕ, List, [], ◌∷◌, ◌++◌, length, set, slice_get, slice_index, slice_index_or, Bool, true, false, ◌⊎◌}
 use Rattle.std.specs.declared.option.Option.TheVariants.{Some}
-use Rattle.hx_tree.specs.declared.nodes.Line.{Line}
-use Rattle.hx_tree.specs.declared.nodes.Line.TheVariants.{Child, Under}
 use Rattle.hx_tree.specs.declared.nodes.Node.{Node}
-use Rattle.hx_tree.specs.declared.nodes.Rule.{Rule}
-use Rattle.hx_tree.specs.declared.nodes.Rule.TheVariants.{Chain, Links, Move, All, Fill}
 use Rattle.hx_tree.specs.Trees.{headings_of, AreRight}
-use Rattle.hx_book.specs.Trees.{HasChildAt, IsNeeded, AreNeeded}
-
--- the line with its child renamed
-abbrev pub renamed_line : (ℕ → ℕ) → Line → Line
-renamed_line name (Child cell child) = Child cell (name child)
-renamed_line name (Under cell better kill) = Under cell better kill
-
--- the rule with its children renamed
-abbrev pub renamed_rule : (ℕ → ℕ) → Rule → Rule
-renamed_rule name Chain = Chain
-renamed_rule name (Links steps) = Links steps
-renamed_rule name (Move cell child) = Move cell (name child)
-renamed_rule name (All steps threats lines) = All steps threats (map (renamed_line name) lines)
-renamed_rule name (Fill steps child) = Fill steps (name child)
-
-abbrev pub renamed_node : (ℕ → ℕ) → Node → Node
-renamed_node name node = record { heading = node.heading; rule = renamed_rule name node.rule }
+use Rattle.hx_book.specs.Trees.{HasChildAt, IsNeeded, renamed_node, IsAt, AreNeeded}
 
 abbrev pub IsMarked : List Bool → ℕ → Type 0
 IsMarked marks place = slice_index_or marks place false ≡ true
@@ -72,6 +52,7 @@ pub record AreKeptBelow (nodes : List Node) (root : ℕ) (marks : List Bool) (bo
   pub named : length names ≡ length nodes
   pub gives : (place : ℕ) → IsMarked marks place → place < bound → slice_get (headings_of kept) (slice_index names place) ≡ slice_get (headings_of nodes) place
   pub places : List ℕ
-  pub needed : AreNeeded nodes root kept places
+  pub needed : AreNeeded nodes root kept places (λ (place : ℕ). slice_index names place)
+  pub each : (place : ℕ) → IsMarked marks place → place < bound → IsAt places place
   pub below : (k place : ℕ) → slice_get places k ≡ Some place → place < bound
   pub last : root < bound → EndsInRoot nodes root kept

@@ -1,5 +1,5 @@
 -- The tree of an entry: the nodes that it needs, in their order, with new numbers for their children.
-use Rattle.std.specs.Prelude.{◌≡◌, ◌≤◌, ◌<◌, ℕ, List, [], ◌∷◌, length, slice_get}
+use Rattle.std.specs.Prelude.{◌≡◌, ◌≤◌, ◌<◌, ℕ, List, [], ◌∷◌, map, length, slice_get}
 use Rattle.std.specs.declared.option.Option.TheVariants.{Some}
 use Rattle.hx_tree.specs.declared.nodes.Line.{Line}
 use Rattle.hx_tree.specs.declared.nodes.Line.TheVariants.{Child, Under}
@@ -43,14 +43,42 @@ LeadsTo nodes first (next ∷ path) last = HasChildAt nodes first next × LeadsT
 abbrev pub IsNeeded : List Node → ℕ → ℕ → Type 0
 IsNeeded nodes root place = (path : List ℕ) × LeadsTo nodes root path place
 
--- for each node of the tree the place of a needed node with the same heading, in rising order
-pub record AreNeeded (nodes : List Node) (root : ℕ) (tree : List Node) (places : List ℕ) : Type 0 where
+-- ---- new numbers for children
+
+-- the line with its child renamed
+abbrev pub renamed_line : (ℕ → ℕ) → Line → Line
+renamed_line name (Child cell child) = Child cell (name child)
+renamed_line name (Under cell better kill) = Under cell better kill
+
+-- the rule with its children renamed
+abbrev pub renamed_rule : (ℕ → ℕ) → Rule → Rule
+renamed_rule name Chain = Chain
+renamed_rule name (Links steps) = Links steps
+renamed_rule name (Move cell child) = Move cell (name child)
+renamed_rule name (All steps threats lines) = All steps threats (map (renamed_line name) lines)
+renamed_rule name (Fill steps child) = Fill steps (name child)
+
+abbrev pub renamed_node : (ℕ → ℕ) → Node → Node
+renamed_node name node = record { heading = node.heading; rule = renamed_rule name node.rule }
+
+-- ---- the tree
+
+-- the list has the place
+abbrev pub IsAt : List ℕ → ℕ → Type 0
+IsAt places place = (k : ℕ) × (slice_get places k ≡ Some place)
+
+-- the nodes of the tree are those at these places, which the root needs, in rising order. Each has its children renamed, and
+-- the new number of a place is where its node stands in the tree.
+pub record AreNeeded (nodes : List Node) (root : ℕ) (tree : List Node) (places : List ℕ) (name : ℕ → ℕ) : Type 0 where
   pub as_many : length places ≡ length tree
   pub needed : (k place : ℕ) → slice_get places k ≡ Some place → IsNeeded nodes root place
-  pub same_heading : (k place : ℕ) → slice_get places k ≡ Some place → slice_get (headings_of tree) k ≡ slice_get (headings_of nodes) place
   pub in_order : (j k one other : ℕ) → j < k → slice_get places j ≡ Some one → slice_get places k ≡ Some other → one < other
+  pub renamed : (k place : ℕ) → slice_get places k ≡ Some place → name place ≡ k
+  pub same_node : (k place : ℕ) (node : Node) → slice_get places k ≡ Some place → slice_get nodes place ≡ Some node
+      → slice_get tree k ≡ Some (renamed_node name node)
 
--- a valid tree, whose root has the heading of the node at this place, of nodes that this node needs, all on boards of one size
+-- a valid tree of exactly the nodes that the node at this place needs, with new numbers for their children; its root has the
+-- heading of this node, and all are on boards of one size
 pub record IsTreeOf (nodes : List Node) (place : ℕ) (tree : List Node) : Type 0 where
   pub valid : IsValidTree tree
   pub few : length tree ≤ length nodes
@@ -58,5 +86,7 @@ pub record IsTreeOf (nodes : List Node) (place : ℕ) (tree : List Node) : Type 
   pub is_root : IsRoot tree root
   pub same_heading : slice_get (headings_of nodes) place ≡ Some root.heading
   pub places : List ℕ
-  pub needed : AreNeeded nodes place tree places
+  pub name : ℕ → ℕ
+  pub needed : AreNeeded nodes place tree places name
+  pub each : (other : ℕ) → IsNeeded nodes place other → IsAt places other
   pub one_size : (k : ℕ) (node : Node) → slice_get tree k ≡ Some node → node.heading.position.size ≡ root.heading.position.size

@@ -13,6 +13,4 @@ pub use hx_tree::Found;
 pub use refusals::NoSlot;
 
 #[cfg(test)]
-mod plain;
-#[cfg(test)]
 mod tests;

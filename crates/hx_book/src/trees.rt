@@ -5,8 +5,8 @@
 
 ghost use Rattle.std.specs.Prelude.{◌≡◌, ◌<◌, ◌≤◌, ℕ, length, map, slice_index, IfOk, OnOk, true, false};
 ghost use Rattle.hx_tree.specs.Trees.{AreRight};
-ghost use Rattle.hx_book.specs.Trees.{NamesChild, HasLine, Names, IsTreeOf};
-ghost use Rattle.hx_book.specs.Renaming.{renamed_line, renamed_node, AreUnmarked, MarksMore, AreMarkedFrom, IsKept};
+ghost use Rattle.hx_book.specs.Trees.{NamesChild, HasLine, Names, IsTreeOf, renamed_line, renamed_node};
+ghost use Rattle.hx_book.specs.Renaming.{AreUnmarked, MarksMore, AreMarkedFrom, IsKept};
 
 use crate::books::MOST_SLOTS;
 use hx_board::Memory;

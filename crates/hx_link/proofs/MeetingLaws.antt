@@ -4,28 +4,22 @@
 -- four orders). So two places have one meeting at the most (`met-same`), and what a rule says of some meeting holds of the
 -- one that was found: `stone-from` and `stone-to`, `cell-from` and `cell-to` go from the one to the other and back.
 use Rattle.std.proofs.Common.{◌≡◌, ◌≢◌, ℕ, List, refl, sym, ap, ◌∙◌, subst, inl, inr, Some, None, Option}
-use Rattle.std.specs.Prelude.{slice_get, MatchOption}
-use Rattle.std.proofs.lemmas.Bool.{false≢true}
+use Rattle.std.specs.Prelude.{slice_get}
 use Rattle.hx_board.specs.declared.colours.Colour.{Colour}
 use Rattle.hx_board.specs.declared.vertices.Vertex.{Vertex}
 use Rattle.hx_board.specs.declared.vertices.Vertex.TheVariants.{Of}
-use Rattle.hx_board.specs.Sets.{has, insert, union, intersection}
+use Rattle.hx_board.specs.Finds.{Finds}
+use Rattle.hx_board.specs.Sets.{insert, union, ShareNone}
 use Rattle.hx_board.specs.Positions.{Board}
 use Rattle.hx_board.specs.Graph.{IsOwn}
-use Rattle.hx_board.proofs.SetLaws.{has-empty, has-intersection_left, has-intersection_right, has-intersection_both, same_set, is_false}
+use Rattle.hx_board.proofs.ListLaws.{same_some}
 use Rattle.hx_link.specs.declared.links.Kind.TheVariants.{Full, Semi}
 use Rattle.hx_link.specs.declared.links.Link.{Link}
+use Rattle.hx_link.specs.declared.steps.Step.TheVariants.{AndStone, AndCell}
 use Rattle.hx_link.specs.declared.meetings.Meeting.{Meeting}
 use Rattle.hx_link.specs.declared.meetings.Met.{Met}
-use Rattle.hx_link.specs.Steps.{IsLink, HasEnds, AreApart, MeetAt, GivesAndStone, GivesAndCell}
+use Rattle.hx_link.specs.Steps.{IsLink, HasEnds, MeetAt, GivesAndStone, GivesAndCell, StepGives}
 use Rattle.hx_link.specs.Named.{MeetIn, IsMade, IsMet, IsMiddle}
-
--- sets share no cell exactly where what they share is empty
-pub apart-intersection : (s t : ℕ) → intersection s t ≡ 0 → AreApart s t
-apart-intersection s t e n h = is_false (has t n) (λ k. false≢true (sym (has-empty n) ∙ (ap (λ x. has x n) (sym e) ∙ has-intersection_both s t n h k)))
-
-pub intersection-apart : (s t : ℕ) → AreApart s t → intersection s t ≡ 0
-intersection-apart s t apart = same_set (intersection s t) 0 (λ n. is_false (has (intersection s t) n) (λ h. false≢true (sym (apart n (has-intersection_left s t n h)) ∙ has-intersection_right s t n h)) ∙ sym (has-empty n))
 
 -- two links share at most one end
 meets_once : (f s : Link) (x z y x' z' y' : Vertex) → HasEnds f x z → HasEnds s z y → x ≢ y → HasEnds f x' z' → HasEnds s z' y' → x' ≢ y' → (x ≡ x') × (z ≡ z') × (y ≡ y')
@@ -45,9 +39,6 @@ meets_once f s x z y x' z' y' (inr a) (inr b) d (inl a') (inl b') d' = absurd (d
 meets_once f s x z y x' z' y' (inr a) (inr b) d (inl a') (inr b') d' = (cc, cc, cc)
 meets_once f s x z y x' z' y' (inr a) (inr b) d (inr a') (inl b') d' = (cc, cc, cc)
 meets_once f s x z y x' z' y' (inr a) (inr b) d (inr a') (inr b') d' = (cc, cc, cc)
-
-some_same : (o : Link) (p : Link) → Some o ≡ Some p → o ≡ p
-some_same o p e = cc
 
 met_eq : (f f' s s' : Link) (x x' z z' y y' : Vertex) → f ≡ f' → s ≡ s' → x ≡ x' → z ≡ z' → y ≡ y' → (let m : Met = record { first = f; second = s; at = record { from = x; middle = z; to = y } } in m) ≡ record { first = f'; second = s'; at = record { from = x'; middle = z'; to = y' } }
 met_eq f f' s s' x x' z z' y y' a b d e g = cc
@@ -78,8 +69,8 @@ module _ (before : List Link) (left right : ℕ) where
   -- there is one meeting of two places at most
   pub met-same : (m n : Met) → IsMet before left right m → IsMet before left right n → m ≡ n
   met-same m n h k =
-      let first : m.first ≡ n.first = some_same m.first n.first (sym h.first_there ∙ k.first_there) in
-      let second : m.second ≡ n.second = some_same m.second n.second (sym h.second_there ∙ k.second_there) in
+      let first : m.first ≡ n.first = same_some m.first n.first (sym h.first_there ∙ k.first_there) in
+      let second : m.second ≡ n.second = same_some m.second n.second (sym h.second_there ∙ k.second_there) in
       let once : (m.at.from ≡ n.at.from) × (m.at.middle ≡ n.at.middle) × (m.at.to ≡ n.at.to) =
       meets_once m.first m.second m.at.from m.at.middle m.at.to n.at.from n.at.middle n.at.to h.meet.first_ends h.meet.second_ends h.meet.other_ends_differ
       (rw first k.meet.first_ends) (rw second k.meet.second_ends) k.meet.other_ends_differ in
@@ -158,20 +149,20 @@ module _ (before : List Link) (left right : ℕ) where
         }
 
   pub stone-made : (board : Board) (player : Colour) (m : Met) (carrier : ℕ) (o : Option Link) → carrier ≡ union m.first.carrier m.second.carrier → IsMet before left right m → IsOwn board player m.at.middle
-      → MatchOption o ((link : Link) → IsMade board player Full m.at.from m.at.to carrier link → ⊥) (IsMade board player Full m.at.from m.at.to carrier)
-      → MatchOption o ((link : Link) → GivesAndStone board player before left right link → IsLink board player link → ⊥) (λ link. GivesAndStone board player before left right link × IsLink board player link)
-  stone-made board player m carrier None e h own none = λ link g ok. none link (stone-to board player link m carrier e h g ok).1
-  stone-made board player m carrier (Some link) e h own is = stone-from board player link m carrier e h own is
+      → Finds o (IsMade board player Full m.at.from m.at.to carrier)
+      → Finds o (StepGives board player before (AndStone left right))
+  stone-made board player m carrier None e h own none = λ link g. none link (stone-to board player link m carrier e h g.rule g.link_ok).1
+  stone-made board player m carrier (Some link) e h own is = let w = stone-from board player link m carrier e h own is in record { rule = w.0; link_ok = w.1 }
 
   pub cell-made : (board : Board) (player : Colour) (m : Met) (cell carrier : ℕ) (o : Option Link) → carrier ≡ insert (union m.first.carrier m.second.carrier) cell → IsMet before left right m → IsMiddle board m cell
-      → MatchOption o ((link : Link) → IsMade board player Semi m.at.from m.at.to carrier link → ⊥) (IsMade board player Semi m.at.from m.at.to carrier)
-      → MatchOption o ((link : Link) → GivesAndCell board player before left right link → IsLink board player link → ⊥) (λ link. GivesAndCell board player before left right link × IsLink board player link)
-  cell-made board player m cell carrier None e h mid none = λ link g ok. none link (cell-to board player link m cell carrier e h mid g ok)
-  cell-made board player m cell carrier (Some link) e h mid is = cell-from board player link m cell carrier e h mid is
+      → Finds o (IsMade board player Semi m.at.from m.at.to carrier)
+      → Finds o (StepGives board player before (AndCell left right))
+  cell-made board player m cell carrier None e h mid none = λ link g. none link (cell-to board player link m cell carrier e h mid g.rule g.link_ok)
+  cell-made board player m cell carrier (Some link) e h mid is = let w = cell-from board player link m cell carrier e h mid is in record { rule = w.0; link_ok = w.1 }
 
--- two links that are there and don't meet
+-- two links that are there and do not meet
 pub no_meeting : (before : List Link) (left right : ℕ) (f s : Link) → slice_get before left ≡ Some f → slice_get before right ≡ Some s → ((meeting : Meeting) → MeetIn f s meeting → ⊥) → (m : Met) → IsMet before left right m → ⊥
 no_meeting before left right f s there there' none m h =
-    let first : f ≡ m.first = some_same f m.first (sym there ∙ h.first_there) in
-    let second : s ≡ m.second = some_same s m.second (sym there' ∙ h.second_there) in
+    let first : f ≡ m.first = same_some f m.first (sym there ∙ h.first_there) in
+    let second : s ≡ m.second = same_some s m.second (sym there' ∙ h.second_there) in
     none m.at (rw (first, second) h.meet)

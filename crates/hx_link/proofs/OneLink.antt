@@ -7,7 +7,7 @@ use Rattle.hx_board.specs.declared.colours.Colour.{Colour}
 use Rattle.hx_board.specs.declared.vertices.Vertex.{Vertex}
 use Rattle.hx_board.specs.declared.vertices.Vertex.TheVariants.{Of}
 use Rattle.hx_board.specs.Positions.{Board}
-use Rattle.hx_board.specs.Floods.{code_of}
+use Rattle.hx_board.specs.VertexSets.{code_of}
 use Rattle.hx_link.specs.declared.links.Kind.{Kind}
 use Rattle.hx_link.specs.declared.links.Link.{Link}
 use Rattle.hx_link.specs.declared.meetings.Met.{Met}

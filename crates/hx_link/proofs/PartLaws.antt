@@ -6,36 +6,34 @@
 use Rattle.std.proofs.lemmas.List.{take_more, take_all}
 use Rattle.std.proofs.lemmas.Option.{slice_get-get_or}
 use Rattle.std.proofs.Common.{◌≡◌, ◌≢◌, ℕ, zero, suc, ◌≤◌, ◌<◌, ◌+◌, take, get_or, Bool, true, false, ◌||◌, List, [], ◌∷◌, ◌++◌, map, length, refl, sym, ap, ◌∙◌, inl, inr, Some, None, Option, ◌⊎◌, ⊎_elim, subst}
-use Rattle.std.specs.Prelude.{slice_get, MatchOption}
+use Rattle.std.specs.Prelude.{slice_get}
+use Rattle.hx_board.specs.Finds.{Finds}
 use Rattle.std.proofs.lemmas.Bool.{false≢true}
 use Rattle.hx_board.specs.declared.colours.Colour.{Colour}
 use Rattle.hx_board.specs.declared.vertices.Vertex.{Vertex}
 use Rattle.hx_board.specs.Sets.{has, union, intersection}
 use Rattle.hx_board.specs.Positions.{Board}
+use Rattle.hx_board.proofs.ListLaws.{same_some, get-push, get-push_before, get-push_last}
 use Rattle.hx_board.proofs.SetLaws.{has-empty, has-union, has-intersection_left, has-intersection_right, has-intersection_both, same_set, is_false}
 use Rattle.hx_link.specs.declared.links.Kind.TheVariants.{Full, Semi}
 use Rattle.hx_link.specs.declared.links.Link.{Link}
 use Rattle.hx_link.specs.declared.parts.TheConstants.{MOST_PARTS}
-use Rattle.hx_link.specs.Steps.{IsLink, HasEnds, IsOneOf, links_at, carriers_of, GivesOr}
+use Rattle.hx_link.specs.declared.steps.Step.TheVariants.{Or}
+use Rattle.hx_link.specs.Steps.{IsLink, HasEnds, IsOneOf, links_at, carriers_of, GivesOr, StepGives}
 use Rattle.hx_link.specs.Named.{IsMade, IsSemiAt, ArePartsFrom, PartsSoFar}
 
 one_of_later : (l x : Link) (xs : List Link) → IsOneOf l xs → IsOneOf l (x ∷ xs)
 one_of_later l x xs h = (suc h.0, h.1)
 
-pub one_of_push : (xs : List Link) (x l : Link) → IsOneOf l (xs ++ x ∷ []) → IsOneOf l xs ⊎ (l ≡ x)
-one_of_push [] x l (zero, e) = inr cc
-one_of_push [] x l (suc k, e) = cc
-one_of_push (y ∷ ys) x l (zero, e) = inl (zero, e)
-one_of_push (y ∷ ys) x l (suc k, e) = ⊎_elim (λ w. inl (one_of_later l y ys w)) inr (one_of_push ys x l (k, e))
+-- what is in a list with one link more
+one_of_push : (xs : List Link) (x l : Link) → IsOneOf l (xs ++ x ∷ []) → IsOneOf l xs ⊎ (l ≡ x)
+one_of_push xs x l h = ⊎_elim (λ w. inl (h.0, w)) (λ w. inr w.1) (get-push xs x l h.0 h.1)
 
-pub one_of_before : (xs : List Link) (x l : Link) → IsOneOf l xs → IsOneOf l (xs ++ x ∷ [])
-one_of_before [] x l (k, e) = cc
-one_of_before (y ∷ ys) x l (zero, e) = (zero, e)
-one_of_before (y ∷ ys) x l (suc k, e) = one_of_later l y (ys ++ x ∷ []) (one_of_before ys x l (k, e))
+one_of_before : (xs : List Link) (x l : Link) → IsOneOf l xs → IsOneOf l (xs ++ x ∷ [])
+one_of_before xs x l h = (h.0, get-push_before xs x h.0 l h.1)
 
-pub one_of_last : (xs : List Link) (x : Link) → IsOneOf x (xs ++ x ∷ [])
-one_of_last [] x = (zero, refl)
-one_of_last (y ∷ ys) x = one_of_later x y (ys ++ x ∷ []) (one_of_last ys x)
+one_of_last : (xs : List Link) (x : Link) → IsOneOf x (xs ++ x ∷ [])
+one_of_last xs x = (length xs, get-push_last xs x)
 
 both : {x y : Option Link} {xs ys : List (Option Link)} → x ≡ y → xs ≡ ys → x ∷ xs ≡ y ∷ ys
 both a b = cc
@@ -116,14 +114,11 @@ same_links [] (y ∷ ys) e = cc
 same_links (x ∷ xs) [] e = cc
 same_links (x ∷ xs) (y ∷ ys) e = let rest = same_links xs ys cc in let here : x ≡ y = cc in cc
 
-same_one : (f p : Link) → Some f ≡ Some p → f ≡ p
-same_one f p e = cc
-
 module _ (before : List Link) (places : List ℕ) (link : Link) (g : GivesOr before places link) where
   -- the first part's ends are the link's
   pub first-ends : (place : ℕ) (first : Link) → slice_get places 0 ≡ Some place → slice_get before place ≡ Some first → HasEnds first link.a link.b
   first-ends place first h there = let w = part_at before places g.links g.there 0 place h in
-      let P : Link → Type 0 = λ l. HasEnds l link.a link.b in subst P (same_one w.0 first (sym w.1.1 ∙ there)) (g.same_ends w.0 w.1.0)
+      let P : Link → Type 0 = λ l. HasEnds l link.a link.b in subst P (same_some w.0 first (sym w.1.1 ∙ there)) (g.same_ends w.0 w.1.0)
 
   pub or-parts : (place : ℕ) (first : Link) → slice_get places 0 ≡ Some place → slice_get before place ≡ Some first → ArePartsFrom before places first.a first.b
   or-parts place first h there k other e = let w = part_at before places g.links g.there k other e in (
@@ -161,7 +156,7 @@ module _ (before : List Link) (places : List ℕ) (place : ℕ) (first : Link) (
     no_or-shared some link g = some (or-none_in_all before places link g first.a first.b first.carrier in_all in_some p)
 
     first_one : IsOneOf first p.links
-    first_one = let w = part_at before places p.links p.there 0 place h in let P : Link → Type 0 = λ l. IsOneOf l p.links in subst P (same_one w.0 first (sym w.1.1 ∙ there)) w.1.0
+    first_one = let w = part_at before places p.links p.there 0 place h in let P : Link → Type 0 = λ l. IsOneOf l p.links in subst P (same_some w.0 first (sym w.1.1 ∙ there)) w.1.0
 
     lacking : in_all ≡ 0 → (cell : ℕ) (b : Bool) → has first.carrier cell ≡ b → (part : Link) × (IsOneOf part p.links × (has part.carrier cell ≡ false))
     lacking none cell true e = p.missing cell e (ap (λ c. has c cell) none ∙ has-empty cell)
@@ -192,10 +187,9 @@ module _ (before : List Link) (places : List ℕ) (place : ℕ) (first : Link) (
     }
 
     pub or-made : (board : Board) (player : Colour) (o : Option Link) → in_all ≡ 0 → 2 ≤ length places → length places ≤ MOST_PARTS
-        → MatchOption o ((link : Link) → IsMade board player Full first.a first.b in_some link → ⊥) (IsMade board player Full first.a first.b in_some)
-        → MatchOption o ((link : Link) → GivesOr before places link → IsLink board player link → ⊥) (λ link. GivesOr before places link × IsLink board player link)
-    or-made board player None none several few absent = λ link g ok. absent link (or-to board player link g ok)
-    or-made board player (Some link) none several few is = or-from board player link none several few is
+        → Finds o (IsMade board player Full first.a first.b in_some) → Finds o (StepGives board player before (Or places))
+    or-made board player None none several few absent = λ link g. absent link (or-to board player link g.rule g.link_ok)
+    or-made board player (Some link) none several few is = let w = or-from board player link none several few is in record { rule = w.0; link_ok = w.1 }
 
 pub parts_next : (before : List Link) (places : List ℕ) (i : ℕ) (a b : Vertex) (start in_all in_some carrier next_all next_some : ℕ) → i < length places → next_all ≡ intersection in_all carrier → next_some ≡ union in_some carrier
     → PartsSoFar before (take i places) a b start in_all in_some → IsSemiAt before (get_or places i 0) a b carrier → PartsSoFar before (take (i + 1) places) a b start next_all next_some

@@ -5,14 +5,14 @@ use Rattle.std.specs.declared.option.Option.TheVariants.{Some}
 use Rattle.hx_board.specs.declared.colours.Colour.{Colour}
 use Rattle.hx_board.specs.declared.vertices.Vertex.{Vertex}
 use Rattle.hx_board.specs.declared.vertices.Vertex.TheVariants.{Of}
-use Rattle.hx_board.specs.Sets.{has}
+use Rattle.hx_board.specs.Sets.{has, ShareNone}
 use Rattle.hx_board.specs.Positions.{Board, IsEmpty}
 use Rattle.hx_link.specs.declared.links.Kind.{Kind}
 use Rattle.hx_link.specs.declared.links.Kind.TheVariants.{Full, Semi}
 use Rattle.hx_link.specs.declared.links.Link.{Link}
 use Rattle.hx_link.specs.declared.meetings.Meeting.{Meeting}
 use Rattle.hx_link.specs.declared.meetings.Met.{Met}
-use Rattle.hx_link.specs.Steps.{IsLink, HasEnds, AreApart, IsOneOf, links_at, carriers_of}
+use Rattle.hx_link.specs.Steps.{IsLink, HasEnds, IsOneOf, links_at, carriers_of}
 
 -- the link of this kind, these ends and this carrier, the lower end first
 pub record IsMade (board : Board) (player : Colour) (kind : Kind) (x y : Vertex) (carrier : ℕ) (link : Link) : Type 0 where
@@ -34,7 +34,7 @@ pub record IsMet (before : List Link) (left right : ℕ) (met : Met) : Type 0 wh
   pub first_full : met.first.kind ≡ Full
   pub second_full : met.second.kind ≡ Full
   pub meet : MeetIn met.first met.second met.at
-  pub apart : AreApart met.first.carrier met.second.carrier
+  pub apart : ShareNone met.first.carrier met.second.carrier
 
 -- the shared end is this empty cell, in neither carrier
 pub record IsMiddle (board : Board) (met : Met) (cell : ℕ) : Type 0 where

@@ -5,21 +5,20 @@ use Rattle.std.specs.declared.option.Option.TheVariants.{Some}
 use Rattle.hx_board.specs.declared.colours.Colour.{Colour}
 use Rattle.hx_board.specs.declared.vertices.Vertex.{Vertex}
 use Rattle.hx_board.specs.declared.vertices.Vertex.TheVariants.{Of, First, Last}
-use Rattle.hx_board.specs.Sets.{has, insert, union}
-use Rattle.hx_board.specs.Colours.{other_of}
+use Rattle.hx_board.specs.Sets.{has, insert, union, ShareNone}
 use Rattle.hx_board.specs.Cells.{OnBoard}
-use Rattle.hx_board.specs.Positions.{Board, IsEmpty, stones_of}
-use Rattle.hx_board.specs.Graph.{IsOwn, Joined}
-use Rattle.hx_board.specs.Floods.{code_of}
+use Rattle.hx_board.specs.Positions.{Board, IsEmpty}
+use Rattle.hx_board.specs.Graph.{IsOwn, IsOpen, Joined}
+use Rattle.hx_board.specs.VertexSets.{code_of}
 use Rattle.hx_link.specs.declared.links.Kind.TheVariants.{Full, Semi}
 use Rattle.hx_link.specs.declared.links.Link.{Link}
 use Rattle.hx_link.specs.declared.parts.TheConstants.{MOST_PARTS}
 use Rattle.hx_link.specs.declared.steps.Step.{Step}
 use Rattle.hx_link.specs.declared.steps.Step.TheVariants.{Base, AndStone, AndCell, Or}
 
--- a vertex of the player's graph that is no stone of the opponent
+-- a vertex that may be an end: a cell of the board that is no stone of the opponent, or a side
 abbrev pub IsEnd : Board → Colour → Vertex → Type 0
-IsEnd board player (Of cell) = OnBoard board.size cell × (has (stones_of board (other_of player)) cell ≡ false)
+IsEnd board player (Of cell) = OnBoard board.size cell × IsOpen board player (Of cell)
 IsEnd board player First = Unit {0}
 IsEnd board player Last = Unit {0}
 
@@ -46,10 +45,6 @@ pub record IsChainLink (link : Link) : Type 0 where
   pub first : link.a ≡ First
   pub last : link.b ≡ Last
 
--- two sets that share no cell
-abbrev pub AreApart : ℕ → ℕ → Type 0
-AreApart set other = (cell : ℕ) → has set cell ≡ true → has other cell ≡ false
-
 -- two earlier Full links that share exactly one end, the middle, and whose carriers share no cell
 pub record MeetAt (before : List Link) (left right : ℕ) (from middle to : Vertex) (first second : Link) : Type 0 where
   pub first_there : slice_get before left ≡ Some first
@@ -59,7 +54,7 @@ pub record MeetAt (before : List Link) (left right : ℕ) (from middle to : Vert
   pub first_ends : HasEnds first from middle
   pub second_ends : HasEnds second middle to
   pub other_ends_differ : from ≢ to
-  pub apart : AreApart first.carrier second.carrier
+  pub apart : ShareNone first.carrier second.carrier
 
 -- of two vertices that are joined, a Full link on no cell
 pub record GivesBase (board : Board) (player : Colour) (a b : Vertex) (link : Link) : Type 0 where
@@ -105,10 +100,11 @@ abbrev pub carriers_of : List Link → ℕ
 carriers_of [] = 0
 carriers_of (link ∷ links) = union link.carrier (carriers_of links)
 
+-- the link is in the list
 abbrev pub IsOneOf : Link → List Link → Type 0
 IsOneOf link links = (k : ℕ) × (slice_get links k ≡ Some link)
 
--- of 2 to 128 Semi links of the same ends, of which each cell is outside some carrier, a Full link of these ends on all
+-- of 2 to `MOST_PARTS` Semi links of the same ends, of which each cell is outside some carrier, a Full link of these ends on all
 -- their carriers
 pub record GivesOr (before : List Link) (places : List ℕ) (link : Link) : Type 0 where
   pub links : List Link
@@ -121,6 +117,7 @@ pub record GivesOr (before : List Link) (places : List ℕ) (link : Link) : Type
   pub kind : link.kind ≡ Full
   pub carrier : link.carrier ≡ carriers_of links
 
+-- what a step gives by its rule, before it is asked whether there can be such a link
 abbrev pub GivesByRule : Board → Colour → List Link → Step → Link → Type 0
 GivesByRule board player before (Base a b) link = GivesBase board player a b link
 GivesByRule board player before (AndStone left right) link = GivesAndStone board player before left right link

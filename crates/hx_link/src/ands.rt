@@ -2,13 +2,13 @@
 //! Over a stone or a side of the player that gives a Full link. Over an empty cell the player first has to move there, and
 //! so that gives a Semi link.
 
-ghost use Rattle.std.specs.Prelude.{◌≡◌, ℕ, MatchOption};
-ghost use Rattle.hx_link.specs.declared.links.Link.{Link};
-ghost use Rattle.hx_link.specs.Steps.{IsLink, GivesAndStone, GivesAndCell};
+ghost use Rattle.hx_board.specs.Finds.{Finds};
+ghost use Rattle.hx_link.specs.Steps.{StepGives};
 ghost use Rattle.hx_link.specs.Named.{IsMiddle};
 
-use crate::links::{Kind, Link, is_own, made};
+use crate::links::{Kind, Link, made};
 use crate::meetings::{Met, met_of};
+use crate::steps::Step;
 use hx_board::{Cell, Colour, Position, Vertex};
 
 /// The Full link over a stone or a side of the player.
@@ -19,15 +19,13 @@ pub(crate) fn and_stone(
     left: u32,
     right: u32,
 ) -> Option<Link>
-    ensures { MatchOption result
-        ((link : Link) → GivesAndStone position.now colour before.now left right link → IsLink position.now colour link → ⊥)
-        (λ link. GivesAndStone position.now colour before.now left right link × IsLink position.now colour link) }
+    ensures { Finds result (StepGives position.now colour before.now (Step.AndStone left right)) }
 {
     let Some(met) = met_of(before, left, right) else {
         return None;
     };
     let carrier = met.first.carrier.union(met.second.carrier);
-    let own = is_own(position, colour, &met.at.middle);
+    let own = position.owns(colour, &met.at.middle);
     if !own {
         return None;
     }
@@ -43,7 +41,7 @@ pub(crate) fn and_stone(
 
 /// The empty cell that two links share as an end, where it is in neither carrier.
 fn middle_cell(position: &Position, met: &Met) -> Option<Cell>
-    ensures { MatchOption result ((cell : ℕ) → IsMiddle position.now met.now cell → ⊥) (IsMiddle position.now met.now) }
+    ensures { Finds result (IsMiddle position.now met.now) }
 {
     let empties = position.empties();
     match met.at.middle {
@@ -66,9 +64,7 @@ pub(crate) fn and_cell(
     left: u32,
     right: u32,
 ) -> Option<Link>
-    ensures { MatchOption result
-        ((link : Link) → GivesAndCell position.now colour before.now left right link → IsLink position.now colour link → ⊥)
-        (λ link. GivesAndCell position.now colour before.now left right link × IsLink position.now colour link) }
+    ensures { Finds result (StepGives position.now colour before.now (Step.AndCell left right)) }
 {
     let Some(met) = met_of(before, left, right) else {
         return None;

@@ -3,9 +3,9 @@
 //! Hayward, van Rijswijck, Arneson and Henderson call a Full link a virtual connection and a Semi link a virtual
 //! semi-connection; the carrier is their word.
 
-ghost use Rattle.std.specs.Prelude.{◌≡◌, ◌<◌, ◌↔◌, IsTrue, MatchOption};
-ghost use Rattle.hx_board.specs.Floods.{code_of};
-ghost use Rattle.hx_board.specs.Graph.{IsOwn};
+ghost use Rattle.std.specs.Prelude.{◌≡◌, ◌<◌, ◌↔◌, IsTrue};
+ghost use Rattle.hx_board.specs.Finds.{Finds};
+ghost use Rattle.hx_board.specs.VertexSets.{code_of};
 ghost use Rattle.hx_link.specs.declared.links.Link.{Link};
 ghost use Rattle.hx_link.specs.Steps.{IsEnd, IsOutside, IsLink, HasEnds, IsChainLink};
 ghost use Rattle.hx_link.specs.Named.{IsMade};
@@ -41,24 +41,13 @@ impl Link {
     }
 }
 
-/// The place of a vertex in vertex order.
-fn rank(vertex: &Vertex) -> u8
-    ensures { result ≡ code_of vertex.now }
-{
-    match vertex {
-        Vertex::Of(cell) => cell.index(),
-        Vertex::First => 121,
-        Vertex::Last => 122,
-    }
-}
-
 /// Whether a vertex may be an end of the player's links: a side, or a cell of the board without a stone of the opponent.
 pub fn is_end(position: &Position, colour: Colour, vertex: &Vertex) -> bool
     ensures { IsTrue result ↔ IsEnd position.now colour vertex.now }
 {
     match vertex {
         Vertex::Of(cell) => {
-            position.size().all().has(*cell) && !position.stones(colour.other()).has(*cell)
+            position.size().all().has(*cell) && position.is_open(colour, vertex)
         }
         Vertex::First | Vertex::Last => true,
     }
@@ -74,16 +63,6 @@ fn is_outside(position: &Position, carrier: Mask, vertex: &Vertex) -> bool
     }
 }
 
-/// Whether a vertex is a stone or a side of the player.
-pub(crate) fn is_own(position: &Position, colour: Colour, vertex: &Vertex) -> bool
-    ensures { IsTrue result ↔ IsOwn position.now colour vertex.now }
-{
-    match vertex {
-        Vertex::Of(cell) => position.stones(colour).has(*cell),
-        Vertex::First | Vertex::Last => true,
-    }
-}
-
 /// Whether there can be this link on the board.
 fn is_link(position: &Position, colour: Colour, link: &Link) -> bool
     ensures { IsTrue result ↔ IsLink position.now colour link.now }
@@ -92,7 +71,7 @@ fn is_link(position: &Position, colour: Colour, link: &Link) -> bool
     let b_end = is_end(position, colour, &link.b);
     let a_outside = is_outside(position, link.carrier, &link.a);
     let b_outside = is_outside(position, link.carrier, &link.b);
-    rank(&link.a) < rank(&link.b) && a_end && b_end && a_outside && b_outside
+    link.a.code() < link.b.code() && a_end && b_end && a_outside && b_outside
 }
 
 /// Whether a link has these ends, in either order.
@@ -110,8 +89,8 @@ fn ordered(kind: Kind, x: &Vertex, y: &Vertex, carrier: Mask) -> Link
     ensures only { (link : Link) → link.kind ≡ kind → link.carrier ≡ carrier → HasEnds link x.now y.now
         → code_of link.a < code_of link.b → link ≡ result }
 {
-    let low = rank(x);
-    let high = rank(y);
+    let low = x.code();
+    let high = y.code();
     let (a, b) = if low < high { (*x, *y) } else { (*y, *x) };
     Link {
         kind,
@@ -130,8 +109,7 @@ pub(crate) fn made(
     y: &Vertex,
     carrier: Mask,
 ) -> Option<Link>
-    ensures { MatchOption result ((link : Link) → IsMade position.now colour kind x.now y.now carrier link → ⊥)
-        (IsMade position.now colour kind x.now y.now carrier) }
+    ensures { Finds result (IsMade position.now colour kind x.now y.now carrier) }
 {
     let link = ordered(kind, x, y, carrier);
     let is_right = is_link(position, colour, &link);

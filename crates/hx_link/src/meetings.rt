@@ -1,15 +1,13 @@
 //! How two earlier links meet, which both And rules ask first: at exactly one end, and nowhere else.
 
-ghost use Rattle.std.specs.Prelude.{◌≡◌, ◌↔◌, IsTrue, MatchOption, slice_get, Some};
+ghost use Rattle.std.specs.Prelude.{◌≡◌, MatchOption, slice_get, Some};
+ghost use Rattle.hx_board.specs.Finds.{Finds};
 ghost use Rattle.hx_link.specs.declared.links.Link.{Link};
 ghost use Rattle.hx_link.specs.declared.links.Kind.TheVariants.{Full};
-ghost use Rattle.hx_link.specs.declared.meetings.Meeting.{Meeting};
-ghost use Rattle.hx_link.specs.declared.meetings.Met.{Met};
-ghost use Rattle.hx_link.specs.Steps.{AreApart};
 ghost use Rattle.hx_link.specs.Named.{MeetIn, IsMet};
 
 use crate::links::{Kind, Link};
-use hx_board::{Mask, Vertex};
+use hx_board::Vertex;
 
 /// The one end that two links share, between their other ends.
 #[derive(Clone, Copy, PartialEq, Eq, Debug)]
@@ -29,7 +27,7 @@ pub(crate) struct Met {
 
 /// The one end that two links share. None where they share none or both.
 fn meeting_of(first: &Link, second: &Link) -> Option<Meeting>
-    ensures { MatchOption result ((meeting : Meeting) → MeetIn first.now second.now meeting → ⊥) (MeetIn first.now second.now) }
+    ensures { Finds result (MeetIn first.now second.now) }
 {
     if first.b == second.a && first.a != second.b {
         return Some(Meeting {
@@ -80,18 +78,9 @@ fn full_at(before: &[Link], place: u32) -> Option<Link>
     }
 }
 
-/// Whether two sets share no cell.
-fn are_apart(one: Mask, other: Mask) -> bool
-    ensures { IsTrue result ↔ AreApart one other }
-{
-    let both = one.meet(other);
-    let none = Mask::empty();
-    both == none
-}
-
 /// Two earlier Full links that share exactly one end and no cell of their carriers.
 pub(crate) fn met_of(before: &[Link], left: u32, right: u32) -> Option<Met>
-    ensures { MatchOption result ((met : Met) → IsMet before.now left right met → ⊥) (IsMet before.now left right) }
+    ensures { Finds result (IsMet before.now left right) }
 {
     let Some(first) = full_at(before, left) else {
         return None;
@@ -102,10 +91,10 @@ pub(crate) fn met_of(before: &[Link], left: u32, right: u32) -> Option<Met>
     let Some(at) = meeting_of(&first, &second) else {
         return None;
     };
-    let is_apart = are_apart(first.carrier, second.carrier);
-    if is_apart {
-        Some(Met { first, second, at })
-    } else {
+    let meets = first.carrier.meets(second.carrier);
+    if meets {
         None
+    } else {
+        Some(Met { first, second, at })
     }
 }

@@ -2,13 +2,15 @@
 //! them, a move of the opponent leaves one way, and so the ends are joined whoever moves first.
 
 ghost use Rattle.std.specs.Prelude.{◌≡◌, MatchOption, slice_get, Some};
+ghost use Rattle.hx_board.specs.Finds.{Finds};
 ghost use Rattle.hx_link.specs.declared.links.Link.{Link};
 ghost use Rattle.hx_link.specs.declared.links.Kind.TheVariants.{Semi};
-ghost use Rattle.hx_link.specs.Steps.{IsLink, HasEnds, GivesOr};
+ghost use Rattle.hx_link.specs.Steps.{HasEnds, StepGives};
 ghost use Rattle.hx_link.specs.Named.{IsSemiAt, ArePartsFrom, PartsSoFar};
 
 use crate::links::{Kind, Link, has_ends, made};
 use crate::parts::MOST_PARTS;
+use crate::steps::Step;
 use hx_board::{Colour, Mask, Position, Vertex};
 
 /// The cells that are in all carriers of the parts, and those that are in some.
@@ -74,9 +76,7 @@ pub(crate) fn or_link(
     before: &[Link],
     places: &[u32],
 ) -> Option<Link>
-    ensures { MatchOption result
-        ((link : Link) → GivesOr before.now places.now link → IsLink position.now colour link → ⊥)
-        (λ link. GivesOr before.now places.now link × IsLink position.now colour link) }
+    ensures { Finds result (StepGives position.now colour before.now (Step.Or places.now)) }
 {
     let count = places.len();
     if count < 2 || MOST_PARTS < count {
@@ -88,8 +88,7 @@ pub(crate) fn or_link(
     let Some(shares) = read_parts(before, places, &first.a, &first.b, first.carrier) else {
         return None;
     };
-    let none = Mask::empty();
-    let none_shared = shares.in_all == none;
+    let none_shared = shares.in_all.is_empty();
     if !none_shared {
         return None;
     }

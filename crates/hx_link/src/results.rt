@@ -1,8 +1,9 @@
 //! The link that a step gives.
 
-ghost use Rattle.std.specs.Prelude.{◌≡◌, MatchOption};
+ghost use Rattle.std.specs.Prelude.{◌≡◌, List};
+ghost use Rattle.hx_board.specs.Finds.{Finds};
 ghost use Rattle.hx_link.specs.declared.links.Link.{Link};
-ghost use Rattle.hx_link.specs.Steps.{IsLink, GivesBase, StepGives};
+ghost use Rattle.hx_link.specs.Steps.{StepGives};
 
 use crate::ands::{and_cell, and_stone};
 use crate::links::{Kind, Link, made};
@@ -30,8 +31,7 @@ pub fn result_of(
     step: &Step,
 ) -> Option<Link>
     requires { groups.now ≡ record { board = position.now; player = colour } }
-    ensures { MatchOption result ((link : Link) → StepGives position.now colour before.now step.now link → ⊥)
-        (StepGives position.now colour before.now step.now) }
+    ensures { Finds result (StepGives position.now colour before.now step.now) }
 {
     match step {
         Step::Base { a, b } => base_link(position, colour, groups, a, b),
@@ -50,9 +50,7 @@ fn base_link(
     b: &Vertex,
 ) -> Option<Link>
     requires { groups.now ≡ record { board = position.now; player = colour } }
-    ensures { MatchOption result
-        ((link : Link) → GivesBase position.now colour a.now b.now link → IsLink position.now colour link → ⊥)
-        (λ link. GivesBase position.now colour a.now b.now link × IsLink position.now colour link) }
+    ensures { (before : List Link) → Finds result (StepGives position.now colour before (Step.Base a.now b.now)) }
 {
     let Some(link) = made(position, colour, Kind::Full, a, b, Mask::empty()) else {
         return None;

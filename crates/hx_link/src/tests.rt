@@ -16,56 +16,63 @@ fn or_of(alloc: Global, places: &[u32]) -> Result<Step, AllocError> {
     Ok(Step::Or { parts })
 }
 
+/// The links that Black's steps give, one after the other.
+fn links_of(alloc: Global, position: &Position, steps: &[Step]) -> Result<Vec<Link>, Fail> {
+    let groups = Groups::of(position, Black);
+    let mut links = Vec::new(alloc);
+    for step in steps {
+        let link = result_of(position, Black, &groups, links.as_slice(), step).ok_or("link")?;
+        links.push(link)?;
+    }
+    Ok(links)
+}
+
 /// Black has a stone on a2 of a board of two rows and columns. It touches the bottom, and over a1 and over b1 it can be
 /// joined with the top: that is a bridge.
 #[test]
 fn bridge_to_the_top(rt: HostRuntime) -> Result<(), Fail> {
+    let [a1, b1, _, a2, _, top, bottom] = vertices()?;
     let size = Size::new(2, 2).ok_or("size")?;
-    let a1 = size.cell(0, 0).ok_or("a1")?;
-    let b1 = size.cell(0, 1).ok_or("b1")?;
-    let a2 = size.cell(1, 0).ok_or("a2")?;
-    let black = Mask::empty().with(a2);
-    let position = Position::from_masks(size, black, Mask::empty()).ok_or("position")?;
-    let (over_a1, over_b1, stone) = (Vertex::Of(a1), Vertex::Of(b1), Vertex::Of(a2));
-    assert!(rt; is_end(&position, Black, &stone) && !is_end(&position, White, &stone));
+    let position = Position::from_masks(size, Mask::of(1 << 11), Mask::empty()).ok_or("position")?;
     let steps = [
-        Step::Base {
-            a: over_a1,
-            b: First,
-        },
-        Step::Base {
-            a: over_a1,
-            b: stone,
-        },
+        Step::Base { a: a1, b: top },
+        Step::Base { a: a1, b: a2 },
         Step::AndCell { left: 0, right: 1 },
-        Step::Base {
-            a: over_b1,
-            b: First,
-        },
-        Step::Base {
-            a: over_b1,
-            b: stone,
-        },
+        Step::Base { a: b1, b: top },
+        Step::Base { a: b1, b: a2 },
         Step::AndCell { left: 3, right: 4 },
         or_of(rt.alloc(), &[2, 5])?,
-        Step::Base { a: stone, b: Last },
+        Step::Base { a: a2, b: bottom },
         Step::AndStone { left: 6, right: 7 },
     ];
-    let groups = Groups::of(&position, Black);
-    let mut links = Vec::new(rt.alloc());
-    for step in &steps {
-        let link = result_of(&position, Black, &groups, links.as_slice(), step).ok_or("link")?;
-        links.push(link)?;
-    }
+    let links = links_of(rt.alloc(), &position, &steps)?;
     let chain = Link {
         kind: Kind::Full,
         a: First,
         b: Last,
-        carrier: Mask::empty().with(a1).with(b1),
+        carrier: Mask::of(0b11),
     };
     assert_eq!(rt; links.last().copied(), Some(chain));
-    assert!(rt; chain.joins_sides());
-    assert_eq!(rt; links.get(6).map(Link::joins_sides), Some(false));
+    Ok(())
+}
+
+#[test]
+fn ends_and_sides(rt: HostRuntime) -> Result<(), Fail> {
+    let [a1, _, c1, _, _, first, last] = vertices()?;
+    let size = Size::new(2, 2).ok_or("size")?;
+    let position = Position::from_masks(size, Mask::of(1), Mask::empty()).ok_or("position")?;
+    let mut found = [false; 4];
+    for (place, vertex) in [a1, c1, first, last].iter().enumerate() {
+        found[place] = is_end(&position, White, vertex);
+    }
+    assert_eq!(rt; found, [false, false, true, true]);
+    let link = Link {
+        kind: Kind::Full,
+        a: First,
+        b: Last,
+        carrier: Mask::empty(),
+    };
+    assert!(rt; link.joins_sides());
     Ok(())
 }
 
@@ -115,9 +122,9 @@ impl Numbers {
             Kind::Semi
         };
         let first = self.below(7);
-        let second = first + 1 + self.below(6);
-        let a = vertices.get(first as usize % 7).copied().unwrap_or(First);
-        let b = vertices.get(second as usize % 7).copied().unwrap_or(Last);
+        let second = first.wrapping_add(1).wrapping_add(self.below(6)) % 7;
+        let a = vertices.get(first as usize).copied().unwrap_or(First);
+        let b = vertices.get(second as usize).copied().unwrap_or(Last);
         let cells = self.below(16) & self.below(16);
         let carrier = Mask::of((cells & 3 | (cells & 12) << 9) as u128);
         Link {

@@ -8,7 +8,7 @@ use Rattle.hx_linkset.specs.States.{Standing, IsRight}
 use Rattle.hx_linkset.specs.Rings.{Rings}
 use Rattle.hx_linkset.specs.Held.{IsHeadBetween, RingsHold, IsLiveThere}
 use Rattle.hx_linkset.specs.LiveOf.{IsLiveOf, IsFirstFrom, IsChainFrom, AreLiveOf, ChainLists}
-use Rattle.hx_linkset.proofs.PlaceLaws.{get-lt}
+use Rattle.hx_board.proofs.ListLaws.{get-lt}
 use Rattle.hx_linkset.proofs.RisingLists.{AreAllFrom, all-rising, all-each, all-contains}
 use Rattle.hx_linkset.proofs.NextLaws.{first-none, first-some, later-none, later-some}
 

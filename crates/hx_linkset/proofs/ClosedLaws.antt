@@ -9,7 +9,7 @@ use Rattle.hx_linkset.specs.States.{State, Names, IsLiveAt, IsRight, GivesFromLi
 use Rattle.hx_linkset.specs.Marks.{IsMarked, AreUnmarked, MarksMore, IsLastMarkBelow}
 use Rattle.hx_linkset.specs.Derivations.{StandsIn}
 use Rattle.hx_linkset.specs.Derivations.{AreClosedFrom, AreMarkedUnder}
-use Rattle.hx_linkset.proofs.PlaceLaws.{same_some}
+use Rattle.hx_board.proofs.ListLaws.{same_some}
 use Rattle.hx_linkset.proofs.MarkLaws.{marked-inside}
 
 get-take : {A : Type 0} → (n : ℕ) (xs : List A) (place : ℕ) (x : A) → slice_get (take n xs) place ≡ Some x → (place < n) × (slice_get xs place ≡ Some x)

@@ -5,12 +5,13 @@ use Rattle.std.specs.Prelude.{slice_get}
 use Rattle.hx_board.specs.declared.vertices.Vertex.{Vertex}
 use Rattle.hx_board.specs.Sets.{IsSubset}
 use Rattle.hx_board.specs.Positions.{IsBoard}
+use Rattle.hx_board.specs.VertexSets.{IsSomeVertex}
 use Rattle.hx_link.specs.declared.links.Kind.{Kind}
 use Rattle.hx_link.specs.declared.links.Link.{Link}
 use Rattle.hx_linkset.specs.States.{Standing}
 use Rattle.hx_linkset.specs.Answers.{IsCover, Covers}
-use Rattle.hx_linkset.specs.Held.{IsSomeVertex, head_for, head_of, IsLiveThere}
-use Rattle.hx_linkset.proofs.PlaceLaws.{get_or-get}
+use Rattle.hx_linkset.specs.Held.{head_for, head_of, IsLiveThere}
+use Rattle.hx_board.proofs.ListLaws.{get_or-get}
 use Rattle.hx_linkset.proofs.HeadLaws.{live-same}
 use Rattle.hx_linkset.proofs.WalkLaws.{LinkAt}
 

@@ -12,7 +12,7 @@ use Rattle.hx_link.specs.declared.steps.Step.{Step}
 use Rattle.hx_link.specs.declared.steps.Step.TheVariants.{Base, AndStone, AndCell, Or}
 use Rattle.hx_link.specs.Steps.{IsOneOf, links_at, carriers_of, StepGives, GivesByRule}
 use Rattle.hx_linkset.specs.States.{IsLive, IsLiveAt, Names, GivesFromLive}
-use Rattle.hx_linkset.proofs.PlaceLaws.{same_some}
+use Rattle.hx_board.proofs.ListLaws.{same_some}
 use Rattle.hx_linkset.proofs.LiveLaws.{parts_live}
 
 pub given-from_live : (board : Board) (player : Colour) (links : List Link) (step : Step) (link : Link) → IsPosition board.size board.black board.white → StepGives board player links step link → IsLive board player link

@@ -4,14 +4,14 @@ use Rattle.hx_board.specs.declared.colours.Colour.{Colour}
 use Rattle.hx_board.specs.declared.vertices.Vertex.{Vertex}
 use Rattle.hx_board.specs.declared.vertices.Vertex.TheVariants.{Of, First, Last}
 use Rattle.hx_board.specs.Positions.{Board, IsBoard}
-use Rattle.hx_board.specs.Floods.{code_of}
+use Rattle.hx_board.specs.VertexSets.{code_of, IsSomeVertex}
 use Rattle.hx_board.proofs.CellLaws.{on_board-small}
 use Rattle.hx_link.specs.declared.links.Kind.{Kind}
 use Rattle.hx_link.specs.declared.links.Kind.TheVariants.{Full, Semi}
 use Rattle.hx_link.specs.declared.links.Link.{Link}
 use Rattle.hx_link.specs.Steps.{IsEnd}
 use Rattle.hx_linkset.specs.States.{IsLive}
-use Rattle.hx_linkset.specs.Held.{IsSomeVertex, kind_code, head_for, head_of}
+use Rattle.hx_linkset.specs.Held.{kind_code, head_for, head_of}
 
 pub code-small : (vertex : Vertex) → IsSomeVertex vertex → code_of vertex < 123
 code-small (Of cell) small = omega arith

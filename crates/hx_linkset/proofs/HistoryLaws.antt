@@ -13,7 +13,7 @@ use Rattle.hx_linkset.specs.States.{IsLive}
 use Rattle.hx_linkset.specs.Rings.{Rings, cut, grown, IsInside}
 use Rattle.hx_linkset.specs.Held.{head_of, IsKeptBelow, IsPassed, IsLiveThere}
 use Rattle.hx_linkset.specs.History.{cut_times, rings_before, HoldsLive, CanCut, CanUndo, HasHistory}
-use Rattle.hx_linkset.proofs.PlaceLaws.{get-lt}
+use Rattle.hx_board.proofs.ListLaws.{get-lt}
 use Rattle.hx_linkset.proofs.KeptLaws.{live-played, live-before, untouched-live}
 use Rattle.hx_linkset.proofs.RingLaws.{cut-grown}
 use Rattle.hx_linkset.proofs.LogLaws.{log-less, log-more}

@@ -12,7 +12,7 @@ use Rattle.hx_link.specs.Steps.{StepGives, AreRightSteps}
 use Rattle.hx_linkset.specs.States.{State, Names, IsLiveAt, IsRight}
 use Rattle.hx_linkset.specs.Marks.{IsMarked, IsFirstMarkFrom}
 use Rattle.hx_linkset.specs.Derivations.{IsDerived, AreClosedFrom, AreMarkedUnder, AreKeptBelow, renamed}
-use Rattle.hx_linkset.proofs.PlaceLaws.{get-lt, same_some, get-push_before, get-push_last}
+use Rattle.hx_board.proofs.ListLaws.{get-lt, same_some, get-push_before, get-push_last}
 use Rattle.hx_linkset.proofs.MarkLaws.{marked-inside}
 use Rattle.hx_linkset.proofs.ClosedLaws.{part-before}
 use Rattle.hx_linkset.proofs.RenamingLaws.{gives-renamed}

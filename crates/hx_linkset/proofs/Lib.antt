@@ -1,4 +1,3 @@
-pub mod PlaceLaws
 pub mod LiveLaws
 pub mod GivenLaws
 pub mod KeptLaws

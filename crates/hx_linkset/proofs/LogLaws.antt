@@ -11,7 +11,7 @@ use Rattle.std.specs.List.{list_any, IsDistinct}
 use Rattle.hx_board.proofs.SetLaws.{is_false, or_cases}
 use Rattle.hx_link.specs.declared.links.Link.{Link}
 use Rattle.hx_linkset.specs.Held.{IsOut, LogHolds}
-use Rattle.hx_linkset.proofs.PlaceLaws.{get-lt, get-push, same_some}
+use Rattle.hx_board.proofs.ListLaws.{get-lt, get-push, same_some}
 
 none_distinct : IsDistinct eqb []
 unfolding IsDistinct
@@ -68,6 +68,6 @@ log-more links Has log link h = record {
   distinct = h.distinct;
   out = λ place k. let o = h.out place k in record {
     inside = omega (arith, o.inside, length-append links (link ∷ []));
-    lacks = λ l there has. ⊎_elim (λ w. o.lacks l w.1 has) (λ w. absurd (omega (arith, w.0, o.inside))) (get-push links link l place there);
+    lacks = λ l there has. ⊎_elim (λ w. o.lacks l w has) (λ w. absurd (omega (arith, w.0, o.inside))) (get-push links link l place there);
   };
 }

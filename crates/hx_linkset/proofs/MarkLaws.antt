@@ -8,7 +8,7 @@ use Rattle.std.proofs.lemmas.Option.{slice_get-get_or}
 use Rattle.memchr.specs.Find.{NoneBefore, Passes, is_byte}
 use Rattle.hx_linkset.specs.Marks.{IsMarked, MarksMore, IsFirstMarkFrom}
 use Rattle.hx_linkset.specs.Derivations.{StandsIn}
-use Rattle.hx_linkset.proofs.PlaceLaws.{get-push, get-push_before, get-push_last}
+use Rattle.hx_board.proofs.ListLaws.{get-push, get-push_before, get-push_last}
 
 pub marked-inside : (marks : List ℕ) (place : ℕ) → IsMarked marks place → place < length marks
 marked-inside [] place h = absurd (omega (arith, h))
@@ -66,7 +66,7 @@ module _ (places : List ℕ) (i : ℕ) (inside : i < length places) where
   stands_from p s =
       let P : List ℕ → Type 0 = λ ps. StandsIn ps p in
       let t : StandsIn (take i places ++ get_or places i 0 ∷ []) p = subst P (take_more places i 0 inside) s in
-      ⊎_elim (λ w. inl (t.0, w.1)) (λ w. inr w.1) (get-push (take i places) (get_or places i 0) p t.0 t.1)
+      ⊎_elim (λ w. inl (t.0, w)) (λ w. inr w.1) (get-push (take i places) (get_or places i 0) p t.0 t.1)
 
   pub mark-next : (old marks : List ℕ) → get_or places i 0 < length marks → MarksMore (StandsIn (take i places)) old marks → MarksMore (StandsIn (take (i + 1) places)) old (set marks (get_or places i 0) 1)
   mark-next old marks lt m =

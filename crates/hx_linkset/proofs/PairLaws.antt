@@ -9,16 +9,16 @@ use Rattle.std.proofs.Common.{◌≡◌, ◌≢◌, ℕ, zero, suc, ◌+◌, ◌
 use Rattle.std.specs.Prelude.{slice_get, All, Contains}
 use Rattle.std.specs.List.Sorted.{IsStrictlyIncreasing}
 use Rattle.hx_board.specs.declared.vertices.Vertex.{Vertex}
-use Rattle.hx_board.specs.Floods.{code_of}
+use Rattle.hx_board.specs.VertexSets.{code_of, IsSomeVertex}
 use Rattle.hx_link.specs.declared.links.Kind.{Kind}
 use Rattle.hx_link.specs.declared.links.Kind.TheVariants.{Full, Semi}
 use Rattle.hx_link.specs.declared.links.Link.{Link}
 use Rattle.hx_link.specs.Steps.{HasEnds}
 use Rattle.hx_linkset.specs.States.{Standing, IsLive, IsRight}
 use Rattle.hx_linkset.specs.Rings.{Rings}
-use Rattle.hx_linkset.specs.Held.{AreInOrder, head_for, head_of, head_at, IsLinked, RingsHold, IsLiveThere, IsSomeVertex}
+use Rattle.hx_linkset.specs.Held.{AreInOrder, head_for, head_of, head_at, IsLinked, RingsHold, IsLiveThere}
 use Rattle.hx_linkset.specs.LivePairs.{IsLivePair, AreLivePairs, turn_by, turn_of, from_turn, pairs_from}
-use Rattle.hx_linkset.proofs.PlaceLaws.{get-lt}
+use Rattle.hx_board.proofs.ListLaws.{get-lt}
 use Rattle.hx_linkset.proofs.RisingLists.{AreAllFrom, all-rising, all-each, all-contains}
 use Rattle.hx_linkset.proofs.OrderLaws.{ends-to, ends-from}
 use Rattle.hx_linkset.proofs.NextLaws.{live-is_link}

@@ -12,7 +12,7 @@ use Rattle.hx_linkset.specs.States.{IsLive, IsUntouched}
 use Rattle.hx_linkset.specs.Rings.{AreRings, Rings, unlinked, relinked, grown, IsInside}
 use Rattle.hx_linkset.specs.Held.{head_of, head_or, head_at, IsLinked, RingsHold, relinked_all, CanRelink, IsKeptBelow, IsPassed, LogHolds, IsLiveThere}
 use Rattle.hx_linkset.proofs.RingLaws.{IsBetween, rings-grown, rings-unlinked, after_other, before_other, relinked-unlinked, inside-unlinked}
-use Rattle.hx_linkset.proofs.PlaceLaws.{get-lt, same_some, get-push, get-push_before, get-push_last}
+use Rattle.hx_board.proofs.ListLaws.{get-lt, same_some, get-push, get-push_before, get-push_last}
 use Rattle.hx_linkset.proofs.LogLaws.{log-less, log-push, log-room_more}
 
 reverse-first : (x : ℕ) (xs : List ℕ) → reverse (x ∷ xs) ≡ reverse xs ++ x ∷ []
@@ -268,7 +268,7 @@ module _ (links : List Link) (board : Board) (player : Colour) (rings : Rings) (
   old : (v : ℕ) → v ≢ end → IsLinked more (IsLiveThere board player) v → IsLinked links (IsLiveThere board player) v
   old v ne (inl lt) = inl lt
   old v ne (inr w) = ⊎_elim
-      (λ k. inr (w.0, (w.1.0, (w.1.1.0, (k.1, w.1.1.1.1)))))
+      (λ k. inr (w.0, (w.1.0, (w.1.1.0, (k, w.1.1.1.1)))))
       (λ k. absurd (ne (omega (arith, w.1.1.0, k.0, end_is))))
       (get-push links link w.1.0 w.0 w.1.1.1.0)
 

@@ -8,18 +8,18 @@ use Rattle.hx_board.proofs.StoneLaws.{board-put}
 use Rattle.hx_link.specs.declared.links.Link.{Link}
 use Rattle.hx_link.specs.declared.steps.Step.{Step}
 use Rattle.hx_linkset.specs.States.{IsLive, IsUntouched, State, GivesFromLive, IsRight, added, played}
-use Rattle.hx_linkset.proofs.PlaceLaws.{get-push}
+use Rattle.hx_board.proofs.ListLaws.{get-lt, get-push}
 use Rattle.hx_linkset.proofs.GivenLaws.{given-from_live}
 use Rattle.hx_linkset.proofs.KeptLaws.{live-before, untouched-live, gives-played}
 
 module _ (player : Colour) (state : State) (step : Step) (link : Link) (r : IsRight player state) (g : GivesFromLive state.board player state.links step link) where
   given_more : (place : ℕ) (l : Link) (s : Step)
-      → ((place < length state.links) × (slice_get state.links place ≡ Some l)) ⊎ ((place ≡ length state.links) × (l ≡ link))
-      → ((place < length state.steps) × (slice_get state.steps place ≡ Some s)) ⊎ ((place ≡ length state.steps) × (s ≡ step))
+      → (slice_get state.links place ≡ Some l) ⊎ ((place ≡ length state.links) × (l ≡ link))
+      → (slice_get state.steps place ≡ Some s) ⊎ ((place ≡ length state.steps) × (s ≡ step))
       → IsLive state.board player l → GivesFromLive state.board player (take place (state.links ++ link ∷ [])) s l
-  given_more place l s (inl w) (inl w') live = let le : place ≤ length state.links = omega (arith, w.0) in rw take-append-le (r.given place l s w.1 w'.1 live)
-  given_more place l s (inl w) (inr w') live = absurd (omega (arith, r.steps_of, w.0, w'.0))
-  given_more place l s (inr w) (inl w') live = absurd (omega (arith, r.steps_of, w.0, w'.0))
+  given_more place l s (inl w) (inl w') live = let le : place ≤ length state.links = omega (arith, get-lt state.links place l w) in rw take-append-le (r.given place l s w w' live)
+  given_more place l s (inl w) (inr w') live = absurd (omega (arith, r.steps_of, get-lt state.links place l w, w'.0))
+  given_more place l s (inr w) (inl w') live = absurd (omega (arith, r.steps_of, w.0, get-lt state.steps place s w'))
   given_more place l s (inr w) (inr w') live =
       let le : length state.links ≤ length state.links = omega arith in
       let all : take place (state.links ++ link ∷ []) ≡ state.links = rw (w.0, take-append-le, take_all) refl in

@@ -8,7 +8,7 @@ use Rattle.hx_link.specs.declared.links.Link.{Link}
 use Rattle.hx_linkset.specs.declared.sets.TheConstants.{MOST_LINKS}
 use Rattle.hx_linkset.specs.Rings.{Rings, IsNotBetween}
 use Rattle.hx_linkset.specs.Held.{head_of, head_at, IsLinked, RingsHold}
-use Rattle.hx_linkset.proofs.PlaceLaws.{same_some}
+use Rattle.hx_board.proofs.ListLaws.{same_some}
 use Rattle.hx_linkset.proofs.PassLaws.{head_at-link, head_at-low, linked-small}
 
 -- how far a walk may still go: not at all from a head

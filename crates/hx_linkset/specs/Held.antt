@@ -9,18 +9,12 @@ use Rattle.hx_board.specs.declared.colours.Colour.{Colour}
 use Rattle.hx_board.specs.declared.vertices.Vertex.{Vertex}
 use Rattle.hx_board.specs.declared.vertices.Vertex.TheVariants.{Of, First, Last}
 use Rattle.hx_board.specs.Positions.{Board}
-use Rattle.hx_board.specs.Floods.{code_of}
+use Rattle.hx_board.specs.VertexSets.{code_of, IsSomeVertex}
 use Rattle.hx_link.specs.declared.links.Kind.{Kind}
 use Rattle.hx_link.specs.declared.links.Kind.TheVariants.{Full, Semi}
 use Rattle.hx_link.specs.declared.links.Link.{Link}
 use Rattle.hx_linkset.specs.States.{IsLive, IsUntouched}
 use Rattle.hx_linkset.specs.Rings.{AreRings, Rings, relinked, IsInside}
-
--- a side, or a cell of the largest board
-abbrev pub IsSomeVertex : Vertex → Type 0
-IsSomeVertex (Of cell) = cell < 121
-IsSomeVertex First = Unit {0}
-IsSomeVertex Last = Unit {0}
 
 -- each place of a list has its own number
 pub record LeadToThemselves (size : ℕ) (nodes : List ℕ) : Type 0 where

@@ -6,8 +6,8 @@
 ghost use Rattle.std.specs.Prelude.{◌≡◌, ◌+◌, ◌-◌, ◌<◌, ◌≤◌, length, slice_index, OnOk, OnErr, IfOk};
 ghost use Rattle.hx_link.specs.declared.links.Link.{Link};
 ghost use Rattle.hx_linkset.specs.Rings.{unlinked, relinked, grown, cut, IsInside};
-ghost use Rattle.hx_linkset.specs.Held.{head_of, head_for, kind_code, IsSomeVertex, AreHeads, LeadToThemselves};
-ghost use Rattle.hx_board.specs.Floods.{code_of};
+ghost use Rattle.hx_linkset.specs.Held.{head_of, head_for, kind_code, AreHeads, LeadToThemselves};
+ghost use Rattle.hx_board.specs.VertexSets.{code_of, IsSomeVertex};
 
 use hx_board::{Memory, Vertex};
 use hx_link::{Kind, Link};
@@ -133,19 +133,6 @@ fn heads(alloc: Global) -> Result<Vec<u16>, Memory>
     Ok(heads)
 }
 
-/// The number of a vertex.
-pub(crate) fn code(vertex: &Vertex) -> u16
-    ensures value { result ≡ code_of vertex.now }
-    ensures small { result < 123 }
-    ensures is_vertex { IsSomeVertex vertex.now }
-{
-    match vertex {
-        Vertex::Of(cell) => cell.index() as u16,
-        Vertex::First => 121,
-        Vertex::Last => 122,
-    }
-}
-
 /// The number of the first head of a kind.
 fn first_head(kind: Kind) -> u16
     ensures { result ≡ kind_code kind }
@@ -164,7 +151,7 @@ pub(crate) fn head_for(kind: Kind, a: &Vertex, b: &Vertex) -> u16
     ensures b { IsSomeVertex b.now }
 {
     let first = first_head(kind);
-    let row = code(a);
-    let col = code(b);
+    let row = a.code() as u16;
+    let col = b.code() as u16;
     first + 123 * row + col
 }

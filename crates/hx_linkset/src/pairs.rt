@@ -4,11 +4,12 @@
 //! whose node is lower, gives all of them in rising order, and looks at no other link.
 
 ghost use Rattle.std.specs.Prelude.{◌≡◌, ◌≤◌, length, slice_index};
+ghost use Rattle.hx_board.specs.VertexSets.{IsSomeVertex};
 ghost use Rattle.hx_link.specs.declared.links.Kind.TheVariants.{Full, Semi};
-ghost use Rattle.hx_linkset.specs.Held.{AreInOrder, IsSomeVertex, head_for};
+ghost use Rattle.hx_linkset.specs.Held.{AreInOrder, head_for};
 ghost use Rattle.hx_linkset.specs.LivePairs.{turn_of, pairs_from};
 
-use crate::chains::{Chains, FIRST_NODE, code, head_for};
+use crate::chains::{Chains, FIRST_NODE, head_for};
 use hx_board::Vertex;
 use hx_link::Kind;
 use std::marker::Model;
@@ -97,12 +98,12 @@ fn turn_of(full: u16, semi: u16) -> Option<Kind>
 }
 
 /// Two ends with the lower one first, as links have them.
-pub(crate) fn in_order(a: Vertex, b: Vertex) -> (Vertex, Vertex)
-    ensures order { AreInOrder a b result.0 result.1 }
+pub(crate) fn in_order(a: &Vertex, b: &Vertex) -> (Vertex, Vertex)
+    ensures order { AreInOrder a.now b.now result.0 result.1 }
     ensures low { IsSomeVertex result.0 }
     ensures high { IsSomeVertex result.1 }
 {
-    let first = code(&a);
-    let second = code(&b);
-    if first <= second { (a, b) } else { (b, a) }
+    let first = a.code();
+    let second = b.code();
+    if first <= second { (*a, *b) } else { (*b, *a) }
 }

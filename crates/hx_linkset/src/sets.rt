@@ -5,16 +5,17 @@
 //! `play` is one pass over all links: it takes those that its stone touches out of their chains and writes them on a log.
 //! `undo` cuts off what came since, and puts the logged ones back in opposite order, which makes the chains what they were.
 //!
-//! Memory is taken by `new` and `add` alone. A board has at most 121 empty cells, so no more plays stand at once; and the
+//! Memory is taken by `new` and `add` alone. A board has at most `CELLS` empty cells, so no more plays stand at once; and the
 //! log names each link once at most, since only a live link is dropped, so it needs no more room than there are links.
 
 ghost use Rattle.std.specs.Prelude.{◌≡◌, ◌≢◌, ℕ, ◌+◌, ◌<◌, ◌≤◌, [], ◌∷◌, length, slice_get, ◌↔◌, IfOk, OnErr, MatchOption};
 ghost use Rattle.hx_board.specs.declared.vertices.Vertex.{Vertex};
+ghost use Rattle.hx_board.specs.Finds.{Finds};
 ghost use Rattle.hx_board.specs.Positions.{IsEmpty};
 ghost use Rattle.hx_link.specs.declared.links.Kind.{Kind};
 ghost use Rattle.hx_link.specs.declared.links.Link.{Link};
 ghost use Rattle.hx_linkset.specs.States.{IsLive, IsLiveAt, IsRight, IsUntouched, played};
-ghost use Rattle.hx_linkset.specs.Answers.{Gives, Covers, IsUncovered, IsAdded};
+ghost use Rattle.hx_linkset.specs.Answers.{Gives, Covers, IsAdded};
 ghost use Rattle.hx_linkset.specs.Held.{IsHeadBetween};
 ghost use Rattle.hx_linkset.specs.LiveOf.{IsLiveOf, IsFirstFrom, ChainLists};
 ghost use Rattle.hx_linkset.specs.LivePairs.{AreLivePairs};
@@ -27,7 +28,7 @@ use crate::liveness::is_live;
 use crate::pairs::{PairIter, in_order};
 use crate::passes::{cut_down, drop_touched, put_back};
 use crate::plays::{Play, before_last};
-use hx_board::{Cell, Colour, Groups, Mask, Memory, Position, Vertex};
+use hx_board::{CELLS, Cell, Colour, Groups, Mask, Memory, Position, Vertex};
 use hx_link::{Kind, Link, Step, result_of};
 use std::alloc::Global;
 use std::marker::Model;
@@ -89,7 +90,7 @@ impl LinkSet {
     pub fn new(alloc: Global, position: &Position, colour: Colour) -> Result<LinkSet, Memory>
         ensures { IfOk result (λ set. set ≡ record { player = colour; present = record { board = position.now; links = []; steps = [] }; past = [] }) }
     {
-        let Ok(plays) = Vec::with_capacity(alloc, 121) else {
+        let Ok(plays) = Vec::with_capacity(alloc, CELLS) else {
             return Err(Memory);
         };
         let Ok(log) = Vec::with_capacity(alloc, MOST_LINKS) else {
@@ -186,7 +187,7 @@ impl LinkSet {
     pub fn live(&self, a: Vertex, b: Vertex) -> PairIter<'_>
         ensures { AreLivePairs self.now a b result }
     {
-        let (low, high) = in_order(a, b);
+        let (low, high) = in_order(&a, &b);
         let most = self.links.len();
         PairIter::new(&self.chains, &low, &high, most)
     }
@@ -328,7 +329,7 @@ impl LinkSet {
 
     /// The link that a step gives from live links. It is live.
     fn given(&self, step: &Step) -> Option<Link>
-        ensures { MatchOption result ((link : Link) → Gives self.now step.now link → ⊥) (Gives self.now step.now) }
+        ensures { Finds result (Gives self.now step.now) }
     {
         let _size = self.position.size();
         let Some(link) = result_of(
@@ -347,7 +348,7 @@ impl LinkSet {
     /// The first live link that covers a live one. Only those of its kind and ends are looked at.
     fn covering(&self, link: &Link) -> Option<u32>
         requires { IsLive self.now.present.board self.now.player link.now }
-        ensures { MatchOption result (IsUncovered self.now link.now) (λ place. Covers self.now place link.now) }
+        ensures { Finds result (λ place. Covers self.now place link.now) }
     {
         let head = head_for(link.kind, &link.a, &link.b);
         let mut node = self.chains.after(head);

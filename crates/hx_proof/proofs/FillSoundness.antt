@@ -1,20 +1,21 @@
 -- Who wins after a fill step wins before it. Take a stone of the opponent's away: if the opponent won without it, then with it
 -- too, and both would win. A dead cell may have the opponent's stone as well, which is then taken away. A pair may count as
 -- the player's own. So who wins after fill steps one after the other wins before them, by induction on the steps.
-use Rattle.std.proofs.Common.{ℕ, List, [], ◌∷◌, refl, sym, ◌⊎◌, ⊎_elim}
+use Rattle.std.proofs.Common.{ℕ, List, [], ◌∷◌, refl, ◌⊎◌, ⊎_elim}
 use Rattle.std.proofs.Math.Logic.{⊎_swap}
 use Rattle.hx_board.specs.declared.colours.Colour.{Colour}
 use Rattle.hx_board.specs.declared.colours.Colour.TheVariants.{Black, White}
 use Rattle.hx_board.specs.Colours.{other_of}
 use Rattle.hx_board.specs.Positions.{Board, IsBoard, IsEmpty, put}
 use Rattle.hx_board.specs.Game.{Wins}
-use Rattle.hx_board.proofs.StoneLaws.{board-put, empty-put}
+use Rattle.hx_board.proofs.StoneLaws.{board-put}
 use Rattle.hx_law.proofs.WinLaws.{extra_stone}
 use Rattle.hx_law.proofs.OneWinner.{not_both_win, one_winner}
 use Rattle.hx_inferior.specs.declared.fills.FillStep.{FillStep}
 use Rattle.hx_inferior.specs.declared.fills.FillStep.TheVariants.{Other, Dead, Pair}
 use Rattle.hx_inferior.specs.Inferior.{MayFill, filled}
 use Rattle.hx_tree.specs.Fills.{MayFillAll, filled_all}
+use Rattle.hx_tree.proofs.FilledBoards.{board-filled}
 use Rattle.hx_proof.proofs.DeadSoundness.{wins_with_others_stone_on_dead}
 use Rattle.hx_proof.proofs.PairSoundness.{wins_without_pair}
 
@@ -35,14 +36,8 @@ fill_wins board is player (Dead cell) dead mover win =
     wins_without_others_stone player board is cell dead.empty mover (wins_with_others_stone_on_dead player board (put board player cell) mover cell is dead refl win)
 fill_wins board is player (Pair a b) pair mover win = wins_without_pair player board (put (put board player a) player b) mover a b is pair refl win
 
-board-filled : (board : Board) → IsBoard board → (player : Colour) (step : FillStep) → MayFill board player step → IsBoard (filled board player step)
-board-filled board is player (Other cell) empty = board-put board (other_of player) cell is empty
-board-filled board is player (Dead cell) dead = board-put board player cell is dead.empty
-board-filled board is player (Pair a b) pair =
-    board-put (put board player a) player b (board-put board player a is pair.a_empty) ((empty-put board player a b).1 (pair.b_empty, λ same. pair.differ (sym same)))
-
 pub fills_win : (board : Board) → IsBoard board → (player : Colour) (steps : List FillStep) → MayFillAll board player steps → (mover : Colour) → Wins player (filled_all board player steps) mover
     → Wins player board mover
 fills_win board is player [] may mover win = win
 fills_win board is player (step ∷ steps) may mover win =
-    fill_wins board is player step may.0 mover (fills_win (filled board player step) (board-filled board is player step may.0) player steps may.1 mover win)
+    fill_wins board is player step may.0 mover (fills_win (filled board player step) (board-filled board player is step may.0) player steps may.1 mover win)

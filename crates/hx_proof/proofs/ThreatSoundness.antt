@@ -12,7 +12,7 @@ use Rattle.hx_board.proofs.KeptStones.{joined_stays}
 use Rattle.hx_link.specs.declared.links.Link.{Link}
 use Rattle.hx_link.specs.Steps.{IsChainLink}
 use Rattle.hx_tree.specs.Steps.{IsThreat, IsOutsideThreat}
-use Rattle.hx_tree.proofs.ThreatLaws.{of_contained}
+use Rattle.hx_board.proofs.ListLaws.{of_contained}
 use Rattle.hx_proof.specs.Local.{IsJoined, LinkHolds}
 use Rattle.hx_proof.proofs.LocalGame.{in_reach_after_stone_outside}
 use Rattle.hx_proof.proofs.LinkSoundness.{AllHold, link_secures_with_the_move, who_secures_the_sides_wins}

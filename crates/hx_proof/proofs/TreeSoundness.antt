@@ -21,8 +21,8 @@ use Rattle.hx_tree.specs.Steps.{IsInEachThreat, IsOutsideThreat}
 use Rattle.hx_tree.specs.Answers.{cell_of, cells_of, IsRightLine, IsRightAll}
 use Rattle.hx_tree.specs.Rules.{IsRightRule, IsRightNode}
 use Rattle.hx_tree.specs.Trees.{headings_of, AreRight, IsValidTree, IsRoot}
-use Rattle.hx_tree.proofs.ThreatLaws.{shared_or_outside, of_contained}
-use Rattle.hx_tree.proofs.TreeGrowth.{slice_get-append_seam}
+use Rattle.hx_board.proofs.ListLaws.{of_contained, get-push_last}
+use Rattle.hx_tree.proofs.ThreatLaws.{shared_or_outside}
 use Rattle.hx_proof.specs.Winners.{HeadingWins, OnlyWinner, AllWin}
 use Rattle.hx_proof.proofs.LinkSoundness.{right_steps_give_what_holds, right_links_win}
 use Rattle.hx_proof.proofs.ThreatSoundness.{threat_left_whole_wins}
@@ -117,4 +117,4 @@ pub tree_wins : (nodes : List Node) → IsValidTree nodes → AllWin nodes
 tree_wins nodes tree k = only_winner (headings_of (take k nodes)) (slice_get nodes k) (tree.right k) (nodes_win nodes tree.right (suc k) k (omega arith))
 
 pub root_wins : (nodes : List Node) (root : Node) → IsValidTree nodes → IsRoot nodes root → OnlyWinner root.heading
-root_wins nodes root tree is = rw (is.same, slice_get-append_seam is.front root) at (tree_wins nodes tree (length is.front))
+root_wins nodes root tree is = rw (is.same, get-push_last is.front root) at (tree_wins nodes tree (length is.front))

@@ -1,27 +1,11 @@
 -- A list of nodes as a book of proofs. With one node more: which entries it has then, and that no two are of one position and
 -- mover. What was stored is the first entry of its position and mover.
-use Rattle.std.proofs.Common.{◌≡◌, ℕ, zero, suc, List, [], ◌∷◌, ◌++◌, length, refl, sym, ap, ◌∙◌, subst, Some, ◌⊎◌, inl, inr, ⊎_elim, arith}
-use Rattle.std.specs.Prelude.{slice_get}
+use Rattle.std.proofs.Common.{◌≡◌, ℕ, List, [], ◌∷◌, ◌++◌, length, refl, sym, ◌∙◌, subst, ◌⊎◌, inl, inr, ⊎_elim, arith}
 use Rattle.hx_board.specs.declared.colours.Colour.{Colour}
 use Rattle.hx_board.specs.Positions.{Board}
+use Rattle.hx_board.proofs.ListLaws.{get-push, get-push_before, get-push_last}
 use Rattle.hx_tree.specs.declared.nodes.Node.{Node}
 use Rattle.hx_tree.specs.Entries.{IsOf, IsEntry, HasNoEntry, AreDistinctEntries, IsFirstEntry, IsThere, IsAdded, IsStored}
-
-pub get-push : {A : Type 0} → (xs : List A) (x y : A) (place : ℕ) → slice_get (xs ++ x ∷ []) place ≡ Some y
-    → (slice_get xs place ≡ Some y) ⊎ ((place ≡ length xs) × (y ≡ x))
-get-push [] x y zero e = inr (refl, cc)
-get-push [] x y (suc place) e = cc
-get-push (z ∷ zs) x y zero e = inl e
-get-push (z ∷ zs) x y (suc place) e = ⊎_elim (λ w. inl w) (λ w. inr (ap suc w.0, w.1)) (get-push zs x y place e)
-
-pub get-push_before : {A : Type 0} → (xs : List A) (more : A) (place : ℕ) (x : A) → slice_get xs place ≡ Some x → slice_get (xs ++ more ∷ []) place ≡ Some x
-get-push_before [] more place x e = cc
-get-push_before (z ∷ zs) more zero x e = e
-get-push_before (z ∷ zs) more (suc place) x e = get-push_before zs more place x e
-
-pub get-push_last : {A : Type 0} → (xs : List A) (x : A) → slice_get (xs ++ x ∷ []) (length xs) ≡ Some x
-get-push_last [] x = refl
-get-push_last (z ∷ zs) x = get-push_last zs x
 
 module _ (nodes : List Node) (node : Node) where
   pub entry-before : (board : Board) (mover : Colour) (place : ℕ) → IsEntry nodes board mover place → IsEntry (nodes ++ node ∷ []) board mover place

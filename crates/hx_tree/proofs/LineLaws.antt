@@ -4,8 +4,8 @@
 use Rattle.std.proofs.Common.{◌≡◌, ℕ, ◌+◌, ◌<◌, true, List, [], ◌∷◌, ◌++◌, length, take, get_or, sym, ap, ◌∙◌, subst, ◌↔◌, ◌⊎◌, inl, inr, ⊎_elim, Option, Some, None}
 use Rattle.std.specs.Prelude.{slice_get, IfSome, Contains}
 use Rattle.std.proofs.lemmas.Bool.{false≢true, cases_Bool}
-use Rattle.std.proofs.lemmas.List.{take_more}
 use Rattle.std.proofs.lemmas.List.Elements.{Contains-push, Contains-push_cases, Contains-append_left}
+use Rattle.hx_board.proofs.ListLaws.{take-read}
 use Rattle.hx_board.specs.Sets.{has, insert, union, difference}
 use Rattle.hx_board.specs.Positions.{Board, IsEmpty}
 use Rattle.hx_board.proofs.SetLaws.{has-insert_cases, has-insert_same, has-insert_other, has-union_cases, has-union_left, has-union_right, has-difference_left, has-difference_right, has-difference_both}
@@ -30,7 +30,7 @@ under_no_child n better m child kill same = cc
 module _ (lines : List Line) (k set : ℕ) (line : Line) (less : k < length lines) (is : line ≡ get_or lines k line)
     (before : (n : ℕ) → (has set n ≡ true) ↔ HasChild (take k lines) n) where
   up_to : take (k + 1) lines ≡ take k lines ++ line ∷ []
-  up_to = take_more lines k line less ∙ ap (λ (l : Line). take k lines ++ l ∷ []) (sym is)
+  up_to = take-read lines k line less is
 
   was_child : (n : ℕ) → has set n ≡ true → HasChild (take k lines ++ line ∷ []) n
   was_child n member = let was = (before n).0 member in (was.0, Contains-append_left (take k lines) (line ∷ []) (Child n was.0) was.1)

@@ -1,7 +1,8 @@
 -- The links of steps that are read one after the other. A step gives one link at most, so steps give one list of links at
 -- most; with one more step they give one link more, and where a step gives none, no list of links is theirs.
 use Rattle.std.proofs.Common.{◌≡◌, ℕ, ◌+◌, ◌<◌, List, [], ◌∷◌, ◌++◌, take, drop, length, get_or, refl, sym, ap, ◌∙◌, subst, append_assoc}
-use Rattle.std.proofs.lemmas.List.{take_more, take-append-drop}
+use Rattle.std.proofs.lemmas.List.{take-append-drop}
+use Rattle.hx_board.proofs.ListLaws.{take-read}
 use Rattle.hx_board.specs.declared.colours.Colour.{Colour}
 use Rattle.hx_board.specs.Positions.{Board}
 use Rattle.hx_link.specs.declared.links.Link.{Link}
@@ -46,7 +47,7 @@ module _ (board : Board) (player : Colour) where
   module _ (steps : List Step) (place : ℕ) (step : Step) (links : List Link) (less : place < length steps) (is : step ≡ get_or steps place step)
       (right : AreRightSteps board player [] (take place steps) links) where
     up_to : take (place + 1) steps ≡ take place steps ++ step ∷ []
-    up_to = take_more steps place step less ∙ ap (λ (s : Step). take place steps ++ s ∷ []) (sym is)
+    up_to = take-read steps place step less is
 
     pub one_link_more : (link : Link) → StepGives board player links step link → AreRightSteps board player [] (take (place + 1) steps) (links ++ link ∷ [])
     one_link_more link gives = rw up_to (steps_more [] (take place steps) links step link right gives)

@@ -6,17 +6,13 @@ use Rattle.std.proofs.lemmas.Bool.{cases_lt, cases_Bool, false≢true}
 use Rattle.std.proofs.lemmas.Option.{slice_get-get_or, slice_get_past}
 use Rattle.hx_board.specs.Sets.{has, intersection}
 use Rattle.hx_board.specs.Positions.{Board, IsEmpty}
+use Rattle.hx_board.proofs.ListLaws.{of_contained}
 use Rattle.hx_board.proofs.SetLaws.{has-intersection_left, has-intersection_right, has-intersection_both}
 use Rattle.hx_link.specs.declared.links.Link.{Link}
 use Rattle.hx_link.specs.Steps.{IsChainLink}
 use Rattle.hx_tree.specs.Steps.{IsThreat, IsThreatOn, AreThreats, IsInEachThreat, IsOutsideThreat}
 use Rattle.hx_tree.specs.declared.steps.TheConstants.{MOST_THREATS}
 use Rattle.hx_tree.specs.Answers.{IsToAnswer}
-
--- what holds of each item holds of one that the list contains
-pub of_contained : {X : Type 0} (P : X → Type 0) (items : List X) (item : X) → ((k : ℕ) → IfSome (slice_get items k) P) → Contains items item → P item
-of_contained {X} P items item each found = let Q : Option X → Type 0 = λ o. IfSome o P in
-    subst Q (slice_get-get_or items found.0 item found.1 ∙ ap Some found.2) (each found.0)
 
 -- ---- each cell is in the carriers of all threats, or outside some
 

@@ -6,14 +6,10 @@ use Rattle.std.proofs.lemmas.Bool.{cases_lt}
 use Rattle.std.proofs.lemmas.Option.{slice_get_past}
 use Rattle.std.proofs.lemmas.List.{map-append, take-append-le}
 use Rattle.std.proofs.Math.Seq.{take-append_seam}
+use Rattle.hx_board.proofs.ListLaws.{get-push_last}
 use Rattle.hx_tree.specs.declared.nodes.Node.{Node}
 use Rattle.hx_tree.specs.Rules.{IsRightNode}
 use Rattle.hx_tree.specs.Trees.{headings_of, IsRightNodeAt, AreRight, IsValidTree, IsLeastWrong}
-
--- the place after a list holds the node that is appended
-pub slice_get-append_seam : (nodes : List Node) (node : Node) → slice_get (nodes ++ node ∷ []) (length nodes) ≡ Some node
-slice_get-append_seam [] node = refl
-slice_get-append_seam (first ∷ nodes) node = slice_get-append_seam nodes node
 
 pub headings_of-append : (nodes more : List Node) → headings_of (nodes ++ more) ≡ headings_of nodes ++ headings_of more
 headings_of-append nodes more = map-append (λ (node : Node). node.heading) nodes more
@@ -32,8 +28,8 @@ right_at-append nodes more k less = (
 
 right_at-last : (nodes : List Node) (node : Node) → IsRightNodeAt (nodes ++ node ∷ []) (length nodes) ↔ IsRightNode (headings_of nodes) node
 right_at-last nodes node = (
-  (λ right. rw (slice_get-append_seam nodes node, take-append_seam nodes (node ∷ [])) at right),
-  (λ right. rw (slice_get-append_seam nodes node, take-append_seam nodes (node ∷ [])) right),
+  (λ right. rw (get-push_last nodes node, take-append_seam nodes (node ∷ [])) at right),
+  (λ right. rw (get-push_last nodes node, take-append_seam nodes (node ∷ [])) right),
 )
 
 -- there is no node that could be wrong

@@ -20,8 +20,7 @@ pub(crate) fn leads(
     ensures { IsTrue result ↔ IsSomeAnd (slice_get before.now child)
         (IsHeading (put heading.now.position stone cell) (other_of stone) heading.now.winner) }
 {
-    let mut expected = heading.position;
-    expected.play(stone, cell);
+    let expected = heading.position.with(stone, cell);
     says(before, child, &expected, stone.other(), heading.winner)
 }
 

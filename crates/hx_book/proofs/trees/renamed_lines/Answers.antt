@@ -1,7 +1,7 @@
 use Rattle.std.proofs.Common.{◌≡◌, ◌<◌, ℕ, List, Some, length, ap, ◌∙◌, arith}
 use Rattle.std.specs.Prelude.{slice_get, slice_index}
 use Rattle.hx_tree.specs.declared.nodes.Line.{Line}
-use Rattle.hx_book.specs.Renaming.{renamed_line}
+use Rattle.hx_book.specs.Trees.{renamed_line}
 use Rattle.hx_book.proofs.RenamingLaws.{line-read, mapped-step, mapped-end}
 use Rattle.hx_book.proofs.trees.renamed_lines.Goals as goal
 

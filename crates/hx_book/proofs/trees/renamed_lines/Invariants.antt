@@ -1,6 +1,6 @@
 use Rattle.std.proofs.Common.{◌≡◌, ℕ}
 use Rattle.std.specs.Prelude.{slice_index}
-use Rattle.hx_book.specs.Renaming.{renamed_line}
+use Rattle.hx_book.specs.Trees.{renamed_line}
 use Rattle.hx_book.proofs.RenamingLaws.{mapped}
 use Rattle.hx_book.proofs.trees.renamed_lines.Given as goal
 

@@ -1,4 +1,4 @@
-use Rattle.std.proofs.Common.{◌≡◌, arith, Some, None, sym, ◌∙◌, eqb-true, eq-eqb}
+use Rattle.std.proofs.Common.{◌≡◌, arith, Some, None, sym, ◌∙◌}
 use Rattle.std.proofs.lemmas.Bool.{false≢true}
 use Rattle.std.proofs.lemmas.Option.{slice_get-get_or}
 use Rattle.hx_link.specs.declared.links.Link.{Link}
@@ -9,18 +9,18 @@ none≢some : (l : Link) → None ≡ Some l → ⊥
 none≢some l e = cc
 
 pub returns-in_default : goal.returns-in_default
-returns-in_default c = λ link g ok.
-    let w = or-first _ _ link g _ (slice_get-get_or c.args.places.now 0 0 (omega arith)) in none≢some w.0 (c.in_default.ensures ∙ w.1)
+returns-in_default c = λ link g.
+    let w = or-first _ _ link g.rule _ (slice_get-get_or c.args.places.now 0 0 (omega arith)) in none≢some w.0 (c.in_default.ensures ∙ w.1)
 
 pub returns-in_default-read_parts : goal.returns-in_default-read_parts
-returns-in_default-read_parts c = λ link g ok.
-    no_or-parts _ _ _ c.in-Some.first (slice_get-get_or c.args.places.now 0 0 (omega arith)) (sym c.in-Some.ensures) c.in_default-read_parts.ensures link g
+returns-in_default-read_parts c = λ link g.
+    no_or-parts _ _ _ c.in-Some.first (slice_get-get_or c.args.places.now 0 0 (omega arith)) (sym c.in-Some.ensures) c.in_default-read_parts.ensures link g.rule
 
 pub returns-then-not-none_shared : goal.returns-then-not-none_shared
-returns-then-not-none_shared c = λ link g ok.
+returns-then-not-none_shared c = λ link g.
     no_or-shared _ _ _ c.in-Some.first (slice_get-get_or c.args.places.now 0 0 (omega arith)) (sym c.in-Some.ensures) _ _ c.in-Some-read_parts.ensures
-    (λ e. false≢true (sym c.if-not-none_shared.true ∙ (c.eq-none_shared.ensures ∙ eq-eqb _ _ (e ∙ sym c.empty-none.ensures)))) link g
+    (λ e. false≢true (sym c.if-not-none_shared.true ∙ c.is_empty-none_shared.ensures.empty.1 e)) link g.rule
 
 pub returns : goal.returns
 returns c = or-made _ _ _ c.in-Some.first (slice_get-get_or c.args.places.now 0 0 (omega arith)) (sym c.in-Some.ensures) _ _ c.in-Some-read_parts.ensures _ _ _
-    (eqb-true _ _ (sym c.eq-none_shared.ensures ∙ c.if-not-none_shared.false) ∙ c.empty-none.ensures) c.if-count-lt2.false c.if-count-gt-MOST_PARTS.false c.made.ensures
+    (c.is_empty-none_shared.ensures.empty.0 c.if-not-none_shared.false) c.if-count-lt2.false c.if-count-gt-MOST_PARTS.false c.made.ensures

@@ -1,7 +1,7 @@
 use Rattle.std.proofs.Common.{◌≡◌, ℕ, map, arith}
 use Rattle.std.specs.Prelude.{slice_index}
 use Rattle.hx_linkset.specs.States.{State}
-use Rattle.hx_linkset.proofs.PlaceLaws.{get-lt}
+use Rattle.hx_board.proofs.ListLaws.{get-lt}
 use Rattle.hx_linkset.proofs.KeptStepLaws.{derived}
 use Rattle.hx_linkset.proofs.derivations.derivation_of.Goals as goal
 

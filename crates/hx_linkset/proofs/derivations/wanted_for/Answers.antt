@@ -3,7 +3,7 @@ use Rattle.std.specs.Prelude.{slice_get}
 use Rattle.std.proofs.lemmas.Option.{slice_get_read}
 use Rattle.hx_linkset.specs.States.{State}
 use Rattle.hx_linkset.specs.Marks.{IsLastMarkBelow}
-use Rattle.hx_linkset.proofs.PlaceLaws.{get-lt}
+use Rattle.hx_board.proofs.ListLaws.{get-lt}
 use Rattle.hx_linkset.proofs.MarkLaws.{marked-inside}
 use Rattle.hx_linkset.proofs.ClosedLaws.{part-before, closed-begun, under-begun, closed-more, under-more, closed-all}
 use Rattle.hx_linkset.proofs.derivations.wanted_for.Goals as goal

@@ -2,22 +2,19 @@
 -- wrong one. In the end they are all the nodes.
 use Rattle.std.proofs.Common.{◌≡◌, ℕ, ◌+◌, ◌<◌, List, [], ◌∷◌, ◌++◌, ◌==◌, take, drop, length, get_or, sym, ap, ◌∙◌, arith}
 use Rattle.std.proofs.lemmas.Bool.{false≢true}
-use Rattle.std.proofs.lemmas.List.{take_more, take_all, take-append-drop, length-take-le}
+use Rattle.std.proofs.lemmas.List.{take_all, take-append-drop, length-take-le}
+use Rattle.hx_board.proofs.ListLaws.{take-read}
 use Rattle.hx_tree.specs.declared.nodes.Node.{Node}
 use Rattle.hx_tree.specs.Rules.{IsRightNode}
 use Rattle.hx_tree.specs.Trees.{headings_of, AreRight, IsLeastWrong}
 use Rattle.hx_tree.proofs.TreeGrowth.{headings_of-append, one_more_right, least_wrong-last, least_wrong-append, valid_tree}
 use Rattle.hx_tree.proofs.trees.check_tree.Goals as goal
 
--- the nodes up to a place are those before it and then the node there
-up_to : (nodes : List Node) (k : ℕ) (node : Node) → k < length nodes → node ≡ get_or nodes k node → take (k + 1) nodes ≡ take k nodes ++ node ∷ []
-up_to nodes k node less is = take_more nodes k node less ∙ ap (λ n. take k nodes ++ n ∷ []) (sym is)
-
 first_wrong : (nodes : List Node) (k : ℕ) (node : Node) → k < length nodes → node ≡ get_or nodes k node → AreRight (take k nodes) → ¬ IsRightNode (headings_of (take k nodes)) node
     → IsLeastWrong nodes k
 first_wrong nodes k node less is right wrong =
     let rest : List Node = drop (k + 1) nodes in
-    let whole = ap (λ front. front ++ rest) (sym (up_to nodes k node less is)) ∙ take-append-drop (k + 1) nodes in
+    let whole = ap (λ front. front ++ rest) (sym (take-read nodes k node less is)) ∙ take-append-drop (k + 1) nodes in
     let last : length (take k nodes) ≡ k = length-take-le k nodes (omega arith) in
     rw (whole, last) at (least_wrong-append (take k nodes ++ node ∷ []) rest (length (take k nodes)) (least_wrong-last (take k nodes) node right wrong))
 
@@ -25,7 +22,7 @@ pub loop-place-preserved : goal.loop-place-preserved
 loop-place-preserved c =
     let earlier : List Node = take c.loop-place.place c.args.nodes.now in
     let node : Node = c.index-nodes-place.result in
-    let one_more = up_to c.args.nodes.now c.loop-place.place node c.loop-place-test.true c.index-nodes-place.is in
+    let one_more = take-read c.args.nodes.now c.loop-place.place node c.loop-place-test.true c.index-nodes-place.is in
     record {
       headings = rw (one_more, c.push_reserved.ensures.items, c.loop-place.invariant.headings) (sym (headings_of-append earlier (node ∷ [])));
       count = omega arith;
