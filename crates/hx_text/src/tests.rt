@@ -52,7 +52,7 @@ const CHANGES: [(&str, &str, u64); 8] = [
     ("hexpos 1", "hexpos 2", 1),
     ("size 3 4", "size  3 4", 2),
     ("size 3 4", "size 3 12", 2),
-    ("1002", "2002", 3),
+    ("1002", "1012", 3),
     ("1002", "100A", 3),
     ("1000000\nm", "1000002\nm", 4),
     ("move white\n", "move white", 5),
