@@ -1,7 +1,7 @@
 //! The words of a line, taken one after the other. Words are separated by exactly one space, so two spaces have an
 //! empty word between them, and a line begins and ends with a word.
 
-ghost use Rattle.std.specs.Prelude.{◌≡◌, ◌≢◌, ◌≤◌, ◌∷◌, [], IfNone, MatchOption};
+ghost use Rattle.std.specs.Prelude.{◌≡◌, ◌≢◌, ◌<◌, ◌≤◌, ◌^◌, ◌∷◌, [], IfNone, MatchOption};
 ghost use Rattle.std.specs.Fmt.{decimal};
 ghost use Rattle.hx_board.specs.Cells.{OnBoard};
 ghost use Rattle.hx_board.specs.Graph.{IsVertex};
@@ -99,6 +99,7 @@ impl<'a> Words<'a> {
 
     /// Takes a number that is no larger than this.
     pub(crate) fn count(&mut self, most: usize) -> Option<u32>
+        requires { most < 2 ^ 32 }
         ensures { Takes decimal (λ n. n ≤ most) self.old result self.new }
     {
         let number = self.number()?;
