@@ -5,6 +5,7 @@ pub mod Answering
 pub mod Readings
 pub mod OneAnswer
 pub mod NamedAnswers
+pub mod OneFault
 pub mod NodesOut
 pub mod Positions
 pub mod SweptTrees

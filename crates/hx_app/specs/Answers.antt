@@ -1,8 +1,8 @@
 -- What the program answers, and when.
-use Rattle.std.specs.Prelude.{◌≡◌, ◌⊎◌, ℕ, ◌<◌, ◌≤◌, List, [], ◌∷◌, ◌++◌, take, length, flat_map, codes, Option, IfSome}
+use Rattle.std.specs.Prelude.{◌≡◌, ◌⊎◌, ℕ, ◌<◌, ◌≤◌, List, [], ◌∷◌, ◌++◌, length, flat_map, codes, Option, IfSome}
 use Rattle.std.specs.Fmt.{decimal}
 use Rattle.std.specs.List.{All}
-use Rattle.hx_io.specs.Sinks.{append}
+use Rattle.hx_io.specs.Sinks.{append, TakesFront}
 use Rattle.hx_board.specs.declared.colours.Colour.{Colour}
 use Rattle.hx_tree.specs.declared.nodes.Heading.{Heading}
 use Rattle.hx_tree.specs.declared.nodes.Node.{Node}
@@ -106,10 +106,10 @@ pub data IsDue (words : List (List ℕ)) (before now : Option (List ℕ)) (rose 
   Refused : (IsCommand words → ⊥) → answer ≡ BadWords → now ≡ before → IsDue words before now rose answer
   Answered : (command : Command) → Asks command words → IsDueTo command before rose answer → IsDue words before now rose answer
 
--- the answer was written whole, or the sink failed on the way
+-- the answer was written whole, or the sink failed before it took all of it
 pub data IsWritten (before now : Option (List ℕ)) (rose : Type 0) (answer : Answer) (status : ℕ) : Type 0 where
   Whole : status ≡ status_of answer → now ≡ append before (answer_text answer) → IsWritten before now rose answer status
-  Cut : status ≡ 6 → rose → (n : ℕ) → now ≡ append before (take n (answer_text answer)) → IsWritten before now rose answer status
+  Cut : status ≡ 6 → rose → TakesFront before now (answer_text answer) → IsWritten before now rose answer status
 
 -- A run: some answer is due, and it was written.
 pub record IsRun (words : List (List ℕ)) (left_before left_now : Option (List ℕ)) (source_rose : Type 0)

@@ -55,7 +55,7 @@ pub fn run<S: Source, K: Sink, G: Gate + Sync>(
     sink: &mut K,
     _gate: &G,
 ) -> u8
-    // Some answer is due, and it was written whole or up to where the sink failed.
+    // Some answer is due, and it was written whole, or the sink failed before it took all of it.
     ensures run { IsRun (words_of words.now)
         (S.left source.old) (S.left source.new) (Rose (S.faults source.old) (S.faults source.new))
         (K.taken sink.old) (K.taken sink.new) (Rose (K.faults sink.old) (K.faults sink.new)) result }

@@ -5,10 +5,12 @@ mod answers;
 mod commands;
 mod input;
 mod judge;
+mod laws;
 mod solutions;
 mod solve;
 
 pub use commands::run;
+pub use laws::one_fault;
 
 #[cfg(test)]
 mod tests;

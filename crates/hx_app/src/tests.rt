@@ -1,16 +1,12 @@
 //! The top call over sources and sinks in memory.
 
-mod answered;
 mod damage;
 mod faults;
-mod inferior;
-mod limits;
-mod links;
+mod rules;
 mod solve;
-mod trees;
 mod words;
 
-use crate::run;
+use crate::{one_fault, run};
 use hx_io::{MemorySink, MemorySource, RealGate};
 use std::alloc::{AllocError, Global};
 use std::process::Abort;
@@ -55,10 +51,10 @@ struct Outcome {
     writes: u64,
 }
 
-/// The command `check` over this input, in pieces of this many bytes, where no call fails.
-fn check_of(input: &str, piece: usize) -> Trial<'_> {
+/// A command over this input, in pieces of this many bytes, where no call fails.
+fn trial_of<'a>(words: &'a [&'a str], input: &'a str, piece: usize) -> Trial<'a> {
     Trial {
-        words: &["check"],
+        words,
         input,
         piece,
         failing_read: None,
@@ -111,17 +107,25 @@ fn assert_answer(
     Ok(outcome)
 }
 
-/// Each change of the text is found. It is what stands there, what is put in its first place, and the answer.
+/// Each change of the text is found. It is what stands there, what is put in its first place, and the answer, which has
+/// this status.
 fn assert_found(
     rt: &impl Abort,
     alloc: Global,
-    text: &str,
+    trial: Trial<'_>,
+    status: u8,
     changes: &[(&str, &str, &str)],
 ) -> Result<(), Fail> {
     for (old, new, answer) in changes {
-        let (before, after) = text.split_once(*old).ok_or("not in the text")?;
+        let (before, after) = trial.input.split_once(*old).ok_or("not in the text")?;
         let changed = format!(in alloc; "{before}{new}{after}")?;
-        let _ = assert_answer(rt, alloc, check_of(changed.as_str(), 4096), 1, answer)?;
+        let changed_trial = trial_of(trial.words, changed.as_str(), trial.piece);
+        let _ = assert_answer(rt, alloc, changed_trial, status, answer)?;
     }
     Ok(())
+}
+
+#[test]
+fn the_law_is_there() {
+    one_fault();
 }

@@ -1,8 +1,8 @@
 -- The chain of a bucket, walked from its head: below the link that was reached stands what was not looked at yet. A node more
 -- becomes the newest of its bucket, and the other chains stay as they are.
-use Rattle.std.proofs.Common.{◌≡◌, ◌≢◌, ℕ, zero, suc, ◌-◌, ◌<◌, ◌≤◌, List, [], ◌∷◌, length, get_or, refl, sym, ap, ◌∙◌, subst, Some, ⊎_elim, arith}
-use Rattle.std.specs.Prelude.{slice_get, slice_index}
+use Rattle.std.proofs.Common.{◌≡◌, ◌≢◌, ℕ, ◌-◌, ◌<◌, ◌≤◌, List, length, get_or, refl, sym, ap, ◌∙◌, subst, ⊎_elim, arith}
 use Rattle.std.proofs.lemmas.Bool.{cases_lt, cases_eq}
+use Rattle.hx_board.proofs.ListLaws.{get-lt, read-get, read-index, same_some}
 use Rattle.hx_board.specs.declared.colours.Colour.{Colour}
 use Rattle.hx_board.specs.Positions.{Board}
 use Rattle.hx_tree.specs.declared.nodes.Node.{Node}
@@ -15,30 +15,7 @@ pub record IsReached (buckets : ℕ) (nodes : List Node) (bucket : ℕ) (board :
   pub is_in : 0 < link → IsIn buckets nodes bucket (link - 1)
   pub none : (place : ℕ) → link ≤ place → IsEntry nodes board mover place → ⊥
 
-pub get-lt : {A : Type 0} → (xs : List A) (place : ℕ) (x : A) → slice_get xs place ≡ Some x → place < length xs
-get-lt [] place x e = cc
-get-lt (y ∷ ys) zero x e = omega arith
-get-lt (y ∷ ys) (suc place) x e = omega (arith, get-lt ys place x e)
-
-pub same_some : {A : Type 0} → (x y : A) → Some x ≡ Some y → x ≡ y
-same_some x y e = cc
-
 -- ---- what was read
-
-pub read-index : (xs : List ℕ) (place x : ℕ) → place < length xs → x ≡ get_or xs place x → x ≡ slice_index xs place
-read-index [] place x inside read = absurd (omega arith)
-read-index (y ∷ ys) zero x inside read = read
-read-index (y ∷ ys) (suc place) x inside read = read-index ys place x (omega arith) read
-
-pub read-get : {A : Type 0} → (xs : List A) (place : ℕ) (x : A) → place < length xs → x ≡ get_or xs place x → slice_get xs place ≡ Some x
-read-get [] place x inside read = absurd (omega arith)
-read-get (y ∷ ys) zero x inside read = ap Some (sym read)
-read-get (y ∷ ys) (suc place) x inside read = read-get ys place x (omega arith) read
-
-pub read-or : {A : Type 0} → (xs : List A) (place : ℕ) (x other : A) → place < length xs → x ≡ get_or xs place x → get_or xs place other ≡ x
-read-or [] place x other inside read = absurd (omega arith)
-read-or (y ∷ ys) zero x other inside read = sym read
-read-or (y ∷ ys) (suc place) x other inside read = read-or ys place x other (omega arith) read
 
 -- the node that was read is of the position and mover, where its heading is
 pub entry-read : (nodes : List Node) (board : Board) (mover : Colour) (place : ℕ) (node : Node) → place < length nodes → node ≡ get_or nodes place node

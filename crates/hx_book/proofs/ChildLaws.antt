@@ -1,6 +1,7 @@
 -- A child of a right node stands before it, on a board of the same size.
 use Rattle.std.proofs.Common.{◌≡◌, ℕ, zero, suc, ◌<◌, List, [], ◌∷◌, take, refl, sym, ap, ◌∙◌, subst, Option, Some, None, arith}
 use Rattle.std.specs.Prelude.{slice_get, IsSomeAnd, IfSome}
+use Rattle.hx_board.proofs.ListLaws.{same_some}
 use Rattle.hx_board.specs.Cells.{Extent}
 use Rattle.hx_board.specs.declared.colours.Colour.{Colour}
 use Rattle.hx_board.specs.Positions.{Board, put}
@@ -20,7 +21,6 @@ use Rattle.hx_tree.specs.Answers.{IsRightLine}
 use Rattle.hx_tree.proofs.FilledBoards.{size-filled_all}
 use Rattle.hx_tree.specs.Trees.{headings_of, AreRight}
 use Rattle.hx_book.specs.Trees.{NamesChild, Names, HasChildAt, LeadsTo, IsNeeded}
-use Rattle.hx_book.proofs.ChainLaws.{same_some}
 
 -- a heading of this size stands at a place
 pub record HasSize (headings : List Heading) (size : Extent) (place : ℕ) : Type 0 where

@@ -1,20 +1,18 @@
 -- A book with one node more. The node is right after the others, and of a position and mover that none of them is of; its
 -- place becomes the head of its bucket's chain.
-use Rattle.std.proofs.Common.{◌≡◌, ◌≢◌, ℕ, zero, suc, ◌+◌, ◌-◌, ◌<◌, ◌≤◌, List, [], ◌∷◌, ◌++◌, length, set, get_or, refl, sym, ap, ◌∙◌, subst, Some, ◌⊎◌, inl, inr, ⊎_elim, arith, length-append}
-use Rattle.std.specs.Prelude.{slice_get, slice_index}
+use Rattle.std.proofs.Common.{◌≡◌, ◌≢◌, ℕ, zero, suc, ◌+◌, ◌-◌, ◌<◌, ◌≤◌, List, [], ◌∷◌, ◌++◌, length, set, get_or, refl, sym, ap, ◌∙◌, subst, ◌⊎◌, inl, inr, ⊎_elim, arith, length-append}
+use Rattle.std.specs.Prelude.{slice_index}
 use Rattle.std.proofs.lemmas.Bool.{cases_eq}
 use Rattle.std.proofs.lemmas.List.{length-set, get_or-set_same, get_or-set_other}
-use Rattle.hx_board.specs.declared.colours.Colour.{Colour}
-use Rattle.hx_board.specs.Positions.{Board}
+use Rattle.hx_board.proofs.ListLaws.{get-lt, get-push, get-push_before, get-push_last, read-index}
 use Rattle.hx_tree.specs.declared.nodes.Node.{Node}
 use Rattle.hx_tree.specs.Rules.{IsRightNode}
 use Rattle.hx_tree.specs.Trees.{headings_of}
 use Rattle.hx_tree.proofs.TreeGrowth.{one_more_right}
 use Rattle.hx_tree.specs.Entries.{HasNoEntry}
-use Rattle.hx_tree.proofs.EntryLaws.{get-push, get-push_before, get-push_last, distinct-more}
+use Rattle.hx_tree.proofs.EntryLaws.{distinct-more}
 use Rattle.hx_book.specs.Entries.{IsBook}
 use Rattle.hx_book.specs.Buckets.{bucket_of, IsIn, IsNewestBelow, AreChains, FieldsKeep}
-use Rattle.hx_book.proofs.ChainLaws.{get-lt, read-index}
 
 index-push_before : (xs : List ℕ) (x place : ℕ) → place < length xs → slice_index (xs ++ x ∷ []) place ≡ slice_index xs place
 index-push_before [] x place less = absurd (omega arith)

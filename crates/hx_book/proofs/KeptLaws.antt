@@ -4,6 +4,7 @@ use Rattle.std.proofs.Common.{◌≡◌, ◌≢◌, ℕ, zero, suc, ◌+◌, ◌
 use Rattle.std.specs.Prelude.{slice_get, slice_index, slice_index_or, Result, Ok, Err, OnOk, is_err}
 use Rattle.std.proofs.lemmas.Bool.{cases_eq, false≢true}
 use Rattle.std.proofs.lemmas.List.{length-set, get_or-set_same, get_or-set_other}
+use Rattle.hx_board.proofs.ListLaws.{get-lt, get-push, get-push_before, get-push_last, same_some}
 use Rattle.hx_tree.specs.declared.nodes.Heading.{Heading}
 use Rattle.hx_tree.specs.declared.nodes.Node.{Node}
 use Rattle.hx_tree.specs.Rules.{IsRightNode}
@@ -11,8 +12,6 @@ use Rattle.hx_tree.specs.Trees.{headings_of, AreRight}
 use Rattle.hx_tree.proofs.TreeGrowth.{headings_of-append, one_more_right, valid_tree}
 use Rattle.hx_book.specs.Trees.{Names, IsNeeded, IsAt, IsTreeOf, renamed_node}
 use Rattle.hx_book.specs.Renaming.{IsMarked, AreMarkedFrom, IsKept, IsRest, EndsInRoot, AreKeptBelow}
-use Rattle.hx_book.proofs.ChainLaws.{get-lt, same_some}
-use Rattle.hx_tree.proofs.EntryLaws.{get-push, get-push_before, get-push_last}
 use Rattle.hx_book.proofs.ChildLaws.{get-heading, take-heading, right-at, child-before, needed-size}
 use Rattle.hx_book.proofs.RenamingLaws.{node-renamed, node-same}
 use Rattle.hx_book.proofs.NeedLaws.{needed-marked}

@@ -1,12 +1,10 @@
 -- What a mark more changes: the marked places are those of before and the new one. So after a mark on each child of some lines
 -- the marked ones are those of before and these.
-use Rattle.std.proofs.Common.{◌≡◌, ℕ, ◌+◌, ◌<◌, List, [], ◌∷◌, ◌++◌, length, take, get_or, refl, sym, ap, ◌∙◌, subst, inl, inr, Bool, ◌⊎◌, ⊎_elim, arith}
-use Rattle.std.proofs.lemmas.List.{take_more}
+use Rattle.std.proofs.Common.{◌≡◌, ℕ, ◌+◌, ◌<◌, List, [], ◌∷◌, ◌++◌, length, take, get_or, refl, sym, ◌∙◌, subst, inl, inr, Bool, ◌⊎◌, ⊎_elim, arith}
+use Rattle.hx_board.proofs.ListLaws.{get-lt, get-push, get-push_before, get-push_last, read-get, take-read}
 use Rattle.hx_tree.specs.declared.nodes.Line.{Line}
 use Rattle.hx_book.specs.Trees.{NamesChild, HasLine}
 use Rattle.hx_book.specs.Renaming.{MarksMore}
-use Rattle.hx_tree.proofs.EntryLaws.{get-push, get-push_before, get-push_last}
-use Rattle.hx_book.proofs.ChainLaws.{get-lt, read-get}
 
 mark-then : (A B : ℕ → Type 0) (old middle new : List Bool) → MarksMore A old middle → MarksMore B middle new → MarksMore (λ p. A p ⊎ B p) old new
 mark-then A B old middle new m n = record {
@@ -48,7 +46,7 @@ module _ (lines : List Line) (i : ℕ) (line : Line) (inside : i < length lines)
   pub lines-more : (old middle new : List Bool) → MarksMore (HasLine (take i lines)) old middle → MarksMore (NamesChild line) middle new
       → MarksMore (HasLine (take (i + 1) lines)) old new
   lines-more old middle new m n =
-      let up_to : take (i + 1) lines ≡ take i lines ++ line ∷ [] = take_more lines i line inside ∙ ap (λ (l : Line). take i lines ++ l ∷ []) (sym is) in
+      let up_to : take (i + 1) lines ≡ take i lines ++ line ∷ [] = take-read lines i line inside is in
       let more : MarksMore (HasLine (take i lines ++ line ∷ [])) old new =
       mark-as (λ p. HasLine (take i lines) p ⊎ NamesChild line p) (HasLine (take i lines ++ line ∷ [])) old new (lines-push (take i lines) line) (lines-cases (take i lines) line)
       (mark-then (HasLine (take i lines)) (NamesChild line) old middle new m n) in

@@ -3,11 +3,11 @@
 use Rattle.std.proofs.Common.{◌≡◌, ℕ, ◌+◌, ◌<◌, ◌≤◌, List, [], ◌∷◌, length, refl, sym, ◌∙◌, subst, Some, Bool, ⊎_elim, arith}
 use Rattle.std.specs.Prelude.{slice_get}
 use Rattle.std.proofs.lemmas.Bool.{cases_eq}
+use Rattle.hx_board.proofs.ListLaws.{same_some}
 use Rattle.hx_tree.specs.declared.nodes.Node.{Node}
 use Rattle.hx_tree.specs.Trees.{AreRight}
 use Rattle.hx_book.specs.Trees.{Names, HasChildAt, LeadsTo, IsNeeded}
 use Rattle.hx_book.specs.Renaming.{IsMarked, AreUnmarked, MarksMore, AreMarkedFrom}
-use Rattle.hx_book.proofs.ChainLaws.{same_some}
 use Rattle.hx_book.proofs.ChildLaws.{child-before, leads-further}
 
 pub marked-begun : (nodes : List Node) (root : ℕ) (none marks : List Bool) → AreUnmarked (length nodes) none → MarksMore (λ (other : ℕ). other ≡ root) none marks

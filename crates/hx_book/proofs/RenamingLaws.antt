@@ -1,6 +1,7 @@
 -- A node with new numbers for its children is right after headings that hold those of its children at the new numbers.
 use Rattle.std.proofs.Common.{◌≡◌, ℕ, zero, suc, add-one, ◌+◌, ◌<◌, List, [], ◌∷◌, map, length, get_or, set, refl, sym, ap, ◌∙◌, Option, Some, None, inl, inr, ⊎_elim}
 use Rattle.std.specs.Prelude.{slice_get, IfSome, Contains}
+use Rattle.hx_board.proofs.ListLaws.{get-lt, get-map, get-map_none, get_or-get, read-get}
 use Rattle.hx_link.specs.declared.links.Link.{Link}
 use Rattle.hx_tree.specs.declared.nodes.Heading.{Heading}
 use Rattle.hx_tree.specs.declared.nodes.Line.{Line}
@@ -11,7 +12,6 @@ use Rattle.hx_tree.specs.declared.nodes.Rule.TheVariants.{Chain, Links, Move, Al
 use Rattle.hx_tree.specs.Rules.{IsRightRule, IsRightNode}
 use Rattle.hx_tree.specs.Answers.{IsRightLine, AreAnswered, cell_of, cells_of}
 use Rattle.hx_book.specs.Trees.{NamesChild, HasLine, Names, renamed_line, renamed_rule, renamed_node}
-use Rattle.hx_book.proofs.ChainLaws.{get-lt, read-get}
 
 -- ---- lists of which the first were mapped
 
@@ -41,21 +41,6 @@ mapped-all f [] = refl
 mapped-all f (x ∷ xs) = ap (λ (zs : List _). f x ∷ zs) (mapped-all f xs)
 
 -- ---- lines
-
-get-map : {A B : Type 0} → (f : A → B) (xs : List A) (k : ℕ) (x : A) → slice_get xs k ≡ Some x → slice_get (map f xs) k ≡ Some (f x)
-get-map f [] k x e = cc
-get-map f (y ∷ ys) zero x e = cc
-get-map f (y ∷ ys) (suc k) x e = get-map f ys k x e
-
-get-map_none : {A B : Type 0} → (f : A → B) (xs : List A) (k : ℕ) → slice_get xs k ≡ None → slice_get (map f xs) k ≡ None
-get-map_none f [] k e = refl
-get-map_none f (y ∷ ys) zero e = cc
-get-map_none f (y ∷ ys) (suc k) e = get-map_none f ys k e
-
-get_or-get : {A : Type 0} → (xs : List A) (k : ℕ) (x d : A) → slice_get xs k ≡ Some x → get_or xs k d ≡ x
-get_or-get [] k x d e = cc
-get_or-get (y ∷ ys) zero x d e = cc
-get_or-get (y ∷ ys) (suc k) x d e = get_or-get ys k x d e
 
 cell-renamed : (name : ℕ → ℕ) (line : Line) → cell_of (renamed_line name line) ≡ cell_of line
 cell-renamed name (Child cell child) = refl

@@ -18,7 +18,7 @@ use Rattle.hx_board.proofs.ColourLaws.{other-differs}
 use Rattle.hx_board.proofs.StoneLaws.{stones-put}
 use Rattle.hx_law.proofs.Ends.{Ends, After, ends}
 use Rattle.hx_board.proofs.KeptStones.{own_stays, joined_stays}
-use Rattle.hx_link.specs.Steps.{AreApart}
+use Rattle.hx_board.specs.Sets.{ShareNone}
 use Rattle.hx_proof.specs.Local.{IsJoined, Secures}
 use Rattle.hx_proof.proofs.LocalGame.{Goal, Stays, in_reach_in_more_room, in_reach_with_the_move, in_reach_after_stone_outside, in_reach_beside_reached}
 
@@ -85,7 +85,7 @@ module _ (player : Colour) where
   lacks : (set n : ℕ) → has set n ≡ false → ¬ (has set n ≡ true)
   lacks set n out h = false≢true (sym out ∙ h)
 
-  module _ (first second : ℕ) (from to : Vertex) (apart : AreApart first second) where
+  module _ (first second : ℕ) (from to : Vertex) (apart : ShareNone first second) where
     parts : AreParts (has first) (has second) (has (union first second))
     parts = record { from_first = has-union_left first second; from_second = has-union_right first second; in_one = has-union_cases first second; apart = λ n x y. lacks second n (apart n x) y }
 

@@ -11,14 +11,14 @@ use Rattle.hx_board.specs.declared.vertices.Vertex.TheVariants.{Of, First, Last}
 use Rattle.hx_board.specs.Colours.{other_of}
 use Rattle.hx_board.specs.Cells.{CellsTouch, Left, Right, Above, Below, Above_right, Below_left}
 use Rattle.hx_board.specs.Positions.{Board, IsBoard, IsEmpty, put}
-use Rattle.hx_board.specs.Graph.{IsOwn, Touches, Walk, Joined, HasChain}
+use Rattle.hx_board.specs.Graph.{IsOwn, Touches, Walk, Joined, HasChain, IsOpen}
 use Rattle.hx_board.specs.Game.{Wins, By_chain, By_move, By_answers}
 use Rattle.hx_board.proofs.SetLaws.{is_false}
 use Rattle.hx_board.proofs.StoneLaws.{size-put, board-put, stones-put, empty-put}
 use Rattle.hx_board.proofs.KeptStones.{keeps_put, joined_stays}
 use Rattle.hx_board.proofs.Joins.{touches-sym, joined-over_own, joined-touches}
 use Rattle.hx_law.proofs.WinLaws.{chain-put}
-use Rattle.hx_inferior.specs.Inferior.{IsNotOthers, IsOpenNeighbour, IsDead}
+use Rattle.hx_inferior.specs.Inferior.{IsOpenNeighbour, IsDead}
 use Rattle.hx_proof.proofs.StoneOrder.{put-swap}
 
 -- ---- vertices
@@ -49,11 +49,11 @@ not_touching_itself n (Below row col) = omega arith
 not_touching_itself n (Above_right row col) = omega arith
 not_touching_itself n (Below_left row col) = omega arith
 
-own_not_others : (board : Board) → IsBoard board → (player : Colour) (v : Vertex) → IsOwn board player v → IsNotOthers board player v
-own_not_others board is Black (Of n) own = is.1.apart n own
-own_not_others board is White (Of n) own = is_false _ (λ black. false≢true (sym (is.1.apart n black) ∙ own))
-own_not_others board is player First own = tt
-own_not_others board is player Last own = tt
+own-open : (board : Board) → IsBoard board → (player : Colour) (v : Vertex) → IsOwn board player v → IsOpen board player v
+own-open board is Black (Of n) own = is.1.apart n own
+own-open board is White (Of n) own = is_false _ (λ black. false≢true (sym (is.1.apart n black) ∙ own))
+own-open board is player First own = tt
+own-open board is player Last own = tt
 
 -- a vertex that is own after an own stone is on that stone or was own before
 own_before : (board : Board) (player : Colour) (cell : ℕ) (v : Vertex) → IsOwn (put board player cell) player v → (v ≡ Of cell) ⊎ IsOwn board player v
@@ -61,10 +61,10 @@ own_before board player cell (Of n) own = ⊎_elim (λ new. inl (ap Of new.1)) i
 own_before board player cell First own = inr tt
 own_before board player cell Last own = inr tt
 
-not_others_before : (board : Board) (who player : Colour) (m : ℕ) (v : Vertex) → IsNotOthers (put board who m) player v → IsNotOthers board player v
-not_others_before board who player m (Of n) not = is_false _ (λ held. false≢true (sym not ∙ (stones-put board who (other_of player) m n).1 (inr held)))
-not_others_before board who player m First not = tt
-not_others_before board who player m Last not = tt
+open-before : (board : Board) (who player : Colour) (m : ℕ) (v : Vertex) → IsOpen (put board who m) player v → IsOpen board player v
+open-before board who player m (Of n) not = is_false _ (λ held. false≢true (sym not ∙ (stones-put board who (other_of player) m n).1 (inr held)))
+open-before board who player m First not = tt
+open-before board who player m Last not = tt
 
 -- ---- a walk is led round a dead cell
 
@@ -76,8 +76,8 @@ module _ (board : Board) (player : Colour) (cell : ℕ) (is : IsBoard board) (de
       joined (yes same) = inl same
       joined (no differ) = dead.joined u v differ a b
 
-  open_neighbour : (x v : Vertex) → x ≡ Of cell → Touches board.size player x v → IsNotOthers board player v → IsOpenNeighbour board player cell v
-  open_neighbour x v same touch not = record { touch = let P : Vertex → Type 0 = λ z. Touches board.size player z v in subst P same touch; not_others = not }
+  open_neighbour : (x v : Vertex) → x ≡ Of cell → Touches board.size player x v → IsOpen board player v → IsOpenNeighbour board player cell v
+  open_neighbour x v same touch not = record { touch = let P : Vertex → Type 0 = λ z. Touches board.size player z v in subst P same touch; is_open = not }
 
   not_both_on_cell : (x v : Vertex) → x ≡ Of cell → v ≡ Of cell → Touches board.size player x v → ⊥
   not_both_on_cell x v same also touch =
@@ -87,7 +87,7 @@ module _ (board : Board) (player : Colour) (cell : ℕ) (is : IsBoard board) (de
 
   -- the end of a walk is joined without the stone: with its start, or where that is the cell, with each open neighbour of it
   record IsLedRound (from to : Vertex) : Type 0 where
-    from_start : from ≢ Of cell → IsNotOthers board player from → Joined board player from to
+    from_start : from ≢ Of cell → IsOpen board player from → Joined board player from to
     from_neighbours : from ≡ Of cell → (u : Vertex) → IsOpenNeighbour board player cell u → Joined board player u to
 
   led_round-onto_cell : (from v to : Vertex) → Touches board.size player from v → v ≡ Of cell → IsLedRound v to → IsLedRound from to
@@ -98,7 +98,7 @@ module _ (board : Board) (player : Colour) (cell : ℕ) (is : IsBoard board) (de
 
   led_round-elsewhere : (from v to : Vertex) → Touches board.size player from v → v ≢ Of cell → IsOwn board player v → IsLedRound v to → IsLedRound from to
   led_round-elsewhere from v to touch off own rest =
-      let not : IsNotOthers board player v = own_not_others board is player v own in
+      let not : IsOpen board player v = own-open board is player v own in
       record {
         from_start = λ _ _. joined-over_own board player from v to own (joined-touches board player from v touch) (rest.from_start off not);
         from_neighbours = λ same u a. joined-over_own board player u v to own (open_neighbours_joined u v a (open_neighbour from v same touch not)) (rest.from_start off not);
@@ -108,7 +108,7 @@ module _ (board : Board) (player : Colour) (cell : ℕ) (is : IsBoard board) (de
   led_round-one_more from v to touch own rest (yes on) = led_round-onto_cell from v to touch on rest
   led_round-one_more from v to touch own rest (no off) = led_round-elsewhere from v to touch off (⊎_elim (λ on. absurd (off on)) (λ before. before) (own_before board player cell v own)) rest
 
-  led_round : (inner : List Vertex) (from to : Vertex) → IsNotOthers board player to → Walk (put board player cell) player from inner to → IsLedRound from to
+  led_round : (inner : List Vertex) (from to : Vertex) → IsOpen board player to → Walk (put board player cell) player from inner to → IsLedRound from to
   led_round [] from to not walk =
       let touch : Touches board.size player from to = rw size-put at walk in
       record { from_start = λ _ _. joined-touches board player from to touch; from_neighbours = λ same u a. open_neighbours_joined u to a (open_neighbour from to same touch not) }
@@ -127,7 +127,7 @@ dead_stays board player who m cell differ dead = record {
 }
   where
     open_before : (u : Vertex) → IsOpenNeighbour (put board who m) player cell u → IsOpenNeighbour board player cell u
-    open_before u a = record { touch = rw size-put at a.touch; not_others = not_others_before board who player m u a.not_others }
+    open_before u a = record { touch = rw size-put at a.touch; is_open = open-before board who player m u a.is_open }
 
 -- ---- the colour of the stone
 

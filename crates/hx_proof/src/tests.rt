@@ -14,9 +14,7 @@ use hx_board::Colour::{Black, White};
 use hx_board::{Cell, Colour, Groups, Mask, Memory, Position, Size, Vertex};
 use hx_inferior::{FillStep, Kill, dominates, fill_one};
 use hx_link::{Kind, Step, result_of};
-use hx_tree::{
-    FillSteps, Heading, Line, Lines, Node, Rule, Steps, Threats, Verdict, check_node, check_tree,
-};
+use hx_tree::{Heading, Node, Rule, Verdict, check_node, check_tree};
 use std::alloc::Global;
 use std::test::Fail;
 
@@ -47,18 +45,7 @@ fn is_leaf(alloc: Global, node: &Node) -> Result<bool, Memory>
 
 /// A heading of Black's win on a board of one row.
 fn heading(cols: u8, black: u128, white: u128, to_move: Colour) -> Result<Heading, Fail> {
-    black_wins(1, cols, black, white, to_move)
-}
-
-/// A heading of Black's win on a board of this size.
-fn black_wins(
-    rows: u8,
-    cols: u8,
-    black: u128,
-    white: u128,
-    to_move: Colour,
-) -> Result<Heading, Fail> {
-    let size = Size::new(rows, cols).ok_or("size")?;
+    let size = Size::new(1, cols).ok_or("size")?;
     let stones = Position::from_masks(size, Mask::of(black), Mask::of(white));
     Ok(Heading {
         position: stones.ok_or("stones")?,
@@ -89,155 +76,6 @@ fn winners_win(rt: HostRuntime) -> Result<(), Fail> {
     assert!(rt; is_leaf(rt.alloc(), &won)?);
     assert!(rt; !is_leaf(rt.alloc(), &start)?);
     assert!(rt; is_proof(rt.alloc(), &[won, start])?);
-    Ok(())
-}
-
-#[test]
-fn who_answers_each_move_wins(rt: HostRuntime) -> Result<(), Fail> {
-    let won = Node {
-        heading: heading(2, 1, 2, Black)?,
-        rule: Rule::Chain,
-    };
-    let line = Line::Child {
-        cell: cell(1)?,
-        child: 0,
-    };
-    let start = Node {
-        heading: heading(2, 1, 0, White)?,
-        rule: Rule::All {
-            steps: Steps::new(Vec::new(rt.alloc())),
-            threats: Threats::new(Vec::new(rt.alloc())),
-            lines: Lines::new(vec![in rt.alloc(); line]?),
-        },
-    };
-    assert!(rt; is_proof(rt.alloc(), &[won, start])?);
-    Ok(())
-}
-
-/// The steps of a Semi link between Black's sides by the cell.
-fn by_cell(alloc: Global, cell: Cell) -> Result<Steps, Fail> {
-    let (to_first, to_last) = to_sides(cell);
-    let over_cell = Step::AndCell { left: 0, right: 1 };
-    Ok(Steps::new(vec![in alloc; to_first, to_last, over_cell]?))
-}
-
-#[test]
-fn a_link_with_the_move_wins(rt: HostRuntime) -> Result<(), Fail> {
-    let linked = Node {
-        heading: heading(2, 0, 0, Black)?,
-        rule: Rule::Links {
-            steps: by_cell(rt.alloc(), cell(0)?)?,
-        },
-    };
-    assert!(rt; is_leaf(rt.alloc(), &linked)?);
-    let without_move = Node {
-        heading: heading(2, 0, 0, White)?,
-        rule: linked.rule,
-    };
-    assert!(rt; !is_leaf(rt.alloc(), &without_move)?);
-    Ok(())
-}
-
-/// White's move to the first cell has a line, and his move to the second leaves the link by the first whole.
-#[test]
-fn a_threat_answers_the_moves_that_leave_it_whole(rt: HostRuntime) -> Result<(), Fail> {
-    let won = Node {
-        heading: heading(2, 2, 1, White)?,
-        rule: Rule::Chain,
-    };
-    let answer = Node {
-        heading: heading(2, 0, 1, Black)?,
-        rule: Rule::Move {
-            cell: cell(1)?,
-            child: 0,
-        },
-    };
-    let line = Line::Child {
-        cell: cell(0)?,
-        child: 1,
-    };
-    let start = Node {
-        heading: heading(2, 0, 0, White)?,
-        rule: Rule::All {
-            steps: by_cell(rt.alloc(), cell(0)?)?,
-            threats: Threats::new(vec![in rt.alloc(); 2]?),
-            lines: Lines::new(vec![in rt.alloc(); line]?),
-        },
-    };
-    assert!(rt; is_proof(rt.alloc(), &[won, answer, start])?);
-    Ok(())
-}
-
-/// A node of Black's win by a chain on a board of two rows and columns, with White to move.
-fn chained(black: u128, white: u128) -> Result<Node, Fail> {
-    Ok(Node {
-        heading: black_wins(2, 2, black, white, White)?,
-        rule: Rule::Chain,
-    })
-}
-
-/// Black's stone on the second cell of the first row touches both cells of the second, which are a pair.
-#[test]
-fn who_wins_the_filled_board_wins(rt: HostRuntime) -> Result<(), Fail> {
-    let (_, left, right) = two_rows(2)?;
-    let pair = FillStep::Pair(left, right);
-    let start = Node {
-        heading: black_wins(2, 2, 2, 0, White)?,
-        rule: Rule::Fill {
-            steps: FillSteps::new(vec![in rt.alloc(); pair]?),
-            child: 0,
-        },
-    };
-    let both = chained(2 | 1 << 11 | 1 << 12, 0)?;
-    assert!(rt; is_proof(rt.alloc(), &[both, start])?);
-    Ok(())
-}
-
-/// A node of two rows and columns where Black, with a stone on the second cell of the first row, moves to this cell after White's
-/// move, and wins by this child.
-fn reply(white: u128, cell: Cell, child: u32) -> Result<Node, Fail> {
-    Ok(Node {
-        heading: black_wins(2, 2, 2, white, Black)?,
-        rule: Rule::Move { cell, child },
-    })
-}
-
-/// White's move to the first cell of the first row is no better than that to the first cell of the second row, since the first
-/// cell of the first row is then dead for Black.
-#[test]
-fn a_dominated_move_needs_no_child(rt: HostRuntime) -> Result<(), Fail> {
-    let (_, left, right) = two_rows(2)?;
-    let lines = [
-        Line::Under {
-            cell: cell(0)?,
-            better: left,
-            kill: Kill::ByDead,
-        },
-        Line::Child {
-            cell: left,
-            child: 1,
-        },
-        Line::Child {
-            cell: right,
-            child: 3,
-        },
-    ];
-    let start = Node {
-        heading: black_wins(2, 2, 2, 0, White)?,
-        rule: Rule::All {
-            steps: Steps::new(Vec::new(rt.alloc())),
-            threats: Threats::new(Vec::new(rt.alloc())),
-            lines: Lines::new(lines.to_vec(rt.alloc())?),
-        },
-    };
-    let nodes = [
-        chained(2 | 1 << 12, 1 << 11)?,
-        reply(1 << 11, right, 0)?,
-        chained(2 | 1 << 11, 1 << 12)?,
-        reply(1 << 12, left, 2)?,
-        start,
-    ];
-    assert!(rt; is_proof(rt.alloc(), &nodes)?);
     Ok(())
 }
 
@@ -299,11 +137,6 @@ fn steps_that_join_the_sides_win(rt: HostRuntime) -> Result<(), Fail> {
     let over_stone = Step::AndStone { left: 0, right: 1 };
     let found = shown_by(&held, Black, to_first, to_last, over_stone);
     assert_eq!(rt; found, Some(Kind::Full));
-
-    let (to_first, to_last) = to_sides(cell(1)?);
-    let over_stone = Step::AndStone { left: 0, right: 1 };
-    let found = shown_by(&held, Black, to_first, to_last, over_stone);
-    assert_eq!(rt; found, None);
     Ok(())
 }
 

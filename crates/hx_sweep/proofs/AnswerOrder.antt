@@ -1,199 +1,41 @@
--- The moves of the opponent are answered in cell order: the cells of the lines so far are the empty cells that are not left,
--- and they come before those that are left. So when no cell is left, there is a line for each empty cell, in cell order.
-use Rattle.std.proofs.Common.{◌≡◌, ℕ, zero, suc, ◌+◌, ◌<◌, ◌≤◌, Bool, true, false, ◌&&◌, not, eqb, eqb-true, eq-eqb, List, [], ◌∷◌, ◌++◌, length, get_or, refl, sym, ap, ◌∙◌, arith, ◌⊎◌, inl, inr, ⊎_elim, ◌↔◌, length-append, Option, Some, None}
-use Rattle.std.specs.Prelude.{slice_get, IfSome, IsSomeAnd}
-use Rattle.std.specs.List.Sorted.{IsStrictlyIncreasing}
-use Rattle.std.proofs.lemmas.Bool.{false≢true, cases_lt}
-use Rattle.std.proofs.lemmas.List.{get_or_append_left, map-append}
-use Rattle.std.proofs.lemmas.List.Elements.{All-push, All-weaker, Contains-append_left, Contains-append_right}
-use Rattle.std.proofs.Math.Seq.{get_or-append_seam}
+-- The lines of a node whose children were added as proofs: each leads to the last node of its proof, and is a line with a child.
+use Rattle.std.proofs.Common.{ℕ, zero, suc, List, [], ◌∷◌, ◌++◌, ap, ◌∙◌, arith}
+use Rattle.std.specs.Prelude.{slice_get, IfSome}
+use Rattle.std.specs.List.{All}
 use Rattle.hx_board.specs.declared.colours.Colour.{Colour}
 use Rattle.hx_board.specs.Colours.{other_of}
-use Rattle.hx_board.specs.Sets.{has, remove, count_below}
-use Rattle.hx_board.specs.Cells.{OnBoard, IsLeastOn}
-use Rattle.hx_board.specs.Positions.{Board, IsBoard, IsEmpty, put}
-use Rattle.hx_board.specs.Counts.{empty_count}
-use Rattle.hx_board.proofs.SetLaws.{has-remove, has-remove_before, is_false}
-use Rattle.hx_board.proofs.CellLaws.{on_board-small}
-use Rattle.hx_board.proofs.Tallies.{count_below-remove}
+use Rattle.hx_board.specs.Sets.{remove}
+use Rattle.hx_board.specs.Cells.{IsLeastOn}
+use Rattle.hx_board.specs.Positions.{Board, IsBoard, put}
 use Rattle.hx_tree.specs.declared.nodes.Heading.{Heading}
 use Rattle.hx_tree.specs.declared.nodes.Node.{Node}
 use Rattle.hx_tree.specs.declared.nodes.Line.{Line}
 use Rattle.hx_tree.specs.declared.nodes.Line.TheVariants.{Child, Under}
-use Rattle.hx_tree.specs.Headings.{IsHeading}
-use Rattle.hx_tree.specs.Answers.{AreInOrder, IsToAnswer, IsRightChild, IsRightLine, IsRightAll, cell_of, cells_of}
 use Rattle.hx_tree.specs.Trees.{headings_of}
-use Rattle.hx_tree.proofs.CellOrder.{same_kind}
 use Rattle.hx_tree.proofs.TreeGrowth.{headings_of-append}
 use Rattle.hx_sweep.specs.Growth.{heading_of, IsProved}
-use Rattle.hx_tree.proofs.RightNodeGrowth.{some_and-append}
+use Rattle.hx_sweep.specs.Moves.{IsChildLine}
+use Rattle.hx_tree.proofs.LinesInOrder.{AreAnsweredSoFar, IsRightChildLine, one_more_answered}
 use Rattle.hx_sweep.proofs.NodeGrowth.{proved_leads}
-
--- ---- a cell is taken out of a set
-
--- a cell that is no more in the set is the one that was taken out, or was not in it before
-gone_cases : (set cell n : ℕ) → has (remove set cell) n ≡ false → (n ≡ cell) ⊎ (has set n ≡ false)
-gone_cases set cell n gone = cases (has set n) (eqb n cell) refl refl
-  where
-    cases : (member same : Bool) → has set n ≡ member → eqb n cell ≡ same → (n ≡ cell) ⊎ (has set n ≡ false)
-    cases true true e f = inl (eqb-true n cell f)
-    cases true false e f = absurd (false≢true (sym gone ∙ has-remove set cell n ∙ ap (λ b. b && not (eqb n cell)) e ∙ ap not f))
-    cases false same e f = inr e
-
-gone_itself : (set cell : ℕ) → has (remove set cell) cell ≡ false
-gone_itself set cell = has-remove set cell cell ∙ ap (λ b. has set cell && not b) (eq-eqb cell cell refl) ∙ and_false (has set cell)
-  where
-    and_false : (b : Bool) → (b && false) ≡ false
-    and_false true = refl
-    and_false false = refl
-
-gone_before : (set cell n : ℕ) → has set n ≡ false → has (remove set cell) n ≡ false
-gone_before set cell n gone = is_false _ (λ member. false≢true (sym gone ∙ has-remove_before set cell n member))
-
--- ---- one cell more in order
-
-module _ (Kind Next : ℕ → Type 0) (cells : List ℕ) (cell : ℕ) (before : AreInOrder Kind cells) (later : (n : ℕ) → Kind n → n < cell) where
-  rise : IsStrictlyIncreasing (cells ++ cell ∷ [])
-  rise k less = ⊎_elim inside at_end (cases_lt (k + 1) (length cells))
-    where
-      inside : k + 1 < length cells → get_or (cells ++ cell ∷ []) k 0 < get_or (cells ++ cell ∷ []) (k + 1) 0
-      inside small =
-          let here : k < length cells = omega arith in
-          rw (get_or_append_left cells (cell ∷ []) 0 k here, get_or_append_left cells (cell ∷ []) 0 (k + 1) small) (before.in_order k small)
-
-      at_end : length cells ≤ k + 1 → get_or (cells ++ cell ∷ []) k 0 < get_or (cells ++ cell ∷ []) (k + 1) 0
-      at_end large =
-          let last : k + 1 ≡ length cells = omega (arith, length-append cells (cell ∷ [])) in
-          let here : k < length cells = omega arith in
-          rw (get_or_append_left cells (cell ∷ []) 0 k here, last, get_or-append_seam cells cell [] 0) (later _ (before.only k 0 here))
-
-  pub in_order_more : ((n : ℕ) → Next n → (n ≡ cell) ⊎ Kind n) → ((n : ℕ) → Kind n → Next n) → Next cell → AreInOrder Next (cells ++ cell ∷ [])
-  in_order_more cases keeps here = record {
-    each = λ n next. ⊎_elim
-        (λ same. Contains-append_right cells (cell ∷ []) n (0, omega arith, sym same))
-        (λ kind. Contains-append_left cells (cell ∷ []) n (before.each n kind)) (cases n next);
-    only = All-push Next cells cell (All-weaker Kind Next keeps cells before.only) here;
-    in_order = rise;
-  }
-
--- ---- the lines so far
-
-abbrev pub IsDone : Board → ℕ → ℕ → Type 0
-IsDone board left cell = IsEmpty board cell × (has left cell ≡ false)
-
--- a line with a right child: a full search makes no other lines
-abbrev pub IsChildLine : List Heading → Heading → Line → Type 0
-IsChildLine headings heading (Child cell child) = IsRightChild headings heading cell child
-IsChildLine headings heading (Under cell better kill) = ⊥
-
-pub record AreAnswered (board : Board) (winner : Colour) (left : ℕ) (headings : List Heading) (lines : List Line) : Type 0 where
-  pub inside : (cell : ℕ) → has left cell ≡ true → IsEmpty board cell
-  pub earlier : (done cell : ℕ) → IsDone board left done → has left cell ≡ true → done < cell
-  pub in_order : AreInOrder (IsDone board left) (cells_of lines)
-  pub lines_right : (k : ℕ) → IfSome (slice_get lines k) (IsChildLine headings (heading_of board (other_of winner) winner))
-  pub count : length lines + count_below 128 left ≡ empty_count board
-
-pub none_answered : (board : Board) (winner : Colour) (left : ℕ) (headings : List Heading) → ((cell : ℕ) → (has left cell ≡ true) ↔ IsEmpty board cell)
-    → count_below 128 left ≡ empty_count board → AreAnswered board winner left headings []
-none_answered board winner left headings is_left count = record {
-  inside = λ cell member. (is_left cell).0 member;
-  earlier = λ done cell is _. absurd (not_done done is);
-  in_order = record { each = λ cell is. absurd (not_done cell is); only = λ k d less. absurd (omega arith); in_order = λ k less. absurd (omega arith) };
-  lines_right = λ k. tt;
-  count = omega arith;
-}
-  where
-    not_done : (cell : ℕ) → IsDone board left cell → ⊥
-    not_done cell is = false≢true (sym is.1 ∙ (is_left cell).1 is.0)
-
-right_line-append : (headings more : List Heading) (heading : Heading) (line : Line) → IsChildLine headings heading line → IsChildLine (headings ++ more) heading line
-right_line-append headings more heading (Child cell child) right = some_and-append _ headings more child right
-right_line-append headings more heading (Under cell better kill) right = absurd right
-
-right_lines-append : (headings more : List Heading) (heading : Heading) (lines : List Line) (line : Line) → ((k : ℕ) → IfSome (slice_get lines k) (IsChildLine headings heading))
-    → IsChildLine (headings ++ more) heading line → (k : ℕ) → IfSome (slice_get (lines ++ line ∷ []) k) (IsChildLine (headings ++ more) heading)
-right_lines-append headings more heading [] line right last zero = last
-right_lines-append headings more heading [] line right last (suc k) = tt
-right_lines-append headings more heading (first ∷ lines) line right last zero = right_line-append headings more heading first (right 0)
-right_lines-append headings more heading (first ∷ lines) line right last (suc k) = right_lines-append headings more heading lines line (λ j. right (suc j)) last k
-
--- the first cell that is left is answered
-pub one_more_answered : (board : Board) (winner : Colour) (left : ℕ) (headings more : List Heading) (lines : List Line) (cell child : ℕ) → IsBoard board
-    → AreAnswered board winner left headings lines → IsLeastOn board.size left cell
-    → IsSomeAnd (slice_get (headings ++ more) child) (IsHeading (put board (other_of winner) cell) winner winner)
-    → AreAnswered board winner (remove left cell) (headings ++ more) (lines ++ Child cell child ∷ [])
-one_more_answered board winner left headings more lines cell child valid before least leads = record {
-  inside = λ n member. before.inside n (has-remove_before left cell n member);
-  earlier = λ done n is member. ⊎_elim
-      (λ same. rw same (later n member)) (λ gone. before.earlier done n (is.0, gone) (has-remove_before left cell n member)) (gone_cases left cell done is.1);
-  in_order = rw (map-append cell_of lines (Child cell child ∷ []))
-      (in_order_more (IsDone board left) (IsDone board (remove left cell)) (cells_of lines) cell before.in_order
-      (λ n is. before.earlier n cell is least.member)
-      (λ n is. ⊎_elim inl (λ gone. inr (is.0, gone)) (gone_cases left cell n is.1))
-      (λ n is. (is.0, gone_before left cell n is.1))
-      (before.inside cell least.member, gone_itself left cell));
-  lines_right = right_lines-append headings more (heading_of board (other_of winner) winner) lines (Child cell child) before.lines_right leads;
-  count =
-      let small : cell < 121 = on_board-small board.size cell valid.0 least.on_board in
-      omega (arith, before.count, length-append lines (Child cell child ∷ []), count_below-remove 128 left cell least.member (omega arith));
-}
-  where
-    later : (n : ℕ) → has (remove left cell) n ≡ true → cell < n
-    later n member = ⊎_elim
-        (λ less. absurd (false≢true (sym (least.first n less (before.inside n (has-remove_before left cell n member)).on_board) ∙ has-remove_before left cell n member)))
-        (λ more. ⊎_elim (λ less. less) (λ least_too. let same : n ≡ cell = omega arith in absurd (false≢true (sym (gone_itself left cell) ∙ rw same at member))) (cases_lt cell n))
-        (cases_lt n cell)
 
 -- the nodes of the answer stand in a list of nodes
 pub answered_on : (board : Board) (winner : Colour) (left : ℕ) (nodes after : List Node) (lines : List Line) (cell child : ℕ) → IsBoard board
-    → AreAnswered board winner left (headings_of nodes) lines → IsLeastOn board.size left cell → IsProved (put board (other_of winner) cell) winner winner nodes after child
-    → AreAnswered board winner (remove left cell) (headings_of after) (lines ++ Child cell child ∷ [])
+    → AreAnsweredSoFar (headings_of nodes) (heading_of board (other_of winner) winner) left lines → IsLeastOn board.size left cell
+    → IsProved (put board (other_of winner) cell) winner winner nodes after child
+    → AreAnsweredSoFar (headings_of after) (heading_of board (other_of winner) winner) (remove left cell) (lines ++ Child cell child ∷ [])
 answered_on board winner left nodes after lines cell child valid before least proved =
     let same = ap headings_of proved.grown.same ∙ headings_of-append nodes proved.grown.more in
     rw same
-    (one_more_answered board winner left (headings_of nodes) (headings_of proved.grown.more) lines cell child valid before least
+    (one_more_answered (headings_of nodes) (headings_of proved.grown.more) (heading_of board (other_of winner) winner) left lines cell child valid before least
     (rw same at (proved_leads _ _ _ _ _ _ proved)))
 
--- while a cell is left, fewer are answered than were empty
-pub fewer_answered : (board : Board) (winner : Colour) (left : ℕ) (headings : List Heading) (lines : List Line) (cell : ℕ) → IsBoard board
-    → AreAnswered board winner left headings lines → IsLeastOn board.size left cell → length lines + 1 ≤ empty_count board
-fewer_answered board winner left headings lines cell valid before least =
-    let small : cell < 121 = on_board-small board.size cell valid.0 least.on_board in
-    omega (arith, before.count, count_below-remove 128 left cell least.member (omega arith))
+child_line : (headings : List Heading) (heading : Heading) (line : Line) → IsRightChildLine headings heading line → IsChildLine line
+child_line headings heading (Child cell child) right = tt
+child_line headings heading (Under cell better kill) right = right
 
-pub all_answered : (board : Board) (winner : Colour) (left : ℕ) (headings : List Heading) (lines : List Line) → AreAnswered board winner left headings lines
-    → ((n : ℕ) → OnBoard board.size n → has left n ≡ false) → AreInOrder (IsEmpty board) (cells_of lines)
-all_answered board winner left headings lines before none = record {
-  each = λ cell empty. before.in_order.each cell (empty, none cell empty.on_board);
-  only = λ k d less. (before.in_order.only k d less).0;
-  in_order = before.in_order.in_order;
-}
-
--- ---- a node of lines alone
-
--- where there is no threat, each empty cell is to be answered
-all_to_answer : (board : Board) (cell : ℕ) → IsEmpty board cell ↔ IsToAnswer board [] [] cell
-all_to_answer board cell = (λ empty. record { empty = empty; shared = λ k. tt }, λ is. is.empty)
-
-child_line_right : (headings : List Heading) (heading : Heading) (lines : List Line) (line : Option Line) → IfSome line (IsChildLine headings heading)
-    → IfSome line (IsRightLine headings heading [] [] lines)
-child_line_right headings heading lines None right = tt
-child_line_right headings heading lines (Some (Child cell child)) right = right
-child_line_right headings heading lines (Some (Under cell better kill)) right = absurd right
-
--- lines for all moves need no steps and no threats
-pub right_by_lines : (headings : List Heading) (board : Board) (winner : Colour) (lines : List Line) (some : ℕ) → IsEmpty board some → AreInOrder (IsEmpty board) (cells_of lines)
-    → ((k : ℕ) → IfSome (slice_get lines k) (IsChildLine headings (heading_of board (other_of winner) winner)))
-    → IsRightAll headings (heading_of board (other_of winner) winner) [] [] lines
-right_by_lines headings board winner lines some empty in_order right = record {
-  mover = refl;
-  some = some;
-  some_empty = empty;
-  links = [];
-  steps_right = record { few = omega arith; right = refl };
-  answered = record {
-    threats_right = record { few = omega arith; each = λ k. tt };
-    cells = same_kind (IsEmpty board) (IsToAnswer board [] []) (cells_of lines) (all_to_answer board) in_order;
-    lines_right = λ k. child_line_right headings (heading_of board (other_of winner) winner) lines (slice_get lines k) (right k);
-  };
-}
+-- lines with right children are lines with children
+pub child_lines : (headings : List Heading) (heading : Heading) (lines : List Line) → ((k : ℕ) → IfSome (slice_get lines k) (IsRightChildLine headings heading))
+    → All IsChildLine lines
+child_lines headings heading [] right k d less = absurd (omega arith)
+child_lines headings heading (first ∷ lines) right zero d less = child_line headings heading first (right 0)
+child_lines headings heading (first ∷ lines) right (suc k) d less = child_lines headings heading lines (λ j. right (suc j)) k d (omega arith)

@@ -18,12 +18,13 @@ use Rattle.hx_tree.specs.Headings.{IsHeading}
 use Rattle.hx_tree.specs.Rules.{IsRightRule}
 use Rattle.hx_tree.specs.Trees.{headings_of}
 use Rattle.hx_tree.proofs.TreeGrowth.{one_more_right}
+use Rattle.hx_sweep.specs.Moves.{IsByMoves}
 use Rattle.hx_sweep.specs.Growth.{heading_of, IsBegun, IsGrown, IsProved}
 
 -- ---- lists that grow
 
 pub grown_none : (board : Board) (nodes : List Node) (limit : ℕ) → IsBegun board nodes → IsGrown board.size limit nodes nodes
-grown_none board nodes limit begun = record { more = []; same = sym (append-nil nodes); few = omega arith; right = begun.right; of_size = begun.of_size }
+grown_none board nodes limit begun = record { more = []; same = sym (append-nil nodes); few = omega arith; right = begun.right; of_size = begun.of_size; by_moves = begun.by_moves }
 
 pub grown_on : (size : Extent) (first second whole : ℕ) (before between after : List Node) → IsGrown size first before between → IsGrown size second between after
     → first + second ≤ whole → IsGrown size whole before after
@@ -33,10 +34,11 @@ grown_on size first second whole before between after one two enough = record {
   few = omega (arith, length-append one.more two.more, one.few, two.few);
   right = two.right;
   of_size = two.of_size;
+  by_moves = two.by_moves;
 }
 
 pub grown_less : (size : Extent) (limit whole : ℕ) (before after : List Node) → IsGrown size limit before after → limit ≤ whole → IsGrown size whole before after
-grown_less size limit whole before after grown enough = record { more = grown.more; same = grown.same; few = omega (arith, grown.few); right = grown.right; of_size = grown.of_size }
+grown_less size limit whole before after grown enough = record { more = grown.more; same = grown.same; few = omega (arith, grown.few); right = grown.right; of_size = grown.of_size; by_moves = grown.by_moves }
 
 -- ---- room for the nodes after a move
 
@@ -67,6 +69,7 @@ begun_after board stone cell limit before after begun grown empty enough = recor
   valid = board-put board stone cell begun.valid empty;
   right = grown.right;
   of_size = rw (size-put board stone cell) grown.of_size;
+  by_moves = grown.by_moves;
   room = rw (count_after board stone cell begun.valid empty) (omega (arith, ap length grown.same, length-append before grown.more, grown.few, begun.room));
 }
 
@@ -87,15 +90,16 @@ proved_leads board mover winner before after number proved = rw (proved.last, pr
 
 pub proved_by : (board : Board) (mover winner : Colour) (rule : Rule) (before between after : List Node) (number : ℕ) → IsBoard board
     → IsGrown board.size (sweep_size (empty_count board) - 1) before between → IsRightRule (headings_of between) (heading_of board mover winner) rule
-    → after ≡ between ++ (record { heading = heading_of board mover winner; rule = rule }) ∷ [] → number ≡ length between
+    → IsByMoves rule → after ≡ between ++ (record { heading = heading_of board mover winner; rule = rule }) ∷ [] → number ≡ length between
     → IsProved board mover winner before after number
-proved_by board mover winner rule before between after number valid grown right same place = record {
+proved_by board mover winner rule before between after number valid grown right moves same place = record {
   grown = record {
     more = grown.more ++ node ∷ [];
     same = same ∙ ap (λ (nodes : List Node). nodes ++ node ∷ []) grown.same ∙ append_assoc before grown.more (node ∷ []);
     few = omega (arith, length-append grown.more (node ∷ []), grown.few, sweep_size-positive (empty_count board));
     right = rw same (one_more_right between node grown.right (record { board = valid; rule = right }));
     of_size = rw same (All-push (λ (n : Node). n.heading.position.size ≡ board.size) between node grown.of_size refl);
+    by_moves = rw same (All-push (λ (n : Node). IsByMoves n.rule) between node grown.by_moves moves);
   };
   front = between;
   root = node;

@@ -14,7 +14,7 @@ use Rattle.hx_board.proofs.ColourLaws.{other-other, other-differs}
 use Rattle.hx_law.proofs.Ends.{some_or_none}
 use Rattle.hx_law.proofs.ChainLaws.{always_one}
 use Rattle.hx_law.proofs.OneWinner.{not_both_win}
-use Rattle.hx_sweep.specs.Moves.{IsRefuted, IsFirstWinningMove}
+use Rattle.hx_sweep.specs.Tries.{IsRefuted, IsFirstWinningMove}
 
 pub move_wins : (board : Board) (mover : Colour) (cell : ℕ) → IsFirstWinningMove board mover cell → Wins mover board mover
 move_wins board mover cell best = By_move board mover cell refl best.empty best.wins

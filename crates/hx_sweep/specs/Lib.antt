@@ -1,3 +1,5 @@
 pub mod Moves
-pub mod Growth
 pub mod Sweeps
+-- ---- words for the functions inside the crate alone
+pub mod Tries
+pub mod Growth

@@ -1,16 +1,25 @@
--- What a move of the mover leads to.
-use Rattle.std.specs.Prelude.{ℕ, ◌<◌}
-use Rattle.hx_board.specs.declared.colours.Colour.{Colour}
-use Rattle.hx_board.specs.Colours.{other_of}
-use Rattle.hx_board.specs.Positions.{Board, IsEmpty, put}
-use Rattle.hx_board.specs.Game.{Wins}
+-- When a node is by moves alone.
+use Rattle.std.specs.Prelude.{◌≡◌, List, []}
+use Rattle.std.specs.List.{All}
+use Rattle.hx_tree.specs.declared.nodes.Line.{Line}
+use Rattle.hx_tree.specs.declared.nodes.Line.TheVariants.{Child, Under}
+use Rattle.hx_tree.specs.declared.nodes.Node.{Node}
+use Rattle.hx_tree.specs.declared.nodes.Rule.{Rule}
+use Rattle.hx_tree.specs.declared.nodes.Rule.TheVariants.{Chain, Links, Move, All as Answers, Fill}
 
--- after the mover's stone on the cell the opponent wins
-abbrev pub IsRefuted : Board → Colour → ℕ → Type 0
-IsRefuted board mover cell = Wins (other_of mover) (put board mover cell) (other_of mover)
+-- the line answers its cell by a child
+abbrev pub IsChildLine : Line → Type 0
+IsChildLine (Child cell child) = Unit {0}
+IsChildLine (Under cell better kill) = ⊥
 
--- the first empty cell with the mover's stone on which he wins
-pub record IsFirstWinningMove (board : Board) (mover : Colour) (cell : ℕ) : Type 0 where
-  pub empty : IsEmpty board cell
-  pub wins : Wins mover (put board mover cell) (other_of mover)
-  pub first : (earlier : ℕ) → earlier < cell → IsEmpty board earlier → IsRefuted board mover earlier
+-- a rule that shows a chain, a move of the winner, or an answer by a child to each move of the opponent, and uses no link
+abbrev pub IsByMoves : Rule → Type 0
+IsByMoves Chain = Unit {0}
+IsByMoves (Links steps) = ⊥
+IsByMoves (Move cell child) = Unit {0}
+IsByMoves (Answers steps threats lines) = (steps ≡ []) × (threats ≡ []) × All IsChildLine lines
+IsByMoves (Fill steps child) = ⊥
+
+-- each node is by moves alone
+abbrev pub AreByMoves : List Node → Type 0
+AreByMoves nodes = All (λ node. IsByMoves node.rule) nodes

@@ -8,6 +8,4 @@ mod winners;
 pub use sweeps::sweep;
 
 #[cfg(test)]
-mod plain;
-#[cfg(test)]
 mod tests;

@@ -5,6 +5,7 @@
 //! made.
 
 ghost use Rattle.std.specs.Prelude.{◌≡◌, ◌-◌, IfOk, []};
+ghost use Rattle.std.specs.List.{All};
 ghost use Rattle.hx_board.specs.Colours.{other_of};
 ghost use Rattle.hx_board.specs.Counts.{empty_count, sweep_size};
 ghost use Rattle.hx_board.specs.Positions.{IsBoard, IsEmpty, put};
@@ -13,6 +14,7 @@ ghost use Rattle.hx_board.specs.Game.{Wins};
 ghost use Rattle.hx_tree.specs.Answers.{IsRightAll};
 ghost use Rattle.hx_tree.specs.Rules.{IsRightRule};
 ghost use Rattle.hx_tree.specs.Trees.{headings_of};
+ghost use Rattle.hx_sweep.specs.Moves.{IsByMoves, IsChildLine};
 ghost use Rattle.hx_sweep.specs.Growth.{heading_of, IsBegun, IsGrown, IsProved};
 
 use crate::winners::winning_move;
@@ -31,7 +33,8 @@ pub(crate) fn prove(
     requires wins { Wins winner position.old to_move }
     requires begun { IsBegun position.old nodes.old.items }
     ensures kept { position.new ≡ position.old }
-    ensures proved { IfOk result (IsProved position.old to_move winner nodes.old.items nodes.new.items) }
+    ensures proved { IfOk result
+        (IsProved position.old to_move winner nodes.old.items nodes.new.items) }
 {
     let rule = rule(nodes, position, to_move, winner)?;
     let heading = Heading {
@@ -55,8 +58,11 @@ fn rule(
     requires wins { Wins winner position.old to_move }
     requires begun { IsBegun position.old nodes.old.items }
     ensures kept { position.new ≡ position.old }
-    ensures grown { IfOk result (λ rule. IsGrown position.old.size (sweep_size (empty_count position.old) - 1) nodes.old.items nodes.new.items) }
-    ensures right { IfOk result (IsRightRule (headings_of nodes.new.items) (heading_of position.old to_move winner)) }
+    ensures grown { IfOk result (λ _. IsGrown position.old.size
+        (sweep_size (empty_count position.old) - 1) nodes.old.items nodes.new.items) }
+    ensures right { IfOk result
+        (IsRightRule (headings_of nodes.new.items) (heading_of position.old to_move winner)) }
+    ensures by_moves { IfOk result IsByMoves }
 {
     if chain(position, winner) {
         return Ok(Rule::Chain);
@@ -91,8 +97,11 @@ fn answers(
     requires no_chain { ¬ HasChain position.old winner }
     requires begun { IsBegun position.old nodes.old.items }
     ensures kept { position.new ≡ position.old }
-    ensures grown { IfOk result (λ lines. IsGrown position.old.size (sweep_size (empty_count position.old) - 1) nodes.old.items nodes.new.items) }
-    ensures right { IfOk result (λ lines. IsRightAll (headings_of nodes.new.items) (heading_of position.old (other_of winner) winner) [] [] lines.items) }
+    ensures grown { IfOk result (λ _. IsGrown position.old.size
+        (sweep_size (empty_count position.old) - 1) nodes.old.items nodes.new.items) }
+    ensures right { IfOk result (λ lines. IsRightAll (headings_of nodes.new.items)
+        (heading_of position.old (other_of winner) winner) [] [] lines.items) }
+    ensures children { IfOk result (λ lines. All IsChildLine lines.items) }
 {
     let size = position.size();
     let mut lines = Vec::new(*nodes.allocator());
@@ -121,7 +130,8 @@ fn after(
     requires wins { Wins winner (put position.old stone cell) (other_of stone) }
     requires begun { IsBegun (put position.old stone cell) nodes.old.items }
     ensures kept { position.new ≡ position.old }
-    ensures proved { IfOk result (IsProved (put position.old stone cell) (other_of stone) winner nodes.old.items nodes.new.items) }
+    ensures proved { IfOk result (IsProved (put position.old stone cell) (other_of stone) winner
+        nodes.old.items nodes.new.items) }
 {
     position.play(stone, cell);
     let child = prove(nodes, position, stone.other(), winner);

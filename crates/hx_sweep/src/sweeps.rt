@@ -10,8 +10,8 @@ use hx_board::{Colour, Memory, Position};
 use hx_tree::Node;
 use std::alloc::Global;
 
-/// The tree of a full search of a position with this mover: a valid tree that has the position with this mover at its
-/// root. Fails only where memory is wanting.
+/// The tree of a full search of a position with this mover: a valid tree by moves alone that has the position with this
+/// mover at its root. Fails only where memory is wanting.
 ///
 /// At most nine cells may be empty, since with n of them the search may take n times as long as with n - 1. With nine
 /// the tree has 986,410 nodes at the most.

@@ -7,7 +7,7 @@
 ghost use Rattle.std.specs.Prelude.{◌≡◌, ℕ, MatchOption};
 ghost use Rattle.hx_board.specs.Positions.{IsEmpty};
 ghost use Rattle.hx_board.specs.Game.{Wins};
-ghost use Rattle.hx_sweep.specs.Moves.{IsRefuted, IsFirstWinningMove};
+ghost use Rattle.hx_sweep.specs.Tries.{IsRefuted, IsFirstWinningMove};
 
 use hx_board::{Cell, Colour, Position, chain};
 

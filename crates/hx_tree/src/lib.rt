@@ -20,6 +20,4 @@ pub use steps::{MOST_STEPS, MOST_THREATS};
 pub use trees::{Verdict, check_tree};
 
 #[cfg(test)]
-mod plain;
-#[cfg(test)]
 mod tests;

@@ -2,48 +2,31 @@
 
 ghost use Rattle.std.specs.Prelude.{◌≢◌};
 
-use super::{EXAMPLE, EXAMPLE_ANSWER, Trial, assert_answer, check_of, outcome_of};
+use super::{EXAMPLE, EXAMPLE_ANSWER, Trial, assert_answer, outcome_of};
 use crate::run;
 use hx_io::{CountSink, RealGate, Sink, Source, SureSource};
 use std::alloc::Global;
 use std::test::Fail;
 
-/// The example in pieces of so many bytes, where this read or write fails.
-fn failing_check(
-    piece: usize,
-    failing_read: Option<u64>,
-    failing_write: Option<u64>,
-) -> Trial<'static> {
-    Trial {
-        words: &["check"],
-        input: EXAMPLE,
-        piece,
-        failing_read,
-        failing_write,
-    }
-}
-
-#[test]
-fn the_first_read_fails(rt: HostRuntime) -> Result<(), Fail> {
-    let trial = failing_check(4096, Some(0), None);
-    let _ = assert_answer(&rt, rt.alloc(), trial, 5, "read fault\n")?;
-    Ok(())
-}
-
-#[test]
-fn the_first_write_fails(rt: HostRuntime) -> Result<(), Fail> {
-    let trial = failing_check(4096, None, Some(0));
-    let _ = assert_answer(&rt, rt.alloc(), trial, 6, "")?;
-    Ok(())
-}
+/// The example in pieces of two bytes.
+const CHECKED: Trial<'_> = Trial {
+    words: &["check"],
+    input: EXAMPLE,
+    piece: 2,
+    failing_read: None,
+    failing_write: None,
+};
 
 #[test]
 fn each_read_fails_in_turn(rt: HostRuntime) -> Result<(), Fail> {
-    let whole = assert_answer(&rt, rt.alloc(), check_of(EXAMPLE, 2), 0, EXAMPLE_ANSWER)?;
+    let whole = assert_answer(&rt, rt.alloc(), CHECKED, 0, EXAMPLE_ANSWER)?;
     // The example has 213 bytes, and the last read finds the end.
     assert_eq!(rt; whole.reads, 108);
     for call in 0..whole.reads {
-        let trial = failing_check(2, Some(call), None);
+        let trial = Trial {
+            failing_read: Some(call),
+            ..CHECKED
+        };
         let _ = assert_answer(&rt, rt.alloc(), trial, 5, "read fault\n")?;
     }
     Ok(())
@@ -51,9 +34,13 @@ fn each_read_fails_in_turn(rt: HostRuntime) -> Result<(), Fail> {
 
 #[test]
 fn each_write_fails_in_turn(rt: HostRuntime) -> Result<(), Fail> {
-    let whole = assert_answer(&rt, rt.alloc(), check_of(EXAMPLE, 2), 0, EXAMPLE_ANSWER)?;
+    let whole = assert_answer(&rt, rt.alloc(), CHECKED, 0, EXAMPLE_ANSWER)?;
     for call in 0..whole.writes {
-        let cut = outcome_of(&rt, rt.alloc(), failing_check(2, None, Some(call)))?;
+        let trial = Trial {
+            failing_write: Some(call),
+            ..CHECKED
+        };
+        let cut = outcome_of(&rt, rt.alloc(), trial)?;
         assert_eq!(rt; cut.status, 6, "at write {call}");
         assert_eq!(rt; cut.output.len() as u64 / 2, call);
         assert!(rt;

@@ -1,144 +1,79 @@
-//! Nodes with links and threats.
+//! Nodes with links and threats, and as many of them as there may be.
 
-use super::{board, both_say, by_links, by_threats, cell, heading};
-use crate::Verdict;
+use super::{board, by_lines, cell, heading, says};
+use crate::{Heading, Line, MOST_STEPS, MOST_THREATS, Node, Rule, Steps, Verdict};
 use hx_board::Colour::{Black, White};
 use hx_board::Vertex;
 use hx_board::Vertex::{First, Last};
-use hx_link::{Parts, Step};
-use smallvec::SmallVec;
+use hx_link::Step;
 use std::alloc::Global;
 use std::test::Fail;
 
 /// The vertex of a cell.
-pub(super) fn of(row: u8, col: u8) -> Result<Vertex, Fail> {
+fn of(row: u8, col: u8) -> Result<Vertex, Fail> {
     Ok(Vertex::Of(cell(row, col)?))
 }
 
-pub(super) fn base(a: Vertex, b: Vertex) -> Step {
+fn base(a: Vertex, b: Vertex) -> Step {
     Step::Base { a, b }
 }
 
-pub(super) fn over_stone(left: u32, right: u32) -> Step {
-    Step::AndStone { left, right }
-}
-
-pub(super) fn over_cell(left: u32, right: u32) -> Step {
+fn over_cell(left: u32, right: u32) -> Step {
     Step::AndCell { left, right }
 }
 
-pub(super) fn or_of(alloc: Global, places: &[u32]) -> Result<Step, Fail> {
-    let items = SmallVec::from_slice(alloc, places)?;
-    let parts = Parts::new(items);
-    Ok(Step::Or { parts })
+fn by_links(heading: Heading, steps: Vec<Step>) -> Node {
+    let steps = Steps::new(steps);
+    let rule = Rule::Links { steps };
+    Node { heading, rule }
 }
 
-/// Steps that join Black's sides over a2 on an empty board of two rows and columns. They are right where the first base ends
-/// at a1, the second link of the first And is at the place 1, and the parts of the Or are at 2 and 5.
-fn links_over_a2(
-    alloc: Global,
-    start: Vertex,
-    second: u32,
-    parts: &[u32],
-) -> Result<Vec<Step>, Fail> {
-    let (a1, b1, a2) = (of(0, 0)?, of(0, 1)?, of(1, 0)?);
-    let steps = vec![in alloc;
-        base(First, start),
-        base(a1, a2),
-        over_cell(0, second),
-        base(First, b1),
-        base(b1, a2),
-        over_cell(3, 4),
-        or_of(alloc, parts)?,
-        base(a2, Last),
-        over_cell(6, 7),
-    ]?;
+/// Steps that join Black's sides over a1 of a board of one cell: so many that join the first side with it, then one that joins
+/// it with the last, and one over both.
+fn ways_over_a1(alloc: Global, count: usize) -> Result<Vec<Step>, Fail> {
+    let a1 = of(0, 0)?;
+    let mut steps = Vec::new(alloc);
+    for _ in 0..count {
+        steps.push(base(First, a1))?;
+    }
+    steps.push(base(a1, Last))?;
+    steps.push(over_cell(0, count as u32))?;
     Ok(steps)
 }
 
 #[test]
 fn judges_links(rt: HostRuntime) -> Result<(), Fail> {
-    let empty = board(2, 2, 0, 0)?;
-    let (a1, a2) = (of(0, 0)?, of(1, 0)?);
-    let wrong = Verdict::Node(0);
+    let empty = board(1, 1, 0, 0)?;
     let rows = [
-        (Black, a1, 1, &[2, 5][..], Verdict::Yes),
-        (White, a1, 1, &[2, 5], wrong), // the last link is Semi
-        (Black, a2, 1, &[2, 5], wrong), // First and a2 are not joined
-        (Black, a1, 9, &[2, 5], wrong), // no link is at 9
-        (Black, a1, 1, &[2], wrong), // one part
+        (Black, 1, Verdict::Yes),
+        (White, 1, Verdict::Node(0)), // the last link is Semi
+        (Black, 0, Verdict::Node(0)), // no link at the place 0 before the step over both
+        (Black, MOST_STEPS - 2, Verdict::Yes),
+        (Black, MOST_STEPS - 1, Verdict::Node(0)), // one step too many
     ];
-    for (to_move, start, second, parts, expected) in rows {
-        let steps = links_over_a2(rt.alloc(), start, second, parts)?;
-        let node = by_links(heading(empty, to_move, Black), steps);
-        both_say(&rt, rt.alloc(), &[node], expected)?;
+    for (to_move, count, expected) in rows {
+        let node = by_links(
+            heading(empty, to_move, Black),
+            ways_over_a1(rt.alloc(), count)?,
+        );
+        says(&rt, rt.alloc(), &[node], expected)?;
     }
     let no_steps = by_links(heading(empty, Black, Black), Vec::new(rt.alloc()));
-    both_say(&rt, rt.alloc(), &[no_steps], wrong)
+    says(&rt, rt.alloc(), &[no_steps], Verdict::Node(0))
 }
 
-/// Steps that join Black's stone on b2, in the middle of a board of three rows and columns, with both sides, and then the
-/// sides over these two links.
-pub(super) fn bridges_at_b2(alloc: Global, left: u32, right: u32) -> Result<Vec<Step>, Fail> {
-    let (b1, c1, b2) = (of(0, 1)?, of(0, 2)?, of(1, 1)?);
-    let (a3, b3) = (of(2, 0)?, of(2, 1)?);
-    let steps = vec![in alloc;
-        base(First, b1),
-        base(b1, b2),
-        over_cell(0, 1),
-        base(First, c1),
-        base(c1, b2),
-        over_cell(3, 4),
-        or_of(alloc, &[2, 5])?,
-        base(a3, Last),
-        base(a3, b2),
-        over_cell(7, 8),
-        base(b3, Last),
-        base(b3, b2),
-        over_cell(10, 11),
-        or_of(alloc, &[9, 12])?,
-        over_stone(left, right),
-    ]?;
-    Ok(steps)
-}
-
-#[test]
-fn judges_bridges(rt: HostRuntime) -> Result<(), Fail> {
-    let start = heading(board(3, 3, 0x1000, 0)?, White, Black);
-    let right = by_links(start, bridges_at_b2(rt.alloc(), 6, 13)?);
-    both_say(&rt, rt.alloc(), &[right], Verdict::Yes)?;
-    let twice_one = by_links(start, bridges_at_b2(rt.alloc(), 6, 6)?);
-    both_say(&rt, rt.alloc(), &[twice_one], Verdict::Node(0))
-}
-
-#[test]
-fn judges_threats_that_overlap(rt: HostRuntime) -> Result<(), Fail> {
-    let start = heading(board(2, 2, 0, 0)?, White, Black);
-    let (a1, b1, b2) = (of(0, 0)?, of(0, 1)?, of(1, 1)?);
-    let mut steps = links_over_a2(rt.alloc(), a1, 1, &[2, 5])?;
-    steps.push(base(b2, Last))?;
-    steps.push(base(b1, b2))?;
-    steps.push(over_cell(9, 10))?;
-    steps.push(over_cell(4, 7))?;
-    steps.push(or_of(rt.alloc(), &[11, 12])?)?;
-    steps.push(over_cell(3, 13))?;
-    // The threats, one over a2 and one over b1, share both of these cells, and no line answers a move to one of them.
-    let root = by_threats(rt.alloc(), start, steps, &[8, 14], &[])?;
-    both_say(&rt, rt.alloc(), &[root], Verdict::Node(0))
-}
-
-/// Steps that join Black's sides over this cell, on a board of two rows and columns with Black's stone on b1.
-fn way_over(alloc: Global, cell: Vertex) -> Result<Vec<Step>, Fail> {
-    Ok(vec![in alloc; base(First, cell), base(cell, Last), over_cell(0, 1)]?)
-}
-
-/// Steps of two such ways: the link at the place 2 is over a2, and that at 5 over b2.
+/// Steps of two ways between Black's sides, on a board of two rows and columns with Black's stone on b1: the link at the place 2
+/// is over a2, and that at 5 over b2.
 fn two_ways(alloc: Global) -> Result<Vec<Step>, Fail> {
-    let b2 = of(1, 1)?;
-    let mut steps = way_over(alloc, of(1, 0)?)?;
-    steps.push(base(First, b2))?;
-    steps.push(base(b2, Last))?;
-    steps.push(over_cell(3, 4))?;
+    let (a2, b2) = (of(1, 0)?, of(1, 1)?);
+    let steps = vec![in alloc;
+        base(First, a2),
+        base(a2, Last),
+        over_cell(0, 1),
+        base(First, b2),
+        base(b2, Last),
+        over_cell(3, 4),
+    ]?;
     Ok(steps)
 }
 
@@ -146,56 +81,51 @@ fn two_ways(alloc: Global) -> Result<Vec<Step>, Fail> {
 fn judges_threats(rt: HostRuntime) -> Result<(), Fail> {
     let position = board(2, 2, 2, 0)?;
     let wrong = Verdict::Node(0);
+    let mut most = vec![in rt.alloc(); 5u32]?;
+    for _ in 1..MOST_THREATS {
+        most.push(2)?;
+    }
+    let mut one_more = most.as_slice().to_vec(rt.alloc())?;
+    one_more.push(2)?;
     let rows = [
         (White, &[2, 5][..], Verdict::Yes),
         (Black, &[2, 5], wrong), // the winner is to move
         (White, &[2, 2], wrong), // no line for a2
         (White, &[6, 5], wrong), // no link is at 6
         (White, &[3, 5], wrong), // the link at 3 does not join the sides
+        (White, most.as_slice(), Verdict::Yes),
+        (White, one_more.as_slice(), wrong),
     ];
     for (to_move, places, expected) in rows {
-        let steps = two_ways(rt.alloc())?;
         let start = heading(position, to_move, Black);
-        let root = by_threats(rt.alloc(), start, steps, places, &[])?;
-        both_say(&rt, rt.alloc(), &[root], expected)?;
+        let steps = Steps::new(two_ways(rt.alloc())?);
+        let root = by_lines(rt.alloc(), start, steps, places, &[])?;
+        says(&rt, rt.alloc(), &[root], expected)?;
     }
     Ok(())
 }
 
+/// After the move to a2 Black has the way over b2 left.
 #[test]
-fn judges_a_threat_with_lines(rt: HostRuntime) -> Result<(), Fail> {
+fn judges_a_threat_with_a_line(rt: HostRuntime) -> Result<(), Fail> {
     let (a2, b2) = (cell(1, 0)?, cell(1, 1)?);
     let start = heading(board(2, 2, 2, 0)?, White, Black);
     let after_a2 = heading(board(2, 2, 2, 1 << 11)?, Black, Black);
-    let after_b2 = heading(board(2, 2, 2, 1 << 12)?, Black, Black);
-    let wrong = Verdict::Node(2);
+    let child = 0;
     let rows = [
-        (&[(a2, 0)][..], Verdict::Yes),
-        (&[(a2, 0), (b2, 1)], wrong), // b2 is not in the threat
-        (&[(b2, 1)], wrong), // no line for a2
-        (&[(a2, 1)], wrong), // a child of another position
+        (&[Line::Child { cell: a2, child }][..], Verdict::Yes),
+        (&[Line::Child { cell: b2, child }], Verdict::Node(1)), // no line for a2
+        (&[], Verdict::Node(1)),
     ];
-    for (answers, expected) in rows {
-        let nodes = [
-            by_links(after_a2, way_over(rt.alloc(), Vertex::Of(b2))?),
-            by_links(after_b2, way_over(rt.alloc(), Vertex::Of(a2))?),
-            by_threats(rt.alloc(), start, two_ways(rt.alloc())?, &[2], answers)?,
-        ];
-        both_say(&rt, rt.alloc(), &nodes, expected)?;
+    for (lines, expected) in rows {
+        let way = vec![in rt.alloc();
+            base(First, of(1, 1)?),
+            base(of(1, 1)?, Last),
+            over_cell(0, 1),
+        ]?;
+        let steps = Steps::new(two_ways(rt.alloc())?);
+        let root = by_lines(rt.alloc(), start, steps, &[2], lines)?;
+        says(&rt, rt.alloc(), &[by_links(after_a2, way), root], expected)?;
     }
     Ok(())
-}
-
-#[test]
-fn judges_many_threats(rt: HostRuntime) -> Result<(), Fail> {
-    let start = heading(board(2, 2, 2, 0)?, White, Black);
-    let mut places = vec![in rt.alloc(); 5u32]?;
-    for _ in 1..128u8 {
-        places.push(2)?;
-    }
-    let most = by_threats(rt.alloc(), start, two_ways(rt.alloc())?, &places, &[])?;
-    both_say(&rt, rt.alloc(), &[most], Verdict::Yes)?;
-    places.push(2)?;
-    let one_more = by_threats(rt.alloc(), start, two_ways(rt.alloc())?, &places, &[])?;
-    both_say(&rt, rt.alloc(), &[one_more], Verdict::Node(0))
 }

@@ -69,5 +69,5 @@ pub returns-clause-run : goal.returns-clause-run
 returns-clause-run g c = record {
   answer = c.answer_to-answer.result;
   due = c.answer_to-answer.ensures.due;
-  written = Cut refl c.in-Err.ensures.cause.failed c.in-Err.ensures.bytes.count c.in-Err.ensures.bytes.added;
+  written = Cut refl c.in-Err.ensures.cause.failed c.in-Err.ensures.bytes;
 }

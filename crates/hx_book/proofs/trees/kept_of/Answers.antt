@@ -2,7 +2,7 @@ use Rattle.std.proofs.Common.{◌≡◌, ◌≤◌, ◌+◌, ℕ, Some, false, l
 use Rattle.std.specs.Prelude.{slice_get, slice_index_or, is_err}
 use Rattle.std.proofs.lemmas.List.{nil_from_length}
 use Rattle.std.specs.Vec.Iter.{into_iter_items}
-use Rattle.hx_book.proofs.ChainLaws.{get-lt}
+use Rattle.hx_board.proofs.ListLaws.{get-lt}
 use Rattle.hx_book.proofs.KeptLaws.{kept-none, kept-next, kept-all, child-kept, rest-node, rest-more, rest-end, on-ok}
 use Rattle.hx_book.proofs.trees.kept_of.Goals as goal
 

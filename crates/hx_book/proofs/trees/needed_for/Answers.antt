@@ -1,10 +1,10 @@
 use Rattle.std.proofs.Common.{◌≡◌, ◌<◌, ◌+◌, ◌-◌, ℕ, length, sym, ◌∙◌, subst, Some, false, arith}
 use Rattle.std.specs.Prelude.{slice_get}
 use Rattle.std.proofs.lemmas.Bool.{false≢true}
+use Rattle.hx_board.proofs.ListLaws.{read-get, read-or}
 use Rattle.hx_tree.specs.declared.nodes.Node.{Node}
 use Rattle.hx_book.specs.Trees.{Names}
 use Rattle.hx_book.specs.Renaming.{IsMarked, MarksMore, AreMarkedFrom}
-use Rattle.hx_book.proofs.ChainLaws.{read-get, read-or}
 use Rattle.hx_book.proofs.NeedLaws.{marked-begun, marked-skip, marked-more}
 use Rattle.hx_book.proofs.trees.needed_for.Goals as goal
 

@@ -1,5 +1,5 @@
 -- The set of the empty cells is empty exactly where no cell is empty.
-use Rattle.std.proofs.Common.{◌≡◌, ℕ, true, sym, ◌∙◌, ◌↔◌, eq-eqb, eqb-true}
+use Rattle.std.proofs.Common.{◌≡◌, ℕ, true, sym, ◌∙◌, ◌↔◌}
 use Rattle.std.proofs.lemmas.Bool.{false≢true, false_from_ne_true}
 use Rattle.hx_board.specs.Sets.{has}
 use Rattle.hx_board.specs.Positions.{Board, IsEmpty}
@@ -14,5 +14,6 @@ full_where_empty board empties cells = (
 )
 
 pub returns : goal.returns
-returns c = rw (c.eq.ensures, c.empty.ensures)
-    ((λ same. (full_where_empty c.args.position.now c.empties.result c.empties.ensures).0 (eqb-true _ _ same)), (λ full. eq-eqb _ _ ((full_where_empty c.args.position.now c.empties.result c.empties.ensures).1 full)))
+returns c =
+    let full = full_where_empty c.args.position.now c.empties.result c.empties.ensures in
+    ((λ none. full.0 (c.is_empty.ensures.empty.0 none)), (λ all. c.is_empty.ensures.empty.1 (full.1 all)))

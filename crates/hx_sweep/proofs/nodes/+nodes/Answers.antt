@@ -15,7 +15,8 @@ use Rattle.hx_tree.specs.declared.nodes.Line.TheVariants.{Child}
 use Rattle.hx_sweep.specs.Growth.{heading_of}
 use Rattle.hx_sweep.proofs.WinCases.{answers_all, not_all_refuted}
 use Rattle.hx_sweep.proofs.NodeGrowth.{grown_none, grown_less, grown_on, move_room, moves_room, begun_after, grown_after, proved_leads, proved_by}
-use Rattle.hx_sweep.proofs.AnswerOrder.{none_answered, all_answered, answered_on, fewer_answered, right_by_lines}
+use Rattle.hx_tree.proofs.LinesInOrder.{none_answered, all_answered, fewer_answered, right_by_lines}
+use Rattle.hx_sweep.proofs.AnswerOrder.{answered_on, child_lines}
 use Rattle.hx_sweep.proofs.nodes.+nodes.Goals as goal
 
 pub after-prove-child-requires : goal.after-prove-child-requires
@@ -30,7 +31,7 @@ after-lift-requires t c = rw (c.prove-child.ensures.kept, c.play.ensures) (held-
 pub answers-loop-cell-init : goal.answers-loop-cell-init
 answers-loop-cell-init t c = record {
   kept = refl;
-  answered = rw c.new-lines.ensures.items (none_answered _ _ _ _ c.empties-left.ensures (empties-count _ _ c.requires.begun.valid c.empties-left.ensures));
+  answered = rw c.new-lines.ensures.items (none_answered _ _ _ c.empties-left.ensures (empties-count _ _ c.requires.begun.valid c.empties-left.ensures));
   grown = grown_none _ _ _ c.requires.begun;
 }
 
@@ -43,7 +44,7 @@ answers-after-requires t c =
     let least : IsLeastOn board.size c.loop-cell.left c.in-Some.cell = rw c.size-size.ensures.value at c.in-Some.ensures in
     let empty = before.inside c.in-Some.cell least.member in
     let wins = (answers_all board c.args.winner _ refl c.requires.no_chain c.requires.wins).all c.in-Some.cell empty in
-    let room = moves_room (empty_count board) _ (fewer_answered _ _ _ _ _ _ c.requires.begun.valid before least) in
+    let room = moves_room (empty_count board) _ (fewer_answered _ _ _ _ _ c.requires.begun.valid before least) in
     let begun = begun_after board (other_of c.args.winner) c.in-Some.cell _ _ _ c.requires.begun c.loop-cell.invariant.grown empty (omega arith) in
     (omega arith, rw (kept, c.other.ensures, other-other c.args.winner) (c.requires.begun.valid, (empty, (wins, begun))))
 
@@ -80,8 +81,11 @@ answers-returns-clause-grown t c =
 pub answers-returns-clause-right : goal.answers-returns-clause-right
 answers-returns-clause-right t c =
     let answered = answers_all c.args.position.now c.args.winner _ refl c.requires.no_chain c.requires.wins in
-    right_by_lines _ c.args.position.now c.args.winner _ answered.some answered.some_empty
-    (all_answered _ _ _ _ _ c.loop-cell.invariant.answered (rw c.size-size.ensures.value at c.in_default.ensures)) c.loop-cell.invariant.answered.lines_right
+    right_by_lines _ _ _ answered.some refl answered.some_empty
+    (all_answered _ _ _ _ c.loop-cell.invariant.answered (rw c.size-size.ensures.value at c.in_default.ensures)) c.loop-cell.invariant.answered.lines_right
+
+pub answers-returns-clause-children : goal.answers-returns-clause-children
+answers-returns-clause-children t c = child_lines _ (heading_of c.args.position.now (other_of c.args.winner) c.args.winner) _ c.loop-cell.invariant.answered.lines_right
 
 pub prove-overflow_cast-number : goal.prove-overflow_cast-number
 prove-overflow_cast-number t c =
@@ -95,7 +99,7 @@ prove-returns-clause-proved t c =
     let node : Node = record { heading = heading_of c.args.position.now c.args.to_move c.args.winner; rule = c.in_ok-rule.rule } in
     let same : c.push.new.self.items ≡ c.rule.new.nodes.items ++ node ∷ [] = search rules in
     proved_by c.args.position.now c.args.to_move c.args.winner c.in_ok-rule.rule c.args.nodes.now.items c.rule.new.nodes.items c.push.new.self.items c.len-number.result
-    c.requires.begun.valid c.in_ok-rule.ensures.grown c.in_ok-rule.ensures.right same (search rules)
+    c.requires.begun.valid c.in_ok-rule.ensures.grown c.in_ok-rule.ensures.right c.in_ok-rule.ensures.by_moves same (search rules)
 
 pub rule-after-requires : goal.rule-after-requires
 rule-after-requires t c =

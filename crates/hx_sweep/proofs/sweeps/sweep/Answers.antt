@@ -14,6 +14,7 @@ begun board valid few = record {
   valid = valid;
   right = λ k. tt;
   of_size = λ k d less. absurd (omega arith);
+  by_moves = λ k d less. absurd (omega arith);
   room = omega (arith, sweep_size-below (empty_count board) 9 few, sweep_size-nine);
 }
 
@@ -26,6 +27,7 @@ sweep_of board mover winner nodes number proved = record {
   to_move = proved.heading.same_mover;
   few = rw proved.grown.same proved.grown.few;
   size = proved.grown.of_size;
+  by_moves = proved.grown.by_moves;
 }
   where
     not_empty : [] ≢ proved.front ++ proved.root ∷ []

@@ -4,7 +4,7 @@ use Rattle.std.proofs.Common.{◌≡◌, ℕ, ◌+◌, ◌*◌, true, false}
 use Rattle.hx_board.specs.Sets.{has, count_below}
 use Rattle.hx_board.specs.Counts.{empty_count}
 use Rattle.hx_board.specs.Positions.{IsEmpty}
-use Rattle.hx_sweep.specs.Moves.{IsRefuted}
+use Rattle.hx_sweep.specs.Tries.{IsRefuted}
 use Rattle.hx_sweep.proofs.winners.+winners.Given as goal
 
 abbrev pub decreases-winner : goal.decreases-winner
