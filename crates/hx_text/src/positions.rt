@@ -10,8 +10,8 @@ ghost use Rattle.hx_text.specs.Grammars.{IsFaultyLine};
 ghost use Rattle.hx_text.specs.PositionTexts.{ArePositionLines, position_text, position_title, size_line, stones_line, move_line};
 ghost use Rattle.hx_text.specs.PositionReads.{ReadsFrom};
 
-use crate::marks::cut;
 use crate::lines;
+use crate::marks::cut;
 use hx_board::{Colour, Mask, Position, Size};
 use thiserror::Error;
 

@@ -63,7 +63,11 @@ const CHANGES: [(&str, &str, u64); 8] = [
 fn each_wrong_line_of_a_position_is_named(rt: HostRuntime) -> Result<(), Fail> {
     for (old, new, line) in CHANGES {
         let text = changed(rt.alloc(), POSITION, old, new)?;
-        assert_eq!(rt; read_position(text.as_bytes()), Err(TextFault { line }), "{text}");
+        assert_eq!(rt;
+            read_position(text.as_bytes()),
+            Err(TextFault { line }),
+            "{text}"
+        );
     }
     Ok(())
 }
@@ -85,6 +89,9 @@ fn numbers_are_read(rt: HostRuntime) {
     assert_eq!(rt; read_number(b"4294967295"), Some(4_294_967_295));
     assert_eq!(rt; read_number(b"4294967296"), None);
     assert_eq!(rt; read_number(b"01"), None);
-    assert_eq!(rt; read_digits(b"9999999999999999999"), Some(9_999_999_999_999_999_999));
+    assert_eq!(rt;
+        read_digits(b"9999999999999999999"),
+        Some(9_999_999_999_999_999_999)
+    );
     assert_eq!(rt; read_digits(b"1a"), None);
 }

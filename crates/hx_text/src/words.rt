@@ -103,7 +103,11 @@ impl<'a> Words<'a> {
         ensures { Takes decimal (λ n. n ≤ most) self.old result self.new }
     {
         let number = self.number()?;
-        if number as usize <= most { Some(number) } else { None }
+        if number as usize <= most {
+            Some(number)
+        } else {
+            None
+        }
     }
 
     /// Takes a set of cells.

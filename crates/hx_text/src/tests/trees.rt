@@ -46,7 +46,13 @@ fn rules(alloc: Global) -> Result<Vec<Rule>, Fail> {
     let links = links(alloc)?;
     let all = all(alloc)?;
     let fill = fill(alloc)?;
-    Ok(vec![in alloc; Rule::Chain, Rule::Move { cell, child: 0 }, links, all, fill]?)
+    Ok(vec![in alloc;
+        Rule::Chain,
+        Rule::Move { cell, child: 0 },
+        links,
+        all,
+        fill,
+    ]?)
 }
 
 fn links(alloc: Global) -> Result<Rule, Fail> {
