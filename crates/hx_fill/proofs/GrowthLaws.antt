@@ -8,10 +8,10 @@ use Rattle.hx_board.specs.declared.vertices.Vertex.{Vertex}
 use Rattle.hx_board.specs.declared.vertices.Vertex.TheVariants.{Of, First, Last}
 use Rattle.hx_board.specs.Colours.{other_of}
 use Rattle.hx_board.specs.Positions.{Board, IsEmpty, put}
-use Rattle.hx_board.specs.Graph.{Joined}
+use Rattle.hx_board.specs.Graph.{Joined, IsOpen}
 use Rattle.hx_board.proofs.StoneLaws.{size-put, stones-put, empty-put}
 use Rattle.hx_board.proofs.KeptStones.{joined_stays}
-use Rattle.hx_inferior.specs.Inferior.{IsNotOthers, IsOpenNeighbour, IsDead, IsPair}
+use Rattle.hx_inferior.specs.Inferior.{IsOpenNeighbour, IsDead, IsPair}
 use Rattle.hx_fill.specs.Rounds.{HasNoStoneLess}
 
 pub grown-same : (board : Board) → HasNoStoneLess board board
@@ -37,13 +37,13 @@ module _ (start now : Board) (grown : HasNoStoneLess start now) where
     no_white = false_from_ne_true _ (λ h. false≢true (sym empty.no_white ∙ grown.stones White n h));
   }
 
-  not_others_then : (player : Colour) (v : Vertex) → IsNotOthers now player v → IsNotOthers start player v
-  not_others_then player (Of n) not = false_from_ne_true _ (λ held. false≢true (sym not ∙ grown.stones (other_of player) n held))
-  not_others_then player First not = tt
-  not_others_then player Last not = tt
+  is_open-then : (player : Colour) (v : Vertex) → IsOpen now player v → IsOpen start player v
+  is_open-then player (Of n) is_open = false_from_ne_true _ (λ held. false≢true (sym is_open ∙ grown.stones (other_of player) n held))
+  is_open-then player First is_open = tt
+  is_open-then player Last is_open = tt
 
   open_then : (player : Colour) (cell : ℕ) (v : Vertex) → IsOpenNeighbour now player cell v → IsOpenNeighbour start player cell v
-  open_then player cell v o = record { touch = rw grown.same_size at o.touch; not_others = not_others_then player v o.not_others }
+  open_then player cell v o = record { touch = rw grown.same_size at o.touch; is_open = is_open-then player v o.is_open }
 
   pub joined_grown : (player : Colour) (from to : Vertex) → Joined start player from to → Joined now player from to
   joined_grown player from to joined = joined_stays player from to start now (record { same_size = grown.same_size; own = λ n h. grown.stones player n h }) joined

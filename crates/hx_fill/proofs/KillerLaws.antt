@@ -1,91 +1,70 @@
 -- Which moves can kill a cell. A stone of the mover's joins nothing for the opponent, so what it makes dead for him it touches. What it
 -- joins for the mover was joined with its cell: so a pair that is new with it has an open neighbour that was joined with its cell.
-use Rattle.std.proofs.Common.{◌≡◌, ◌≢◌, ℕ, Bool, true, false, refl, sym, ◌∙◌, subst, inl, inr, ⊎_elim, ◌↔◌}
-use Rattle.std.specs.Prelude.{MatchOption}
+use Rattle.std.proofs.Common.{◌≡◌, ◌≢◌, ℕ, ◌<◌, true, false, ◌&&◌, refl, sym, ◌∙◌, subst, ⊎_elim, ◌↔◌, ltb}
 use Rattle.std.specs.declared.option.Option.{Option}
 use Rattle.std.specs.declared.option.Option.TheVariants.{None, Some}
-use Rattle.std.proofs.lemmas.Bool.{false≢true, false_from_ne_true}
+use Rattle.std.proofs.lemmas.Bool.{false≢true, lt-ltb}
+use Rattle.hx_board.specs.declared.cells.TheConstants.{CELLS}
 use Rattle.hx_board.specs.declared.colours.Colour.{Colour}
 use Rattle.hx_board.specs.declared.vertices.Vertex.{Vertex}
-use Rattle.hx_board.specs.declared.vertices.Vertex.TheVariants.{Of, First, Last}
+use Rattle.hx_board.specs.declared.vertices.Vertex.TheVariants.{Of}
+use Rattle.hx_board.specs.Finds.{Finds}
 use Rattle.hx_board.specs.Colours.{other_of}
-use Rattle.hx_board.specs.Sets.{has, union, remove}
+use Rattle.hx_board.specs.Sets.{has, union, intersection}
 use Rattle.hx_board.specs.Positions.{Board, IsEmpty, put}
 use Rattle.hx_board.specs.Graph.{Joined}
-use Rattle.hx_board.proofs.ColourLaws.{other-other, other-differs}
-use Rattle.hx_board.proofs.SetLaws.{has-union_left, has-union_right, has-remove_before}
+use Rattle.hx_board.specs.VertexSets.{code_of, IsSetOf}
+use Rattle.hx_board.proofs.ColourLaws.{other-differs}
+use Rattle.hx_board.proofs.SetLaws.{has-union_left, has-union_right, has-intersection_left, has-intersection_both, and_both, by_member}
 use Rattle.hx_board.proofs.StoneLaws.{size-put, stones-put, empty-put}
 use Rattle.hx_board.proofs.KeptStones.{joined_stays}
 use Rattle.hx_board.proofs.Joins.{joined-sym}
-use Rattle.hx_inferior.specs.declared.open_neighbours.Surroundings.{Surroundings}
 use Rattle.hx_inferior.specs.declared.dominations.Kill.{Kill}
 use Rattle.hx_inferior.specs.declared.dominations.Kill.TheVariants.{ByDead, ByPair}
-use Rattle.hx_inferior.specs.Inferior.{IsNotOthers, IsOpenNeighbour, IsDead, IsPair, IsDominated}
-use Rattle.hx_inferior.specs.Named.{IsAmong, AreOpen}
+use Rattle.hx_inferior.specs.Inferior.{IsOpenNeighbour, IsDead, IsPair, IsDominated}
 use Rattle.hx_fill.specs.declared.makers.Makers.{Makers}
+use Rattle.hx_fill.specs.declared.turns.Better.{Better}
 use Rattle.hx_fill.specs.declared.turns.Worse.{Worse}
 use Rattle.hx_fill.specs.Makers.{IsMaker, AreMakers}
 use Rattle.hx_fill.specs.Views.{HoldsReached}
-use Rattle.hx_fill.specs.Unders.{IsWorse}
-use Rattle.hx_fill.proofs.MakerLaws.{removed, has-remove_other}
+use Rattle.hx_fill.specs.Unders.{IsWorse, IsBetter}
 use Rattle.hx_fill.proofs.JoinedAfter.{joined_before, joined_still, joined_over_stone}
+use Rattle.hx_fill.proofs.OpenAfter.{open-vertex, open_before, open_after, open_elsewhere}
 
-by_member : {P : Type 0} (set n : ℕ) → (has set n ≡ true → P) → (has set n ≡ false → P) → P
-by_member {P = P} set n has_it lacks = by_test (has set n) refl
-  where
-    by_test : (b : Bool) → has set n ≡ b → P
-    by_test true e = has_it e
-    by_test false e = lacks e
+-- the cells of a set of vertices
+pub cells_have : (set cells n : ℕ) → ((k : ℕ) → has cells k ≡ (has set k && ltb k CELLS)) → n < 121 → has set n ≡ true → has cells n ≡ true
+cells_have set cells n are small h = are n ∙ and_both _ _ h (lt-ltb n 121 small)
 
 -- ---- by a cell that becomes dead for the opponent
 
-module _ (board : Board) (mover : Colour) (better worse : ℕ) (around : Surroundings) (open_ones : AreOpen board (other_of mover) worse around) (apart : has around.cells better ≡ false) where
-  not_others_still : (v : Vertex) → IsOpenNeighbour board (other_of mover) worse v → IsNotOthers (put board mover better) (other_of mover) v
-  not_others_still (Of n) o = false_from_ne_true _ (λ held. ⊎_elim
-      (λ new. let P : ℕ → Type 0 = λ x. has around.cells x ≡ true in false≢true (sym apart ∙ subst P new.1 ((open_ones (Of n)).1 o)))
-      (λ was. false≢true (sym o.not_others ∙ was)) ((stones-put board mover (other_of (other_of mover)) better n).0 held))
-  not_others_still First o = tt
-  not_others_still Last o = tt
-
+module _ (board : Board) (mover : Colour) (better worse around : ℕ) (is : IsSetOf board.size (IsOpenNeighbour board (other_of mover) worse) around)
+    (apart : has around better ≡ false) where
   joined_without : (from to : Vertex) → Joined (put board mover better) (other_of mover) from to → Joined board (other_of mover) from to
   joined_without from to joined = joined_stays (other_of mover) from to (put board mover better) board (record {
     same_size = sym (size-put board mover better);
     own = λ n h. ⊎_elim (λ new. absurd (other-differs mover new.0)) (λ was. was) ((stones-put board mover (other_of mover) better n).0 h);
   }) joined
 
+  still : (v : Vertex) → IsOpenNeighbour board (other_of mover) worse v → IsOpenNeighbour (put board mover better) (other_of mover) worse v
+  still v o = open_elsewhere board mover better worse v differ o
+    where
+      differ : code_of v ≢ better
+      differ same =
+          let P : ℕ → Type 0 = λ x. has around x ≡ true in
+          false≢true (sym apart ∙ subst P same ((is.members v (open-vertex board (other_of mover) worse v o)).1 o))
+
   pub dead_before : IsDead (put board mover better) (other_of mover) worse → IsDead board (other_of mover) worse
   dead_before dead = record {
     empty = ((empty-put board mover better worse).0 dead.empty).0;
     joined = λ one other differ o p. joined_without one other (dead.joined one other differ (still one o) (still other p));
   }
-    where
-      still : (v : Vertex) → IsOpenNeighbour board (other_of mover) worse v → IsOpenNeighbour (put board mover better) (other_of mover) worse v
-      still v o = record { touch = rw size-put o.touch; not_others = not_others_still v o }
 
-pub killers_by_dead-neighbours : (board : Board) (mover : Colour) (worse : ℕ) (around : Surroundings) → AreOpen board (other_of mover) worse around → (IsDead board (other_of mover) worse → ⊥)
-    → (better : ℕ) → IsDominated board mover better worse ByDead → has around.cells better ≡ true
-killers_by_dead-neighbours board mover worse around open_ones not_dead better dominated =
-    by_member around.cells better (λ h. h) (λ apart. absurd (not_dead (dead_before board mover better worse around open_ones apart dominated.killed)))
+pub killers_by_dead-neighbours : (board : Board) (mover : Colour) (worse around : ℕ) → IsSetOf board.size (IsOpenNeighbour board (other_of mover) worse) around
+    → (IsDead board (other_of mover) worse → ⊥) → (better : ℕ) → IsDominated board mover better worse ByDead → has around better ≡ true
+killers_by_dead-neighbours board mover worse around is not_dead better dominated =
+    by_member around better (λ h. h) (λ apart. absurd (not_dead (dead_before board mover better worse around is apart dominated.killed)))
 
 -- ---- by a cell that becomes one of a pair
-
-module _ (board : Board) (player : Colour) where
-  not_others_before : (n : ℕ) (v : Vertex) → IsNotOthers (put board player n) player v → IsNotOthers board player v
-  not_others_before n (Of m) not = false_from_ne_true _ (λ held. false≢true (sym not ∙ (stones-put board player (other_of player) n m).1 (inr held)))
-  not_others_before n First not = tt
-  not_others_before n Last not = tt
-
-  not_others_after : (n : ℕ) (v : Vertex) → IsNotOthers board player v → IsNotOthers (put board player n) player v
-  not_others_after n (Of m) not =
-      false_from_ne_true _ (λ held. ⊎_elim (λ new. other-differs player new.0) (λ was. false≢true (sym not ∙ was)) ((stones-put board player (other_of player) n m).0 held))
-  not_others_after n First not = tt
-  not_others_after n Last not = tt
-
-  open_before : (n cell : ℕ) (v : Vertex) → IsOpenNeighbour (put board player n) player cell v → IsOpenNeighbour board player cell v
-  open_before n cell v o = record { touch = rw size-put at o.touch; not_others = not_others_before n v o.not_others }
-
-  open_after : (n cell : ℕ) (v : Vertex) → IsOpenNeighbour board player cell v → IsOpenNeighbour (put board player n) player cell v
-  open_after n cell v o = record { touch = rw size-put o.touch; not_others = not_others_after n v o.not_others }
 
 -- no open neighbour of the cell is joined with the other one
 abbrev pub IsApart : Board → Colour → ℕ → ℕ → Type 0
@@ -141,9 +120,8 @@ no_pair-by_makers board player cell among makers are all none n pair =
 -- a partner after a move is one that makes the move a better one
 pub partner-dominates : (board : Board) (mover : Colour) (better worse : ℕ) (makers : ℕ) (found : Option ℕ) → IsEmpty board better → IsEmpty board worse → better ≢ worse
     → (((n : ℕ) → has makers n ≡ true → ¬ IsPair (put board mover better) mover worse n) → (n : ℕ) → ¬ IsPair (put board mover better) mover worse n)
-    → MatchOption found ((n : ℕ) → has makers n ≡ true → ¬ IsPair (put board mover better) mover worse n) (λ n. (has makers n ≡ true) × IsPair (put board mover better) mover worse n)
-    → MatchOption found ((n : ℕ) → ¬ IsDominated board mover better worse (ByPair n)) (λ n. IsDominated board mover better worse (ByPair n))
-partner-dominates board mover better worse makers None empty worse_empty differ all none = λ n dominated. all none n dominated.killed
+    → Finds found (λ n. (has makers n ≡ true) × IsPair (put board mover better) mover worse n) → Finds found (λ n. IsDominated board mover better worse (ByPair n))
+partner-dominates board mover better worse makers None empty worse_empty differ all none = λ n dominated. all (λ k among pair. none k (among, pair)) n dominated.killed
 partner-dominates board mover better worse makers (Some partner) empty worse_empty differ all is = record { better_empty = empty; worse_empty = worse_empty; differ = differ; killed = is.1 }
 
 module _ (board : Board) (mover : Colour) (worse : ℕ) where
@@ -177,33 +155,13 @@ pub better-possible : (board : Board) (mover : Colour) (worse : Worse) → IsWor
 better-possible board mover worse is better ByDead dominated = has-union_left worse.by_dead worse.by_pair better (is.by_dead better dominated)
 better-possible board mover worse is better (ByPair partner) dominated = has-union_right worse.by_dead worse.by_pair better (is.by_pair better partner dominated)
 
--- ---- the open neighbours after the move
-
-module _ (board : Board) (mover : Colour) (better cell : ℕ) (around : Surroundings) where
-  pub open-own_after : AreOpen board mover cell around → AreOpen (put board mover better) mover cell around
-  open-own_after open_ones v = ((λ among. open_after board mover better cell v ((open_ones v).0 among)), (λ o. (open_ones v).1 (open_before board mover better cell v o)))
-
-  pub open-others_after : AreOpen board (other_of mover) cell around → AreOpen (put board mover better) (other_of mover) cell (record around { cells = remove around.cells better })
-  open-others_after open_ones v = (to_open v, to_among v)
-    where
-      to_open : (v : Vertex) → IsAmong (record around { cells = remove around.cells better }) v → IsOpenNeighbour (put board mover better) (other_of mover) cell v
-      to_open (Of n) among =
-          let was = (open_ones (Of n)).0 (has-remove_before around.cells better n among) in
-          record {
-            touch = rw size-put was.touch;
-            not_others = false_from_ne_true _ (λ held. ⊎_elim
-                (λ new. let P : ℕ → Type 0 = λ x. has (remove around.cells better) x ≡ true in false≢true (sym (removed around.cells better) ∙ subst P new.1 among))
-                (λ before. false≢true (sym was.not_others ∙ before)) ((stones-put board mover (other_of (other_of mover)) better n).0 held));
-          }
-      to_open First among = record { touch = rw size-put ((open_ones First).0 among).touch; not_others = tt }
-      to_open Last among = record { touch = rw size-put ((open_ones Last).0 among).touch; not_others = tt }
-
-      to_among : (v : Vertex) → IsOpenNeighbour (put board mover better) (other_of mover) cell v → IsAmong (record around { cells = remove around.cells better }) v
-      to_among (Of n) o = has-remove_other around.cells better n
-          (λ same. false≢true (sym o.not_others ∙ (stones-put board mover (other_of (other_of mover)) better n).1 (inl (sym (other-other mover), same))))
-          ((open_ones (Of n)).1 (record {
-            touch = rw size-put at o.touch;
-            not_others = false_from_ne_true _ (λ held. false≢true (sym o.not_others ∙ (stones-put board mover (other_of (other_of mover)) better n).1 (inr held)));
-          }))
-      to_among First o = (open_ones First).1 (record { touch = rw size-put at o.touch; not_others = tt })
-      to_among Last o = (open_ones Last).1 (record { touch = rw size-put at o.touch; not_others = tt })
+-- so they need not be looked at
+pub better-among : (board : Board) (mover : Colour) (worse : Worse) → IsWorse board mover worse → (cells possible : ℕ)
+    → possible ≡ intersection cells (union worse.by_dead worse.by_pair) → (found : Option Better)
+    → Finds found (IsBetter board mover worse.cell possible) → Finds found (IsBetter board mover worse.cell cells)
+better-among board mover worse is_worse cells possible same None none = λ better is. none better (record {
+  among = rw same (has-intersection_both cells (union worse.by_dead worse.by_pair) better.cell is.among (better-possible board mover worse is_worse better.cell better.kill is.dominates));
+  dominates = is.dominates;
+})
+better-among board mover worse is_worse cells possible same (Some better) is =
+    record { among = has-intersection_left cells (union worse.by_dead worse.by_pair) better.cell (rw same at is.among); dominates = is.dominates }

@@ -1,10 +1,10 @@
 pub mod JoinedAfter
+pub mod OpenAfter
 pub mod MakerLaws
 pub mod GrowthLaws
 pub mod FillLaws
 pub mod RoundLaws
 pub mod WinnerLaws
-pub mod CountLaws
 pub mod ThreatLaws
 pub mod ViewLaws
 pub mod ReachLaws

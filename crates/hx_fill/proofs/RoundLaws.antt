@@ -9,13 +9,12 @@ use Rattle.hx_board.specs.Sets.{has, remove}
 use Rattle.hx_board.specs.Cells.{OnBoard}
 use Rattle.hx_board.specs.Positions.{Board, IsBoard, IsEmpty}
 use Rattle.hx_board.specs.Counts.{empty_count}
-use Rattle.hx_board.proofs.SetLaws.{has-empty}
+use Rattle.hx_board.proofs.SetLaws.{has-empty, removed_cases}
 use Rattle.hx_inferior.specs.declared.fills.FillStep.TheVariants.{Dead, Pair}
 use Rattle.hx_inferior.specs.Inferior.{IsDead, IsPair}
 use Rattle.hx_fill.specs.declared.fills.Fill.{Fill}
 use Rattle.hx_fill.specs.Fills.{IsDeadOrPair, AreDeadOrPairs, FillsTo, HasNone, NothingLeft}
 use Rattle.hx_fill.specs.Rounds.{HasNoStoneLess, DoesStep, HasNoFill, LooksAt, Leaves, Fills, IsRound, Still, Further}
-use Rattle.hx_fill.proofs.MakerLaws.{removed_cases}
 use Rattle.hx_fill.proofs.GrowthLaws.{grown-trans}
 use Rattle.hx_fill.proofs.FillLaws.{grown-filled, fills_to-append, fills_to-one, fewer_empty}
 

@@ -3,7 +3,6 @@ use Rattle.std.proofs.Common.{◌≡◌, ℕ, ◌+◌, ◌<◌, ◌≤◌, true,
 use Rattle.std.specs.Prelude.{slice_get, take, map, Contains}
 use Rattle.std.specs.List.{All}
 use Rattle.std.specs.List.Sorted.{IsPermutation}
-use Rattle.std.proofs.lemmas.Bool.{cases_lt}
 use Rattle.std.proofs.lemmas.List.{take_all, take-append-le, map-append, append-nil}
 use Rattle.std.proofs.lemmas.List.Sorted.{All-permutation, Contains-permutation, IsPermutation-map}
 use Rattle.std.proofs.lemmas.List.Elements.{All-nil, All-more, All-map, All-weaker, All-push, All-contains, Contains-push, Contains-push_cases, Contains-append_left, Contains-append_right}
@@ -12,13 +11,13 @@ use Rattle.hx_board.specs.Sets.{has, intersection, count_below, IsSubset}
 use Rattle.hx_board.specs.Positions.{IsEmpty}
 use Rattle.hx_board.proofs.SetLaws.{has-intersection_left, has-intersection_right, has-intersection_both}
 use Rattle.hx_board.proofs.CellLaws.{on_board-small}
+use Rattle.hx_board.proofs.CountLaws.{count-small, count-less, lacks_one}
+use Rattle.hx_board.proofs.ListLaws.{get-lt, get-push, same_some}
 use Rattle.hx_link.specs.declared.links.Link.{Link}
 use Rattle.hx_linkset.specs.States.{Standing, IsRight}
 use Rattle.hx_linkset.specs.LivePairs.{IsLivePair}
-use Rattle.hx_linkset.proofs.PlaceLaws.{get-lt, get-there, get-push_before, get-push_last, same_some}
 use Rattle.hx_fill.specs.Musts.{HasCell, TakesAway, EachTakesAway, IsBetween, AreBetween, AreKept, IsTaken, AreAllTaken}
 use Rattle.hx_fill.specs.declared.threats.Between.{Between}
-use Rattle.hx_fill.proofs.CountLaws.{count-small, count-less, lacks_one}
 
 module _ (set : Standing) (right : IsRight set.player set.present) where
   cells_small : (cells : ℕ) → ((cell : ℕ) → has cells cell ≡ true → IsEmpty set.present.board cell) → (n : ℕ) → has cells n ≡ true → n < 121
@@ -91,25 +90,17 @@ module _ (set : Standing) (right : IsRight set.player set.present) where
             }
 
         more_take : EachTakesAway set (places ++ place ∷ [])
-        more_take k other at = ⊎_elim early late (cases_lt k (length places))
+        more_take k other at = ⊎_elim early late (get-push places place other k at)
           where
-            early : k < length places → TakesAway set (take k (places ++ place ∷ [])) other
-            early low =
-                let before = get-there places k low in
-                let same : before.0 ≡ other = same_some before.0 other (sym (get-push_before places place k before.0 before.1) ∙ at) in
-                let P : ℕ → Type 0 = λ p. TakesAway set (take k places) p in
-                rw (take-append-le k places (place ∷ []) (omega arith)) (subst P same (threats.each_takes k before.0 before.1))
+            early : slice_get places k ≡ Some other → TakesAway set (take k (places ++ place ∷ [])) other
+            early before = let low = get-lt places k other before in rw (take-append-le k places (place ∷ []) (omega arith)) (threats.each_takes k other before)
 
-            late : length places ≤ k → TakesAway set (take k (places ++ place ∷ [])) other
-            late high =
-                let low = get-lt (places ++ place ∷ []) k other at in
-                let long = length-append places (place ∷ []) in
-                let last : k ≡ length places = omega arith in
-                let P : ℕ → Type 0 = λ i. slice_get (places ++ place ∷ []) i ≡ Some other → TakesAway set (take i (places ++ place ∷ [])) other in
-                subst P (sym last) (λ end.
-                let same : place ≡ other = same_some place other (sym (get-push_last places place) ∙ end) in
-                rw (take-append-le (length places) places (place ∷ []) (omega arith), take_all (length places) places (omega arith))
-                (let Q : ℕ → Type 0 = λ p. TakesAway set places p in subst Q same here)) at
+            late : (k ≡ length places) × (other ≡ place) → TakesAway set (take k (places ++ place ∷ [])) other
+            late last =
+                let P : ℕ → Type 0 = λ i. TakesAway set (take i (places ++ place ∷ [])) other in
+                let Q : ℕ → Type 0 = λ p. TakesAway set places p in
+                subst P (sym last.0)
+                (rw (take-append-le (length places) places (place ∷ []) (omega arith), take_all (length places) places (omega arith)) (subst Q (sym last.1) here))
 
 -- ---- all links between the sides
 

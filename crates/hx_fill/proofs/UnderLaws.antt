@@ -10,14 +10,13 @@ use Rattle.hx_board.specs.declared.colours.Colour.{Colour}
 use Rattle.hx_board.specs.Sets.{has, insert, remove}
 use Rattle.hx_board.specs.Cells.{Extent, OnBoard, IsLeastOn}
 use Rattle.hx_board.specs.Positions.{Board}
-use Rattle.hx_board.proofs.SetLaws.{has-empty, has-remove_before, has-insert_cases, has-insert_same, has-insert_other}
+use Rattle.hx_board.proofs.SetLaws.{has-empty, has-remove_before, has-insert_cases, has-insert_same, has-insert_other, removed, removed_cases, removed_still, has-remove_other}
 use Rattle.hx_inferior.specs.declared.dominations.Kill.{Kill}
 use Rattle.hx_tree.specs.declared.nodes.Line.{Line}
 use Rattle.hx_tree.specs.declared.nodes.Line.TheVariants.{Under}
 use Rattle.hx_tree.specs.Answers.{cell_of, cells_of}
 use Rattle.hx_fill.specs.declared.turns.Better.{Better}
 use Rattle.hx_fill.specs.Unders.{IsUnderLine, HasLine, IsBetterIn, IsDominatedByNone, AreUnder, IsBetter, AddsLine, Sifts, Keeps, Adds, IsSifted}
-use Rattle.hx_fill.proofs.MakerLaws.{removed, removed_cases, removed_still, has-remove_other}
 
 -- ---- lists that rise
 
@@ -67,6 +66,10 @@ module _ (lines : List Line) (cell : ℕ) (better : ℕ) (kill : Kill) where
   better_cases : (n : ℕ) → IsBetterIn (lines ++ Under cell better kill ∷ []) n → IsBetterIn lines n ⊎ (better ≡ n)
   better_cases n is = ⊎_elim (λ old. inl (record { worse = is.worse; kill = is.kill; line = old })) (λ same. inr (same_better is.worse n is.kill same))
       (Contains-push_cases lines (Under cell better kill) (Under is.worse n is.kill) is.line)
+
+pub none_better : (board : Board) (mover : Colour) (cell cells : ℕ) → ((better : Better) → IsBetter board mover cell cells better → ⊥)
+    → IsDominatedByNone board mover cell (λ better. has cells better ≡ true)
+none_better board mover cell cells none better among kill dominated = none (record { cell = better; kill = kill }) (record { among = among; dominates = dominated })
 
 module _ (board : Board) (mover : Colour) where
   pub sifts_by_line : (cell : ℕ) (better : Better) (lines more : List Line) (open_cells open_next betters betters_next : ℕ)

@@ -2,6 +2,7 @@
 use Rattle.std.specs.Prelude.{◌≡◌, ℕ, ◌+◌, ◌≤◌, true, false, List, length, take, map, slice_get, ◌↔◌, Contains}
 use Rattle.std.specs.List.{All}
 use Rattle.std.specs.declared.option.Option.TheVariants.{Some}
+use Rattle.hx_board.specs.declared.cells.TheConstants.{CELLS}
 use Rattle.hx_board.specs.Sets.{has, IsSubset, count_below}
 use Rattle.hx_board.specs.Positions.{IsEmpty}
 use Rattle.hx_board.specs.declared.vertices.Vertex.TheVariants.{First, Last}
@@ -40,7 +41,7 @@ EachTakesAway set threats = (k place : ℕ) → slice_get threats k ≡ Some pla
 -- the threats, the cells that they share, and lines for some of these
 pub record IsMust (set : Standing) (threats : List ℕ) (cells : ℕ) (under : List Line) : Type 0 where
   pub live : All (IsLivePair set First Last) threats
-  pub few : length threats ≤ 121
+  pub few : length threats ≤ CELLS
   pub each_takes : EachTakesAway set threats
   pub shared : (cell : ℕ) → (has cells cell ≡ true) ↔ IsSharedByAll set cell
   pub same : (cell : ℕ) → (has cells cell ≡ true) ↔ IsShared set threats cell
@@ -62,7 +63,7 @@ pub record AreBetween (set : Standing) (links : List Between) : Type 0 where
 pub record AreKept (set : Standing) (places : List ℕ) (cells : ℕ) : Type 0 where
   pub live : All (IsLivePair set First Last) places
   pub shared : (cell : ℕ) → (has cells cell ≡ true) ↔ IsShared set places cell
-  pub few : length places + count_below 128 cells ≤ 121
+  pub few : length places + count_below 128 cells ≤ CELLS
   pub each_takes : EachTakesAway set places
 
 -- after a look at a live link

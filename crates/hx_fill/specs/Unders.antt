@@ -7,8 +7,8 @@ use Rattle.hx_board.specs.Colours.{other_of}
 use Rattle.hx_board.specs.Sets.{has, insert, remove, IsSubset}
 use Rattle.hx_board.specs.Positions.{Board, IsEmpty}
 use Rattle.hx_inferior.specs.declared.dominations.Kill.{Kill}
-use Rattle.hx_inferior.specs.Inferior.{IsDominated}
-use Rattle.hx_inferior.specs.Named.{AreOpen}
+use Rattle.hx_board.specs.VertexSets.{IsSetOf}
+use Rattle.hx_inferior.specs.Inferior.{IsDominated, IsOpenNeighbour}
 use Rattle.hx_tree.specs.declared.nodes.Line.{Line}
 use Rattle.hx_tree.specs.declared.nodes.Line.TheVariants.{Child, Under}
 use Rattle.hx_tree.specs.Answers.{cells_of}
@@ -57,8 +57,8 @@ AreOthers board worse cells = (cell : ℕ) → has cells cell ≡ true → IsEmp
 -- an empty cell, its open neighbours for each player, and sets that have each cell by which it becomes dead or part of a pair
 pub record IsWorse (board : Board) (mover : Colour) (worse : Worse) : Type 0 where
   pub empty : IsEmpty board worse.cell
-  pub own : AreOpen board mover worse.cell worse.own
-  pub others : AreOpen board (other_of mover) worse.cell worse.others
+  pub own : IsSetOf board.size (IsOpenNeighbour board mover worse.cell) worse.own
+  pub others : IsSetOf board.size (IsOpenNeighbour board (other_of mover) worse.cell) worse.others
   pub by_dead : (better : ℕ) → IsDominated board mover better worse.cell ByDead → has worse.by_dead better ≡ true
   pub by_pair : (better partner : ℕ) → IsDominated board mover better worse.cell (ByPair partner) → has worse.by_pair better ≡ true
 

@@ -21,6 +21,4 @@ pub use rounds::fill_in;
 pub use winners_steps::steps_for;
 
 #[cfg(test)]
-mod plain;
-#[cfg(test)]
 mod tests;

@@ -4,17 +4,19 @@
 //! dead where each of its open neighbours is joined with all of them, or is joined with b. To know all such b takes one look
 //! at each open neighbour, and no flood. Two cells are a captured pair where each makes the other dead.
 
-ghost use Rattle.std.specs.Prelude.{◌≡◌, ℕ, true, false, IsTrue, MatchOption};
+ghost use Rattle.std.specs.Prelude.{◌≡◌, ℕ, true, false, IsTrue};
+ghost use Rattle.hx_board.specs.Finds.{Finds};
 ghost use Rattle.hx_board.specs.Sets.{has};
 ghost use Rattle.hx_board.specs.Cells.{OnBoard};
 ghost use Rattle.hx_board.specs.Positions.{IsEmpty};
-ghost use Rattle.hx_inferior.specs.Inferior.{IsPair};
-ghost use Rattle.hx_inferior.specs.Named.{AreOpen};
-ghost use Rattle.hx_fill.specs.Makers.{AreMakers, IsNarrowed, AreNarrowed, AreMakersAmong};
+ghost use Rattle.hx_board.specs.Graph.{IsVertex};
+ghost use Rattle.hx_board.specs.VertexSets.{IsSetOf};
+ghost use Rattle.hx_inferior.specs.Inferior.{IsPair, IsOpenNeighbour};
+ghost use Rattle.hx_fill.specs.Makers.{AreMakers, AreMakersAmong, AreVertices, IsNarrowed, AreNarrowed};
 
 use crate::views::View;
-use hx_board::{Cell, Mask, Vertex};
-use hx_inferior::{Surroundings, is_among, is_within, open_around};
+use hx_board::{Cell, Mask, Vertex, VertexSet};
+use hx_inferior::open_around;
 
 /// What is known of an empty cell, for one player.
 #[derive(Clone, Copy, PartialEq, Eq, Debug)]
@@ -28,33 +30,30 @@ pub(crate) struct Makers {
 
 /// What is known of an empty cell with these open neighbours, and its makers among some cells. The fewer these are, the sooner
 /// none of them is left.
-pub(crate) fn makers_of(view: &View, cell: Cell, around: &Surroundings, among: Mask) -> Makers
+pub(crate) fn makers_of(view: &View, cell: Cell, around: VertexSet, among: Mask) -> Makers
     requires empty { IsEmpty view.now.board cell }
-    requires around { AreOpen view.now.board view.now.player cell around.now }
+    requires around { IsSetOf view.now.board.size (IsOpenNeighbour view.now.board view.now.player cell) around }
     ensures { AreMakers view.now.board view.now.player cell among result }
 {
     let all = Makers {
         is_dead: true,
         cells: view.position().empties().meet(among).without(cell),
     };
-    let by_first = narrowed(view, &all, around, &Vertex::First);
-    let by_sides = narrowed(view, &by_first, around, &Vertex::Last);
-    narrowed_by_cells(view, &by_sides, around)
+    narrowed_by(view, &all, around)
 }
 
 /// The first of some cells, each of which makes the cell dead, that is a pair with the cell.
 pub(crate) fn partner_of(view: &View, cell: Cell, makers: Mask) -> Option<Cell>
     requires empty { IsEmpty view.now.board cell }
     requires makers { AreMakersAmong view.now.board view.now.player cell makers }
-    ensures { MatchOption result ((other : ℕ) → has makers other ≡ true → ¬ IsPair view.now.board view.now.player cell other)
-        (λ other. (has makers other ≡ true) × IsPair view.now.board view.now.player cell other) }
+    ensures { Finds result (λ other. (has makers other ≡ true) × IsPair view.now.board view.now.player cell other) }
 {
     let size = view.position().size();
     let mut left = makers;
     while let Some(other) = left.least(size) {
         left = left.without(other);
         let around = open_around(view.position(), view.colour(), other);
-        let back = makers_of(view, other, &around, Mask::empty().with(cell));
+        let back = makers_of(view, other, around, Mask::empty().with(cell));
         let is_pair = back.cells.has(cell);
         if is_pair {
             return Some(other);
@@ -63,37 +62,18 @@ pub(crate) fn partner_of(view: &View, cell: Cell, makers: Mask) -> Option<Cell>
     None
 }
 
-/// What is left of the makers after a look at one vertex, if it is an open neighbour.
-fn narrowed(view: &View, makers: &Makers, around: &Surroundings, vertex: &Vertex) -> Makers
-    requires around { (n : ℕ) → has around.now.cells n ≡ true → OnBoard view.now.board.size n }
+/// What is left of the makers after a look at each of some vertices.
+fn narrowed_by(view: &View, makers: &Makers, around: VertexSet) -> Makers
+    requires around { AreVertices view.now.board.size around }
     requires makers { (n : ℕ) → has makers.now.cells n ≡ true → OnBoard view.now.board.size n }
-    ensures { IsNarrowed view.now.board view.now.player around.now vertex.now makers.now result }
+    ensures { AreNarrowed view.now.board view.now.player around 0 makers.now result }
 {
-    if !is_among(around, vertex) {
-        return *makers;
-    }
-    let reach = view.joined_with(*vertex);
-    if is_within(around, &reach) {
-        return *makers;
-    }
-    Makers {
-        is_dead: false,
-        cells: makers.cells.meet(reach.cells),
-    }
-}
-
-/// What is left of the makers after a look at each cell among the open neighbours.
-fn narrowed_by_cells(view: &View, makers: &Makers, around: &Surroundings) -> Makers
-    requires around { (n : ℕ) → has around.now.cells n ≡ true → OnBoard view.now.board.size n }
-    requires makers { (n : ℕ) → has makers.now.cells n ≡ true → OnBoard view.now.board.size n }
-    ensures { AreNarrowed view.now.board view.now.player around.now 0 makers.now result }
-{
-    let size = view.position().size();
+    let _size = view.position().size();
     let mut found = *makers;
-    let mut left = around.cells;
-    while let Some(next) = left.least(size) {
-        left = left.without(next);
-        found = narrowed(view, &found, around, &Vertex::Of(next));
+    let mut left = around;
+    while let Some(vertex) = left.lowest() {
+        left = left.without_lowest();
+        found = narrowed(view, &found, around, vertex);
         // For most cells no maker is left after a few neighbours.
         if has_none(&found) {
             return found;
@@ -102,11 +82,29 @@ fn narrowed_by_cells(view: &View, makers: &Makers, around: &Surroundings) -> Mak
     found
 }
 
+/// What is left of the makers after a look at one of some vertices.
+fn narrowed(view: &View, makers: &Makers, around: VertexSet, vertex: Vertex) -> Makers
+    requires around { AreVertices view.now.board.size around }
+    requires vertex { IsVertex view.now.board.size vertex }
+    requires makers { (n : ℕ) → has makers.now.cells n ≡ true → OnBoard view.now.board.size n }
+    ensures { IsNarrowed view.now.board view.now.player around vertex makers.now result }
+{
+    let _size = view.position().size();
+    let joined = view.joined_with(vertex);
+    if around.inside(joined) {
+        return *makers;
+    }
+    Makers {
+        is_dead: false,
+        cells: makers.cells.meet(joined.cells()),
+    }
+}
+
 /// Whether the cell is not dead and has no maker.
 fn has_none(makers: &Makers) -> bool
     ensures dead { IsTrue result → makers.now.is_dead ≡ false }
     ensures cells { IsTrue result → makers.now.cells ≡ 0 }
     ensures none { makers.now.is_dead ≡ false → makers.now.cells ≡ 0 → IsTrue result }
 {
-    !makers.is_dead && makers.cells == Mask::empty()
+    !makers.is_dead && makers.cells.is_empty()
 }

@@ -62,7 +62,7 @@ fn fill_at(filled: &mut Filled, view: &View, colour: Colour, cell: Cell) -> Resu
     ensures { OnOk result (LooksAt view.now.board colour cell filled.old.position filled.old.steps.items filled.new.position filled.new.steps.items) }
 {
     let around = open_around(view.position(), view.colour(), cell);
-    let makers = makers_of(view, cell, &around, filled.position.empties());
+    let makers = makers_of(view, cell, around, filled.position.empties());
     if makers.is_dead {
         return filled.add(colour, FillStep::Dead(cell));
     }

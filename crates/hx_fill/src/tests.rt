@@ -5,13 +5,13 @@ ghost use Rattle.std.specs.Prelude.{IfOk};
 ghost use Rattle.hx_fill.specs.Fills.{AreDeadOrPairs};
 
 use super::*;
-use crate::plain;
 use hx_board::Colour::{Black, White};
 use hx_board::Vertex::{First, Last};
 use hx_board::{Cell, Colour, Mask, Position, Size, Vertex};
 use hx_inferior::{FillStep, Kill};
 use hx_link::{Parts, Step};
 use hx_linkset::{Added, LinkSet};
+use hx_samples::{Draws, numbered, wins};
 use hx_tree::Line;
 use smallvec::SmallVec;
 use std::alloc::{AllocError, Global};
@@ -71,10 +71,9 @@ fn wins_by(position: &Position, mover: Colour, cells: Mask) -> bool {
     let mut left = position.empties().meet(cells);
     while let Some(cell) = left.least(position.size()) {
         left = left.without(cell);
-        let mut next = *position;
-        if next.empties().has(cell) {
-            next.play(mover, cell);
-            if plain::wins(&next, mover, mover.other(), MOST) {
+        if position.empties().has(cell) {
+            let next = position.with(mover, cell);
+            if wins(&next, mover, mover.other(), MOST) {
                 return true;
             }
         }
@@ -86,8 +85,8 @@ fn wins_by(position: &Position, mover: Colour, cells: Mask) -> bool {
 fn compare(rt: &impl Abort, alloc: Global, position: &Position, mover: Colour) -> Result<(), Fail> {
     let filled = filled_in(alloc, position)?;
     assert_eq!(rt;
-        plain::wins(&filled.position, Black, mover, MOST),
-        plain::wins(position, Black, mover, MOST),
+        wins(&filled.position, Black, mover, MOST),
+        wins(position, Black, mover, MOST),
         "{mover:?}, {position:?}"
     );
     let set = new_set(alloc, position, mover.other())?;
@@ -104,35 +103,25 @@ fn compare(rt: &impl Abort, alloc: Global, position: &Position, mover: Colour) -
     Ok(())
 }
 
-/// The position that a number to base three stands for, with a digit for each cell: 0 is empty, 1 black, 2 white.
-fn numbered(size: Size, number: u32) -> Option<Position> {
-    let mut black = Mask::empty();
-    let mut white = Mask::empty();
-    let mut rest = number;
-    for row in 0..size.rows() {
-        for col in 0..size.cols() {
-            if let Some(cell) = size.cell(row, col) {
-                match rest % 3 {
-                    1 => black = black.with(cell),
-                    2 => white = white.with(cell),
-                    _ => {}
-                }
-            }
-            rest /= 3;
-        }
+#[test]
+fn each_small_position(rt: HostRuntime) -> Result<(), Fail> {
+    let size = Size::new(2, 2).ok_or("size")?;
+    for number in 0..81 {
+        let position = numbered(size, number).ok_or("position")?;
+        compare(&rt, rt.alloc(), &position, Black)?;
+        compare(&rt, rt.alloc(), &position, White)?;
     }
-    Position::from_masks(size, black, white)
+    Ok(())
 }
 
 #[test]
-fn each_small_position(rt: HostRuntime) -> Result<(), Fail> {
-    for (rows, cols, positions) in [(1, 1, 3), (2, 2, 81)] {
-        let size = Size::new(rows, cols).ok_or("size")?;
-        for number in 0..positions {
-            let position = numbered(size, number).ok_or("position")?;
-            compare(&rt, rt.alloc(), &position, Black)?;
-            compare(&rt, rt.alloc(), &position, White)?;
-        }
+fn drawn_positions(rt: HostRuntime) -> Result<(), Fail> {
+    let size = Size::new(3, 3).ok_or("size")?;
+    let mut draws = Draws::new(2026);
+    for _ in 0..40 {
+        let position = draws.position(size, 5);
+        let mover = draws.colour();
+        compare(&rt, rt.alloc(), &position, mover)?;
     }
     Ok(())
 }

@@ -4,8 +4,7 @@
 //! than cells, and they share what all of the links share. Links with few cells are looked at first, since each of them takes
 //! many cells away; so few of the links are kept.
 
-ghost use Rattle.std.specs.Prelude.{◌≡◌, IfOk, OnOk, slice_get, Some};
-ghost use Rattle.hx_link.specs.declared.links.Link.{Link};
+ghost use Rattle.std.specs.Prelude.{IfOk, OnOk};
 ghost use Rattle.hx_fill.specs.Musts.{IsBetween, AreBetween, AreKept, IsTaken, AreAllTaken};
 
 use hx_board::{Mask, Memory, Vertex};
@@ -31,8 +30,7 @@ pub(crate) struct KeptThreats {
 pub(crate) fn threats_of(set: &LinkSet) -> Result<KeptThreats, Memory>
     ensures { IfOk result (λ found. AreAllTaken set.now found.places.items found.cells) }
 {
-    // that the board is a position is what this call promises
-    let _colour = set.colour();
+    set.keeps();
     let links = links_between(set)?;
     let mut found = KeptThreats {
         places: Vec::new(set.allocator()),
@@ -53,7 +51,7 @@ fn links_between(set: &LinkSet) -> Result<Vec<Between>, Memory>
         if links.reserve(1).is_err() {
             return Err(Memory);
         }
-        let carrier = carrier_at(set, place);
+        let carrier = set.carrier(place);
         links.push_reserved(Between { place, carrier });
     }
     links
@@ -76,20 +74,9 @@ impl KeptThreats {
         if self.places.reserve(1).is_err() {
             return Err(Memory);
         }
-        // that the board is a position is what this call promises
-        let _colour = set.colour();
+        set.keeps();
         self.places.push_reserved(link.place);
         self.cells = self.cells.meet(link.carrier);
         Ok(())
-    }
-}
-
-/// The carrier of a link.
-fn carrier_at(set: &LinkSet, place: u32) -> Mask
-    ensures { (link : Link) → slice_get set.now.present.links place ≡ Some link → result ≡ link.carrier }
-{
-    match set.held(place) {
-        None => Mask::empty(),
-        Some(link) => link.carrier,
     }
 }

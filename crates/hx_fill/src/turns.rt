@@ -4,21 +4,21 @@
 //! joined after the move is told by what was joined before it, so no group is flooded again for a move. And a move kills only what
 //! it touches, or what is joined with its cell, so most moves need not be tried.
 
-ghost use Rattle.std.specs.Prelude.{◌≡◌, ◌≢◌, ℕ, true, ◌↔◌, IsTrue, MatchOption};
+ghost use Rattle.std.specs.Prelude.{◌≡◌, ◌≢◌, ℕ, true, ◌↔◌, IsTrue};
+ghost use Rattle.hx_board.specs.Finds.{Finds};
 ghost use Rattle.hx_board.specs.Colours.{other_of};
-ghost use Rattle.hx_board.specs.Sets.{has, remove};
+ghost use Rattle.hx_board.specs.Sets.{has};
 ghost use Rattle.hx_board.specs.Positions.{IsEmpty};
-ghost use Rattle.hx_inferior.specs.declared.dominations.Kill.{Kill};
 ghost use Rattle.hx_inferior.specs.declared.dominations.Kill.TheVariants.{ByDead, ByPair};
-ghost use Rattle.hx_inferior.specs.Inferior.{IsDominated};
-ghost use Rattle.hx_inferior.specs.Named.{AreOpen};
+ghost use Rattle.hx_board.specs.VertexSets.{IsSetOf};
+ghost use Rattle.hx_inferior.specs.Inferior.{IsDominated, IsOpenNeighbour};
 ghost use Rattle.hx_fill.specs.Unders.{AreOthers, IsWorse, IsBetter};
 
 use crate::makers::{makers_of, partner_of};
 use crate::reaches::{reached_around, reached_around_each};
 use crate::views::View;
-use hx_board::{Cell, Colour, Groups, Mask, Position};
-use hx_inferior::{Kill, Surroundings, open_around};
+use hx_board::{Cell, Colour, Groups, Mask, Position, Vertex, VertexSet};
+use hx_inferior::{Kill, open_around};
 
 /// A better cell, and how the move to it kills the worse one.
 #[derive(Clone, Copy, PartialEq, Eq, Debug)]
@@ -33,10 +33,10 @@ pub(crate) struct Worse {
     pub(crate) cell: Cell,
 
     /// Its open neighbours for the mover.
-    pub(crate) own: Surroundings,
+    pub(crate) own: VertexSet,
 
     /// Its open neighbours for the opponent.
-    pub(crate) others: Surroundings,
+    pub(crate) others: VertexSet,
 
     /// Where the mover takes any other cell, it is not dead for the opponent.
     pub(crate) by_dead: Mask,
@@ -71,33 +71,39 @@ impl Turn {
 
     /// The cells that can make a cell dead for the opponent, where the mover takes one of them: its open neighbours, or any cell where
     /// it is dead already. A stone of the mover's joins nothing for the opponent, and takes its own cell alone from him.
-    fn killers_by_dead(&self, cell: Cell, around: &Surroundings) -> Mask
+    fn killers_by_dead(&self, cell: Cell, around: VertexSet) -> Mask
         requires empty { IsEmpty self.now.position cell }
-        requires around { AreOpen self.now.position (other_of self.now.mover) cell around.now }
-        ensures { (better : ℕ) → IsDominated self.now.position self.now.mover better cell ByDead → has result better ≡ true }
+        requires around { IsSetOf self.now.position.size
+            (IsOpenNeighbour self.now.position (other_of self.now.mover) cell) around }
+        ensures { (better : ℕ) → IsDominated self.now.position self.now.mover better cell ByDead
+            → has result better ≡ true }
     {
+        let _size = self.position.size();
         let others = View::of(&self.position, self.mover.other(), &self.others);
         let makers = makers_of(&others, cell, around, Mask::empty());
         if makers.is_dead {
             return self.position.empties();
         }
-        around.cells
+        around.cells()
     }
 
     /// The cells that can make a cell part of a pair, where the mover takes one of them: those that an open neighbour of it, or of a
     /// maker of it, is joined with, or any cell where it is part of a pair already. A stone joins only what was joined with its cell.
-    fn killers_by_pair(&self, cell: Cell, around: &Surroundings) -> Mask
+    fn killers_by_pair(&self, cell: Cell, around: VertexSet) -> Mask
         requires empty { IsEmpty self.now.position cell }
-        requires around { AreOpen self.now.position self.now.mover cell around.now }
-        ensures { (better partner : ℕ) → IsDominated self.now.position self.now.mover better cell (ByPair partner) → has result better ≡ true }
+        requires around { IsSetOf self.now.position.size
+            (IsOpenNeighbour self.now.position self.now.mover cell) around }
+        ensures { (better partner : ℕ) → IsDominated self.now.position self.now.mover better cell (ByPair partner)
+            → has result better ≡ true }
     {
+        let _size = self.position.size();
         let own = View::of(&self.position, self.mover, &self.own);
         let makers = makers_of(&own, cell, around, self.position.empties());
         match partner_of(&own, cell, makers.cells) {
             Some(_) => self.position.empties(),
             None => {
                 let by_makers = reached_around_each(&own, makers.cells);
-                reached_around(&own, around).union(by_makers)
+                reached_around(&own, around).union(by_makers).cells()
             }
         }
     }
@@ -110,8 +116,8 @@ impl Turn {
     {
         let own = open_around(&self.position, self.mover, cell);
         let others = open_around(&self.position, self.mover.other(), cell);
-        let by_dead = self.killers_by_dead(cell, &others);
-        let by_pair = self.killers_by_pair(cell, &own);
+        let by_dead = self.killers_by_dead(cell, others);
+        let by_pair = self.killers_by_pair(cell, own);
         Worse {
             cell,
             own,
@@ -126,12 +132,14 @@ impl Turn {
         requires better { IsEmpty self.now.position better }
         requires worse { IsWorse self.now.position self.now.mover worse.now }
         requires differ { better ≢ worse.now.cell }
-        ensures { IsTrue result ↔ IsDominated self.now.position self.now.mover better worse.now.cell ByDead }
+        ensures { IsTrue result
+            ↔ IsDominated self.now.position self.now.mover better worse.now.cell ByDead }
     {
+        let _size = self.position.size();
         let other = self.mover.other();
         let others = View::after(&self.position, other, &self.others, self.mover, better);
-        let around = without(&worse.others, better);
-        let makers = makers_of(&others, worse.cell, &around, Mask::empty());
+        let around = worse.others.without(Vertex::Of(better));
+        let makers = makers_of(&others, worse.cell, around, Mask::empty());
         makers.is_dead
     }
 
@@ -140,11 +148,11 @@ impl Turn {
         requires better { IsEmpty self.now.position better }
         requires worse { IsWorse self.now.position self.now.mover worse.now }
         requires differ { better ≢ worse.now.cell }
-        ensures { MatchOption result ((partner : ℕ) → ¬ IsDominated self.now.position self.now.mover better worse.now.cell (ByPair partner))
+        ensures { Finds result
             (λ partner. IsDominated self.now.position self.now.mover better worse.now.cell (ByPair partner)) }
     {
         let own = View::after(&self.position, self.mover, &self.own, self.mover, better);
-        let makers = makers_of(&own, worse.cell, &worse.own, self.position.empties());
+        let makers = makers_of(&own, worse.cell, worse.own, self.position.empties());
         partner_of(&own, worse.cell, makers.cells)
     }
 
@@ -153,8 +161,7 @@ impl Turn {
         requires better { IsEmpty self.now.position better }
         requires worse { IsWorse self.now.position self.now.mover worse.now }
         requires differ { better ≢ worse.now.cell }
-        ensures { MatchOption result ((kill : Kill) → ¬ IsDominated self.now.position self.now.mover better worse.now.cell kill)
-            (λ kill. IsDominated self.now.position self.now.mover better worse.now.cell kill) }
+        ensures { Finds result (IsDominated self.now.position self.now.mover better worse.now.cell) }
     {
         let can_be_dead = worse.by_dead.has(better);
         if can_be_dead && self.is_dead_after(better, worse) {
@@ -174,8 +181,7 @@ impl Turn {
     fn better_among(&self, worse: &Worse, cells: Mask) -> Option<Better>
         requires worse { IsWorse self.now.position self.now.mover worse.now }
         requires cells { AreOthers self.now.position worse.now.cell cells }
-        ensures { MatchOption result ((cell : ℕ) → has cells cell ≡ true → (kill : Kill) → ¬ IsDominated self.now.position self.now.mover cell worse.now.cell kill)
-            (IsBetter self.now.position self.now.mover worse.now.cell cells) }
+        ensures { Finds result (IsBetter self.now.position self.now.mover worse.now.cell cells) }
     {
         let size = self.position.size();
         let mut left = cells;
@@ -192,22 +198,10 @@ impl Turn {
     pub(crate) fn better_than(&self, worse: Cell, cells: Mask) -> Option<Better>
         requires worse { IsEmpty self.now.position worse }
         requires cells { AreOthers self.now.position worse cells }
-        ensures { MatchOption result ((cell : ℕ) → has cells cell ≡ true → (kill : Kill) → ¬ IsDominated self.now.position self.now.mover cell worse kill)
-            (IsBetter self.now.position self.now.mover worse cells) }
+        ensures { Finds result (IsBetter self.now.position self.now.mover worse cells) }
     {
         let known = self.worse(worse);
         let possible = cells.meet(known.by_dead.union(known.by_pair));
         self.better_among(&known, possible)
-    }
-}
-
-/// The open neighbours without a cell.
-fn without(around: &Surroundings, cell: Cell) -> Surroundings
-    ensures { result ≡ record around.now { cells = remove around.now.cells cell } }
-{
-    Surroundings {
-        cells: around.cells.without(cell),
-        first: around.first,
-        last: around.last,
     }
 }

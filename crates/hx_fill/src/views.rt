@@ -5,10 +5,10 @@
 
 ghost use Rattle.std.specs.Prelude.{◌≡◌, ◌≢◌};
 ghost use Rattle.hx_board.specs.Positions.{IsEmpty, put};
-ghost use Rattle.hx_board.specs.Graph.{IsVertex, IsReach};
-ghost use Rattle.hx_fill.specs.Views.{united};
+ghost use Rattle.hx_board.specs.Graph.{IsVertex, Joined};
+ghost use Rattle.hx_board.specs.VertexSets.{IsSetOf};
 
-use hx_board::{Cell, Colour, Groups, Position, Reach, Vertex};
+use hx_board::{Cell, Colour, Groups, Position, Vertex, VertexSet};
 use std::marker::Model;
 
 /// A position and a player. Contracts see it as these two.
@@ -24,18 +24,18 @@ pub(crate) struct View<'a> {
     stone: Option<Cell>,
 
     /// What that stone's cell was joined with before.
-    joint: Reach,
+    joint: VertexSet,
 }
 
 impl<'a> Model for View<'a> {
     ghost use Rattle.hx_board.specs.Graph.{Grouped};
-    ghost use Rattle.hx_fill.specs.Views.{TellsReach};
+    ghost use Rattle.hx_fill.specs.Views.{TellsJoined};
 
     ghost Value = { Grouped };
 
     ghost view = { λ v. record { board = v.position; player = v.colour } };
 
-    ghost invariant = { λ v. TellsReach v.groups.now v.position v.colour v.stone v.joint };
+    ghost invariant = { λ v. TellsJoined v.groups.now v.position v.colour v.stone v.joint };
 }
 
 impl<'a> View<'a> {
@@ -49,7 +49,7 @@ impl<'a> View<'a> {
             colour,
             groups,
             stone: None,
-            joint: groups.joined_with(Vertex::First),
+            joint: VertexSet::empty(),
         }
     }
 
@@ -65,11 +65,9 @@ impl<'a> View<'a> {
         requires empty { IsEmpty position.now cell }
         ensures { result ≡ record { board = put position.now who cell; player = colour } }
     {
-        let mut next = *position;
-        next.play(who, cell);
         let joint = groups.joined_with(Vertex::Of(cell));
         View {
-            position: next,
+            position: position.with(who, cell),
             colour,
             groups,
             stone: own_stone(colour, who, cell),
@@ -90,19 +88,19 @@ impl<'a> View<'a> {
     }
 
     /// All that a vertex is joined with.
-    pub(crate) fn joined_with(&self, vertex: Vertex) -> Reach
+    pub(crate) fn joined_with(&self, vertex: Vertex) -> VertexSet
         requires { IsVertex self.now.board.size vertex }
-        ensures { IsReach self.now.board self.now.player vertex result }
+        ensures { IsSetOf self.now.board.size (Joined self.now.board self.now.player vertex) result }
     {
-        let reach = self.groups.joined_with(vertex);
+        let joined = self.groups.joined_with(vertex);
         match self.stone {
-            None => reach,
+            None => joined,
             Some(cell) => {
-                let is_joined = reach.cells.has(cell);
+                let is_joined = joined.has(Vertex::Of(cell));
                 if is_joined {
-                    unite(&reach, &self.joint)
+                    joined.union(self.joint)
                 } else {
-                    reach
+                    joined
                 }
             }
         }
@@ -115,15 +113,4 @@ fn own_stone(colour: Colour, who: Colour, cell: Cell) -> Option<Cell>
     ensures others { who ≢ colour → result ≡ None }
 {
     if who == colour { Some(cell) } else { None }
-}
-
-/// All that is in one of the two, or in both.
-fn unite(one: &Reach, other: &Reach) -> Reach
-    ensures { result ≡ united one.now other.now }
-{
-    Reach {
-        cells: one.cells.union(other.cells),
-        first: one.first || other.first,
-        last: one.last || other.last,
-    }
 }

@@ -46,9 +46,7 @@ pub fn is_end(position: &Position, colour: Colour, vertex: &Vertex) -> bool
     ensures { IsTrue result ↔ IsEnd position.now colour vertex.now }
 {
     match vertex {
-        Vertex::Of(cell) => {
-            position.size().all().has(*cell) && position.is_open(colour, vertex)
-        }
+        Vertex::Of(cell) => { position.size().all().has(*cell) && position.is_open(colour, vertex) }
         Vertex::First | Vertex::Last => true,
     }
 }

@@ -368,7 +368,7 @@ impl LinkSet {
 /// lower end counts for more.
 fn head_between(kind: Kind, a: &Vertex, b: &Vertex) -> u16
     ensures between { IsHeadBetween kind a.now b.now result }
-    ensures small { result < 30258 }
+    ensures small { result < FIRST_NODE }
 {
     let one = head_for(kind, a, b);
     let other = head_for(kind, b, a);

@@ -1,12 +1,12 @@
 -- Two boards that mirror each other: of one size, and each stone of the one stands on the turned cell of the other. A board
 -- and its turned board are such, both ways, and stay so when both get a stone. Such boards are turned boards of one another.
-use Rattle.std.proofs.Common.{◌≡◌, ℕ, Bool, true, false, refl, sym, ap, ◌∙◌, subst, ◌⊎◌, inl, inr, ⊎_elim, ◌↔◌}
+use Rattle.std.proofs.Common.{◌≡◌, ℕ, Bool, true, false, refl, sym, ap, ◌∙◌, subst, inl, inr, ⊎_elim}
 use Rattle.std.proofs.lemmas.Bool.{false≢true, false_from_ne_true}
 use Rattle.hx_board.specs.declared.colours.Colour.{Colour}
 use Rattle.hx_board.specs.declared.colours.Colour.TheVariants.{Black, White}
 use Rattle.hx_board.specs.Sets.{has}
 use Rattle.hx_board.specs.Cells.{Extent, IsExtent, OnBoard}
-use Rattle.hx_board.specs.Positions.{Board, IsBoard, IsPosition, IsEmpty, put, stones_of}
+use Rattle.hx_board.specs.Positions.{Board, IsBoard, IsEmpty, put, stones_of}
 use Rattle.hx_board.proofs.SetLaws.{same_set}
 use Rattle.hx_board.proofs.StoneLaws.{size-put, stones-put}
 use Rattle.hx_turn.specs.Turned.{turned_cell, IsTurned}

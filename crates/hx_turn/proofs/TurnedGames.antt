@@ -1,5 +1,5 @@
 -- Who wins wins the turned board: the same moves, turned, on boards that mirror each other.
-use Rattle.std.proofs.Common.{◌≡◌, ℕ, refl, sym, ap, subst}
+use Rattle.std.proofs.Common.{ℕ, subst}
 use Rattle.hx_board.specs.declared.colours.Colour.{Colour}
 use Rattle.hx_board.specs.declared.vertices.Vertex.TheVariants.{First, Last}
 use Rattle.hx_board.specs.Colours.{other_of}

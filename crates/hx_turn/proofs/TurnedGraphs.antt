@@ -1,13 +1,12 @@
 -- On boards that mirror each other own vertices turn to own vertices, what touches to what touches, and so walks to walks.
-use Rattle.std.proofs.Common.{◌≡◌, ℕ, true, List, [], ◌∷◌, map, refl, sym, ap, ◌∙◌, subst, ◌⊎◌, inl, inr, ◌↔◌}
+use Rattle.std.proofs.Common.{◌≡◌, List, [], ◌∷◌, map, refl, sym, ap, subst, inl, inr}
 use Rattle.hx_board.specs.declared.colours.Colour.{Colour}
 use Rattle.hx_board.specs.declared.vertices.Vertex.{Vertex}
 use Rattle.hx_board.specs.declared.vertices.Vertex.TheVariants.{Of, First, Last}
-use Rattle.hx_board.specs.Sets.{has}
-use Rattle.hx_board.specs.Cells.{Extent, IsExtent, OnBoard}
-use Rattle.hx_board.specs.Positions.{Board, IsBoard, stones_of}
+use Rattle.hx_board.specs.Cells.{Extent, IsExtent}
+use Rattle.hx_board.specs.Positions.{Board, IsBoard}
 use Rattle.hx_board.specs.Graph.{IsVertex, Touches, IsOwn, Walk, Joined}
-use Rattle.hx_turn.specs.Turned.{turned_cell, turned_vertex, IsTurned, KeepsJoined}
+use Rattle.hx_turn.specs.Turned.{turned_vertex, IsTurned, KeepsJoined}
 use Rattle.hx_turn.proofs.TurnedCells.{on_board-turned, turned-turned, touch-turned, first_line-turned, last_line-turned}
 use Rattle.hx_turn.proofs.TurnedBoards.{Mirrors, exchanged, turned-mirrors}
 

@@ -9,7 +9,7 @@ mod reversals;
 mod turns;
 
 pub use laws::{turned_joins, turned_keeps};
-pub use turns::turned;
+pub use turns::{is_turned, turned};
 
 #[cfg(test)]
 mod tests;

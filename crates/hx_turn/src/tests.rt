@@ -27,6 +27,7 @@ fn three_rows_and_two_columns(rt: HostRuntime) -> Result<(), Fail> {
     let expected = with_stones(size, &[(2, 1)], &[(2, 0)])?;
     assert_eq!(rt; turned(&position), expected);
     assert_eq!(rt; turned(&expected), position);
+    assert!(rt; is_turned(&position, &expected) && !is_turned(&position, &position));
     turned_joins(&position, Colour::Black);
     turned_keeps(&position, Colour::Black, Colour::White);
     Ok(())

@@ -3,7 +3,7 @@
 //! A cell's index is eleven times its row and its column on a board of every size. So the turned cell's index is that of the
 //! board's last cell less the cell's own, and a whole set is turned by reversing it and moving it down.
 
-ghost use Rattle.std.specs.Prelude.{◌≡◌, ℕ, true, ◌↔◌};
+ghost use Rattle.std.specs.Prelude.{◌≡◌, ℕ, true, ◌↔◌, IsTrue};
 ghost use Rattle.hx_board.specs.Positions.{Board};
 ghost use Rattle.hx_board.specs.Sets.{has};
 ghost use Rattle.hx_board.specs.Cells.{OnBoard};
@@ -34,4 +34,12 @@ pub fn turned(position: &Position) -> Position
         Some(result) => result,
         None => unreachable!(),
     }
+}
+
+/// Whether the other position is this one turned by 180 degrees.
+pub fn is_turned(position: &Position, other: &Position) -> bool
+    ensures { IsTrue result ↔ IsTurned position.now other.now }
+{
+    let expected = turned(position);
+    expected == *other
 }

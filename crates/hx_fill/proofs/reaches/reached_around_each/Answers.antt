@@ -1,5 +1,4 @@
 use Rattle.hx_board.proofs.SetLaws.{remove-lt, has-remove_before}
-use Rattle.hx_inferior.proofs.DeadLaws.{among-on_board}
 use Rattle.hx_fill.proofs.ReachLaws.{holds-open, holds-more}
 use Rattle.hx_fill.proofs.reaches.reached_around_each.Goals as goal
 
@@ -7,7 +6,7 @@ pub loop-cell-smaller : goal.loop-cell-smaller
 loop-cell-smaller c = rw c.without-left.ensures.set (remove-lt c.loop-cell.left c.in-Some.cell c.in-Some.ensures.member)
 
 pub reached_around-near-requires : goal.reached_around-near-requires
-reached_around-near-requires c = let around = rw (c.position-in-Some.ensures, c.colour.ensures) at c.open_around-around.ensures in among-on_board _ _ _ _ around
+reached_around-near-requires c = let around = rw (c.position-in-Some.ensures, c.colour.ensures) at c.open_around-around.ensures in around.vertices
 
 pub loop-cell-preserved : goal.loop-cell-preserved
 loop-cell-preserved c = rw (c.without-left.ensures.set, c.union-found.ensures.set) (record {

@@ -7,13 +7,13 @@ use Rattle.hx_fill.proofs.threats.links_between.Goals as goal
 
 pub loop-place-preserved : goal.loop-place-preserved
 loop-place-preserved c =
-    let link : Between = record { place = c.in-Some.place; carrier = c.carrier_at-carrier.result } in
+    let link : Between = record { place = c.in-Some.place; carrier = c.carrier-carrier.result } in
     let split = rw c.in-Some.ensures.steps at c.loop-place.invariant.split in
     rw (c.push_reserved.ensures.items, c.reserve.ensures.items) (record {
       each = All-push (IsBetween c.args.set.now) c.loop-place.links.items link c.loop-place.invariant.each (record {
         live = next_live c.args.set.now c.live-place-items.result c.loop-place.links.items c.in-Some.place c.next.new.self c.live-place-items.ensures.each
             (split ∙ c.into_iter-place-iterator.ensures.into_iter_gives);
-        carrier = c.carrier_at-carrier.ensures;
+        carrier = c.carrier-carrier.ensures.held;
       });
       split = places_more c.loop-place.links.items link c.next.new.self c.into_iter-place-iterator.result split;
     })

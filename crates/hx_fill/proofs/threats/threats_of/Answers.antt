@@ -3,7 +3,7 @@ use Rattle.hx_fill.proofs.threats.threats_of.Goals as goal
 
 pub loop-link-init : goal.loop-link-init
 loop-link-init c = record {
-  threats = rw c.new.ensures.items (threats_none c.args.set.now c.colour-colour.ensures.right c.empties.result (rw c.position.ensures at c.empties.ensures));
+  threats = rw c.new.ensures.items (threats_none c.args.set.now c.keeps.ensures.right c.empties.result (rw c.position.ensures at c.empties.ensures));
   seen = in_none c.args.set.now c.as_slice-link-items.result.now c.empties.result;
 }
 

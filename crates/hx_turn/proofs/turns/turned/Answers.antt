@@ -1,6 +1,6 @@
-use Rattle.std.proofs.Common.{rules, sym}
+use Rattle.std.proofs.Common.{rules}
 use Rattle.hx_turn.specs.Turned.{IsTurned}
-use Rattle.hx_turn.proofs.TurnedBoards.{turned-back, turned-one, turned-is_board}
+use Rattle.hx_turn.proofs.TurnedBoards.{turned-back, turned-one}
 use Rattle.hx_turn.proofs.turns.turned.Goals as goal
 
 pub returns-clause-back : goal.returns-clause-back

@@ -1,4 +1,4 @@
-use Rattle.std.proofs.Common.{◌≡◌, ◌+◌, ◌*◌, ◌-◌, arith}
+use Rattle.std.proofs.Common.{◌+◌, ◌*◌, ◌-◌}
 use Rattle.hx_turn.proofs.TurnedSets.{has-turned}
 use Rattle.hx_turn.proofs.turns.turned_set.Goals as goal
 

@@ -1,6 +1,7 @@
 use Rattle.std.proofs.Common.{sym}
 use Rattle.hx_board.proofs.StoneLaws.{empty-put}
-use Rattle.hx_fill.proofs.KillerLaws.{open-others_after}
+use Rattle.hx_board.proofs.CellLaws.{on_board-small}
+use Rattle.hx_fill.proofs.OpenAfter.{open-others_after}
 use Rattle.hx_fill.proofs.turns.Turn.is_dead_after.Goals as goal
 
 pub makers_of-makers-requires-clause-empty : goal.makers_of-makers-requires-clause-empty
@@ -9,5 +10,6 @@ makers_of-makers-requires-clause-empty c =
 
 pub makers_of-makers-requires-clause-around : goal.makers_of-makers-requires-clause-around
 makers_of-makers-requires-clause-around c =
-    rw (c.after-others.ensures, c.other-other.ensures, c.without-around.ensures)
-    (open-others_after c.args.self.now.position c.args.self.now.mover c.args.better c.args.worse.now.cell c.args.worse.now.others c.requires.worse.others)
+    rw (c.after-others.ensures, c.other-other.ensures, c.without-around.ensures.set)
+    (open-others_after c.args.self.now.position c.args.self.now.mover c.args.better (on_board-small _ _ c.size-size.ensures.valid.0 c.requires.better.on_board)
+    c.args.worse.now.cell c.args.worse.now.others c.requires.worse.others)

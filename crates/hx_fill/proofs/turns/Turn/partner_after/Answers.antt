@@ -1,6 +1,7 @@
 use Rattle.std.proofs.Common.{sym}
 use Rattle.hx_board.proofs.StoneLaws.{empty-put}
-use Rattle.hx_fill.proofs.KillerLaws.{open-own_after, no_pair-by_makers, partner-dominates}
+use Rattle.hx_fill.proofs.OpenAfter.{open-own_after}
+use Rattle.hx_fill.proofs.KillerLaws.{no_pair-by_makers, partner-dominates}
 use Rattle.hx_fill.proofs.turns.Turn.partner_after.Goals as goal
 
 pub makers_of-makers-requires-clause-around : goal.makers_of-makers-requires-clause-around
