@@ -32,12 +32,13 @@ fn by_links(heading: Heading, steps: Vec<Step>) -> Node {
 /// it with the last, and one over both.
 fn ways_over_a1(alloc: Global, count: usize) -> Result<Vec<Step>, Fail> {
     let a1 = cell(0, 0)?;
+    let right = u32::try_from(count).or(Err("count"))?;
     let mut steps = Vec::new(alloc);
     for _ in 0..count {
         steps.push(base(First, Vertex::Of(a1)))?;
     }
     steps.push(base(Vertex::Of(a1), Last))?;
-    steps.push(over_cell(0, count as u32))?;
+    steps.push(over_cell(0, right))?;
     Ok(steps)
 }
 
