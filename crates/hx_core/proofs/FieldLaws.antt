@@ -1,5 +1,5 @@
 -- What each event leaves of the fields of the state.
-use Rattle.std.proofs.Common.{◌≡◌, ◌≢◌, ℕ, ◌+◌, ◌<◌, ◌≤◌, Bool, true, false, List, [], ◌∷◌, ◌++◌, length, set, get_or, sym, ap, ◌∙◌, subst, arith, length-append}
+use Rattle.std.proofs.Common.{◌≡◌, ◌≢◌, ℕ, ◌+◌, ◌<◌, ◌≤◌, Bool, true, false, List, [], ◌∷◌, ◌++◌, length, set, get_or, refl, inr, sym, ap, ◌∙◌, subst, arith, length-append}
 use Rattle.std.specs.Prelude.{replicate, slice_index, take, if◌then◌else◌}
 use Rattle.std.proofs.lemmas.Bool.{lt-ltb, le-ltb}
 use Rattle.hx_board.specs.declared.colours.Colour.{Colour}
@@ -9,12 +9,13 @@ use Rattle.hx_tree.specs.Entries.{HasNoEntry}
 use Rattle.hx_tree.specs.Rules.{IsRightNode}
 use Rattle.hx_tree.specs.Trees.{headings_of}
 use Rattle.hx_tree.proofs.RightNodeGrowth.{right_node-whole}
-use Rattle.hx_count.specs.Machine.{Account, CountsState, account, changed_at, with_unit, with_refusal, with_account, granted_to_all, has_units, counts_step, worker_of, IsAllowed}
+use Rattle.hx_count.specs.Machine.{Account, CountsState, account, changed_at, with_unit, with_refusal, with_account, granted_to_all, losses_at, has_units, counts_step, worker_of, IsAllowed}
 use Rattle.hx_count.specs.declared.events.CountEvent.{CountEvent}
 use Rattle.hx_count.specs.declared.events.CountEvent.TheVariants.{Spend as SpendUnit}
+use Rattle.hx_count.proofs.MachineLaws.{losses-le}
 use Rattle.hx_core.specs.declared.events.Reply.{Reply}
-use Rattle.hx_core.specs.declared.events.Reply.TheVariants.{Granted, Spent}
-use Rattle.hx_core.specs.BookMachine.{BookState, with_seen, with_node, AnswersLook, LookStep, IsAdded, IsRefused}
+use Rattle.hx_core.specs.declared.events.Reply.TheVariants.{Granted, Spent, Stored, NoSlot}
+use Rattle.hx_core.specs.BookMachine.{BookState, with_seen, with_all_seen, StoreStep}
 use Rattle.hx_core.specs.Machine.{MachineState}
 use Rattle.hx_core.specs.Runs.{IsKept}
 use Rattle.hx_core.specs.Fields.{machine, AreInRange, FieldsKeep}
@@ -70,6 +71,11 @@ module _ (slots : ℕ) (nodes : List Node) (seen : List ℕ) (budget : ℕ) (acc
     counts = fields.kept.counts;
   })
 
+  -- no word is held more often than all workers may hold
+  pub losses-few : (word : ℕ) → losses_at state.counts word ≤ 65536
+  losses-few word = let counts = fields.kept.counts in let in_range = fields.in_range in
+      omega (arith, losses-le fields.words state.counts word counts.bounded, counts.same_workers, in_range.few_workers)
+
   -- the counts after an event
   pub fields-counted : (event : CountEvent) → IsAllowed state.counts event → FieldsKeep (record state { counts = counts_step state.counts event }) room
   fields-counted event allowed = fields-as (record state { counts = counts_step state.counts event }) (record {
@@ -83,19 +89,21 @@ module _ (slots : ℕ) (nodes : List Node) (seen : List ℕ) (worker held : ℕ)
   abbrev book : BookState
   book = record { slots = slots; nodes = nodes; seen = seen }
 
-  pub look-step : (board : Board) (mover : Colour) (reply : Reply) → AnswersLook book board mover reply
-      → LookStep book worker board mover reply (record { slots = slots; nodes = nodes; seen = set seen worker held })
-  look-step board mover reply answers = (answers, ap (λ (n : ℕ). with_seen book worker n) is_held)
+  -- the worker has seen so many nodes, which are all
+  pub all-seen : record { slots = slots; nodes = nodes; seen = set seen worker held } ≡ with_all_seen book nodes worker
+  all-seen = ap (λ (n : ℕ). with_seen book worker n) is_held
 
   module _ (node : Node) (none : HasNoEntry nodes node.heading.position node.heading.to_move) where
-    pub refused-step : held ≡ slots → IsRefused book worker node held (record { slots = slots; nodes = nodes; seen = set seen worker held })
-    refused-step full = record { none = none; full = omega (arith, is_held, full); same_held = is_held; same = ap (λ (n : ℕ). with_seen book worker n) is_held }
+    pub refused-step : held ≡ slots → StoreStep book worker node (NoSlot held) (record { slots = slots; nodes = nodes; seen = set seen worker held })
+    refused-step full = (record { none = none; full = omega (arith, is_held, full); same_held = is_held; same = refl }, all-seen)
 
     pub added-step : held ≢ slots → length nodes ≤ slots
-        → IsAdded book worker node held (record { slots = slots; nodes = nodes ++ node ∷ []; seen = set seen worker (held + 1) })
+        → StoreStep book worker node (Stored held) (record { slots = slots; nodes = nodes ++ node ∷ []; seen = set seen worker (held + 1) })
     added-step left few =
-        let longer : held + 1 ≡ length (nodes ++ node ∷ []) = omega (arith, is_held, length-append nodes (node ∷ [])) in
-        record { none = none; room = omega (arith, is_held, left, few); last = is_held; grown = ap (λ (n : ℕ). with_seen (with_node book node) worker n) longer }
+        let longer : held + 1 ≡ length (nodes ++ node ∷ []) = omega (arith, is_held, length-append nodes (node ∷ [])) in (
+          inr (record { none = none; room = omega (arith, is_held, left, few); last = is_held; grown = refl }),
+          ap (λ (n : ℕ). with_seen (record book { nodes = nodes ++ node ∷ [] }) worker n) longer,
+        )
 
 -- ---- accounts that are read and written
 

@@ -3,14 +3,14 @@ use Rattle.std.proofs.Common.{◌≡◌, ℕ, List, [], ◌∷◌, ◌++◌, sym
 use Rattle.std.proofs.lemmas.List.{append-nil}
 use Rattle.hx_tree.proofs.TreeGrowth.{valid_tree}
 use Rattle.hx_count.specs.Machine.{CountsState, counts_step}
-use Rattle.hx_count.specs.declared.events.CountEvent.TheVariants.{Spend as SpendUnit, Hold as HoldWord, Release as ReleaseWord}
+use Rattle.hx_count.specs.declared.events.CountEvent.TheVariants.{Spend as SpendUnit, Hold as HoldWord, Release as ReleaseWord, Look as LookAt}
 use Rattle.hx_core.specs.declared.events.Event.{Event}
-use Rattle.hx_core.specs.declared.events.Event.TheVariants.{Look, Store, Tell, Spend, Hold, Release}
+use Rattle.hx_core.specs.declared.events.Event.TheVariants.{Look, Store, Tell, Spend, Hold, Release, LookAtWord}
 use Rattle.hx_core.specs.declared.events.Reply.{Reply}
 use Rattle.hx_core.specs.BookMachine.{BookState}
 use Rattle.hx_core.specs.Machine.{MachineState, machine_start, CanHappen, MachineStep, LeadsTo}
 use Rattle.hx_core.specs.Runs.{IsBook, AreCounts, IsKept, EveryRunKeeps, EveryRunGivesATree, IsGrown, EveryRunGrows, EveryRunGoesOn}
-use Rattle.hx_core.proofs.BookSteps.{BookGrows, book-begun, all_seen-kept, all_seen-grows, told-kept, told-grows, store-kept, store-grows}
+use Rattle.hx_core.proofs.BookSteps.{BookGrows, book-begun, look-kept, look-grows, told-kept, told-grows, store-kept, store-grows}
 use Rattle.hx_core.proofs.CountSteps.{counts-begun, counts-kept}
 
 pub begun-kept : (workers slots budget words : ℕ) → IsKept workers slots budget words (machine_start workers slots budget words)
@@ -30,7 +30,7 @@ module _ (workers slots budget words : ℕ) (old : MachineState) (kept : IsKept 
 
   pub step-kept : (event : Event) (reply : Reply) (new : MachineState) → CanHappen old event → MachineStep old event reply new → IsKept workers slots budget words new
   step-kept (Look worker position to_move) reply new can step =
-      book-changed new (subst (λ (b : BookState). IsBook workers slots b) (sym step.0.1) (all_seen-kept workers slots old.book kept.book worker)) step.1
+      book-changed new (look-kept workers slots old.book kept.book worker position to_move new.book reply step.0) step.1
   step-kept (Store worker node) reply new can step = book-changed new (store-kept workers slots old.book kept.book worker node can.1 new.book reply step.0) step.1
   step-kept (Tell from to) reply new can step =
       subst (λ (s : MachineState). IsKept workers slots budget words s) (sym step.1) (record { book = told-kept workers slots old.book kept.book from to; counts = kept.counts })
@@ -40,21 +40,22 @@ module _ (workers slots budget words : ℕ) (old : MachineState) (kept : IsKept 
       counts-changed (counts_step old.counts (HoldWord worker word)) new (counts-kept workers budget words old.counts kept.counts (HoldWord worker word) can) step.1
   step-kept (Release worker word) reply new can step =
       counts-changed (counts_step old.counts (ReleaseWord worker word)) new (counts-kept workers budget words old.counts kept.counts (ReleaseWord worker word) can) step.1
+  step-kept (LookAtWord worker word) reply new can step = subst (λ (s : MachineState). IsKept workers slots budget words s) (sym step.1) kept
 
   -- ---- growth
 
   book_stays : (counts : CountsState) (new : MachineState) → new ≡ record old { counts = counts } → BookGrows old.book new.book
   book_stays counts new same = subst (λ (s : MachineState). BookGrows old.book s.book) (sym same)
-      (record { more = []; same = sym (append-nil old.book.nodes); seen = λ worker. omega arith })
+      (record { extends = ([], sym (append-nil old.book.nodes)); seen = λ worker. omega arith })
 
   step-grows : (event : Event) (reply : Reply) (new : MachineState) → CanHappen old event → MachineStep old event reply new → BookGrows old.book new.book
-  step-grows (Look worker position to_move) reply new can step =
-      subst (λ (b : BookState). BookGrows old.book b) (sym step.0.1) (all_seen-grows workers slots old.book kept.book worker)
+  step-grows (Look worker position to_move) reply new can step = look-grows workers slots old.book kept.book worker position to_move new.book reply step.0
   step-grows (Store worker node) reply new can step = store-grows workers slots old.book kept.book worker node can.1 new.book reply step.0
   step-grows (Tell from to) reply new can step = subst (λ (s : MachineState). BookGrows old.book s.book) (sym step.1) (told-grows workers slots old.book kept.book from to)
   step-grows (Spend worker) reply new can step = book_stays (counts_step old.counts (SpendUnit worker)) new step.1
   step-grows (Hold worker word) reply new can step = book_stays (counts_step old.counts (HoldWord worker word)) new step.1
   step-grows (Release worker word) reply new can step = book_stays (counts_step old.counts (ReleaseWord worker word)) new step.1
+  step-grows (LookAtWord worker word) reply new can step = book_stays old.counts new step.1
 
 -- ---- runs
 
@@ -67,15 +68,17 @@ module _ (workers slots budget words : ℕ) where
 
   run-grows : (old : MachineState) (events : List Event) (new : MachineState) → IsKept workers slots budget words old → LeadsTo old events new → IsGrown old new
   run-grows old [] new kept run = subst (λ (s : MachineState). IsGrown old s) (sym run)
-      (record { more = []; same = sym (append-nil old.book.nodes); seen = λ worker. omega arith })
+      (record { extends = ([], sym (append-nil old.book.nodes)); seen = λ worker. omega arith })
   run-grows old (event ∷ events) new kept run =
       let between : MachineState = run.1.1.0 in
       let first : BookGrows old.book between.book = step-grows workers slots budget words old kept event run.1.0 between run.0 run.1.1.1.0 in
       let rest : IsGrown between new =
       run-grows between events new (step-kept workers slots budget words old kept event run.1.0 between run.0 run.1.1.1.0) run.1.1.1.1 in
       record {
-        more = first.more ++ rest.more;
-        same = rest.same ∙ ap (λ (nodes : List _). nodes ++ rest.more) first.same ∙ append_assoc old.book.nodes first.more rest.more;
+        extends = (
+          first.extends.0 ++ rest.extends.0,
+          rest.extends.1 ∙ ap (λ (nodes : List _). nodes ++ rest.extends.0) first.extends.1 ∙ append_assoc old.book.nodes first.extends.0 rest.extends.0,
+        );
         seen = λ worker. omega (arith, first.seen worker, rest.seen worker);
       }
 

@@ -1,9 +1,8 @@
 -- What is true in each state that events lead to from the start, and of a later state beside an earlier one.
-use Rattle.std.specs.Prelude.{◌≡◌, ◌≢◌, ◌<◌, ◌≤◌, ℕ, List, [], ◌++◌, length}
-use Rattle.hx_tree.specs.declared.nodes.Node.{Node}
-use Rattle.hx_tree.specs.Entries.{AreApart}
+use Rattle.std.specs.Prelude.{◌≡◌, ◌≢◌, ◌≤◌, ℕ, List, [], ◌++◌, length}
+use Rattle.hx_tree.specs.Entries.{AreDistinctEntries, Extends}
 use Rattle.hx_tree.specs.Trees.{AreRight, IsValidTree}
-use Rattle.hx_count.specs.Machine.{CountsState, account_of, granted_to_all, held_in_all}
+use Rattle.hx_count.specs.Machine.{CountsState, IsInBudget, AreBounded}
 use Rattle.hx_core.specs.declared.events.Event.{Event}
 use Rattle.hx_core.specs.BookMachine.{BookState, seen_by}
 use Rattle.hx_core.specs.Machine.{MachineState, machine_start, LeadsTo}
@@ -15,17 +14,16 @@ pub record IsBook (workers slots : ℕ) (book : BookState) : Type 0 where
   pub same_slots : book.slots ≡ slots
   pub held : length book.nodes ≤ slots
   pub right : AreRight book.nodes
-  pub apart : AreApart book.nodes
+  pub distinct : AreDistinctEntries book.nodes
   pub seen : (worker : ℕ) → seen_by book worker ≤ length book.nodes
 
--- the counts of so many workers, units and words: no more units are granted than there are, and each worker has all the words
--- and holds at most 1,024 in all
+-- the counts of so many workers, units and words: no more units are granted than there are, all of them where a worker was refused,
+-- and each worker has all the words and holds at most 1,024 in all
 pub record AreCounts (workers budget words : ℕ) (counts : CountsState) : Type 0 where
   pub same_workers : length counts.accounts ≡ workers
   pub same_budget : counts.budget ≡ budget
-  pub granted : granted_to_all counts ≤ budget
-  pub holds : (worker : ℕ) → worker < workers → held_in_all (account_of counts worker) ≤ 1024
-  pub same_words : (worker : ℕ) → worker < workers → length (account_of counts worker).held ≡ words
+  pub in_budget : IsInBudget counts
+  pub bounded : AreBounded words counts
 
 pub record IsKept (workers slots budget words : ℕ) (state : MachineState) : Type 0 where
   pub book : IsBook workers slots state.book
@@ -45,8 +43,7 @@ EveryRunGivesATree =
 
 -- the later list begins with the earlier one, and each worker has seen what it had seen, or more
 pub record IsGrown (old new : MachineState) : Type 0 where
-  pub more : List Node
-  pub same : new.book.nodes ≡ old.book.nodes ++ more
+  pub extends : Extends new.book.nodes old.book.nodes
   pub seen : (worker : ℕ) → seen_by old.book worker ≤ seen_by new.book worker
 
 -- a state that events lead to, and a state that further events lead to from there

@@ -70,14 +70,24 @@ impl Account {
         requires { held_in_all self.now ≤ 1024 }
         ensures { IsTrue result ↔ ((word < length self.now.held) × (held_in_all self.now < 1024)) }
     {
-        (word as usize) < self.held.len() && total(self.held.as_slice()) < 1024
+        self.has(word) && total(self.held.as_slice()) < 1024
     }
 
-    /// Whether it holds the word.
-    pub(crate) fn holds(&self, word: u32) -> bool
-        ensures { IsTrue result ↔ (0 < slice_index self.now.held word) }
+    /// Whether there is such a word.
+    pub(crate) fn has(&self, word: u32) -> bool
+        ensures { IsTrue result ↔ (word < length self.now.held) }
     {
-        (word as usize) < self.held.len() && self.held[word as usize] > 0
+        (word as usize) < self.held.len()
+    }
+
+    /// How often it holds the word.
+    pub(crate) fn times(&self, word: u32) -> u32
+        ensures { result ≡ slice_index self.now.held word }
+    {
+        if !self.has(word) {
+            return 0;
+        }
+        self.held[word as usize]
     }
 
     /// Holds a word once more.

@@ -1,16 +1,15 @@
 //! What workers do with the list of nodes: look, store, and tell each other. This is the plain way, which reads the list from
 //! its front.
 
-ghost use Rattle.std.specs.Prelude.{◌≡◌, ◌≤◌, ◌↔◌, IsTrue, length, MatchOption};
-ghost use Rattle.hx_tree.specs.Entries.{HasNoEntry};
+ghost use Rattle.std.specs.Prelude.{◌≡◌, ◌≤◌, ◌↔◌, IsTrue, length};
+ghost use Rattle.hx_tree.specs.Entries.{FindsFirst};
 ghost use Rattle.hx_core.specs.declared.events.Event.TheVariants.{Look, Store, Tell};
-ghost use Rattle.hx_core.specs.BookMachine.{IsFirstFound};
 ghost use Rattle.hx_core.specs.Machine.{CanHappen, MachineStep};
 
-use crate::events::{Found, Reply};
+use crate::events::Reply;
 use crate::states::State;
 use hx_board::{Colour, Position};
-use hx_tree::{Heading, Node};
+use hx_tree::{Found, Heading, Node};
 
 impl State {
     /// A worker looks for the first entry of a position and mover. It has seen all nodes then.
@@ -20,10 +19,7 @@ impl State {
     {
         let found = find(self.nodes.as_slice(), position, to_move);
         self.seen[worker as usize] = self.nodes.len() as u32;
-        match found {
-            Some(entry) => Reply::Found(entry),
-            None => Reply::NoEntry,
-        }
+        Reply::Looked(found)
     }
 
     /// A worker stores a node that is right after those that it has seen. It has seen all nodes then.
@@ -61,7 +57,7 @@ impl State {
 /// The first entry of a position and mover. None exactly where there is none.
 fn find(nodes: &[Node], position: &Position, to_move: Colour) -> Option<Found>
     requires { length nodes.now ≤ 1048576 }
-    ensures { MatchOption result (HasNoEntry nodes.now position.now to_move) (IsFirstFound nodes.now position.now to_move) }
+    ensures { FindsFirst nodes.now position.now to_move result }
 {
     for (index, node) in nodes.iter().enumerate() {
         if is_of(&node.heading, position, to_move) {

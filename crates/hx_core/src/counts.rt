@@ -1,7 +1,7 @@
-//! What workers do with the counts: spend units, and hold and release loss words.
+//! What workers do with the counts: spend units, and hold, release and look at loss words.
 
-ghost use Rattle.std.specs.Prelude.{◌≡◌, ◌≤◌, ◌^◌, sum_by};
-ghost use Rattle.hx_count.specs.Machine.{Account as Holding};
+ghost use Rattle.std.specs.Prelude.{◌≡◌, ◌≤◌, ◌^◌, sum_by, slice_index};
+ghost use Rattle.hx_count.specs.Machine.{Account as Holding, losses_at};
 ghost use Rattle.hx_core.specs.declared.events.Event.TheVariants.{Spend, Hold, Release};
 ghost use Rattle.hx_core.specs.Machine.{CanHappen, MachineStep};
 
@@ -41,6 +41,13 @@ impl State {
         self.accounts[worker as usize].release(word);
         Reply::Released
     }
+
+    /// How often all workers together hold a word.
+    pub(crate) fn losses(&self, word: u32) -> u64
+        ensures { result ≡ losses_at self.now.counts word }
+    {
+        held_by_all(self.accounts.as_slice(), word)
+    }
 }
 
 /// The units that are granted to all.
@@ -53,4 +60,16 @@ fn granted_to_all(accounts: &[Account]) -> u64
         granted += account.granted();
     }
     granted
+}
+
+/// How often a word is held, over all accounts.
+fn held_by_all(accounts: &[Account], word: u32) -> u64
+    requires { sum_by (λ (a : Holding). slice_index a.held word) accounts.now ≤ 2 ^ 40 }
+    ensures { result ≡ sum_by (λ (a : Holding). slice_index a.held word) accounts.now }
+{
+    let mut held = 0;
+    for account in accounts {
+        held += u64::from(account.times(word));
+    }
+    held
 }

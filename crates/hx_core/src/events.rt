@@ -1,7 +1,7 @@
 //! What workers ask of the machine, and what it answers.
 
 use hx_board::{Colour, Position};
-use hx_tree::Node;
+use hx_tree::{Found, Node};
 
 /// What a worker does. Workers go by their numbers, from 0 on, and so do loss words.
 #[derive(PartialEq, Eq, Debug, Drop)]
@@ -41,23 +41,19 @@ pub enum Event {
         worker: u32,
         word: u32,
     },
-}
 
-/// An entry that was found: where it stands, and who wins by it.
-#[derive(Clone, Copy, PartialEq, Eq, Debug)]
-pub struct Found {
-    pub index: u32,
-    pub winner: Colour,
+    /// The worker asks how often all workers together hold a loss word.
+    LookAtWord {
+        worker: u32,
+        word: u32,
+    },
 }
 
 /// What a worker is answered.
 #[derive(Clone, Copy, PartialEq, Eq, Debug)]
 pub enum Reply {
-    /// To a look: the first entry of the position and mover.
-    Found(Found),
-
-    /// To a look: there is no entry of the position and mover.
-    NoEntry,
+    /// To a look: the first entry of the position and mover, if there is one.
+    Looked(Option<Found>),
 
     /// To a store: the index of the first entry of the node's position and mover, which may be the node.
     Stored(u32),
@@ -79,4 +75,7 @@ pub enum Reply {
 
     /// The word is held once less.
     Released,
+
+    /// How often all workers together hold the word.
+    Losses(u64),
 }

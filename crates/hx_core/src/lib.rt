@@ -9,12 +9,11 @@ mod laws;
 mod machines;
 mod states;
 
-pub use events::{Event, Found, Reply};
+pub use events::{Event, Reply};
+pub use hx_tree::Found;
 pub use laws::{every_run_goes_on, every_run_grows, every_run_keeps};
 pub use machines::{apply, can_happen};
 pub use states::State;
 
-#[cfg(test)]
-mod plain;
 #[cfg(test)]
 mod tests;

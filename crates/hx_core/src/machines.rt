@@ -3,7 +3,7 @@
 ghost use Rattle.std.specs.Prelude.{◌≡◌, ◌<◌, ◌↔◌, IsTrue, IfOk, length};
 ghost use Rattle.hx_tree.specs.Rules.{IsRightNode};
 ghost use Rattle.hx_tree.specs.Trees.{headings_of};
-ghost use Rattle.hx_core.specs.declared.events.Event.TheVariants.{Store, Hold, Release};
+ghost use Rattle.hx_core.specs.declared.events.Event.TheVariants.{Store, Hold, Release, LookAtWord};
 ghost use Rattle.hx_core.specs.Machine.{IsWorker, CanHappen, MachineStep};
 
 use crate::events::{Event, Reply};
@@ -28,6 +28,7 @@ pub fn apply(state: &mut State, event: Event) -> Reply
         Event::Spend { worker } => state.spend(worker),
         Event::Hold { worker, word } => state.hold(worker, word),
         Event::Release { worker, word } => state.release(worker, word),
+        Event::LookAtWord { word, .. } => Reply::Losses(state.losses(word)),
     }
 }
 
@@ -43,6 +44,7 @@ pub fn can_happen(alloc: Global, state: &State, event: &Event) -> Result<bool, M
         Event::Spend { worker } => Ok(state.has_account(*worker)),
         Event::Hold { worker, word } => Ok(state.can_hold(*worker, *word)),
         Event::Release { worker, word } => Ok(state.can_release(*worker, *word)),
+        Event::LookAtWord { worker, word } => Ok(state.can_look_at(*worker, *word)),
     }
 }
 
@@ -84,7 +86,16 @@ impl State {
         if (worker as usize) >= self.accounts.len() {
             return false;
         }
-        self.accounts[worker as usize].holds(word)
+        self.accounts[worker as usize].times(word) > 0
+    }
+
+    fn can_look_at(&self, worker: u32, word: u32) -> bool
+        ensures { IsTrue result ↔ CanHappen self.now (LookAtWord worker word) }
+    {
+        if (worker as usize) >= self.accounts.len() {
+            return false;
+        }
+        self.accounts[worker as usize].has(word)
     }
 }
 

@@ -9,7 +9,7 @@ use mathlib.Core.Logic.{dite}
 use native.Mathlib.Decide.{ℕ_discrete, dec_lt}
 use Rattle.hx_count.specs.declared.events.CountEvent.{CountEvent}
 use Rattle.hx_count.specs.declared.events.CountEvent.TheVariants.{Spend, Hold, Release, Look}
-use Rattle.hx_count.specs.Machine.{Account, CountsState, no_account, account, counts_start, account_of, granted_to_all, refused_of_all, losses_at, held_in_all, held_by_all, HasNothing, has_units, changed_at, with_unit, with_refusal, holding, releasing, with_account, counts_step, counts_run, worker_of, IsAllowed, AreAllowed}
+use Rattle.hx_count.specs.Machine.{Account, CountsState, no_account, account, counts_start, account_of, granted_to_all, refused_of_all, losses_at, held_in_all, held_by_all, HasNothing, has_units, changed_at, with_unit, with_refusal, holding, releasing, with_account, counts_step, counts_run, worker_of, IsAllowed, AreAllowed, AreBounded, IsInBudget}
 use Rattle.hx_count.specs.Histories.{AreOthers, GoesOn}
 use Rattle.hx_count.proofs.Changes.{length-changed, changed-here, changed-elsewhere, changed-back, sum_by-changed, sum_by-changed-le, sum_by-unchanged}
 use Rattle.hx_count.proofs.Sums.{upto, sum-upto, sum_by-same, upto-sum_by}
@@ -163,11 +163,6 @@ releasing-held word a later same = ap (λ held. changed_at (λ (n : ℕ). n - 1)
 pub releasing-holding : (word : ℕ) (a : Account) → releasing word (holding word a) ≡ a
 releasing-holding word a = ap (λ held. account a.granted a.refused held) (releasing-held word a (holding word a) refl)
 
--- each worker has a number for each loss word, and holds no more than it may
-pub record AreBounded (words : ℕ) (state : CountsState) : Type 0 where
-  pub long : (worker : ℕ) → worker < length state.accounts → length (account_of state worker).held ≡ words
-  pub few : (worker : ℕ) → held_in_all (account_of state worker) ≤ 1024
-
 -- a change of one account keeps the bounds where the changed account has them
 bounded-step : (words : ℕ) (state : CountsState) (event : CountEvent) → AreBounded words state → worker_of event < length state.accounts
     → length (account_of (counts_step state event) (worker_of event)).held ≡ words
@@ -226,7 +221,7 @@ get-copies P (suc count) x d (suc place) at_x at_d = get-copies P count x d plac
 pub start-nothing : (budget words workers worker : ℕ) → HasNothing (account_of (counts_start budget words workers) worker)
 start-nothing budget words workers worker = get-copies HasNothing workers (account 0 false (replicate words 0)) no_account worker (record { granted = refl; refused = refl; held = sum-zeros words }) (record { granted = refl; refused = refl; held = refl })
 
-start-bounded : (budget words workers : ℕ) → AreBounded words (counts_start budget words workers)
+pub start-bounded : (budget words workers : ℕ) → AreBounded words (counts_start budget words workers)
 start-bounded budget words workers = record {
   long = λ worker less. ap (λ a. length a.held) (get_or-replicate workers worker (account 0 false (replicate words 0)) no_account (omega (arith, length-replicate workers (account 0 false (replicate words 0))))) ∙ length-replicate words 0;
   few = λ worker. omega (arith, (start-nothing budget words workers worker).held);
@@ -297,11 +292,6 @@ held-losses words state bounded = upto-sum_by words (λ word (a : Account). slic
 
 -- ---- how many units are granted
 
--- no more units than the budget are granted, and where a worker was refused, as many as the budget
-pub record IsInBudget (state : CountsState) : Type 0 where
-  pub within : granted_to_all state ≤ state.budget
-  pub full : 0 < refused_of_all state → granted_to_all state ≡ state.budget
-
 in-budget-spend : (state : CountsState) (worker : ℕ) → worker < length state.accounts → IsInBudget state → IsInBudget (counts_step state (Spend worker))
 in-budget-spend state worker is_worker is = ⊎_elim
     (λ (room : granted_to_all state < state.budget).
@@ -318,7 +308,7 @@ in-budget-spend state worker is_worker is = ⊎_elim
     })
     (cases_lt (granted_to_all state) state.budget)
 
-in-budget-step : (state : CountsState) (event : CountEvent) → worker_of event < length state.accounts → IsInBudget state → IsInBudget (counts_step state event)
+pub in-budget-step : (state : CountsState) (event : CountEvent) → worker_of event < length state.accounts → IsInBudget state → IsInBudget (counts_step state event)
 in-budget-step state (Spend worker) is_worker is = in-budget-spend state worker is_worker is
 in-budget-step state (Hold worker word) is_worker is = record {
   within = omega (arith, granted-hold state worker word, is.within);
@@ -334,8 +324,11 @@ pub in-budget-run : (state : CountsState) (events : List CountEvent) → AreAllo
 in-budget-run state [] allowed is = is
 in-budget-run state (event ∷ events) allowed is = in-budget-run (counts_step state event) events allowed.1 (in-budget-step state event allowed.0.0 is)
 
-pub history-in_budget : (budget words workers : ℕ) (history : List CountEvent) → AreAllowed (counts_start budget words workers) history → IsInBudget (counts_run (counts_start budget words workers) history)
-history-in_budget budget words workers history allowed = in-budget-run (counts_start budget words workers) history allowed (record {
+pub start-in_budget : (budget words workers : ℕ) → IsInBudget (counts_start budget words workers)
+start-in_budget budget words workers = record {
   within = omega (arith, start-granted budget words workers);
   full = λ some. absurd (omega (arith, some, start-refused budget words workers));
-})
+}
+
+pub history-in_budget : (budget words workers : ℕ) (history : List CountEvent) → AreAllowed (counts_start budget words workers) history → IsInBudget (counts_run (counts_start budget words workers) history)
+history-in_budget budget words workers history allowed = in-budget-run (counts_start budget words workers) history allowed (start-in_budget budget words workers)

@@ -1,6 +1,6 @@
 -- The counts machine: a budget of units that workers spend, and loss words that they hold, release and look at. Its state is what
 -- each worker has. A history is the list of events from the start, the oldest first.
-use Rattle.std.specs.Prelude.{◌≡◌, ℕ, zero, suc, ◌+◌, ◌-◌, ◌<◌, Bool, true, false, nat_lt, if◌then◌else◌, List, [], ◌∷◌, length, sum, sum_by, count_by, replicate, slice_index, slice_index_or}
+use Rattle.std.specs.Prelude.{◌≡◌, ℕ, zero, suc, ◌+◌, ◌-◌, ◌<◌, ◌≤◌, Bool, true, false, nat_lt, if◌then◌else◌, List, [], ◌∷◌, length, sum, sum_by, count_by, replicate, slice_index, slice_index_or}
 use Rattle.hx_count.specs.declared.events.CountEvent.{CountEvent}
 use Rattle.hx_count.specs.declared.events.CountEvent.TheVariants.{Spend, Hold, Release, Look}
 
@@ -120,3 +120,15 @@ IsAllowed state event = (worker_of event < length state.accounts) × MayDo (acco
 abbrev pub AreAllowed : CountsState → List CountEvent → Type 0
 AreAllowed state [] = Unit {0}
 AreAllowed state (event ∷ events) = IsAllowed state event × AreAllowed (counts_step state event) events
+
+-- ---- what is true after each history
+
+-- each worker has a number for each loss word, and holds at most 1,024 in all
+pub record AreBounded (words : ℕ) (state : CountsState) : Type 0 where
+  pub long : (worker : ℕ) → worker < length state.accounts → length (account_of state worker).held ≡ words
+  pub few : (worker : ℕ) → held_in_all (account_of state worker) ≤ 1024
+
+-- no more units than the budget are granted, and where a worker was refused, as many as the budget
+pub record IsInBudget (state : CountsState) : Type 0 where
+  pub within : granted_to_all state ≤ state.budget
+  pub full : 0 < refused_of_all state → granted_to_all state ≡ state.budget

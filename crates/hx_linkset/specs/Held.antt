@@ -7,12 +7,14 @@ use Rattle.std.specs.declared.option.Option.{Option}
 use Rattle.std.specs.declared.option.Option.TheVariants.{None, Some}
 use Rattle.hx_board.specs.declared.colours.Colour.{Colour}
 use Rattle.hx_board.specs.declared.vertices.Vertex.{Vertex}
+use Rattle.hx_board.specs.declared.vertices.TheConstants.{VERTICES}
 use Rattle.hx_board.specs.declared.vertices.Vertex.TheVariants.{Of, First, Last}
 use Rattle.hx_board.specs.Positions.{Board}
 use Rattle.hx_board.specs.VertexSets.{code_of, IsSomeVertex}
 use Rattle.hx_link.specs.declared.links.Kind.{Kind}
 use Rattle.hx_link.specs.declared.links.Kind.TheVariants.{Full, Semi}
 use Rattle.hx_link.specs.declared.links.Link.{Link}
+use Rattle.hx_linkset.specs.declared.chains.TheConstants.{KIND_HEADS, FIRST_NODE}
 use Rattle.hx_linkset.specs.States.{IsLive, IsUntouched}
 use Rattle.hx_linkset.specs.Rings.{AreRings, Rings, relinked, IsInside}
 
@@ -23,17 +25,17 @@ pub record LeadToThemselves (size : ℕ) (nodes : List ℕ) : Type 0 where
 
 -- heads alone, each of an empty ring
 pub record AreHeads (rings : Rings) : Type 0 where
-  pub next : LeadToThemselves 30258 rings.next
-  pub previous : LeadToThemselves 30258 rings.previous
+  pub next : LeadToThemselves FIRST_NODE rings.next
+  pub previous : LeadToThemselves FIRST_NODE rings.previous
 
--- a vertex has a number below 123, so each kind has 123 times 123 heads
+-- how many heads come before those of a kind
 abbrev pub kind_code : Kind → ℕ
 kind_code Full = 0
-kind_code Semi = 15129
+kind_code Semi = KIND_HEADS
 
 -- the head of the links of one kind and pair of ends
 abbrev pub head_for : Kind → Vertex → Vertex → ℕ
-head_for kind a b = kind_code kind + 123 * code_of a + code_of b
+head_for kind a b = kind_code kind + VERTICES * code_of a + code_of b
 
 -- two vertices, the lower one first
 pub record AreInOrder (a b low high : Vertex) : Type 0 where
@@ -59,17 +61,17 @@ head_or (Some link) node = head_of link
 
 -- the head of a node's ring: of a head itself, of another node that of its link
 unfoldable pub head_at : List Link → ℕ → ℕ
-head_at links node = if nat_lt node 30258 then node else head_or (slice_get links (node - 30258)) node
+head_at links node = if nat_lt node FIRST_NODE then node else head_or (slice_get links (node - FIRST_NODE)) node
 
 -- a head, or the node of a link that has this property at its place
 abbrev pub IsLinked : List Link → (ℕ → Link → Type 0) → ℕ → Type 0
-IsLinked links Has node = (node < 30258) ⊎ ((place : ℕ) × ((link : Link) × ((node ≡ 30258 + place) × ((slice_get links place ≡ Some link) × Has place link))))
+IsLinked links Has node = (node < FIRST_NODE) ⊎ ((place : ℕ) × ((link : Link) × ((node ≡ FIRST_NODE + place) × ((slice_get links place ≡ Some link) × Has place link))))
 
 -- the rings hold exactly the links that have the property
 pub record RingsHold (links : List Link) (Has : ℕ → Link → Type 0) (rings : Rings) : Type 0 where
   pub rings_ok : AreRings (head_at links) (λ node. slice_index rings.next node) (λ node. slice_index rings.previous node) (IsLinked links Has)
-  pub next_long : length rings.next ≡ 30258 + length links
-  pub previous_long : length rings.previous ≡ 30258 + length links
+  pub next_long : length rings.next ≡ FIRST_NODE + length links
+  pub previous_long : length rings.previous ≡ FIRST_NODE + length links
 
 -- the link at a place lacks the property
 pub record IsOut (links : List Link) (Has : ℕ → Link → Type 0) (place : ℕ) : Type 0 where
@@ -84,12 +86,12 @@ pub record LogHolds (links : List Link) (Has : ℕ → Link → Type 0) (log : L
 -- the nodes of these places put back, the first of the list first
 abbrev pub relinked_all : Rings → List ℕ → Rings
 relinked_all rings [] = rings
-relinked_all rings (place ∷ places) = relinked_all (relinked rings (30258 + place)) places
+relinked_all rings (place ∷ places) = relinked_all (relinked rings (FIRST_NODE + place)) places
 
 -- and each of them can be put back as its turn comes
 abbrev pub CanRelink : Rings → List ℕ → Type 0
 CanRelink rings [] = Unit {0}
-CanRelink rings (place ∷ places) = IsInside rings (30258 + place) × CanRelink (relinked rings (30258 + place)) places
+CanRelink rings (place ∷ places) = IsInside rings (FIRST_NODE + place) × CanRelink (relinked rings (FIRST_NODE + place)) places
 
 -- a link that is live, wherever it stands
 abbrev pub IsLiveThere : Board → Colour → ℕ → Link → Type 0

@@ -9,6 +9,7 @@ use Rattle.hx_link.specs.declared.links.Kind.{Kind}
 use Rattle.hx_link.specs.declared.links.Kind.TheVariants.{Full, Semi}
 use Rattle.hx_link.specs.declared.links.Link.{Link}
 use Rattle.hx_link.specs.Steps.{HasEnds}
+use Rattle.hx_linkset.specs.declared.chains.TheConstants.{FIRST_NODE}
 use Rattle.hx_linkset.specs.States.{Standing, IsLive}
 
 -- at this place is a live link of these ends, in either order
@@ -33,7 +34,7 @@ turn_by false false false = Some Semi
 
 -- the kind whose node is next
 abbrev pub turn_of : ℕ → ℕ → Option Kind
-turn_of full semi = turn_by (nat_lt full 30258) (nat_lt semi 30258) (nat_lt full semi)
+turn_of full semi = turn_by (nat_lt full FIRST_NODE) (nat_lt semi FIRST_NODE) (nat_lt full semi)
 
 abbrev pub from_turn : Option Kind → ℕ → List ℕ → ℕ → List ℕ → List ℕ
 from_turn None full after_full semi after_semi = []
@@ -45,5 +46,5 @@ unfoldable pub pairs_from : List ℕ → ℕ → ℕ → ℕ → List ℕ
 pairs_from next zero full semi = []
 pairs_from next (suc left) full semi =
     from_turn (turn_of full semi)
-    (full - 30258) (pairs_from next left (slice_index next full) semi)
-    (semi - 30258) (pairs_from next left full (slice_index next semi))
+    (full - FIRST_NODE) (pairs_from next left (slice_index next full) semi)
+    (semi - FIRST_NODE) (pairs_from next left full (slice_index next semi))

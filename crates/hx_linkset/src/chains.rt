@@ -9,13 +9,16 @@ ghost use Rattle.hx_linkset.specs.Rings.{unlinked, relinked, grown, cut, IsInsid
 ghost use Rattle.hx_linkset.specs.Held.{head_of, head_for, kind_code, AreHeads, LeadToThemselves};
 ghost use Rattle.hx_board.specs.VertexSets.{code_of, IsSomeVertex};
 
-use hx_board::{Memory, Vertex};
+use hx_board::{Memory, VERTICES, Vertex};
 use hx_link::{Kind, Link};
 use std::alloc::Global;
 use std::marker::Model;
 
-/// The node of the first link. The heads come before it, one for each kind and pair of ends.
-pub(crate) const FIRST_NODE: u16 = 30258;
+/// The heads of one kind: one for each pair of ends, of which each is one of `VERTICES`.
+const KIND_HEADS: u16 = 15129;
+
+/// The node of the first link. The heads of both kinds come before it.
+pub(crate) const FIRST_NODE: u16 = 2 * KIND_HEADS;
 
 /// Rings of nodes.
 #[derive(Drop)]
@@ -122,7 +125,7 @@ impl Chains {
 
 /// Each head at its own place.
 fn heads(alloc: Global) -> Result<Vec<u16>, Memory>
-    ensures { IfOk result (λ heads. LeadToThemselves 30258 heads.items) }
+    ensures { IfOk result (λ heads. LeadToThemselves FIRST_NODE heads.items) }
 {
     let Ok(mut heads) = Vec::with_capacity(alloc, FIRST_NODE as usize) else {
         return Err(Memory);
@@ -139,19 +142,19 @@ fn first_head(kind: Kind) -> u16
 {
     match kind {
         Kind::Full => 0,
-        Kind::Semi => 15129,
+        Kind::Semi => KIND_HEADS,
     }
 }
 
 /// The head of the links of one kind and pair of ends.
 pub(crate) fn head_for(kind: Kind, a: &Vertex, b: &Vertex) -> u16
     ensures value { result ≡ head_for kind a.now b.now }
-    ensures small { result < 30258 }
+    ensures small { result < FIRST_NODE }
     ensures a { IsSomeVertex a.now }
     ensures b { IsSomeVertex b.now }
 {
     let first = first_head(kind);
     let row = a.code() as u16;
     let col = b.code() as u16;
-    first + 123 * row + col
+    first + VERTICES as u16 * row + col
 }

@@ -37,7 +37,7 @@ impl<'a> Model for PairIter<'a> {
 impl<'a> PairIter<'a> {
     /// From the heads of these ends, the lower one first.
     pub(crate) fn new(chains: &'a Chains, low: &Vertex, high: &Vertex, most: usize) -> PairIter<'a>
-        requires { 30258 ≤ length chains.now.next }
+        requires { FIRST_NODE ≤ length chains.now.next }
         ensures { result ≡ pairs_from chains.now.next most
             (slice_index chains.now.next (head_for Full low.now high.now))
             (slice_index chains.now.next (head_for Semi low.now high.now)) }

@@ -43,10 +43,10 @@ pub(crate) fn drop_touched(
 pub(crate) fn cut_down(chains: &mut Chains, held: u16, kept: u16)
     requires few { held ≤ MOST_LINKS }
     requires order { kept ≤ held }
-    requires long { length chains.old.next ≡ 30258 + held }
+    requires long { length chains.old.next ≡ FIRST_NODE + held }
     requires can { CanCut (held - kept) chains.old }
     ensures chains { chains.new ≡ cut_times (held - kept) chains.old }
-    ensures long { length chains.new.next ≡ 30258 + kept }
+    ensures long { length chains.new.next ≡ FIRST_NODE + kept }
 {
     let mut left = held;
     while kept < left {

@@ -1,4 +1,4 @@
-use Rattle.std.proofs.Common.{[], ◌∷◌, ◌++◌, refl}
+use Rattle.std.proofs.Common.{[], ◌∷◌, ◌++◌, refl, arith}
 use Rattle.hx_core.specs.Machine.{machine_start, LeadsTo}
 use Rattle.hx_core.specs.Runs.{IsKept}
 use Rattle.hx_core.proofs.tests.apply_after.Goals as goal
@@ -11,6 +11,6 @@ returns g c =
     let kept : IsKept 2 1 1 1 c.apply.new.state = c.every_run_keeps.ensures.kept 2 1 1 1 (g.events ++ c.args.event ∷ []) c.apply.new.state run in
     record {
       right = kept.book.right;
-      granted = kept.counts.granted;
+      granted = omega (arith, kept.counts.in_budget.within, kept.counts.same_budget);
       grown = c.every_run_grows.ensures 2 1 1 1 g.events (c.args.event ∷ []) c.args.state.now c.apply.new.state c.requires.0 one;
     }

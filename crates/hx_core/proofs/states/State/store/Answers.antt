@@ -1,4 +1,4 @@
-use Rattle.std.proofs.Common.{◌≡◌, length, vec_capacity, refl, inr, arith}
+use Rattle.std.proofs.Common.{◌≡◌, length, vec_capacity, refl, arith}
 use Rattle.hx_core.proofs.FieldLaws.{fields-added, refused-step, added-step}
 use Rattle.hx_core.proofs.states.State.store.Goals as goal
 
@@ -22,7 +22,7 @@ pub returns : goal.returns
 returns c =
     let held : c.len-held.result ≡ length c.self.inside.nodes.items = omega (arith, c.len-held.ensures, c.self.inside.nodes.ok) in
     rw (← c.self.view_is, c.push_reserved.ensures.items) (
-      inr (added-step c.self.inside.slots c.self.inside.nodes.items c.self.inside.seen.items c.args.worker c.len-held.result held c.args.node
-          (rw c.as_slice.ensures.value at c.in_default.ensures) c.if-held-self.false (omega (arith, c.self.invariant.kept.book.held, c.self.invariant.kept.book.same_slots))),
+      added-step c.self.inside.slots c.self.inside.nodes.items c.self.inside.seen.items c.args.worker c.len-held.result held c.args.node
+          (rw c.as_slice.ensures.value at c.in_default.ensures) c.if-held-self.false (omega (arith, c.self.invariant.kept.book.held, c.self.invariant.kept.book.same_slots)),
       refl,
     )
