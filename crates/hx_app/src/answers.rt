@@ -101,7 +101,8 @@ fn yes_line(winner: Colour) -> &'static [u8]
 /// Writes some words, a number and an LF.
 #[tactic(auto, using(hx_io::proofs::SinkLaws::several_writes))]
 fn write_counted<K: Sink>(sink: &mut K, words: &[u8], n: u64) -> Result<(), Failed>
-    ensures bytes { TakesAll (K.taken sink.old) (K.taken sink.new) result (counted_text words.now n) }
+    ensures bytes { TakesAll (K.taken sink.old) (K.taken sink.new) result
+        (counted_text words.now n) }
     ensures cause { HasCause (K.faults sink.old) (K.faults sink.new) result }
 {
     let mut buffer = Buffer::new();

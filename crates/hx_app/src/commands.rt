@@ -1,7 +1,8 @@
 //! The top call: from the words of the command line to the exit status. First it is settled what is to be said, and then
 //! all of it is written, so that a fault of the sink never changes what is said.
 
-ghost use Rattle.std.specs.Prelude.{◌≡◌, ℕ, ◌⊎◌, ◌≤◌, length, IfSome, MatchOption};
+ghost use Rattle.std.specs.Prelude.{◌≡◌, ℕ, ◌⊎◌, ◌≤◌, length, IfSome};
+ghost use Rattle.hx_board.specs.Finds.{Finds};
 ghost use Rattle.hx_io.specs.Causes.{Rose};
 ghost use Rattle.hx_app.specs.declared.commands.Command.{Command};
 ghost use Rattle.hx_app.specs.declared.commands.Command.TheVariants.{Check, Solve};
@@ -58,50 +59,67 @@ pub fn run<S: Source, K: Sink, G: Gate + Sync>(
     // Some answer is due, and it was written whole, or the sink failed before it took all of it.
     ensures run { IsRun (words_of words.now)
         (S.left source.old) (S.left source.new) (Rose (S.faults source.old) (S.faults source.new))
-        (K.taken sink.old) (K.taken sink.new) (Rose (K.faults sink.old) (K.faults sink.new)) result }
+        (K.taken sink.old) (K.taken sink.new) (Rose (K.faults sink.old) (K.faults sink.new))
+        result }
 
     // Where `check` ends with status 0 the input is the text of a valid tree, the output says so, and the player that it
     // names wins and the other does not.
     ensures yes { IsCheck (words_of words.now) → result ≡ 0
-        → IfSome (S.left source.old) (λ input. SaysYes input (K.taken sink.old) (K.taken sink.new)) }
+        → IfSome (S.left source.old) (λ input.
+        SaysYes input (K.taken sink.old) (K.taken sink.new)) }
 
     // `check` answers a text within the limits with 0 where it is that of a valid tree, and else with 1.
     ensures proof { IsCheck (words_of words.now)
-        → IfSome (S.left source.old) (λ input. length input ≤ limit_of Check → IsProof input → IsUnlessStopped result 0) }
+        → IfSome (S.left source.old) (λ input.
+        length input ≤ limit_of Check → IsProof input → IsUnlessStopped result 0) }
     ensures no_proof { IsCheck (words_of words.now) → IfSome (S.left source.old) (λ input.
-        length input ≤ limit_of Check → (IsTooManyNodes input → ⊥) → IsNoProof input → IsUnlessStopped result 1) }
-    ensures wrong { result ≡ 1 → IsCheck (words_of words.now) × IfSome (S.left source.old) IsNoProof }
+        length input ≤ limit_of Check → (IsTooManyNodes input → ⊥) → IsNoProof input
+        → IsUnlessStopped result 1) }
+    ensures wrong { result ≡ 1
+        → IsCheck (words_of words.now) × IfSome (S.left source.old) IsNoProof }
 
     // The line or the node that it names is the first that is at fault.
-    ensures no_text { IsCheck (words_of words.now) → IfSome (S.left source.old) (λ input. (line : ℕ) → length input ≤ limit_of Check
-        → IsNoText input line → AnswersUnlessStopped (NoText line) (K.taken sink.old) (K.taken sink.new) result) }
-    ensures no_node { IsCheck (words_of words.now) → IfSome (S.left source.old) (λ input. (node : ℕ) → length input ≤ limit_of Check
-        → IsNoNode input node → AnswersUnlessStopped (NoNode node) (K.taken sink.old) (K.taken sink.new) result) }
+    ensures no_text { IsCheck (words_of words.now)
+        → IfSome (S.left source.old) (λ input. (line : ℕ) → length input ≤ limit_of Check
+        → IsNoText input line
+        → AnswersUnlessStopped (NoText line) (K.taken sink.old) (K.taken sink.new) result) }
+    ensures no_node { IsCheck (words_of words.now)
+        → IfSome (S.left source.old) (λ input. (node : ℕ) → length input ≤ limit_of Check
+        → IsNoNode input node
+        → AnswersUnlessStopped (NoNode node) (K.taken sink.old) (K.taken sink.new) result) }
 
     // Where `solve` ends with status 0 the input is the text of a position, the output is the text of a valid tree of it,
     // and the winner of the tree wins and the other player does not.
     ensures solved { IsSolve (words_of words.now) → result ≡ 0
-        → IfSome (S.left source.old) (λ input. SaysSolved input (K.taken sink.old) (K.taken sink.new)) }
+        → IfSome (S.left source.old) (λ input.
+        SaysSolved input (K.taken sink.old) (K.taken sink.new)) }
 
     // `solve` answers a position with 0 where it has few empty cells, and else with 3 and their number.
     ensures small { IsSolve (words_of words.now)
         → IfSome (S.left source.old) (λ input. IsSmallPosition input → IsUnlessStopped result 0) }
-    ensures large { IsSolve (words_of words.now) → IfSome (S.left source.old) (λ input. (empties : ℕ)
-        → IsUnknown input empties → AnswersUnlessStopped (UnknownSweep empties) (K.taken sink.old) (K.taken sink.new) result) }
-    ensures unknown { result ≡ 3 → IsSolve (words_of words.now) × IfSome (S.left source.old) IsLargePosition }
+    ensures large { IsSolve (words_of words.now)
+        → IfSome (S.left source.old) (λ input. (empties : ℕ) → IsUnknown input empties
+        → AnswersUnlessStopped (UnknownSweep empties)
+        (K.taken sink.old) (K.taken sink.new) result) }
+    ensures unknown { result ≡ 3
+        → IsSolve (words_of words.now) × IfSome (S.left source.old) IsLargePosition }
 
     // And what is no position with 4 and its first wrong line.
     ensures no_position { IsSolve (words_of words.now)
-        → IfSome (S.left source.old) (λ input. length input ≤ limit_of Solve → IsNoPosition input → IsUnlessStopped result 4) }
-    ensures position_line { IsSolve (words_of words.now) → IfSome (S.left source.old) (λ input. (line : ℕ) → length input ≤ limit_of Solve
-        → IsBadPosition input line → AnswersUnlessStopped (BadPosition line) (K.taken sink.old) (K.taken sink.new) result) }
-    ensures bad_position { result ≡ 4 → IsSolve (words_of words.now) × IfSome (S.left source.old) IsNoPosition }
+        → IfSome (S.left source.old) (λ input.
+        length input ≤ limit_of Solve → IsNoPosition input → IsUnlessStopped result 4) }
+    ensures position_line { IsSolve (words_of words.now)
+        → IfSome (S.left source.old) (λ input. (line : ℕ) → length input ≤ limit_of Solve
+        → IsBadPosition input line
+        → AnswersUnlessStopped (BadPosition line) (K.taken sink.old) (K.taken sink.new) result) }
+    ensures bad_position { result ≡ 4
+        → IsSolve (words_of words.now) × IfSome (S.left source.old) IsNoPosition }
 
     // What is above a limit is answered with 8, and nothing else.
     ensures long { (command : Command) → Asks command (words_of words.now)
         → IfSome (S.left source.old) (λ input. IsLong command input → IsUnlessStopped result 8) }
-    ensures too_long { result ≡ 8
-        → (command : Command) × Asks command (words_of words.now) × IfSome (S.left source.old) (IsLong command) }
+    ensures too_long { result ≡ 8 → (command : Command)
+        × Asks command (words_of words.now) × IfSome (S.left source.old) (IsLong command) }
 
     // Each fault has its cause.
     ensures read_fault { result ≡ 5 → Rose (S.faults source.old) (S.faults source.new) }
@@ -109,7 +127,8 @@ pub fn run<S: Source, K: Sink, G: Gate + Sync>(
 
     // Without a command nothing is read.
     ensures bad_words { result ≡ 2 → IsCommand (words_of words.now) → ⊥ }
-    ensures refused { (IsCommand (words_of words.now) → ⊥) → ((result ≡ 2) ⊎ (result ≡ 6)) × (source.new ≡ source.old) }
+    ensures refused { (IsCommand (words_of words.now) → ⊥)
+        → ((result ≡ 2) ⊎ (result ≡ 6)) × (source.new ≡ source.old) }
 {
     let answer = answer_to(alloc, words, source);
     match write_answer(sink, &answer) {
@@ -133,7 +152,8 @@ fn answer_to<S: Source>(alloc: Global, words: &[String], source: &mut S) -> Answ
 
 /// What is to be said to a command.
 fn answer_to_command<S: Source>(alloc: Global, command: Command, source: &mut S) -> Answer
-    ensures due { IsDueTo command (S.left source.old) (Rose (S.faults source.old) (S.faults source.new)) result }
+    ensures due { IsDueTo command (S.left source.old)
+        (Rose (S.faults source.old) (S.faults source.new)) result }
     ensures writable { CanBeWritten result }
 {
     match read_all(alloc, source, command.limit()) {
@@ -149,7 +169,7 @@ fn answer_to_command<S: Source>(alloc: Global, command: Command, source: &mut S)
 
 /// The command that the words are.
 fn command_of(words: &[String]) -> Option<Command>
-    ensures { MatchOption result (IsCommand (words_of words.now) → ⊥) (λ command. Asks command (words_of words.now)) }
+    ensures { Finds result (λ command. Asks command (words_of words.now)) }
 {
     match words {
         [word] => command_named(word.as_str()),
@@ -159,7 +179,7 @@ fn command_of(words: &[String]) -> Option<Command>
 
 /// The command of this name.
 fn command_named(name: &str) -> Option<Command>
-    ensures { MatchOption result ((command : Command) → name.now ≡ name_of command → ⊥) (λ command. name.now ≡ name_of command) }
+    ensures { Finds result (λ command. name.now ≡ name_of command) }
 {
     match name {
         "check" => Some(Command::Check),

@@ -29,10 +29,12 @@ pub(crate) fn read_all<S: Source>(
     limit: usize,
 ) -> Result<Vec<u8>, Unread>
     ensures all { IfOk result (λ bytes. (length bytes.items ≤ limit)
-        × (S.left source.old ≡ prepend bytes.items (S.left source.new)) × IsAtEnd (S.left source.new)) }
-    ensures too_long { IsErrOf result Unread.TooLong →
-        (bytes : List ℕ) × (limit < length bytes) × (S.left source.old ≡ prepend bytes (S.left source.new)) }
-    ensures failed { IsErrOf result Unread.Failed → Rose (S.faults source.old) (S.faults source.new) }
+        × (S.left source.old ≡ prepend bytes.items (S.left source.new))
+        × IsAtEnd (S.left source.new)) }
+    ensures too_long { IsErrOf result Unread.TooLong → (bytes : List ℕ)
+        × (limit < length bytes) × (S.left source.old ≡ prepend bytes (S.left source.new)) }
+    ensures failed { IsErrOf result Unread.Failed
+        → Rose (S.faults source.old) (S.faults source.new) }
     ensures later { S.faults source.old ≤ S.faults source.new }
 {
     let mut bytes = Vec::new(alloc);

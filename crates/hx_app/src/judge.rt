@@ -49,7 +49,9 @@ fn judge_line(
     requires { Lacks 10 line.now }
     ensures { (input : List ℕ) → length input ≤ limit_of Check
         → JudgedUpTo input reader.old headings.old.items (line.now ++ 10 ∷ later.now)
-        → MatchOption result (JudgedUpTo input reader.new headings.new.items later.now × (HasReadAll reader.new → ⊥)) (IsJudged input) }
+        → MatchOption result
+        (JudgedUpTo input reader.new headings.new.items later.now × (HasReadAll reader.new → ⊥))
+        (IsJudged input) }
 {
     match reader.feed(line, true) {
         Ok(Fed::More) => None,
@@ -78,7 +80,8 @@ fn judge_node(headings: &mut Vec<Heading>, node: &Node) -> Option<Answer>
 fn add_node(headings: &mut Vec<Heading>, node: &Node) -> Result<(), NodeFault>
     ensures right { OnOk result (IsRightNode headings.old.items node.now) }
     ensures added { OnOk result (headings.new.items ≡ headings.old.items ++ node.now.heading ∷ []) }
-    ensures not_right { IsErrOf result NodeFault.NotRight → IsRightNode headings.old.items node.now → ⊥ }
+    ensures not_right { IsErrOf result NodeFault.NotRight
+        → IsRightNode headings.old.items node.now → ⊥ }
     ensures unchanged { OnErr result (headings.new.items ≡ headings.old.items) }
 {
     let alloc = *headings.allocator();
@@ -95,8 +98,9 @@ fn add_node(headings: &mut Vec<Heading>, node: &Node) -> Result<(), NodeFault>
 
 /// The answer after the last line of a text, which nothing may follow.
 fn at_end(reader: &TreeReader, headings: &[Heading], later: &[u8]) -> Answer
-    ensures { (input : List ℕ) → length input ≤ limit_of Check → JudgedUpTo input reader.now headings.now later.now
-        → HasReadAll reader.now → IsJudged input result }
+    ensures { (input : List ℕ) → length input ≤ limit_of Check
+        → JudgedUpTo input reader.now headings.now later.now → HasReadAll reader.now
+        → IsJudged input result }
 {
     match headings.last() {
         Some(root) => {
@@ -113,7 +117,8 @@ fn at_end(reader: &TreeReader, headings: &[Heading], later: &[u8]) -> Answer
 
 /// The answer where the line after those that were read is missing, is not ended or may not stand there.
 fn next_line_is_wrong(reader: &TreeReader) -> Answer
-    ensures { (lines_fed reader.now < 2 ^ 64 - 1) → result ≡ Answer.NoText (lines_fed reader.now + 1) }
+    ensures { (lines_fed reader.now < 2 ^ 64 - 1)
+        → result ≡ Answer.NoText (lines_fed reader.now + 1) }
 {
     Answer::NoText {
         line: reader.lines().saturating_add(1),

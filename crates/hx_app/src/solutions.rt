@@ -26,7 +26,8 @@ pub struct Solution {
 pub(crate) fn write_solution<K: Sink>(sink: &mut K, solution: &Solution) -> Result<(), Failed>
     requires count { length solution.now.nodes.items ≤ most_nodes }
     requires lists { All (λ node. ListsFit node.rule) solution.now.nodes.items }
-    ensures bytes { TakesAll (K.taken sink.old) (K.taken sink.new) result (solution_text solution.now) }
+    ensures bytes { TakesAll (K.taken sink.old) (K.taken sink.new) result
+        (solution_text solution.now) }
     ensures cause { HasCause (K.faults sink.old) (K.faults sink.new) result }
 {
     match write_heading(sink, solution.size) {

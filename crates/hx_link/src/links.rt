@@ -84,8 +84,8 @@ fn ordered(kind: Kind, x: &Vertex, y: &Vertex, carrier: Mask) -> Link
     ensures kind { result.kind ≡ kind }
     ensures carrier { result.carrier ≡ carrier }
     ensures ends { HasEnds result x.now y.now }
-    ensures only { (link : Link) → link.kind ≡ kind → link.carrier ≡ carrier → HasEnds link x.now y.now
-        → code_of link.a < code_of link.b → link ≡ result }
+    ensures only { (link : Link) → link.kind ≡ kind → link.carrier ≡ carrier
+        → HasEnds link x.now y.now → code_of link.a < code_of link.b → link ≡ result }
 {
     let low = x.code();
     let high = y.code();

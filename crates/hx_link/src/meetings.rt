@@ -62,7 +62,8 @@ fn meeting_of(first: &Link, second: &Link) -> Option<Meeting>
 
 /// The earlier Full link at a place.
 fn full_at(before: &[Link], place: u32) -> Option<Link>
-    ensures { MatchOption result ((link : Link) → slice_get before.now place ≡ Some link → link.kind ≡ Full → ⊥)
+    ensures { MatchOption result
+        ((link : Link) → slice_get before.now place ≡ Some link → link.kind ≡ Full → ⊥)
         (λ link. (slice_get before.now place ≡ Some link) × (link.kind ≡ Full)) }
 {
     match before.get(place as usize) {

@@ -23,7 +23,8 @@ struct Shares {
 /// The carrier of an earlier Semi link of these ends.
 fn semi_at(before: &[Link], place: u32, a: &Vertex, b: &Vertex) -> Option<Mask>
     ensures { MatchOption result
-        ((link : Link) → slice_get before.now place ≡ Some link → link.kind ≡ Semi → HasEnds link a.now b.now → ⊥)
+        ((link : Link) → slice_get before.now place ≡ Some link → link.kind ≡ Semi
+        → HasEnds link a.now b.now → ⊥)
         (λ carrier. IsSemiAt before.now place a.now b.now carrier) }
 {
     match before.get(place as usize) {
@@ -48,7 +49,8 @@ fn read_parts(
     start: Mask,
 ) -> Option<Shares>
     ensures { MatchOption result (ArePartsFrom before.now places.now a.now b.now → ⊥)
-        (λ shares. PartsSoFar before.now places.now a.now b.now start shares.in_all shares.in_some) }
+        (λ shares.
+        PartsSoFar before.now places.now a.now b.now start shares.in_all shares.in_some) }
 {
     let mut in_all = start;
     let mut in_some = Mask::empty();

@@ -50,7 +50,8 @@ fn base_link(
     b: &Vertex,
 ) -> Option<Link>
     requires { groups.now ≡ record { board = position.now; player = colour } }
-    ensures { (before : List Link) → Finds result (StepGives position.now colour before (Step.Base a.now b.now)) }
+    ensures { (before : List Link)
+        → Finds result (StepGives position.now colour before (Step.Base a.now b.now)) }
 {
     let Some(link) = made(position, colour, Kind::Full, a, b, Mask::empty()) else {
         return None;

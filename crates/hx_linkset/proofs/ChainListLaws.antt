@@ -1,7 +1,7 @@
 -- A chain that is followed to its end: it has an end, since each place is above the one before it and below the number of
 -- links (`chain-ends`); and what it gives is the list of all its links (`chain-exact`).
 use Rattle.std.proofs.lemmas.Bool.{cases_lt}
-use Rattle.std.proofs.Common.{◌≡◌, ℕ, zero, suc, ◌+◌, ◌-◌, ◌<◌, ◌≤◌, List, [], ◌∷◌, length, get_or, refl, ⊎_elim, arith}
+use Rattle.std.proofs.Common.{ℕ, zero, suc, ◌+◌, ◌-◌, ◌≤◌, List, [], ◌∷◌, length, get_or, refl, ⊎_elim, arith}
 use Rattle.hx_board.specs.declared.vertices.Vertex.{Vertex}
 use Rattle.hx_link.specs.declared.links.Kind.{Kind}
 use Rattle.hx_linkset.specs.States.{Standing, IsRight}
@@ -36,9 +36,9 @@ module _ (set : Standing) (kind : Kind) (a b : Vertex) where
     chain_after (suc left) index is few = ⊎_elim
         (λ low. ([], λ place le. later-none set right rings hold kind a b index is low place (omega (arith, le))))
         (λ high.
-            let next : IsFirstFrom set kind a b (index + 1) (get_or rings.next (30258 + index) 0 - 30258) = later-some set right rings hold kind a b index is _ high refl in
-            let rest = chain_after left _ next.is (omega (arith, few, next.not_below)) in
-            (_ ∷ rest.0, (next, rest.1)))
+        let next : IsFirstFrom set kind a b (index + 1) (get_or rings.next (30258 + index) 0 - 30258) = later-some set right rings hold kind a b index is _ high refl in
+        let rest = chain_after left _ next.is (omega (arith, few, next.not_below)) in
+        (_ ∷ rest.0, (next, rest.1)))
         (cases_lt (get_or rings.next (30258 + index) 0) 30258)
 
     -- from the head on
@@ -46,9 +46,9 @@ module _ (set : Standing) (kind : Kind) (a b : Vertex) where
     chain-ends head of = ⊎_elim
         (λ low. ([], λ place le. first-none set right rings hold kind a b head of low place))
         (λ high.
-            let first : IsFirstFrom set kind a b 0 (get_or rings.next head 0 - 30258) = first-some set right rings hold kind a b head of _ high refl in
-            let rest = chain_after (length set.present.links) _ first.is (omega arith) in
-            (_ ∷ rest.0, (first, rest.1)))
+        let first : IsFirstFrom set kind a b 0 (get_or rings.next head 0 - 30258) = first-some set right rings hold kind a b head of _ high refl in
+        let rest = chain_after (length set.present.links) _ first.is (omega arith) in
+        (_ ∷ rest.0, (first, rest.1)))
         (cases_lt (get_or rings.next head 0) 30258)
 
     pub chain-lists : (head : ℕ) → IsHeadBetween kind a b head → ChainLists set kind a b

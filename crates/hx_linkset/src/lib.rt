@@ -19,6 +19,4 @@ pub use pairs::PairIter;
 pub use sets::{Added, LinkSet, MOST_LINKS};
 
 #[cfg(test)]
-mod plain;
-#[cfg(test)]
 mod tests;

@@ -37,7 +37,8 @@ pub(crate) fn mark_all(marks: &mut Vec<u8>, places: &[u32])
 fn mark_both(marks: &mut Vec<u8>, left: u32, right: u32)
     requires left { left < length marks.old.items }
     requires right { right < length marks.old.items }
-    ensures { MarksMore (λ (place : ℕ). (place ≡ left) ⊎ (place ≡ right)) marks.old.items marks.new.items }
+    ensures { MarksMore (λ (place : ℕ). (place ≡ left) ⊎ (place ≡ right))
+        marks.old.items marks.new.items }
 {
     marks[left as usize] = MARK;
     marks[right as usize] = MARK;
@@ -59,7 +60,9 @@ pub(crate) fn mark_parts(marks: &mut Vec<u8>, step: &Step)
 /// The last marked place below a bound.
 pub(crate) fn last_below(marks: &[u8], bound: usize) -> Option<usize>
     requires { bound ≤ length marks.now }
-    ensures { MatchOption result ((place : ℕ) → place < bound → IsMarked marks.now place → ⊥) (IsLastMarkBelow marks.now bound) }
+    ensures { MatchOption result
+        ((place : ℕ) → place < bound → IsMarked marks.now place → ⊥)
+        (IsLastMarkBelow marks.now bound) }
 {
     memrchr(MARK, &marks[..bound])
 }
@@ -67,7 +70,9 @@ pub(crate) fn last_below(marks: &[u8], bound: usize) -> Option<usize>
 /// The first marked place from a bound on.
 pub(crate) fn first_from(marks: &[u8], bound: usize) -> Option<usize>
     requires { bound ≤ length marks.now }
-    ensures { MatchOption result ((place : ℕ) → bound ≤ place → IsMarked marks.now place → ⊥) (IsFirstMarkFrom marks.now bound) }
+    ensures { MatchOption result
+        ((place : ℕ) → bound ≤ place → IsMarked marks.now place → ⊥)
+        (IsFirstMarkFrom marks.now bound) }
 {
     let Some(further) = memchr(MARK, &marks[bound..]) else {
         return None;

@@ -79,16 +79,22 @@ impl Model for LinkSet {
     ghost use Rattle.hx_linkset.specs.Plays.{standing};
     ghost use Rattle.hx_linkset.specs.History.{FieldsKeep};
 
-    ghost view = { λ s. standing s.colour record { board = s.position; links = s.links.items; steps = s.steps.items } s.plays.items };
+    ghost view = { λ s. standing s.colour
+        record { board = s.position; links = s.links.items; steps = s.steps.items } s.plays.items };
 
-    ghost invariant = { λ s. FieldsKeep s.colour record { board = s.position; links = s.links.items; steps = s.steps.items } s.plays.items
+    ghost invariant = { λ s. FieldsKeep s.colour
+        record { board = s.position; links = s.links.items; steps = s.steps.items } s.plays.items
         s.groups s.chains s.log.items (vec_capacity s.plays) (vec_capacity s.log) };
 }
 
 impl LinkSet {
     /// No link yet. All that `play` and `undo` will need is taken here.
     pub fn new(alloc: Global, position: &Position, colour: Colour) -> Result<LinkSet, Memory>
-        ensures { IfOk result (λ set. set ≡ record { player = colour; present = record { board = position.now; links = []; steps = [] }; past = [] }) }
+        ensures { IfOk result (λ set. set ≡ record {
+          player = colour;
+          present = record { board = position.now; links = []; steps = [] };
+          past = [];
+        }) }
     {
         let Ok(plays) = Vec::with_capacity(alloc, CELLS) else {
             return Err(Memory);
@@ -144,8 +150,10 @@ impl LinkSet {
 
     /// The live link at an index. None exactly where there is none.
     pub fn link(&self, index: u32) -> Option<Link>
-        ensures { MatchOption result (IsLiveAt self.now.present.board self.now.player self.now.present.links index → ⊥)
-            (λ link. (slice_get self.now.present.links index ≡ Some link) × IsLive self.now.present.board self.now.player link) }
+        ensures { MatchOption result
+            (IsLiveAt self.now.present.board self.now.player self.now.present.links index → ⊥)
+            (λ link. (slice_get self.now.present.links index ≡ Some link)
+            × IsLive self.now.present.board self.now.player link) }
     {
         match self.links.as_slice().get(index as usize) {
             None => None,
@@ -166,7 +174,8 @@ impl LinkSet {
 
     /// The carrier of the link at an index, live or not. No cell where no link is held there.
     pub fn carrier(&self, index: u32) -> Mask
-        ensures held { (link : Link) → slice_get self.now.present.links index ≡ Some link → result ≡ link.carrier }
+        ensures held { (link : Link) → slice_get self.now.present.links index ≡ Some link
+            → result ≡ link.carrier }
         ensures none { slice_get self.now.present.links index ≡ None → result ≡ 0 }
     {
         match self.links.as_slice().get(index as usize) {
@@ -178,7 +187,8 @@ impl LinkSet {
     /// The position before the stones that were put since the last link came, or since the set was made. Where the last
     /// link came after the last stone it is the position as it stands.
     pub fn before_last_stones(&self) -> Position
-        ensures { result ≡ board_before (length self.now.present.links) self.now.present.board self.now.past }
+        ensures { result
+            ≡ board_before (length self.now.present.links) self.now.present.board self.now.past }
     {
         before_last(&self.position, self.plays.as_slice(), self.links.len())
     }
@@ -195,8 +205,11 @@ impl LinkSet {
     /// The steps that the live links at these indices need, as one list of their own. Of one link alone the last step gives
     /// it.
     pub fn derivation(&self, links: &[u32]) -> Result<Derived, Memory>
-        requires { (index : ℕ) → StandsIn links.now index → IsLiveAt self.now.present.board self.now.player self.now.present.links index }
-        ensures { IfOk result (λ derived. IsDerived self.now.present.board self.now.player self.now.present.links links.now derived.steps derived.places.items) }
+        requires { (index : ℕ) → StandsIn links.now index
+            → IsLiveAt self.now.present.board self.now.player self.now.present.links index }
+        ensures { IfOk result (λ derived.
+            IsDerived self.now.present.board self.now.player self.now.present.links links.now
+            derived.steps derived.places.items) }
     {
         derivation_of(
             *self.links.allocator(),
@@ -210,7 +223,9 @@ impl LinkSet {
 
     /// The least index of a live link of this kind and these ends, in either order. None exactly where there is none.
     pub fn first_of(&self, kind: Kind, a: Vertex, b: Vertex) -> Option<u32>
-        ensures { MatchOption result ((place : ℕ) → IsLiveOf self.now kind a b place → ⊥) (IsFirstFrom self.now kind a b 0) }
+        ensures { MatchOption result
+            ((place : ℕ) → IsLiveOf self.now kind a b place → ⊥)
+            (IsFirstFrom self.now kind a b 0) }
     {
         let head = head_between(kind, &a, &b);
         let node = self.chains.after(head);
@@ -224,7 +239,9 @@ impl LinkSet {
     /// where there is none.
     pub fn next_of(&self, index: u32) -> Option<u32>
         ensures { (kind : Kind) (a b : Vertex) → IsLiveOf self.now kind a b index
-            → MatchOption result ((place : ℕ) → index < place → IsLiveOf self.now kind a b place → ⊥) (IsFirstFrom self.now kind a b (index + 1)) }
+            → MatchOption result
+            ((place : ℕ) → index < place → IsLiveOf self.now kind a b place → ⊥)
+            (IsFirstFrom self.now kind a b (index + 1)) }
     {
         if self.links.len() <= index as usize {
             return None;
@@ -284,11 +301,13 @@ impl LinkSet {
     pub fn play(&mut self, colour: Colour, cell: Cell)
         requires { IsEmpty self.old.present.board cell }
         ensures set { self.new ≡ record {
-            player = self.old.player;
-            present = played self.old.present colour cell;
-            past = self.old.present ∷ self.old.past } }
+          player = self.old.player;
+          present = played self.old.present colour cell;
+          past = self.old.present ∷ self.old.past;
+        } }
         ensures live { (link : Link) → IsLive self.new.present.board self.new.player link
-            ↔ (IsLive self.old.present.board self.old.player link × IsUntouched self.old.player colour cell link) }
+            ↔ (IsLive self.old.present.board self.old.player link
+            × IsUntouched self.old.player colour cell link) }
     {
         let count = self.links.len();
         let logged = self.log.len();
