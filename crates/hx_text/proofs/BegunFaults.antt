@@ -12,7 +12,7 @@ use Rattle.hx_text.specs.declared.node_lines.Head.{Head}
 use Rattle.hx_text.specs.declared.begun_nodes.Begun.{Begun}
 use Rattle.hx_text.specs.Words.{IsNumber}
 use Rattle.hx_text.specs.Grammars.{Begins}
-use Rattle.hx_text.specs.Entries.{entry_line, kind_of, EntryFits, EachEntryFits, IsEntry, entries_of, opening_of, entries_told, kind_at}
+use Rattle.hx_text.specs.Entries.{entry_line, kind_of, EntryFits, EachEntryFits, IsEntryLine, entries_of, opening_of, entries_told, kind_at}
 use Rattle.hx_text.specs.TreeTexts.{AreTreeLines, AreTreeLinesOf, EachNodeFits, HeadFits, head_of, head_line, node_lines, end_line}
 use Rattle.hx_text.specs.Places.{entries_in, StandsInside, kind_due}
 use Rattle.hx_text.proofs.EntryLists.{kind_of_entry, length-entries_for, length-entries_of}
@@ -74,7 +74,7 @@ next_of_nodes size head done line rest (node ∷ more) count winner extent fits_
     (tails ∙ append_assoc (map entry_line (entries_of node.rule)) (flat_map node_lines more) (end_line count winner ∷ []))
 
 pub inside_wrong : (begun : Begun) (line : List ℕ) (nodes : List Node) (lines : List (List ℕ))
-    → ((entry : Entry) → IsEntry begun.so_far.size (kind_due begun) entry → line ≡ entry_line entry → ⊥)
+    → ((entry : Entry) → IsEntryLine begun.so_far.size (kind_due begun) entry → line ≡ entry_line entry → ⊥)
     → StandsInside begun nodes lines → Begins AreTreeLines (lines ++ line ∷ []) → ⊥
 inside_wrong begun line nodes lines no_entry inside begins =
     let stands = inside.begun_so in

@@ -16,9 +16,12 @@ use Rattle.hx_text.specs.declared.entries.EntryKind.TheVariants.{Step as Step_ki
 use Rattle.hx_text.specs.declared.node_lines.Head.{Head}
 use Rattle.hx_text.specs.declared.begun_nodes.Begun.{Begun}
 use Rattle.hx_text.specs.declared.places.Step.{Step}
-use Rattle.hx_text.specs.Entries.{entry_line, kind_of, EachEntryFits, IsEntry, entries_of, steps_told, threats_told, answers_told, fills_told, entries_told, kind_at, rule_for}
+use Rattle.hx_text.specs.declared.places.SoFar.{SoFar}
+use Rattle.hx_text.specs.declared.places.Place.TheVariants.{Between, Inside}
+use Rattle.hx_text.specs.Entries.{entry_line, kind_of, EachEntryFits, IsEntryLine, entries_of, steps_told, threats_told, answers_told, fills_told, entries_told, kind_at, rule_for}
+use Rattle.hx_text.specs.StepTexts.{BeginsLongOr}
 use Rattle.hx_text.specs.TreeTexts.{HeadFits, NodeFits, head_of, head_line, node_lines}
-use Rattle.hx_text.specs.Places.{most_nodes, StandsSoFar, entries_in, IsInOrder, StandsBegun, StandsInside, kind_due, IsAdded, IsWithEntry, SettlesNode, EndsNode, Brings}
+use Rattle.hx_text.specs.Places.{most_nodes, StandsSoFar, entries_in, IsInOrder, HasRoomForAll, StandsBegun, StandsInside, kind_due, IsAdded, IsFull, HasSameRoom, IsWithEntry, SettlesNode, EndsNode, Brings, IsNextNode, TakesMemory, ForEntries, ForParts}
 use Rattle.hx_text.proofs.EntryLists.{nil_of_length, zero_unless_some, EachEntryFits-append, length-entries_for, entries_same, kind_among_step, kind_among_threat, kind_among_answer, kind_among_fill, steps_more, threats_more, answers_more, fills_more, opening_of-rule_for, entries_of-rule_for}
 
 -- ---- which kind is due
@@ -238,9 +241,30 @@ module _ (old new : Begun) (order : IsInOrder old) (lacks : 0 < old.missing) whe
         (λ h. omega (arith, order.steps, due)) (λ h. omega (arith, order.steps, due)) (λ h. omega (arith, order.threats, due))
         (λ h. omega (arith, order.steps, due)) (λ h. omega (arith, order.threats, due)) (λ h. omega (arith, order.answers, due)) (omega arith)
 
+-- the lists have room as before
+room_kept : (old new : Begun) → HasSameRoom old new → new.head ≡ old.head → HasRoomForAll old → HasRoomForAll new
+room_kept old new same head room = record {
+  steps = rw (head, same.steps) room.steps;
+  threats = rw (head, same.threats) room.threats;
+  answers = rw (head, same.answers) room.answers;
+  fills = rw (head, same.fills) room.fills;
+}
+
+-- the list of the kind that is due is not full
+pub room_for_due : (begun : Begun) → IsInOrder begun → HasRoomForAll begun → 0 < begun.missing → (entry : Entry)
+    → kind_of entry ≡ kind_due begun → IsFull begun entry → ⊥
+room_for_due begun order room lacks (Step_entry step) kind full =
+    absurd (omega (arith, step_due begun order (sym kind), room.steps, full))
+room_for_due begun order room lacks (Threat_entry place) kind full =
+    absurd (omega (arith, (threat_due begun order (sym kind)).1, room.threats, full))
+room_for_due begun order room lacks (Answer_entry line) kind full =
+    absurd (omega (arith, (answer_due begun order (sym kind)).2, room.answers, full))
+room_for_due begun order room lacks (Fill_entry fill) kind full =
+    absurd (omega (arith, fill_due begun order (sym kind), order.missing, order.steps, order.threats, order.answers, order.fills, room.fills, full, lacks))
+
 -- the lines with one entry more
 pub stands_with_entry : (old new : Begun) (entry : Entry) (nodes : List Node) (lines : List (List ℕ)) → IsWithEntry old entry new
-    → StandsInside old nodes lines → IsEntry old.so_far.size (kind_due old) entry → StandsBegun new nodes (lines ++ entry_line entry ∷ [])
+    → StandsInside old nodes lines → IsEntryLine old.so_far.size (kind_due old) entry → StandsBegun new nodes (lines ++ entry_line entry ∷ [])
 stands_with_entry old new entry nodes lines now stands fits =
     let so = stands.begun_so in
     let are : entries_in new ≡ entries_in old ++ entry ∷ [] = entries_now old new so.in_order stands.lacks entry now.added fits.1 in
@@ -252,6 +276,7 @@ stands_with_entry old new entry nodes lines now stands fits =
       room = rw now.same_so_far so.room;
       head = rw (now.same_so_far, now.same_head) so.head;
       in_order = in_order_now old new so.in_order stands.lacks now.same_head now.missing entry now.added fits.1;
+      lists = room_kept old new now.rooms now.same_head so.lists;
       each = rw now.same_so_far all;
       same = ap (λ (ls : List (List ℕ)). ls ++ entry_line entry ∷ []) so.same
           ∙ append_assoc so.before (head_line old.head ∷ map entry_line (entries_in old)) (entry_line entry ∷ [])
@@ -259,6 +284,10 @@ stands_with_entry old new entry nodes lines now stands fits =
           ∙ ap (λ (es : List Entry). so.before ++ head_line old.head ∷ map entry_line es) (sym are)
           ∙ ap (λ (h : Head). so.before ++ head_line h ∷ map entry_line (entries_in new)) (sym now.same_head);
     }
+
+-- where a step is due, a line that begins as that of a long Or takes memory
+pub long_or_takes_memory : (begun : Begun) (line : List ℕ) → kind_due begun ≡ Step_kind → BeginsLongOr line → TakesMemory (Inside begun) line
+long_or_takes_memory begun line due long = ForParts begun refl due long
 
 -- ---- the whole node
 
@@ -296,11 +325,18 @@ settled_whole begun node step none is ends = λ nodes lines stands.
     subst Q (sym (whole.1 ∙ ap (λ (n : Node). stands.before ++ node_lines n) (sym is)))
     (ends nodes stands.before stands.stands stands.room (subst P (sym is) whole.0))
 
+-- a first line that tells of some entries takes memory
+pub first_line_takes_memory : (so_far : SoFar) (head : Head) → HeadFits so_far.size head → 0 < entries_told head.opening
+    → TakesMemory (Between so_far) (head_line head)
+first_line_takes_memory so_far head fits some =
+    let first : IsNextNode (Between so_far) (head_line head) = record { so_far = so_far; is = refl; head = head; fits = fits; same = refl } in
+    ForEntries first some
+
 -- a node of which no entry came yet
 pub begun_with_head : (begun : Begun) (nodes : List Node) (before : List (List ℕ)) → begun.steps.items ≡ [] → begun.threats.items ≡ [] → begun.lines.items ≡ []
-    → begun.fills.items ≡ [] → begun.missing ≡ entries_told begun.head.opening → StandsSoFar begun.so_far nodes before → begun.so_far.count < most_nodes
+    → begun.fills.items ≡ [] → begun.missing ≡ entries_told begun.head.opening → HasRoomForAll begun → StandsSoFar begun.so_far nodes before → begun.so_far.count < most_nodes
     → HeadFits begun.so_far.size begun.head → StandsBegun begun nodes (before ++ head_line begun.head ∷ [])
-begun_with_head begun nodes before no_steps no_threats no_lines no_fills all stands room fits =
+begun_with_head begun nodes before no_steps no_threats no_lines no_fills all lists stands room fits =
     let none : entries_in begun ≡ [] = entries_same no_steps no_threats no_lines no_fills in
     let s : length begun.steps.items ≡ 0 = ap length no_steps in
     let t : length begun.threats.items ≡ 0 = ap length no_threats in
@@ -324,6 +360,7 @@ begun_with_head begun nodes before no_steps no_threats no_lines no_fills all sta
         fills_after_answers = λ h. absurd (omega arith);
         missing = omega (arith, all);
       };
+      lists = lists;
       each = rw none tt;
       same = sym (ap (λ (es : List Entry). before ++ head_line begun.head ∷ map entry_line es) none);
     }

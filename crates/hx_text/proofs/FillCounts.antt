@@ -4,46 +4,19 @@ use Rattle.std.proofs.Common.{◌≡◌, ℕ, zero, suc, ◌<◌, ◌≤◌, Boo
 use Rattle.std.specs.Prelude.{if◌then◌else◌}
 use Rattle.hx_board.specs.declared.colours.Colour.{Colour}
 use Rattle.hx_board.specs.Cells.{Extent}
-use Rattle.hx_board.specs.Colours.{other_of}
-use Rattle.hx_board.specs.Positions.{Board, IsBoard, IsEmpty, put}
+use Rattle.hx_board.specs.Positions.{Board, IsBoard}
 use Rattle.hx_board.specs.Counts.{is_empty, empty_below, empty_count}
-use Rattle.hx_board.proofs.StoneLaws.{size-put, board-put, empty-put}
-use Rattle.hx_board.proofs.EmptyCells.{empty_count-put}
 use Rattle.hx_inferior.specs.declared.fills.FillStep.{FillStep}
 use Rattle.hx_inferior.specs.declared.fills.FillStep.TheVariants.{Other, Dead, Pair}
-use Rattle.hx_inferior.specs.Inferior.{IsPair, MayFill, filled}
+use Rattle.hx_inferior.specs.Inferior.{MayFill, filled}
 use Rattle.hx_tree.specs.Fills.{MayFillAll}
-use Rattle.hx_text.specs.FillTexts.{most_fills, FillFits}
+use Rattle.hx_tree.proofs.FilledBoards.{size-filled, board-filled, empty_count-filled}
+use Rattle.hx_board.specs.declared.cells.TheConstants.{CELLS}
+use Rattle.hx_text.specs.FillTexts.{FillFits}
 use Rattle.hx_text.specs.Entries.{EachEntryFits}
 use Rattle.hx_text.proofs.EntryLists.{fill_entry}
 
 -- ---- one step
-
-filled-size : (board : Board) (winner : Colour) (step : FillStep) → (filled board winner step).size ≡ board.size
-filled-size board winner (Other cell) = size-put board (other_of winner) cell
-filled-size board winner (Dead cell) = size-put board winner cell
-filled-size board winner (Pair a b) = size-put (put board winner a) winner b ∙ size-put board winner a
-
--- the second cell of a pair is empty when the first is filled
-second_empty : (board : Board) (winner : Colour) (a b : ℕ) → IsPair board winner a b → IsEmpty (put board winner a) b
-second_empty board winner a b pair = (empty-put board winner a b).1 (pair.b_empty, λ e. pair.differ (sym e))
-
-filled-board : (board : Board) (winner : Colour) (step : FillStep) → IsBoard board → MayFill board winner step → IsBoard (filled board winner step)
-filled-board board winner (Other cell) is empty = board-put board (other_of winner) cell is empty
-filled-board board winner (Dead cell) is dead = board-put board winner cell is dead.empty
-filled-board board winner (Pair a b) is pair =
-    board-put (put board winner a) winner b (board-put board winner a is pair.a_empty) (second_empty board winner a b pair)
-
-filled-fewer : (board : Board) (winner : Colour) (step : FillStep) → IsBoard board → MayFill board winner step
-    → empty_count (filled board winner step) < empty_count board
-filled-fewer board winner (Other cell) is empty = omega (arith, empty_count-put board (other_of winner) cell is empty)
-filled-fewer board winner (Dead cell) is dead = omega (arith, empty_count-put board winner cell is dead.empty)
-filled-fewer board winner (Pair a b) is pair =
-    omega (
-      arith,
-      empty_count-put board winner a is pair.a_empty,
-      empty_count-put (put board winner a) winner b (board-put board winner a is pair.a_empty) (second_empty board winner a b pair),
-    )
 
 fill_fits : (board : Board) (winner : Colour) (step : FillStep) → MayFill board winner step → FillFits board.size step
 fill_fits board winner (Other cell) empty = empty.on_board
@@ -61,7 +34,7 @@ unfolding empty_below
 empty_below-bound zero board = omega arith
 empty_below-bound (suc bound) board = omega (arith, at_most_one (is_empty board bound), empty_below-bound bound board)
 
-few_empty : (board : Board) → empty_count board ≤ most_fills
+few_empty : (board : Board) → empty_count board ≤ CELLS
 unfolding empty_count
 few_empty board = empty_below-bound 121 board
 
@@ -69,12 +42,12 @@ no_more_than_empty : (board : Board) (winner : Colour) (steps : List FillStep) �
     → length steps ≤ empty_count board
 no_more_than_empty board winner [] is may = omega arith
 no_more_than_empty board winner (step ∷ steps) is may =
-    let fewer = filled-fewer board winner step is may.0 in
-    let rest = no_more_than_empty (filled board winner step) winner steps (filled-board board winner step is may.0) may.1 in
+    let fewer = empty_count-filled board winner is step may.0 in
+    let rest = no_more_than_empty (filled board winner step) winner steps (board-filled board winner is step may.0) may.1 in
     omega (arith, fewer, rest)
 
 pub few_fill_steps : (board : Board) (winner : Colour) (steps : List FillStep) → IsBoard board → MayFillAll board winner steps
-    → length steps ≤ most_fills
+    → length steps ≤ CELLS
 few_fill_steps board winner steps is may = omega (arith, no_more_than_empty board winner steps is may, few_empty board)
 
 pub fill_steps_fit : (size : Extent) (board : Board) (winner : Colour) (steps : List FillStep) → board.size ≡ size → MayFillAll board winner steps
@@ -82,5 +55,5 @@ pub fill_steps_fit : (size : Extent) (board : Board) (winner : Colour) (steps : 
 fill_steps_fit size board winner [] same may = tt
 fill_steps_fit size board winner (step ∷ steps) same may = (
   rw same at (fill_fits board winner step may.0),
-  fill_steps_fit size (filled board winner step) winner steps (filled-size board winner step ∙ same) may.1,
+  fill_steps_fit size (filled board winner step) winner steps (size-filled board winner step ∙ same) may.1,
 )

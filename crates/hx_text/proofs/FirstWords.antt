@@ -5,19 +5,19 @@ use Rattle.std.proofs.Common.{◌≡◌, ℕ, zero, suc, ◌+◌, ◌<◌, ◌�
 use Rattle.std.proofs.lemmas.Grind.{same_number_lists}
 use Rattle.std.specs.Prelude.{codes}
 use Rattle.std.specs.Option.{MatchOption, IfSome, IfNone}
-use Rattle.std.specs.Result.{IfOk}
+use Rattle.std.specs.Result.{IfOk, OnErr}
 use Rattle.std.specs.Fmt.{decimal}
 use Rattle.hx_board.specs.declared.vertices.Vertex.{Vertex}
 use Rattle.hx_board.specs.Cells.{Extent, IsExtent}
 use Rattle.hx_board.specs.Graph.{IsVertex}
 use Rattle.hx_link.specs.declared.steps.Step.{Step}
 use Rattle.hx_link.specs.declared.steps.Step.TheVariants.{Base, AndStone, AndCell}
-use Rattle.hx_tree.specs.Steps.{most_steps}
+use Rattle.hx_board.specs.declared.cells.TheConstants.{CELLS}
+use Rattle.hx_tree.specs.declared.steps.TheConstants.{MOST_STEPS}
 use Rattle.hx_text.specs.declared.node_lines.Opening.{Opening}
 use Rattle.hx_text.specs.declared.node_lines.Opening.TheVariants.{Links, Fill}
 use Rattle.hx_text.specs.Words.{Reads, IsNumber, words_in}
-use Rattle.hx_text.specs.StepTexts.{vertex_word, step_words, step_line, StepFits}
-use Rattle.hx_text.specs.FillTexts.{most_fills}
+use Rattle.hx_text.specs.StepTexts.{vertex_word, step_words, step_line, StepFits, BeginWithManyParts, BeginsLongOr}
 use Rattle.hx_text.specs.TreeTexts.{opening_words, OpeningFits}
 use Rattle.hx_text.proofs.Cursors.{rest_same, word_then}
 use Rattle.hx_text.proofs.Spacing.{line_from_words}
@@ -108,24 +108,30 @@ step_reads size line words (Ok (Some step)) extent same reads = (reads.0, line_f
 step_reads size line words (Ok None) extent same reads = λ value fits e. reads value fits (same ∙ words_in-step_line size line value extent fits e)
 step_reads size line words (Err error) extent same reads = tt
 
+-- the words of a long Or are those of its line
+pub long_or_line : {T E : Type 0} (line : List ℕ) (words : List (List ℕ)) (found : Result T E) → words ≡ words_in line
+    → OnErr found ((parts : List (List ℕ)) × (words ≡ codes "or" ∷ parts) × BeginWithManyParts parts) → OnErr found (BeginsLongOr line)
+long_or_line line words (Ok done) same is = tt
+long_or_line line words (Err error) same is = record { words = is.0; many = is.2; same = line_from_words same is.1 }
+
 -- ---- openings
 
 no_links : (size : Extent) (value : Opening) (words rest : List (List ℕ)) → words ≡ codes "links" ∷ rest
-    → ((steps : ℕ) → steps ≤ most_steps → rest ≡ decimal steps ∷ [] → ⊥) → OpeningFits size value → words ≡ opening_words value → ⊥
+    → ((steps : ℕ) → steps ≤ MOST_STEPS → rest ≡ decimal steps ∷ [] → ⊥) → OpeningFits size value → words ≡ opening_words value → ⊥
 no_links size (Links steps) words rest first none fits e = none steps fits (rest_same first e)
 no_links size value words rest first none fits e =
     let letters : first_letter (codes "links" ∷ rest) ≡ first_letter (opening_words value) = ap first_letter (sym first ∙ e) in
     absurd (omega (arith, letters))
 
 pub links_reads : (size : Extent) (words rest : List (List ℕ)) (found : Option Opening) → words ≡ codes "links" ∷ rest
-    → IfSome found (λ opening. (steps : ℕ) × (opening ≡ Links steps) × (steps ≤ most_steps) × (rest ≡ decimal steps ∷ []))
-    → IfNone found ((steps : ℕ) → steps ≤ most_steps → rest ≡ decimal steps ∷ [] → ⊥)
+    → IfSome found (λ opening. (steps : ℕ) × (opening ≡ Links steps) × (steps ≤ MOST_STEPS) × (rest ≡ decimal steps ∷ []))
+    → IfNone found ((steps : ℕ) → steps ≤ MOST_STEPS → rest ≡ decimal steps ∷ [] → ⊥)
     → Reads opening_words (OpeningFits size) words found
 links_reads size words rest (Some opening) first is none = rw is.1 (is.2, word_then first is.3)
 links_reads size words rest None first is none = λ value fits e. no_links size value words rest first none fits e
 
 no_fills : (size : Extent) (value : Opening) (words rest : List (List ℕ)) → words ≡ codes "fill" ∷ rest
-    → ((fills child : ℕ) → fills ≤ most_fills → IsNumber child → rest ≡ decimal fills ∷ decimal child ∷ [] → ⊥) → OpeningFits size value
+    → ((fills child : ℕ) → fills ≤ CELLS → IsNumber child → rest ≡ decimal fills ∷ decimal child ∷ [] → ⊥) → OpeningFits size value
     → words ≡ opening_words value → ⊥
 no_fills size (Fill fills child) words rest first none fits e = none fills child fits.0 fits.1 (rest_same first e)
 no_fills size value words rest first none fits e =
@@ -133,9 +139,9 @@ no_fills size value words rest first none fits e =
     absurd (omega (arith, letters))
 
 pub fills_reads : (size : Extent) (words rest : List (List ℕ)) (found : Option Opening) → words ≡ codes "fill" ∷ rest
-    → IfSome found (λ opening. (fills child : ℕ) × (opening ≡ Fill fills child) × (fills ≤ most_fills) × IsNumber child
+    → IfSome found (λ opening. (fills child : ℕ) × (opening ≡ Fill fills child) × (fills ≤ CELLS) × IsNumber child
     × (rest ≡ decimal fills ∷ decimal child ∷ []))
-    → IfNone found ((fills child : ℕ) → fills ≤ most_fills → IsNumber child → rest ≡ decimal fills ∷ decimal child ∷ [] → ⊥)
+    → IfNone found ((fills child : ℕ) → fills ≤ CELLS → IsNumber child → rest ≡ decimal fills ∷ decimal child ∷ [] → ⊥)
     → Reads opening_words (OpeningFits size) words found
 fills_reads size words rest (Some opening) first is none = rw is.2 ((is.3, is.4), word_then first is.5)
 fills_reads size words rest None first is none = λ value fits e. no_fills size value words rest first none fits e

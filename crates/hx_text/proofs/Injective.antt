@@ -68,7 +68,8 @@ vertex_injective size Last (Of b) few on_a on_b e = absurd (cell_not_last size b
 vertex_injective size First Last few on_a on_b e = absurd (first_not_last e)
 vertex_injective size Last First few on_a on_b e = absurd (first_not_last (sym e))
 
-abbrev board_of : Extent → ℕ → ℕ → Board
+-- the board of this size with these stones
+abbrev pub board_of : Extent → ℕ → ℕ → Board
 board_of size black white = record { size = size; black = black; white = white }
 
 pub board_same : (a b : Board) → a.size ≡ b.size → a.black ≡ b.black → a.white ≡ b.white → a ≡ b

@@ -35,13 +35,13 @@ decimal_canonical n small = record {
   no_zero = λ e. canonical_zero n (omega arith) (zero_or_more n) e;
 }
 
-pub short_power : (n : ℕ) → n ≤ 10 → 10 ^ n ≤ 10 ^ 10
-short_power n short = pow-le-pow_right (omega arith) short
+pub short_power : (n most : ℕ) → n ≤ most → 10 ^ n ≤ 10 ^ most
+short_power n most short = pow-le-pow_right (omega arith) short
 
 pub decimal_again : (ds : List ℕ) → IsCanonical ds → AllDigits 10 ds → decimal (digits_value 10 ds) ≡ ds
 decimal_again ds canonical digits =
     decimal-digits_value own ds digits canonical.some canonical.no_zero
-    (omega (arith, digits_value-lt 10 ds digits, short_power (length ds) canonical.short))
+    (omega (arith, digits_value-lt 10 ds digits, short_power (length ds) 10 canonical.short))
 
 -- a loop over the digits reads one more
 pub record ReadDigits (word : List ℕ) (i value : ℕ) : Type 0 where
@@ -60,14 +60,14 @@ read_digit word i value within digit before =
       value_is = omega (arith, is, step, same);
     }
 
-pub value_bound : (word : List ℕ) (i value : ℕ) → i ≤ length word → i ≤ 10 → ReadDigits word i value → value < 10 ^ 10
+pub value_bound : (word : List ℕ) (i value : ℕ) → i ≤ length word → i ≤ 18 → ReadDigits word i value → value < 10 ^ 18
 value_bound word i value within short before =
     omega (
       arith,
       digits_value-lt 10 (take i word) before.digits,
       length-take-le i word within,
       short_power
-          (length (take i word)) (omega (arith, length-take-le i word within)),
+          (length (take i word)) 18 (omega (arith, length-take-le i word within)),
       before.value_is,
     )
 

@@ -3,8 +3,9 @@
 use Rattle.std.proofs.Common.{◌≡◌, ◌≢◌, ℕ, ◌+◌, ◌≤◌, List, [], ◌∷◌, ◌++◌, length, map, sym, ap, ◌∙◌, subst, arith, append_assoc, length-append}
 use Rattle.std.proofs.lemmas.List.{append-nil, map-append}
 use Rattle.std.specs.Fmt.{decimal}
+use Rattle.hx_link.specs.declared.parts.TheConstants.{MOST_PARTS}
 use Rattle.hx_text.specs.Words.{IsNumber}
-use Rattle.hx_text.specs.StepTexts.{most_parts, AreNumbers}
+use Rattle.hx_text.specs.StepTexts.{parts_in_place, AreNumbers, BeginWithManyParts}
 
 -- these parts were taken, and these words are left
 pub record PartsTaken (words left : List (List ℕ)) (parts : List ℕ) (count : ℕ) : Type 0 where
@@ -37,6 +38,19 @@ pub part_taken : {words left rest : List (List ℕ)} {parts now : List ℕ} {par
     → IsNumber part → left ≡ decimal part ∷ rest → now ≡ parts ++ part ∷ [] → PartsTaken words rest now (count + 1)
 part_taken {words} {left} {rest} {parts} {now} {part} {count} taken small e is =
     subst (λ (ps : List ℕ). PartsTaken words rest ps (count + 1)) (sym is) (one_part_more words left rest parts part count taken small e)
+
+-- with one part more there are many
+pub many_parts : {words left rest : List (List ℕ)} {parts : List ℕ} {part count : ℕ} → PartsTaken words left parts count
+    → IsNumber part → left ≡ decimal part ∷ rest → parts_in_place ≤ length parts → BeginWithManyParts words
+many_parts {words} {left} {rest} {parts} {part} {count} taken small e full =
+    let more = one_part_more words left rest parts part count taken small e in
+    record {
+      parts = parts ++ part ∷ [];
+      rest = rest;
+      many = omega (arith, length-append parts (part ∷ []), full);
+      numbers = more.numbers;
+      same = more.same;
+    }
 
 -- all words were taken
 pub all_parts_taken : {words left : List (List ℕ)} {parts : List ℕ} {count : ℕ} → PartsTaken words left parts count → left ≡ []
@@ -79,7 +93,7 @@ no_more_numbers left (part ∷ more) some e none = absurd (omega arith)
 
 -- there is a word more than there may be parts
 pub too_many_parts : {words left : List (List ℕ)} {parts : List ℕ} {count : ℕ} → PartsTaken words left parts count → left ≢ []
-    → most_parts ≤ count → (all : List ℕ) → length all ≤ most_parts → AreNumbers all → words ≡ map decimal all → ⊥
+    → MOST_PARTS ≤ count → (all : List ℕ) → length all ≤ MOST_PARTS → AreNumbers all → words ≡ map decimal all → ⊥
 too_many_parts {words} {left} {parts} {count} taken some full all few small e =
     let on = goes_on_with left parts all (sym taken.same ∙ e) small in
     no_more_numbers left on.more some on.same (omega (arith, on.count, taken.count_is))

@@ -15,7 +15,7 @@ use Rattle.hx_text.specs.Words.{Lacks, IsCut, IsSet}
 use Rattle.hx_text.specs.Grammars.{text_of, Begins, IsFaultyLine}
 use Rattle.hx_text.specs.PositionTexts.{position_title, size_line, stones_line, move_line, position_lines, ArePositionLines}
 use Rattle.hx_text.specs.PositionReads.{ReadsFrom}
-use Rattle.hx_text.proofs.Injective.{size_injective}
+use Rattle.hx_text.proofs.Injective.{board_of, size_injective}
 use Rattle.hx_text.proofs.Cuts.{text_of-push, cut_same, Lacks-append_mark, Lacks-middle, ended-some}
 use Rattle.hx_text.proofs.PositionLines.{stones_injective, AllLack-position_lines, without_white, black_small, white_small}
 
@@ -67,9 +67,6 @@ one_more_line before rest text line later read cut is reads =
     moved before whole rest later (Ok found) parts reads = (reads.0, sym parts ∙ reads.1)
     moved before whole rest later (Err fault) parts reads =
         subst (λ (t : List ℕ). IsFaultyLine ArePositionLines t fault.line) parts reads
-
-abbrev board_of : Extent → ℕ → ℕ → Board
-board_of size black white = record { size = size; black = black; white = white }
 
 abbrev one_by_one : Extent
 one_by_one = record { rows = 1; cols = 1 }

@@ -30,12 +30,14 @@ use Rattle.hx_tree.specs.declared.nodes.Line.TheVariants.{Child, Under}
 use Rattle.hx_tree.specs.declared.nodes.Node.{Node}
 use Rattle.hx_tree.specs.declared.nodes.Rule.{Rule}
 use Rattle.hx_tree.specs.declared.nodes.Rule.TheVariants.{Chain, Links, Move, All, Fill}
-use Rattle.hx_tree.specs.Steps.{IsThreat, most_steps}
+use Rattle.hx_tree.specs.Steps.{IsThreat}
 use Rattle.hx_tree.specs.Answers.{AreInOrder, IsToAnswer, cell_of, cells_of, IsRightLine}
 use Rattle.hx_tree.specs.Rules.{IsRightRule, IsRightNode}
 use Rattle.hx_tree.specs.Trees.{headings_of, AreRight}
+use Rattle.hx_board.specs.declared.cells.TheConstants.{CELLS}
+use Rattle.hx_tree.specs.declared.steps.TheConstants.{MOST_STEPS}
 use Rattle.hx_text.specs.StepTexts.{StepFits, AreNumbers}
-use Rattle.hx_text.specs.Entries.{most_answers, ReasonFits, AnswerFits, EachEntryFits, entries_of, opening_of}
+use Rattle.hx_text.specs.Entries.{ReasonFits, AnswerFits, EachEntryFits, entries_of, opening_of}
 use Rattle.hx_text.specs.TreeTexts.{OpeningFits, NodeFits, EachNodeFits, ListsFit}
 use Rattle.hx_text.specs.Places.{most_nodes}
 use Rattle.hx_text.proofs.EntryLists.{step_entry, threat_entry, answer_entry, EachEntryFits-entries_for}
@@ -49,7 +51,7 @@ place_below P (first ∷ before) (suc k) there = omega (arith, place_below P bef
 
 -- each cell of a list in order has its place below 121, so there are at most 121
 few_cells : (size : Extent) (cells : List ℕ) (Kind : ℕ → Type 0) → IsExtent size.rows size.cols → ((cell : ℕ) → Kind cell → OnBoard size cell)
-    → AreInOrder Kind cells → length cells ≤ most_answers
+    → AreInOrder Kind cells → length cells ≤ CELLS
 few_cells size cells Kind extent on order =
     length-le_from_below 121 cells (sorted_from_strictly_increasing cells order.in_order)
     (λ k d less. on_board-small size (get_or cells k d) extent (on (get_or cells k d) (order.only k d less)))
@@ -97,7 +99,7 @@ base_fits board player a b link ok (inl ends) =
 base_fits board player a b link ok (inr ends) =
     (rw ends.1 at (vertex_of_end board player link.b ok.b_end), rw ends.0 at (vertex_of_end board player link.a ok.a_end))
 
-parts_fit : (before : List Link) (places : List ℕ) (links : List Link) → length before ≤ most_steps
+parts_fit : (before : List Link) (places : List ℕ) (links : List Link) → length before ≤ MOST_STEPS
     → links_at before places ≡ map (λ (part : Link). Some part) links → AreNumbers places
 parts_fit before [] links few there = tt
 parts_fit before (place ∷ places) [] few there = cc
@@ -107,7 +109,7 @@ parts_fit before (place ∷ places) (link ∷ links) few there =
     let below : place < length before = link_below before place link here in
     (omega arith, parts_fit before places links few later)
 
-step_fits : (board : Board) (player : Colour) (before : List Link) (step : Step) (link : Link) → length before ≤ most_steps
+step_fits : (board : Board) (player : Colour) (before : List Link) (step : Step) (link : Link) → length before ≤ MOST_STEPS
     → StepGives board player before step link → StepFits board.size step
 step_fits board player before (Base a b) link few gives = base_fits board player a b link gives.link_ok gives.rule.ends
 step_fits board player before (AndStone left right) link few gives =
@@ -120,7 +122,7 @@ step_fits board player before (AndCell left right) link few gives =
     (omega arith, omega arith)
 step_fits board player before (Or parts) link few gives = (gives.rule.few, parts_fit before parts gives.rule.links few gives.rule.there)
 
-steps_fit : (board : Board) (player : Colour) (before : List Link) (steps : List Step) (links : List Link) → length before + length steps ≤ most_steps
+steps_fit : (board : Board) (player : Colour) (before : List Link) (steps : List Step) (links : List Link) → length before + length steps ≤ MOST_STEPS
     → AreRightSteps board player before steps links → EachEntryFits board.size (map step_entry steps)
 steps_fit board player before [] links few right = tt
 steps_fit board player before (step ∷ steps) links few right = (
@@ -142,7 +144,7 @@ threat_below P [] place there = absurd there
 threat_below P (first ∷ links) zero there = omega arith
 threat_below P (first ∷ links) (suc place) there = omega (arith, threat_below P links place there)
 
-threats_fit : (size : Extent) (links : List Link) (threats : List ℕ) → length links ≤ most_steps → ((k : ℕ) → IfSome (slice_get threats k) (IsThreat links))
+threats_fit : (size : Extent) (links : List Link) (threats : List ℕ) → length links ≤ MOST_STEPS → ((k : ℕ) → IfSome (slice_get threats k) (IsThreat links))
     → EachEntryFits size (map threat_entry threats)
 threats_fit size links [] few each = tt
 threats_fit size links (place ∷ threats) few each =

@@ -46,15 +46,19 @@ position_injective a b m n fits_a fits_b e =
 pub AllLack-position : (lines : List (List ℕ)) → ArePositionLines lines → AllLack lines
 AllLack-position lines are = rw are.same (AllLack-position_lines are.board are.mover are.is_board)
 
+-- two positions and players to move with the same text are the same
+pub text_tells_position : (a b : Board) (m n : Colour) → IsBoard a → IsBoard b → position_text a m ≡ position_text b n → (a ≡ b) × (m ≡ n)
+text_tells_position a b m n fits_a fits_b e =
+    let lines : position_lines a m ≡ position_lines b n =
+    text_injective (position_lines a m) (position_lines b n) (AllLack-position_lines a m fits_a) (AllLack-position_lines b n fits_b) e in
+    position_injective a b m n fits_a fits_b lines
+
 -- what is spelled so is read
 pub spelled_is_read : (bytes : List ℕ) (read : Result (Board × Colour) TextFault) → ReadsFrom [] bytes read
     → (board : Board) (mover : Colour) → IsBoard board → bytes ≡ position_text board mover → read ≡ Ok (board, mover)
 unfolding text_of
 spelled_is_read bytes (Ok (a, m)) reads board mover fits e =
-    let lines : position_lines a m ≡ position_lines board mover =
-    text_injective (position_lines a m) (position_lines board mover) (AllLack-position_lines a m reads.0)
-    (AllLack-position_lines board mover fits) (sym reads.1 ∙ e) in
-    let same = position_injective a board m mover reads.0 fits lines in
+    let same = text_tells_position a board m mover reads.0 fits (sym reads.1 ∙ e) in
     ap (λ (b : Board). Ok (b, m)) same.0 ∙ ap (λ (c : Colour). Ok (board, c)) same.1
 spelled_is_read bytes (Err fault) reads board mover fits e =
     let are : ArePositionLines (position_lines board mover) = record { board = board; mover = mover; is_board = fits; same = refl } in

@@ -20,10 +20,6 @@ use Rattle.hx_text.specs.Words.{spaced, cell_word, IsNumber}
 use Rattle.hx_text.specs.StepTexts.{step_line, threat_line, StepFits}
 use Rattle.hx_text.specs.FillTexts.{fill_line, FillFits}
 
--- the most lines that answer the opponent's moves
-abbrev pub most_answers : ℕ
-most_answers = 121
-
 -- the words of an answer after its cell: why the winner wins after the opponent's move to it
 abbrev pub reason_words : Line → List (List ℕ)
 reason_words (Child cell child) = codes "child" ∷ decimal child ∷ []
@@ -43,10 +39,6 @@ ReasonFits size (Child cell child) = IsNumber child
 ReasonFits size (Under cell better ByDead) = OnBoard size better
 ReasonFits size (Under cell better (ByPair partner)) = OnBoard size better × OnBoard size partner
 
--- an answer at this cell, with a reason that fits
-abbrev pub AnswersAt : Extent → ℕ → Line → Type 0
-AnswersAt size cell line = (cell_of line ≡ cell) × ReasonFits size line
-
 -- an answer whose cells are on a board of this size; it need not be right
 abbrev pub AnswerFits : Extent → Line → Type 0
 AnswerFits size line = OnBoard size (cell_of line) × ReasonFits size line
@@ -57,12 +49,6 @@ entry_line (Threat_entry place) = threat_line place
 entry_line (Answer_entry line) = answer_line line
 entry_line (Fill_entry fill) = fill_line fill
 
-abbrev pub kind_of : Entry → EntryKind
-kind_of (Step_entry step) = Step_kind
-kind_of (Threat_entry place) = Threat_kind
-kind_of (Answer_entry line) = Answer_kind
-kind_of (Fill_entry fill) = Fill_kind
-
 abbrev pub EntryFits : Extent → Entry → Type 0
 EntryFits size (Step_entry step) = StepFits size step
 EntryFits size (Threat_entry place) = IsNumber place
@@ -72,10 +58,6 @@ EntryFits size (Fill_entry fill) = FillFits size fill
 abbrev pub EachEntryFits : Extent → List Entry → Type 0
 EachEntryFits size [] = Unit {0}
 EachEntryFits size (entry ∷ entries) = EntryFits size entry × EachEntryFits size entries
-
--- an entry of this kind on a board of this size
-abbrev pub IsEntry : Extent → EntryKind → Entry → Type 0
-IsEntry size kind entry = EntryFits size entry × (kind_of entry ≡ kind)
 
 -- the entries for these steps, threats, answers and fill steps
 abbrev pub entries_for : List Step → List ℕ → List Line → List FillStep → List Entry
@@ -130,6 +112,22 @@ fills_told (Fill_opening fills child) = fills
 -- how many entries it tells
 abbrev pub entries_told : Opening → ℕ
 entries_told opening = steps_told opening + threats_told opening + answers_told opening + fills_told opening
+
+-- ---- words for the functions inside the crate alone
+
+-- an answer at this cell, with a reason that fits
+abbrev pub AnswersAt : Extent → ℕ → Line → Type 0
+AnswersAt size cell line = (cell_of line ≡ cell) × ReasonFits size line
+
+abbrev pub kind_of : Entry → EntryKind
+kind_of (Step_entry step) = Step_kind
+kind_of (Threat_entry place) = Threat_kind
+kind_of (Answer_entry line) = Answer_kind
+kind_of (Fill_entry fill) = Fill_kind
+
+-- an entry of this kind on a board of this size
+abbrev pub IsEntryLine : Extent → EntryKind → Entry → Type 0
+IsEntryLine size kind entry = EntryFits size entry × (kind_of entry ≡ kind)
 
 -- the kind of the entry at a place, counted from 0, where so many steps come first, then so many threats, then so many answers
 abbrev pub kind_at : Opening → ℕ → EntryKind

@@ -5,10 +5,6 @@ use Rattle.hx_inferior.specs.declared.fills.FillStep.{FillStep}
 use Rattle.hx_inferior.specs.declared.fills.FillStep.TheVariants.{Other, Dead, Pair}
 use Rattle.hx_text.specs.Words.{spaced, cell_word}
 
--- the most fill steps of a node
-abbrev pub most_fills : ℕ
-most_fills = 121
-
 abbrev pub fill_words : FillStep → List (List ℕ)
 fill_words (Other cell) = codes "other" ∷ cell_word cell ∷ []
 fill_words (Dead cell) = codes "dead" ∷ cell_word cell ∷ []

@@ -1,5 +1,5 @@
 -- The places in a tree's text: what each says of the lines and nodes before it, and what one more line does there.
-use Rattle.std.specs.Prelude.{◌≡◌, ◌≢◌, ℕ, ◌+◌, ◌-◌, ◌<◌, ◌≤◌, nat_lt, if◌then◌else◌, List, [], ◌∷◌, ◌++◌, length, map, flat_map, Bool, IsTrue}
+use Rattle.std.specs.Prelude.{◌≡◌, ◌≢◌, ℕ, ◌+◌, ◌-◌, ◌<◌, ◌≤◌, nat_lt, if◌then◌else◌, List, [], ◌∷◌, ◌++◌, length, map, flat_map, Bool, IsTrue, vec_capacity}
 use Rattle.std.specs.declared.option.Option.{Option}
 use Rattle.std.specs.declared.option.Option.TheVariants.{None, Some}
 use Rattle.std.specs.declared.result.Result.{Result}
@@ -19,17 +19,19 @@ use Rattle.hx_text.specs.declared.places.Fed.TheVariants.{More, Node as Whole, E
 use Rattle.hx_text.specs.declared.places.Place.{Place}
 use Rattle.hx_text.specs.declared.places.Place.TheVariants.{Title, Size, Between, Inside, After, Failed}
 use Rattle.hx_text.specs.declared.places.Step.{Step}
+use Rattle.hx_text.specs.declared.places.TheConstants.{MOST_NODES}
 use Rattle.hx_text.specs.declared.places.TreeFault.{TreeFault}
 use Rattle.hx_text.specs.declared.places.TreeFault.TheVariants.{Text, TooMany as TooManyNodes, Memory as NoMemory}
 use Rattle.hx_text.specs.declared.places.Stop.{Stop}
 use Rattle.hx_text.specs.declared.places.Stop.TheVariants.{Wrong, TooMany, Memory}
 use Rattle.hx_text.specs.Grammars.{Begins}
-use Rattle.hx_text.specs.Entries.{EachEntryFits, IsEntry, entries_for, entry_line, steps_told, threats_told, answers_told, fills_told, entries_told}
+use Rattle.hx_text.specs.Entries.{EachEntryFits, IsEntryLine, entries_for, entry_line, steps_told, threats_told, answers_told, fills_told, entries_told}
+use Rattle.hx_text.specs.StepTexts.{BeginsLongOr}
 use Rattle.hx_text.specs.TreeTexts.{AreTreeLines, AreTreeLinesOf, EachNodeFits, NodeFits, IsRootWinner, HeadFits, title_line, front_lines, head_line, node_lines}
 
 -- the most nodes of a text
 abbrev pub most_nodes : ℕ
-most_nodes = 1048576
+most_nodes = MOST_NODES
 
 -- the winner in the last node's heading, if there is a node
 abbrev pub IsLastWinner : List Node → Option Colour → Type 0
@@ -64,6 +66,13 @@ pub record IsInOrder (begun : Begun) : Type 0 where
   pub missing : length begun.steps.items + length begun.threats.items + length begun.lines.items + length begun.fills.items + begun.missing
       ≡ entries_told begun.head.opening
 
+-- each list has room for as many entries as the node's first line tells
+pub record HasRoomForAll (begun : Begun) : Type 0 where
+  pub steps : steps_told begun.head.opening ≤ vec_capacity begun.steps
+  pub threats : threats_told begun.head.opening ≤ vec_capacity begun.threats
+  pub answers : answers_told begun.head.opening ≤ vec_capacity begun.lines
+  pub fills : fills_told begun.head.opening ≤ vec_capacity begun.fills
+
 -- the lines so far are those of these nodes, and then of a node of which the entries that are missing may be none
 pub record StandsBegun (begun : Begun) (nodes : List Node) (lines : List (List ℕ)) : Type 0 where
   pub before : List (List ℕ)
@@ -71,6 +80,7 @@ pub record StandsBegun (begun : Begun) (nodes : List Node) (lines : List (List �
   pub room : begun.so_far.count < most_nodes
   pub head : HeadFits begun.so_far.size begun.head
   pub in_order : IsInOrder begun
+  pub lists : HasRoomForAll begun
   pub each : EachEntryFits begun.so_far.size (entries_in begun)
   pub same : lines ≡ before ++ head_line begun.head ∷ map entry_line (entries_in begun)
 
@@ -96,18 +106,43 @@ pub record IsNextNode (place : Place) (line : List ℕ) : Type 0 where
   pub fits : HeadFits so_far.size head
   pub same : line ≡ head_line head
 
+-- the kind of the entry that is due
+abbrev pub kind_due : Begun → EntryKind
+kind_due begun =
+    if nat_lt (length begun.steps.items) (steps_told begun.head.opening) then Step_kind else
+    if nat_lt (length begun.threats.items) (threats_told begun.head.opening) then Threat_kind else
+    if nat_lt (length begun.lines.items) (answers_told begun.head.opening) then Answer_kind else Fill_kind
+
+-- The lines that take memory. A right first line of a node that tells of entries takes it for their lists, and where a
+-- step is due, a line that begins as that of an Or of more than eight parts takes it for the parts.
+pub data TakesMemory (place : Place) (line : List ℕ) : Type 0 where
+  ForEntries : (first : IsNextNode place line) → 0 < entries_told first.head.opening → TakesMemory place line
+  ForParts : (begun : Begun) → place ≡ Inside begun → kind_due begun ≡ Step_kind → BeginsLongOr line → TakesMemory place line
+
 -- what a line brought: the place after it, the nodes before it, the lines with it; the end comes with the last line alone
 abbrev pub Brings : Fed → Place → List Node → List (List ℕ) → Type 0
 Brings More new nodes lines = (new ≢ After) × Stands new nodes lines
 Brings (Whole node) new nodes lines = (new ≢ After) × Stands new (nodes ++ node ∷ []) lines
 Brings (End winner) new nodes lines = (new ≡ After) × ((size : Extent) × AreTreeLinesOf size nodes winner lines)
 
+-- what a reader says of one more line: old and new are the places before and after it, lines the lines with it
+abbrev pub Told : Place → List ℕ → Bool → ℕ → List Node → List (List ℕ) → Place → Result Fed TreeFault → Type 0
+Told old line ended number nodes lines new (Ok fed) = IsTrue ended × Brings fed new nodes lines
+-- the line is not ended, or is not of the grammar in its place
+Told old line ended number nodes lines new (Err (Text at_line)) = (at_line ≡ number) × (IsTrue ended → Begins AreTreeLines lines → ⊥)
+-- the line is a right first line of one node too many
+Told old line ended number nodes lines new (Err (TooManyNodes count)) = IsTrue ended × (count ≡ most_nodes) × (length nodes ≡ most_nodes) × IsNextNode old line
+-- the line takes memory
+Told old line ended number nodes lines new (Err NoMemory) = IsTrue ended × TakesMemory old line
+
+-- ---- words for the functions inside the crate alone
+
 -- what a step over a line says: the place and the nodes before the line, the line, the lines with it
 abbrev pub Follows : Place → List Node → List ℕ → List (List ℕ) → Result Step Stop → Type 0
 Follows old nodes line lines (Ok step) = Brings step.fed step.place nodes lines
 Follows old nodes line lines (Err Wrong) = Begins AreTreeLines lines → ⊥
 Follows old nodes line lines (Err TooMany) = (length nodes ≡ most_nodes) × IsNextNode old line
-Follows old nodes line lines (Err Memory) = Unit {0}
+Follows old nodes line lines (Err Memory) = TakesMemory old line
 
 -- the same, whatever nodes and lines came before
 abbrev pub Goes : Place → List ℕ → Result Step Stop → Type 0
@@ -133,13 +168,6 @@ EndsNode so_far node step =
     (nodes : List Node) (lines : List (List ℕ)) → StandsSoFar so_far nodes lines → so_far.count < most_nodes → NodeFits so_far.size node
     → Brings step.fed step.place nodes (lines ++ node_lines node)
 
--- the kind of the entry that is due
-abbrev pub kind_due : Begun → EntryKind
-kind_due begun =
-    if nat_lt (length begun.steps.items) (steps_told begun.head.opening) then Step_kind else
-    if nat_lt (length begun.threats.items) (threats_told begun.head.opening) then Threat_kind else
-    if nat_lt (length begun.lines.items) (answers_told begun.head.opening) then Answer_kind else Fill_kind
-
 -- the entry is added to the list of its kind
 abbrev pub IsAdded : Begun → Entry → Begun → Type 0
 IsAdded old (Step_entry step) new =
@@ -155,11 +183,26 @@ IsAdded old (Fill_entry fill) new =
     (new.steps.items ≡ old.steps.items) × (new.threats.items ≡ old.threats.items)
     × (new.lines.items ≡ old.lines.items) × (new.fills.items ≡ old.fills.items ++ fill ∷ [])
 
+-- each list has the room that it had
+pub record HasSameRoom (old new : Begun) : Type 0 where
+  pub steps : vec_capacity new.steps ≡ vec_capacity old.steps
+  pub threats : vec_capacity new.threats ≡ vec_capacity old.threats
+  pub answers : vec_capacity new.lines ≡ vec_capacity old.lines
+  pub fills : vec_capacity new.fills ≡ vec_capacity old.fills
+
+-- the list of the entry's kind has no room for one more
+abbrev pub IsFull : Begun → Entry → Type 0
+IsFull begun (Step_entry step) = length begun.steps.items ≡ vec_capacity begun.steps
+IsFull begun (Threat_entry place) = length begun.threats.items ≡ vec_capacity begun.threats
+IsFull begun (Answer_entry line) = length begun.lines.items ≡ vec_capacity begun.lines
+IsFull begun (Fill_entry fill) = length begun.fills.items ≡ vec_capacity begun.fills
+
 -- the begun node with one more entry
 pub record IsWithEntry (old : Begun) (entry : Entry) (new : Begun) : Type 0 where
   pub same_so_far : new.so_far ≡ old.so_far
   pub same_head : new.head ≡ old.head
   pub missing : new.missing ≡ old.missing - 1
+  pub rooms : HasSameRoom old new
   pub added : IsAdded old entry new
 
 -- what comes after the lines of a begun node
@@ -169,17 +212,8 @@ SettlesNode begun step = (nodes : List Node) (lines : List (List ℕ)) → Stand
 -- what comes after an entry
 abbrev pub AddsEntry : Begun → Entry → Result Step Stop → Type 0
 AddsEntry begun entry result =
-    (nodes : List Node) (lines : List (List ℕ)) → StandsInside begun nodes lines → IsEntry begun.so_far.size (kind_due begun) entry
+    (nodes : List Node) (lines : List (List ℕ)) → StandsInside begun nodes lines → IsEntryLine begun.so_far.size (kind_due begun) entry
     → Follows (Inside begun) nodes (entry_line entry) (lines ++ entry_line entry ∷ []) result
-
--- what a reader says of one more line: old and new are the places before and after it, lines the lines with it
-abbrev pub Told : Place → List ℕ → Bool → ℕ → List Node → List (List ℕ) → Place → Result Fed TreeFault → Type 0
-Told old line ended number nodes lines new (Ok fed) = IsTrue ended × Brings fed new nodes lines
--- the line is not ended, or is not of the grammar in its place
-Told old line ended number nodes lines new (Err (Text at_line)) = (at_line ≡ number) × (IsTrue ended → Begins AreTreeLines lines → ⊥)
--- the line is a right first line of one node too many
-Told old line ended number nodes lines new (Err (TooManyNodes count)) = IsTrue ended × (count ≡ most_nodes) × (length nodes ≡ most_nodes) × IsNextNode old line
-Told old line ended number nodes lines new (Err NoMemory) = Unit {0}
 
 -- the fault of the line with this number, which was not taken
 abbrev pub fault_of_stop : Stop → ℕ → TreeFault

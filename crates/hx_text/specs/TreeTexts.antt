@@ -8,16 +8,16 @@ use Rattle.hx_tree.specs.declared.nodes.Heading.{Heading}
 use Rattle.hx_tree.specs.declared.nodes.Rule.{Rule}
 use Rattle.hx_tree.specs.declared.nodes.Rule.TheVariants.{Chain, Links, Move, All, Fill}
 use Rattle.hx_tree.specs.declared.nodes.Node.{Node}
-use Rattle.hx_tree.specs.Steps.{most_steps, most_threats}
 use Rattle.hx_tree.specs.Trees.{IsRoot}
+use Rattle.hx_board.specs.declared.cells.TheConstants.{CELLS}
+use Rattle.hx_tree.specs.declared.steps.TheConstants.{MOST_STEPS, MOST_THREATS}
 use Rattle.hx_text.specs.declared.node_lines.Opening.{Opening}
 use Rattle.hx_text.specs.declared.node_lines.Opening.TheVariants.{Chain as Chain_opening, Links as Links_opening, Move as Move_opening, All as All_opening, Fill as Fill_opening}
 use Rattle.hx_text.specs.declared.node_lines.Head.{Head}
 use Rattle.hx_text.specs.Words.{spaced, mask_word, colour_word, cell_word, IsNumber}
 use Rattle.hx_text.specs.Grammars.{text_of}
 use Rattle.hx_text.specs.PositionTexts.{size_line}
-use Rattle.hx_text.specs.FillTexts.{most_fills}
-use Rattle.hx_text.specs.Entries.{most_answers, entry_line, entries_of, opening_of, EachEntryFits}
+use Rattle.hx_text.specs.Entries.{entry_line, entries_of, opening_of, EachEntryFits}
 
 abbrev pub opening_words : Opening → List (List ℕ)
 opening_words Chain_opening = codes "chain" ∷ []
@@ -62,10 +62,10 @@ pub record HeadingFits (size : Extent) (heading : Heading) : Type 0 where
 
 abbrev pub OpeningFits : Extent → Opening → Type 0
 OpeningFits size Chain_opening = Unit {0}
-OpeningFits size (Links_opening steps) = steps ≤ most_steps
+OpeningFits size (Links_opening steps) = steps ≤ MOST_STEPS
 OpeningFits size (Move_opening cell child) = OnBoard size cell × IsNumber child
-OpeningFits size (All_opening steps threats lines) = (steps ≤ most_steps) × (threats ≤ most_threats) × (lines ≤ most_answers)
-OpeningFits size (Fill_opening fills child) = (fills ≤ most_fills) × IsNumber child
+OpeningFits size (All_opening steps threats lines) = (steps ≤ MOST_STEPS) × (threats ≤ MOST_THREATS) × (lines ≤ CELLS)
+OpeningFits size (Fill_opening fills child) = (fills ≤ CELLS) × IsNumber child
 
 -- a first line of a node on a board of this size
 pub record HeadFits (size : Extent) (head : Head) : Type 0 where
@@ -80,10 +80,10 @@ pub record NodeFits (size : Extent) (node : Node) : Type 0 where
 -- the lists of a rule are no longer than a text may have them
 abbrev pub ListsFit : Rule → Type 0
 ListsFit Chain = Unit {0}
-ListsFit (Links steps) = length steps ≤ most_steps
+ListsFit (Links steps) = length steps ≤ MOST_STEPS
 ListsFit (Move cell child) = Unit {0}
-ListsFit (All steps threats lines) = (length steps ≤ most_steps) × (length threats ≤ most_threats) × (length lines ≤ most_answers)
-ListsFit (Fill fills child) = length fills ≤ most_fills
+ListsFit (All steps threats lines) = (length steps ≤ MOST_STEPS) × (length threats ≤ MOST_THREATS) × (length lines ≤ CELLS)
+ListsFit (Fill fills child) = length fills ≤ CELLS
 
 abbrev pub EachNodeFits : Extent → List Node → Type 0
 EachNodeFits size [] = Unit {0}

@@ -38,6 +38,26 @@ abbrev pub Lacks : ℕ → List ℕ → Type 0
 Lacks mark [] = Unit {0}
 Lacks mark (byte ∷ bytes) = (byte ≢ mark) × Lacks mark bytes
 
+-- the bytes before the first mark and after it, if there is one
+abbrev pub IsCut : ℕ → List ℕ → List ℕ → List ℕ → Type 0
+IsCut mark bytes before after = Lacks mark before × (bytes ≡ before ++ mark ∷ after)
+
+-- what a reader of a text answers: the value that is spelled so; and nothing only where no value is
+abbrev pub Reads : {V X : Type 0} → (V → X) → (V → Type 0) → X → Option V → Type 0
+Reads spelling Fits text (Some value) = Fits value × (text ≡ spelling value)
+Reads {V} spelling Fits text None = (value : V) → Fits value → text ≡ spelling value → ⊥
+
+-- a number that a text may have
+abbrev pub IsNumber : ℕ → Type 0
+IsNumber n = n < 2 ^ 32
+
+-- a set of cells that a mask may spell
+abbrev pub IsSet : ℕ → Type 0
+IsSet set = set < 2 ^ 128
+
+-- ---- words for the functions inside the crate alone
+
+-- the parts with one byte more in front of the first
 abbrev pub in_first : ℕ → List (List ℕ) → List (List ℕ)
 in_first byte [] = (byte ∷ []) ∷ []
 in_first byte (part ∷ parts) = (byte ∷ part) ∷ parts
@@ -56,16 +76,8 @@ abbrev pub words_left : Bool → List ℕ → List (List ℕ)
 words_left true rest = words_in rest
 words_left false rest = []
 
--- the bytes before the first mark and after it, if there is one
-abbrev pub IsCut : ℕ → List ℕ → List ℕ → List ℕ → Type 0
-IsCut mark bytes before after = Lacks mark before × (bytes ≡ before ++ mark ∷ after)
-
--- what a reader of a text answers: the value that is spelled so; and nothing only where no value is
-abbrev pub Reads : {V X : Type 0} → (V → X) → (V → Type 0) → X → Option V → Type 0
-Reads spelling Fits text (Some value) = Fits value × (text ≡ spelling value)
-Reads {V} spelling Fits text None = (value : V) → Fits value → text ≡ spelling value → ⊥
-
--- the same where the value's word stands in front of other words
+-- what a reader of the first of some words answers: the value whose word it is, before the words that are left; and nothing
+-- only where it is no value's word
 abbrev pub Takes : {V : Type 0} → (V → List ℕ) → (V → Type 0) → List (List ℕ) → Option V → List (List ℕ) → Type 0
 Takes spelling Fits old (Some value) new = Fits value × (old ≡ spelling value ∷ new)
 Takes {V} spelling Fits old None new = (value : V) (rest : List (List ℕ)) → Fits value → old ≡ spelling value ∷ rest → ⊥
@@ -75,9 +87,3 @@ pub record IsCanonical (word : List ℕ) : Type 0 where
   pub some : 0 < length word
   pub short : length word ≤ 10
   pub no_zero : slice_index word 0 ≡ 48 → length word ≡ 1
-
-abbrev pub IsNumber : ℕ → Type 0
-IsNumber n = n < 2 ^ 32
-
-abbrev pub IsSet : ℕ → Type 0
-IsSet set = set < 2 ^ 128

@@ -1,9 +1,9 @@
 //! A node whose lines come one by one. Its first line tells how many entries of each kind follow, and it is handed out with
 //! the last of them.
 
-ghost use Rattle.std.specs.Prelude.{◌≡◌, ◌↔◌, ◌≤◌, IsTrue, false};
+ghost use Rattle.std.specs.Prelude.{◌≡◌, ◌↔◌, ◌<◌, ◌≤◌, [], IsTrue, IfSome, IfNone, false, vec_capacity};
 ghost use Rattle.hx_text.specs.Entries.{rule_for};
-ghost use Rattle.hx_text.specs.Places.{Goes, GoesOn, BeginsNode, EndsNode, AddsEntry, SettlesNode, IsWithEntry, kind_due};
+ghost use Rattle.hx_text.specs.Places.{Goes, GoesOn, BeginsNode, EndsNode, AddsEntry, SettlesNode, IsWithEntry, IsFull, kind_due};
 
 use crate::entries::{Entry, EntryKind, read_entry};
 use crate::node_lines::{Head, Opening};
@@ -12,7 +12,7 @@ use hx_board::{Memory, Size};
 use hx_inferior::FillStep;
 use hx_link::Step as LinkStep;
 use hx_tree::{FillSteps, Line, Lines, Node, Rule, Steps, Threats};
-use std::alloc::Global;
+use std::alloc::{AllocError, Global};
 
 /// A node that lacks some of its entries, and what the nodes before it have said.
 #[derive(Debug, Drop)]
@@ -60,6 +60,7 @@ impl Begun {
     fn takes(&mut self, entry: Entry) -> bool
         ensures yes { IsTrue result → IsWithEntry self.old entry self.new }
         ensures no { result ≡ false → self.new ≡ self.old }
+        ensures full { result ≡ false → IsFull self.old entry }
     {
         match entry {
             Entry::Step(step) => {
@@ -134,20 +135,47 @@ fn begin_lists(alloc: Global, so_far: SoFar, head: Head) -> Result<Step, Stop>
     ensures { BeginsNode so_far head result }
 {
     let opening = &head.opening;
-    let steps = opening.steps();
-    let threats = opening.threats();
-    let answers = opening.answers();
-    let fills = opening.fills();
-    let begun = Begun {
+    let steps_told = opening.steps();
+    let threats_told = opening.threats();
+    let answers_told = opening.answers();
+    let fills_told = opening.fills();
+    let Some(steps) = list_for(alloc, steps_told) else {
+        return Err(Stop::Memory);
+    };
+    let Some(threats) = list_for(alloc, threats_told) else {
+        return Err(Stop::Memory);
+    };
+    let Some(lines) = list_for(alloc, answers_told) else {
+        return Err(Stop::Memory);
+    };
+    let Some(fills) = list_for(alloc, fills_told) else {
+        return Err(Stop::Memory);
+    };
+    let missing = u64::from(steps_told)
+        + u64::from(threats_told)
+        + u64::from(answers_told)
+        + u64::from(fills_told);
+    Ok(settled(Begun {
         so_far,
         head,
-        missing: u64::from(steps) + u64::from(threats) + u64::from(answers) + u64::from(fills),
-        steps: Vec::with_capacity(alloc, steps as usize).map_err(|_| Stop::Memory)?,
-        threats: Vec::with_capacity(alloc, threats as usize).map_err(|_| Stop::Memory)?,
-        lines: Vec::with_capacity(alloc, answers as usize).map_err(|_| Stop::Memory)?,
-        fills: Vec::with_capacity(alloc, fills as usize).map_err(|_| Stop::Memory)?,
-    };
-    Ok(settled(begun))
+        missing,
+        steps,
+        threats,
+        lines,
+        fills,
+    }))
+}
+
+/// An empty list with room for so many entries. It takes memory where there are some.
+fn list_for<T>(alloc: Global, entries: u32) -> Option<Vec<T>>
+    ensures empty { IfSome result (λ list. list.items ≡ []) }
+    ensures room { IfSome result (λ list. entries ≤ vec_capacity list) }
+    ensures memory { IfNone result (0 < entries) }
+{
+    match Vec::with_capacity(alloc, entries as usize) {
+        Ok(list) => Some(list),
+        Err(AllocError) => None,
+    }
 }
 
 /// Takes an entry that more entries follow, and says whether it did. Where it did not, the node is as it was.

@@ -1,9 +1,10 @@
 //! The entries of a node: its lines after the first, each a step, a threat, an answer to a move of the opponent, or a fill
 //! step. How many of each kind there are, and so which kind is due at which place, the node's first line says.
 
-ghost use Rattle.std.specs.Prelude.{◌≡◌, IfOk};
+ghost use Rattle.std.specs.Prelude.{◌≡◌, IfOk, OnErr};
 ghost use Rattle.hx_text.specs.Words.{Reads};
-ghost use Rattle.hx_text.specs.Entries.{IsEntry, entry_line};
+ghost use Rattle.hx_text.specs.Entries.{IsEntryLine, entry_line};
+ghost use Rattle.hx_text.specs.StepTexts.{BeginsLongOr};
 
 use crate::answer_lines::read_answer;
 use crate::fill_lines::read_fill;
@@ -42,7 +43,8 @@ pub(crate) fn read_entry(
     kind: EntryKind,
     line: &[u8],
 ) -> Result<Option<Entry>, Memory>
-    ensures { IfOk result (Reads entry_line (IsEntry size kind) line.now) }
+    ensures reads { IfOk result (Reads entry_line (IsEntryLine size kind) line.now) }
+    ensures memory { OnErr result ((kind ≡ EntryKind.Step) × BeginsLongOr line.now) }
 {
     match kind {
         EntryKind::Step => match read_step(alloc, size, line) {

@@ -1,32 +1,42 @@
 //! What texts tell. The calls do nothing; what they say stands in their contracts.
 
 ghost use Rattle.std.specs.Prelude.{◌≡◌, ℕ, List, length};
-ghost use Rattle.hx_board.specs.declared.colours.Colour.{Colour as Winner};
+ghost use Rattle.hx_board.specs.declared.colours.Colour.{Colour as Player};
 ghost use Rattle.hx_board.specs.Cells.{Extent, IsExtent};
+ghost use Rattle.hx_board.specs.Positions.{Board, IsBoard};
 ghost use Rattle.hx_tree.specs.declared.nodes.Node.{Node as TreeNode};
 ghost use Rattle.hx_text.specs.Words.{IsNumber};
 ghost use Rattle.hx_text.specs.Grammars.{IsFaultyLine};
-ghost use Rattle.hx_text.specs.PositionTexts.{ArePositionLines};
+ghost use Rattle.hx_text.specs.PositionTexts.{ArePositionLines, position_text};
 ghost use Rattle.hx_text.specs.TreeTexts.{AreTreeLines, IsTreeText, EachNodeFits, IsRootWinner, written_tree};
+
+/// A text tells its position and the player to move: two of them with the same text are the same.
+pub fn text_tells_position()
+    ensures { (a b : Board) (m n : Player) → IsBoard a → IsBoard b → position_text a m ≡ position_text b n
+        → (a ≡ b) × (m ≡ n) }
+{}
 
 /// A text tells its nodes: two lists of nodes with the same text are the same.
 pub fn text_tells_nodes()
-    ensures { (bytes : List ℕ) (a b : List TreeNode) → IsTreeText bytes a → IsTreeText bytes b → a ≡ b }
+    ensures { (bytes : List ℕ) (a b : List TreeNode) → IsTreeText bytes a → IsTreeText bytes b
+        → a ≡ b }
 {}
 
 /// What `write_heading`, `write_node` for each node and `write_end` write is the text of these nodes, and whatever is read
 /// from it is what was written.
 pub fn written_is_text()
-    ensures text { (size : Extent) (nodes : List TreeNode) (winner : Winner) → IsExtent size.rows size.cols
-        → EachNodeFits size nodes → IsRootWinner nodes winner → IsNumber (length nodes)
+    ensures text { (size : Extent) (nodes : List TreeNode) (winner : Player)
+        → IsExtent size.rows size.cols → EachNodeFits size nodes → IsRootWinner nodes winner → IsNumber (length nodes)
         → IsTreeText (written_tree size nodes winner) nodes }
-    ensures read_back { (size : Extent) (nodes read : List TreeNode) (winner : Winner) → IsExtent size.rows size.cols
-        → EachNodeFits size nodes → IsRootWinner nodes winner → IsNumber (length nodes)
+    ensures read_back { (size : Extent) (nodes read : List TreeNode) (winner : Player)
+        → IsExtent size.rows size.cols → EachNodeFits size nodes → IsRootWinner nodes winner → IsNumber (length nodes)
         → IsTreeText (written_tree size nodes winner) read → read ≡ nodes }
 {}
 
 /// Bytes have one faulty line at the most, as the text of a tree and as the text of a position.
 pub fn one_faulty_line()
-    ensures trees { (bytes : List ℕ) (a b : ℕ) → IsFaultyLine AreTreeLines bytes a → IsFaultyLine AreTreeLines bytes b → a ≡ b }
-    ensures positions { (bytes : List ℕ) (a b : ℕ) → IsFaultyLine ArePositionLines bytes a → IsFaultyLine ArePositionLines bytes b → a ≡ b }
+    ensures trees { (bytes : List ℕ) (a b : ℕ) → IsFaultyLine AreTreeLines bytes a
+        → IsFaultyLine AreTreeLines bytes b → a ≡ b }
+    ensures positions { (bytes : List ℕ) (a b : ℕ) → IsFaultyLine ArePositionLines bytes a
+        → IsFaultyLine ArePositionLines bytes b → a ≡ b }
 {}

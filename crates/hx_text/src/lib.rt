@@ -7,24 +7,26 @@ mod entries;
 mod fill_lines;
 mod laws;
 mod lines;
+mod marks;
 mod node_lines;
 mod places;
 mod positions;
 mod reader;
 mod spelling;
 mod step_lines;
+mod texts;
 mod values;
 mod words;
 mod writer;
 
-pub use laws::{one_faulty_line, text_tells_nodes, written_is_text};
-pub use places::{Fed, TreeFault};
+pub use laws::{one_faulty_line, text_tells_nodes, text_tells_position, written_is_text};
+pub use marks::cut;
+pub use places::{Fed, MOST_NODES, TreeFault};
 pub use positions::{TextFault, read_position};
 pub use reader::TreeReader;
-pub use words::cut;
+pub use texts::{TEXT_ROOM, Text};
+pub use values::{read_digits, read_number};
 pub use writer::{write_end, write_heading, write_node, write_position};
 
-#[cfg(test)]
-mod plain;
 #[cfg(test)]
 mod tests;

@@ -3,15 +3,13 @@
 ghost use Rattle.std.specs.Prelude.{◌≡◌, ◌≢◌, ℕ, ◌≤◌, ◌∷◌, [], codes, IfSome, IfNone, MatchOption};
 ghost use Rattle.std.specs.Fmt.{decimal};
 ghost use Rattle.hx_board.specs.Cells.{OnBoard};
-ghost use Rattle.hx_tree.specs.Steps.{most_steps, most_threats};
 ghost use Rattle.hx_text.specs.Words.{Reads, IsNumber, cell_word};
-ghost use Rattle.hx_text.specs.FillTexts.{most_fills};
-ghost use Rattle.hx_text.specs.Entries.{most_answers, steps_told, threats_told, answers_told, fills_told};
+ghost use Rattle.hx_text.specs.Entries.{steps_told, threats_told, answers_told, fills_told};
 ghost use Rattle.hx_text.specs.TreeTexts.{opening_words, OpeningFits, head_line, HeadFits};
 
 use crate::words::Words;
-use hx_board::{Cell, Position, Size};
-use hx_tree::Heading;
+use hx_board::{CELLS, Cell, Position, Size};
+use hx_tree::{Heading, MOST_STEPS, MOST_THREATS};
 
 /// How a rule begins: what a node's first line tells of it.
 #[derive(Clone, Copy, PartialEq, Eq, Debug)]
@@ -90,18 +88,6 @@ pub struct Head {
     pub opening: Opening,
 }
 
-/// The most steps of a node.
-const MOST_STEPS: u32 = 8192;
-
-/// The most threats of a node.
-const MOST_THREATS: u32 = 128;
-
-/// The most lines that answer the opponent's moves: a board has no more cells.
-const MOST_ANSWERS: u32 = 121;
-
-/// The most fill steps of a node: each fills an empty cell at least.
-const MOST_FILLS: u32 = 121;
-
 /// The line `node BLACK WHITE MOVER WINNER OPENING`.
 pub(crate) fn read_head(size: Size, line: &[u8]) -> Option<Head>
     ensures { Reads head_line (HeadFits size) line.now result }
@@ -162,8 +148,8 @@ fn read_move(size: Size, words: &mut Words<'_>) -> Option<Opening>
 
 /// The rest of the opening `links`: the word `STEPS`.
 fn read_links(words: &mut Words<'_>) -> Option<Opening>
-    ensures some { IfSome result (λ opening. (steps : ℕ) × (opening ≡ Opening.Links steps) × (steps ≤ most_steps) × (words.old ≡ decimal steps ∷ [])) }
-    ensures none { IfNone result ((steps : ℕ) → steps ≤ most_steps → words.old ≡ decimal steps ∷ [] → ⊥) }
+    ensures some { IfSome result (λ opening. (steps : ℕ) × (opening ≡ Opening.Links steps) × (steps ≤ MOST_STEPS) × (words.old ≡ decimal steps ∷ [])) }
+    ensures none { IfNone result ((steps : ℕ) → steps ≤ MOST_STEPS → words.old ≡ decimal steps ∷ [] → ⊥) }
 {
     let steps = words.count(MOST_STEPS)?;
     words.end()?;
@@ -173,14 +159,14 @@ fn read_links(words: &mut Words<'_>) -> Option<Opening>
 /// The rest of the opening `all`: the words `STEPS THREATS LINES`.
 fn read_all(words: &mut Words<'_>) -> Option<Opening>
     ensures some { IfSome result (λ opening. (steps threats lines : ℕ) × (opening ≡ Opening.All steps threats lines)
-        × (steps ≤ most_steps) × (threats ≤ most_threats) × (lines ≤ most_answers)
+        × (steps ≤ MOST_STEPS) × (threats ≤ MOST_THREATS) × (lines ≤ CELLS)
         × (words.old ≡ decimal steps ∷ decimal threats ∷ decimal lines ∷ [])) }
-    ensures none { IfNone result ((steps threats lines : ℕ) → steps ≤ most_steps → threats ≤ most_threats → lines ≤ most_answers
+    ensures none { IfNone result ((steps threats lines : ℕ) → steps ≤ MOST_STEPS → threats ≤ MOST_THREATS → lines ≤ CELLS
         → words.old ≡ decimal steps ∷ decimal threats ∷ decimal lines ∷ [] → ⊥) }
 {
     let steps = words.count(MOST_STEPS)?;
     let threats = words.count(MOST_THREATS)?;
-    let lines = words.count(MOST_ANSWERS)?;
+    let lines = words.count(CELLS)?;
     words.end()?;
     Some(Opening::All {
         steps,
@@ -191,12 +177,12 @@ fn read_all(words: &mut Words<'_>) -> Option<Opening>
 
 /// The rest of the opening `fill`: the words `FILLS CHILD`.
 fn read_fills(words: &mut Words<'_>) -> Option<Opening>
-    ensures some { IfSome result (λ opening. (fills child : ℕ) × (opening ≡ Opening.Fill fills child) × (fills ≤ most_fills) × IsNumber child
+    ensures some { IfSome result (λ opening. (fills child : ℕ) × (opening ≡ Opening.Fill fills child) × (fills ≤ CELLS) × IsNumber child
         × (words.old ≡ decimal fills ∷ decimal child ∷ [])) }
-    ensures none { IfNone result ((fills child : ℕ) → fills ≤ most_fills → IsNumber child
+    ensures none { IfNone result ((fills child : ℕ) → fills ≤ CELLS → IsNumber child
         → words.old ≡ decimal fills ∷ decimal child ∷ [] → ⊥) }
 {
-    let fills = words.count(MOST_FILLS)?;
+    let fills = words.count(CELLS)?;
     let child = words.number()?;
     words.end()?;
     Some(Opening::Fill { fills, child })

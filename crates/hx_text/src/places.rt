@@ -9,15 +9,19 @@ use crate::{lines, node_lines};
 use hx_board::{Colour, Size};
 use hx_tree::Node;
 use std::alloc::Global;
+use thiserror::Error;
 
 /// Why a text is not read on.
-#[derive(Clone, Copy, PartialEq, Eq, Debug)]
+#[derive(Clone, Copy, PartialEq, Eq, Debug, Error)]
 pub enum TreeFault {
     /// The line with this number, counted from 1, is not of the grammar in its place.
+    #[error("line {line} is not of the grammar in its place")]
     Text { line: u64 },
     /// The line begins one node more than a text may have, which is this many.
+    #[error("the text has more than {nodes} nodes")]
     TooMany { nodes: u32 },
     /// Memory for a node's lists was wanting.
+    #[error("there is not enough memory")]
     Memory,
 }
 
@@ -76,7 +80,7 @@ pub enum Stop {
 }
 
 /// The most nodes of a text.
-pub(crate) const MOST_NODES: u32 = 1_048_576;
+pub const MOST_NODES: u32 = 1_048_576;
 
 /// Takes one more line, without its LF.
 pub(crate) fn advance(alloc: Global, place: Place, line: &[u8]) -> Result<Step, Stop>

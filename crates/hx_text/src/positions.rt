@@ -11,11 +11,13 @@ ghost use Rattle.hx_text.specs.PositionTexts.{ArePositionLines, position_text, p
 ghost use Rattle.hx_text.specs.PositionReads.{ReadsFrom};
 
 use crate::lines;
-use crate::words::cut;
+use crate::marks::cut;
 use hx_board::{Colour, Mask, Position, Size};
+use thiserror::Error;
 
 /// The first line of a text, counted from 1, that is not of the grammar in its place.
-#[derive(Clone, Copy, PartialEq, Eq, Debug)]
+#[derive(Clone, Copy, PartialEq, Eq, Debug, Error)]
+#[error("line {line} is not of the grammar in its place")]
 pub struct TextFault {
     pub line: u64,
 }

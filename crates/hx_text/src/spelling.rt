@@ -1,15 +1,14 @@
-//! Spelling the texts that go out. A text is put together in place, so that it needs no memory and can be written at
-//! once. The longest that is put in as a whole is the first line of a node, with 120 bytes; a node with many lines goes out
-//! in pieces.
+//! Spelling the texts of positions and trees, line by line. The longest that is put in as a whole is the first line of a node,
+//! with 120 bytes; a node with many lines goes out in pieces.
 
-ghost use Rattle.std.specs.Prelude.{◌≡◌, ◌+◌, ◌≤◌, ◌++◌, ◌<◌, ◌∷◌, [], length, ◌↔◌, IsTrue};
+ghost use Rattle.std.specs.Prelude.{◌≡◌, ◌+◌, ◌≤◌, ◌++◌, ◌∷◌, [], length};
 ghost use Rattle.std.specs.Fmt.{decimal};
 ghost use Rattle.hx_inferior.specs.declared.fills.FillStep.TheVariants.{Pair};
 ghost use Rattle.hx_inferior.specs.declared.dominations.Kill.TheVariants.{ByDead, ByPair};
 ghost use Rattle.hx_tree.specs.declared.nodes.Line.TheVariants.{Child, Under};
 ghost use Rattle.hx_link.specs.declared.steps.Step.TheVariants.{Base};
 ghost use Rattle.hx_text.specs.declared.node_lines.Opening.TheVariants.{Links, Move, All, Fill};
-ghost use Rattle.hx_text.specs.Words.{hex_digit, mask_word, colour_word, cell_word, spaced};
+ghost use Rattle.hx_text.specs.Words.{mask_word, colour_word, cell_word, spaced};
 ghost use Rattle.hx_text.specs.Grammars.{text_of};
 ghost use Rattle.hx_text.specs.PositionTexts.{size_line, stones_line, move_line, position_text};
 ghost use Rattle.hx_text.specs.StepTexts.{IsShortStep, vertex_word, step_line, threat_line};
@@ -18,90 +17,16 @@ ghost use Rattle.hx_text.specs.Entries.{opening_of, answer_line};
 ghost use Rattle.hx_text.specs.Spelling.{part_text};
 ghost use Rattle.hx_text.specs.TreeTexts.{ListsFit, opening_words, head_of, head_line, front_lines, end_line};
 
-use crate::values;
-use arrayvec::ArrayVec;
+use crate::texts::{TEXT_ROOM, Text};
 use hx_board::{Cell, Colour, Mask, Position, Size, Vertex};
 use hx_inferior::{FillStep, Kill};
 use hx_link::Step;
 use hx_tree::{Line, Node, Rule};
-use itoa::Buffer;
-use std::marker::Model;
-
-/// The most bytes of a text. Each new text is filled with as many zeros, so more of them make short texts slower.
-pub(crate) const ROOM: usize = 512;
-
-/// How many digits a mask has.
-const MASK_DIGITS: u8 = 32;
-
-/// A text of at most `ROOM` bytes, seen as its bytes.
-#[derive(Drop)]
-pub(crate) struct Text {
-    bytes: ArrayVec<u8, ROOM>,
-}
-
-impl Model for Text {
-    ghost use Rattle.std.specs.Prelude.{List, ℕ};
-
-    ghost Value = { List ℕ };
-
-    ghost view = { λ t. t.bytes.items };
-}
 
 impl Text {
-    /// The empty text.
-    pub(crate) fn new() -> Text
-        ensures { result ≡ [] }
-    {
-        Text {
-            bytes: ArrayVec::new(),
-        }
-    }
-
-    /// Its bytes.
-    pub(crate) fn bytes(&self) -> &[u8]
-        ensures { result.now ≡ self.now }
-    {
-        self.bytes.as_slice()
-    }
-
-    /// Whether so many bytes more have room.
-    pub(crate) fn has_room(&self, bytes: usize) -> bool
-        ensures { IsTrue result ↔ (length self.now + bytes ≤ ROOM) }
-    {
-        bytes <= self.bytes.remaining_capacity()
-    }
-
-    /// Puts these bytes at the end.
-    pub(crate) fn put(&mut self, bytes: &[u8])
-        requires { length self.old + length bytes.now ≤ ROOM }
-        ensures { self.new ≡ self.old ++ bytes.now }
-    {
-        self.bytes.try_extend_from_slice(bytes).unwrap();
-    }
-
-    /// Puts the word of a colour.
-    pub(crate) fn put_colour(&mut self, colour: Colour)
-        requires { length self.old + 5 ≤ ROOM }
-        ensures { self.new ≡ self.old ++ colour_word colour }
-    {
-        self.put(values::colour_word(colour));
-    }
-
-    /// Puts the digits of a mask, the most significant first.
-    pub(crate) fn put_mask(&mut self, mask: Mask)
-        requires { length self.old + 32 ≤ ROOM }
-        ensures { self.new ≡ self.old ++ mask_word mask }
-    {
-        let bits = mask.bits();
-        for place in (0..MASK_DIGITS).rev() {
-            let digit = (bits >> (4 * place)) % 16;
-            self.put(&[hex_digit_of(digit as u8)]);
-        }
-    }
-
     /// Puts the text of a position and the player to move.
     pub(crate) fn put_position(&mut self, position: &Position, to_move: Colour)
-        requires { length self.old + 109 ≤ ROOM }
+        requires { length self.old + 109 ≤ TEXT_ROOM }
         ensures { self.new ≡ self.old ++ position_text position.now to_move }
     {
         self.put(b"hexpos 1\n");
@@ -113,7 +38,7 @@ impl Text {
 
     /// Puts the line of a size.
     fn put_size(&mut self, size: Size)
-        requires { length self.old + 11 ≤ ROOM }
+        requires { length self.old + 11 ≤ TEXT_ROOM }
         ensures text { self.new ≡ self.old ++ (size_line size ++ 10 ∷ []) }
         ensures short { length self.new ≤ length self.old + 11 }
     {
@@ -124,20 +49,9 @@ impl Text {
         self.put(b"\n");
     }
 
-    /// Puts a number of at most two digits.
-    fn put_small(&mut self, n: u8)
-        requires room { length self.old + 2 ≤ ROOM }
-        requires small { n < 100 }
-        ensures text { self.new ≡ self.old ++ decimal n }
-        ensures short { length self.new ≤ length self.old + 2 }
-    {
-        let mut buffer = Buffer::new();
-        self.put(buffer.format(n).as_bytes());
-    }
-
     /// Puts the line of a player's stones.
     fn put_stones(&mut self, colour: Colour, stones: Mask)
-        requires { length self.old + 39 ≤ ROOM }
+        requires { length self.old + 39 ≤ TEXT_ROOM }
         ensures text { self.new ≡ self.old ++ (stones_line colour stones ++ 10 ∷ []) }
         ensures short { length self.new ≤ length self.old + 39 }
     {
@@ -149,7 +63,7 @@ impl Text {
 
     /// Puts the line of the player to move.
     fn put_move(&mut self, to_move: Colour)
-        requires { length self.old + 11 ≤ ROOM }
+        requires { length self.old + 11 ≤ TEXT_ROOM }
         ensures { self.new ≡ self.old ++ (move_line to_move ++ 10 ∷ []) }
     {
         self.put(b"move ");
@@ -159,7 +73,7 @@ impl Text {
 
     /// Puts the lines of a tree's text before its nodes: the title and the size of the board.
     pub(crate) fn put_heading(&mut self, size: Size)
-        requires { length self.old + 21 ≤ ROOM }
+        requires { length self.old + 21 ≤ TEXT_ROOM }
         ensures { self.new ≡ self.old ++ text_of (front_lines size) }
     {
         self.put(b"hextree 1\n");
@@ -168,7 +82,7 @@ impl Text {
 
     /// Puts the first line of a node.
     pub(crate) fn put_head(&mut self, node: &Node)
-        requires room { length self.old + 120 ≤ ROOM }
+        requires room { length self.old + 120 ≤ TEXT_ROOM }
         requires lists { ListsFit node.now.rule }
         ensures { self.new ≡ self.old ++ (head_line (head_of node.now) ++ 10 ∷ []) }
     {
@@ -181,7 +95,7 @@ impl Text {
 
     /// Puts the line of an answer to a move of the opponent.
     pub(crate) fn put_answer(&mut self, line: &Line)
-        requires { length self.old + 26 ≤ ROOM }
+        requires { length self.old + 26 ≤ TEXT_ROOM }
         ensures { self.new ≡ self.old ++ (answer_line line.now ++ 10 ∷ []) }
     {
         match line {
@@ -195,7 +109,7 @@ impl Text {
 
     /// Puts the line of a step that is no Or. That of an Or is longer than a text may be, and goes out in pieces.
     pub(crate) fn put_step(&mut self, step: &Step)
-        requires room { length self.old + 28 ≤ ROOM }
+        requires room { length self.old + 28 ≤ TEXT_ROOM }
         requires short { IsShortStep step.now }
         ensures { self.new ≡ self.old ++ (step_line step.now ++ 10 ∷ []) }
     {
@@ -209,7 +123,7 @@ impl Text {
 
     /// Puts the line of a step over what is joined.
     fn put_base(&mut self, a: Vertex, b: Vertex)
-        requires { length self.old + 28 ≤ ROOM }
+        requires { length self.old + 28 ≤ TEXT_ROOM }
         ensures { self.new ≡ self.old ++ (step_line (Base a b) ++ 10 ∷ []) }
     {
         self.put(b"base ");
@@ -221,20 +135,20 @@ impl Text {
 
     /// Puts the line of a step by an And rule, which begins with this word and the space after it.
     fn put_and(&mut self, word: &[u8], left: u32, right: u32)
-        requires room { length self.old + 28 ≤ ROOM }
+        requires room { length self.old + 28 ≤ TEXT_ROOM }
         requires short { length word.now ≤ 6 }
         ensures { self.new ≡ self.old ++ (word.now ++ decimal left ++ 32 ∷ decimal right ++ 10 ∷ []) }
     {
         self.put(word);
-        self.put_index(left);
+        self.put_number(left);
         self.put(b" ");
-        self.put_index(right);
+        self.put_number(right);
         self.put(b"\n");
     }
 
     /// Puts the word of a vertex.
     fn put_vertex(&mut self, vertex: Vertex)
-        requires { length self.old + 5 ≤ ROOM }
+        requires { length self.old + 5 ≤ TEXT_ROOM }
         ensures text { self.new ≡ self.old ++ vertex_word vertex }
         ensures short { length self.new ≤ length self.old + 5 }
     {
@@ -247,38 +161,38 @@ impl Text {
 
     /// Puts one more part of an Or: a space and the number.
     pub(crate) fn put_part(&mut self, place: u32)
-        requires { length self.old + 11 ≤ ROOM }
+        requires { length self.old + 11 ≤ TEXT_ROOM }
         ensures { self.new ≡ self.old ++ part_text place }
     {
         self.put(b" ");
-        self.put_index(place);
+        self.put_number(place);
     }
 
     /// Puts the line of a threat.
     pub(crate) fn put_threat(&mut self, place: u32)
-        requires { length self.old + 18 ≤ ROOM }
+        requires { length self.old + 18 ≤ TEXT_ROOM }
         ensures { self.new ≡ self.old ++ (threat_line place ++ 10 ∷ []) }
     {
         self.put(b"threat ");
-        self.put_index(place);
+        self.put_number(place);
         self.put(b"\n");
     }
 
     /// Puts the line of an answer by a child.
     fn put_child(&mut self, cell: Cell, child: u32)
-        requires { length self.old + 26 ≤ ROOM }
+        requires { length self.old + 26 ≤ TEXT_ROOM }
         ensures { self.new ≡ self.old ++ (answer_line (Child cell child) ++ 10 ∷ []) }
     {
         self.put(b"line ");
         self.put_cell(cell);
         self.put(b" child ");
-        self.put_index(child);
+        self.put_number(child);
         self.put(b"\n");
     }
 
     /// Puts the line of an answer by a better cell, with which the cell is dead.
     fn put_under_dead(&mut self, cell: Cell, better: Cell)
-        requires { length self.old + 18 ≤ ROOM }
+        requires { length self.old + 18 ≤ TEXT_ROOM }
         ensures { self.new ≡ self.old ++ (answer_line (Under cell better ByDead) ++ 10 ∷ []) }
     {
         self.put(b"line ");
@@ -290,7 +204,7 @@ impl Text {
 
     /// Puts the line of an answer by a better cell, with which the cell is one of a pair with its partner.
     fn put_under_pair(&mut self, cell: Cell, better: Cell, partner: Cell)
-        requires { length self.old + 22 ≤ ROOM }
+        requires { length self.old + 22 ≤ TEXT_ROOM }
         ensures { self.new ≡ self.old ++ (answer_line (Under cell better (ByPair partner)) ++ 10 ∷ []) }
     {
         self.put(b"line ");
@@ -304,7 +218,7 @@ impl Text {
 
     /// Puts the line of a fill step.
     pub(crate) fn put_fill(&mut self, fill: &FillStep)
-        requires { length self.old + 13 ≤ ROOM }
+        requires { length self.old + 13 ≤ TEXT_ROOM }
         ensures { self.new ≡ self.old ++ (fill_line fill.now ++ 10 ∷ []) }
     {
         match fill {
@@ -316,7 +230,7 @@ impl Text {
 
     /// Puts the line of a fill step on one cell, which begins with this word and the space after it.
     fn put_filled(&mut self, word: &[u8], cell: Cell)
-        requires room { length self.old + 13 ≤ ROOM }
+        requires room { length self.old + 13 ≤ TEXT_ROOM }
         requires short { length word.now ≤ 6 }
         ensures { self.new ≡ self.old ++ (word.now ++ cell_word cell ++ 10 ∷ []) }
     {
@@ -327,7 +241,7 @@ impl Text {
 
     /// Puts the line of a fill step on the cells of a pair.
     fn put_pair(&mut self, a: Cell, b: Cell)
-        requires { length self.old + 13 ≤ ROOM }
+        requires { length self.old + 13 ≤ TEXT_ROOM }
         ensures { self.new ≡ self.old ++ (fill_line (Pair a b) ++ 10 ∷ []) }
     {
         self.put(b"pair ");
@@ -339,11 +253,11 @@ impl Text {
 
     /// Puts the last line of a tree's text, which says how many nodes there are and who wins.
     pub(crate) fn put_end(&mut self, nodes: u32, winner: Colour)
-        requires { length self.old + 21 ≤ ROOM }
+        requires { length self.old + 21 ≤ TEXT_ROOM }
         ensures { self.new ≡ self.old ++ text_of (end_line nodes winner ∷ []) }
     {
         self.put(b"end ");
-        self.put_index(nodes);
+        self.put_number(nodes);
         self.put(b" ");
         self.put_colour(winner);
         self.put(b"\n");
@@ -351,7 +265,7 @@ impl Text {
 
     /// Puts the masks of both players' stones, each with the space after it.
     fn put_masks(&mut self, position: &Position)
-        requires { length self.old + 66 ≤ ROOM }
+        requires { length self.old + 66 ≤ TEXT_ROOM }
         ensures text { self.new ≡ self.old ++ (mask_word position.now.black ++ 32 ∷ mask_word position.now.white ++ 32 ∷ []) }
         ensures short { length self.new ≤ length self.old + 66 }
     {
@@ -363,7 +277,7 @@ impl Text {
 
     /// Puts the player to move and the winner, each with the space after it.
     fn put_colours(&mut self, to_move: Colour, winner: Colour)
-        requires { length self.old + 12 ≤ ROOM }
+        requires { length self.old + 12 ≤ TEXT_ROOM }
         ensures text { self.new ≡ self.old ++ (colour_word to_move ++ 32 ∷ colour_word winner ++ 32 ∷ []) }
         ensures short { length self.new ≤ length self.old + 12 }
     {
@@ -375,7 +289,7 @@ impl Text {
 
     /// Puts the words of a rule that end its node's first line.
     fn put_opening(&mut self, rule: &Rule)
-        requires room { length self.old + 36 ≤ ROOM }
+        requires room { length self.old + 36 ≤ TEXT_ROOM }
         requires lists { ListsFit rule.now }
         ensures text { self.new ≡ self.old ++ spaced (opening_words (opening_of rule.now)) }
         ensures short { length self.new ≤ length self.old + 36 }
@@ -399,77 +313,49 @@ impl Text {
 
     /// Puts the words of a rule of so many steps.
     fn put_links(&mut self, steps: u32)
-        requires { length self.old + 36 ≤ ROOM }
+        requires { length self.old + 36 ≤ TEXT_ROOM }
         ensures text { self.new ≡ self.old ++ spaced (opening_words (Links steps)) }
         ensures short { length self.new ≤ length self.old + 36 }
     {
         self.put(b"links ");
-        self.put_index(steps);
+        self.put_number(steps);
     }
 
     /// Puts the words of a rule that answers each move, with so many steps, threats and lines.
     fn put_all(&mut self, steps: u32, threats: u32, lines: u32)
-        requires { length self.old + 36 ≤ ROOM }
+        requires { length self.old + 36 ≤ TEXT_ROOM }
         ensures text { self.new ≡ self.old ++ spaced (opening_words (All steps threats lines)) }
         ensures short { length self.new ≤ length self.old + 36 }
     {
         self.put(b"all ");
-        self.put_index(steps);
+        self.put_number(steps);
         self.put(b" ");
-        self.put_index(threats);
+        self.put_number(threats);
         self.put(b" ");
-        self.put_index(lines);
+        self.put_number(lines);
     }
 
     /// Puts the words of a rule of so many fill steps and of the child that goes on.
     fn put_fills(&mut self, fills: u32, child: u32)
-        requires { length self.old + 36 ≤ ROOM }
+        requires { length self.old + 36 ≤ TEXT_ROOM }
         ensures text { self.new ≡ self.old ++ spaced (opening_words (Fill fills child)) }
         ensures short { length self.new ≤ length self.old + 36 }
     {
         self.put(b"fill ");
-        self.put_index(fills);
+        self.put_number(fills);
         self.put(b" ");
-        self.put_index(child);
+        self.put_number(child);
     }
 
     /// Puts the words of a winning move and of the child that goes on.
     fn put_winning(&mut self, cell: Cell, child: u32)
-        requires { length self.old + 19 ≤ ROOM }
+        requires { length self.old + 19 ≤ TEXT_ROOM }
         ensures text { self.new ≡ self.old ++ spaced (opening_words (Move cell child)) }
         ensures short { length self.new ≤ length self.old + 19 }
     {
         self.put(b"move ");
         self.put_cell(cell);
         self.put(b" ");
-        self.put_index(child);
+        self.put_number(child);
     }
-
-    /// Puts the word of a cell: the letter of its column, and its row counted from 1.
-    fn put_cell(&mut self, cell: Cell)
-        requires { length self.old + 3 ≤ ROOM }
-        ensures text { self.new ≡ self.old ++ cell_word cell }
-        ensures short { length self.new ≤ length self.old + 3 }
-    {
-        self.put(&[b'a' + cell.col()]);
-        self.put_small(cell.row() + 1);
-    }
-
-    /// Puts the number of a node, or how many there are.
-    fn put_index(&mut self, n: u32)
-        requires { length self.old + 10 ≤ ROOM }
-        ensures text { self.new ≡ self.old ++ decimal n }
-        ensures short { length self.new ≤ length self.old + 10 }
-    {
-        let mut buffer = Buffer::new();
-        self.put(buffer.format(n).as_bytes());
-    }
-}
-
-/// The digit of a mask for a number below 16.
-fn hex_digit_of(n: u8) -> u8
-    requires { n ≤ 15 }
-    ensures { result ≡ hex_digit n }
-{
-    if n < 10 { b'0' + n } else { b'a' + (n - 10) }
 }

@@ -1,25 +1,23 @@
 //! The lines of a node's steps and threats.
 
-ghost use Rattle.std.specs.Prelude.{◌≡◌, ℕ, ◌≤◌, ◌∷◌, [], map, length, List, IfOk, MatchOption};
+ghost use Rattle.std.specs.Prelude.{◌≡◌, ℕ, ◌≤◌, ◌∷◌, [], map, length, codes, List, IfOk, OnErr, MatchOption};
 ghost use Rattle.std.specs.Fmt.{decimal};
 ghost use Rattle.hx_board.specs.declared.vertices.Vertex.{Vertex};
 ghost use Rattle.hx_board.specs.Graph.{IsVertex};
 ghost use Rattle.hx_text.specs.Words.{Reads, IsNumber};
-ghost use Rattle.hx_text.specs.StepTexts.{most_parts, step_words, step_line, StepFits, threat_line, vertex_word, AreNumbers};
+ghost use Rattle.hx_text.specs.StepTexts.{step_words, step_line, StepFits, BeginsLongOr, BeginWithManyParts, threat_line, vertex_word, AreNumbers};
 
 use crate::words::Words;
 use hx_board::{Memory, Size};
-use hx_link::{Parts, Step};
+use hx_link::{MOST_PARTS, Parts, Step};
 use smallvec::SmallVec;
 use std::alloc::Global;
-
-/// The most links that an Or names.
-const MOST_PARTS: usize = 128;
 
 /// The line of a step: `base VERTEX VERTEX`, `stone NUMBER NUMBER`, `cell NUMBER NUMBER`, or `or` and at most 128 numbers.
 /// It takes memory for the parts of an Or alone, where they are more than eight.
 pub(crate) fn read_step(alloc: Global, size: Size, line: &[u8]) -> Result<Option<Step>, Memory>
-    ensures { IfOk result (Reads step_line (StepFits size) line.now) }
+    ensures reads { IfOk result (Reads step_line (StepFits size) line.now) }
+    ensures memory { OnErr result (BeginsLongOr line.now) }
 {
     // The proof takes from here that the size is one of a board.
     let _rows = size.rows();
@@ -29,7 +27,8 @@ pub(crate) fn read_step(alloc: Global, size: Size, line: &[u8]) -> Result<Option
 
 /// The words of a step's line.
 fn read_words(alloc: Global, size: Size, words: &mut Words<'_>) -> Result<Option<Step>, Memory>
-    ensures { IfOk result (Reads step_words (StepFits size) words.old) }
+    ensures reads { IfOk result (Reads step_words (StepFits size) words.old) }
+    ensures memory { OnErr result ((parts : List (List ℕ)) × (words.old ≡ codes "or" ∷ parts) × BeginWithManyParts parts) }
 {
     let Some(word) = words.next() else {
         return Ok(None);
@@ -99,10 +98,11 @@ fn read_cell(words: &mut Words<'_>) -> Option<Step>
 
 /// The rest of a line `or`: at most 128 numbers, the places of its parts.
 fn read_or(alloc: Global, words: &mut Words<'_>) -> Result<Option<Step>, Memory>
-    ensures { IfOk result (λ found. MatchOption found
-        ((parts : List ℕ) → length parts ≤ most_parts → AreNumbers parts → words.old ≡ map decimal parts → ⊥)
-        (λ step. (parts : List ℕ) × (step ≡ Step.Or parts) × (length parts ≤ most_parts) × AreNumbers parts
+    ensures reads { IfOk result (λ found. MatchOption found
+        ((parts : List ℕ) → length parts ≤ MOST_PARTS → AreNumbers parts → words.old ≡ map decimal parts → ⊥)
+        (λ step. (parts : List ℕ) × (step ≡ Step.Or parts) × (length parts ≤ MOST_PARTS) × AreNumbers parts
         × (words.old ≡ map decimal parts))) }
+    ensures memory { OnErr result (BeginWithManyParts words.old) }
 {
     let mut items = SmallVec::new(alloc);
     for _ in 0..MOST_PARTS {

@@ -5,6 +5,7 @@ ghost use Rattle.std.specs.Prelude.{◌≡◌, ◌+◌, ◌<◌, ◌≤◌, ◌^
 ghost use Rattle.std.specs.Fmt.{decimal};
 ghost use Rattle.std.specs.Str.Parse.{AllDigits, digits_value};
 ghost use Rattle.hx_board.specs.Cells.{OnBoard, row_of, col_of};
+ghost use Rattle.hx_board.specs.Finds.{Finds};
 ghost use Rattle.hx_board.specs.Graph.{IsVertex};
 ghost use Rattle.hx_text.specs.StepTexts.{vertex_word};
 ghost use Rattle.hx_text.specs.Words.{Reads, IsNumber, IsSet, hex, hex_digit, IsCanonical, mask_word, colour_word, cell_word};
@@ -12,13 +13,13 @@ ghost use Rattle.hx_text.specs.Words.{Reads, IsNumber, IsSet, hex, hex_digit, Is
 use hx_board::{Cell, Colour, Mask, Size, Vertex};
 
 /// A number below 2 to the power of 32, in decimal digits without a leading zero.
-pub(crate) fn number(word: &[u8]) -> Option<u32>
+pub fn read_number(word: &[u8]) -> Option<u32>
     ensures { Reads decimal IsNumber word.now result }
 {
     if !is_canonical(word) {
         return None;
     }
-    let value = decimal_value(word)?;
+    let value = read_digits(word)?;
     u32::try_from(value).ok()
 }
 
@@ -33,11 +34,11 @@ fn is_canonical(word: &[u8]) -> bool
     }
 }
 
-/// The number that a word of digits stands for. Ten digits are less than 64 bits hold.
-fn decimal_value(word: &[u8]) -> Option<u64>
-    requires { length word.now ≤ 10 }
-    ensures some { IfSome result (λ value. AllDigits 10 word.now × (value ≡ digits_value 10 word.now)) }
-    ensures none { IfNone result (AllDigits 10 word.now → ⊥) }
+/// The number that decimal digits stand for. Leading zeros count nothing, and no digit at all stands for 0. Nineteen digits are
+/// always less than 64 bits hold.
+pub fn read_digits(word: &[u8]) -> Option<u64>
+    requires { length word.now ≤ 19 }
+    ensures { Finds result (λ value. AllDigits 10 word.now × (value ≡ digits_value 10 word.now)) }
 {
     let mut value: u64 = 0;
     for byte in word {
@@ -138,7 +139,7 @@ pub(crate) fn cell(size: Size, word: &[u8]) -> Option<Cell>
     // The proof takes from here that a board has at most eleven rows.
     let _rows = size.rows();
     let (letter, digits) = word.split_first()?;
-    let row = number(digits)?;
+    let row = read_number(digits)?;
     cell_at(size, *letter, row)
 }
 

@@ -1,16 +1,16 @@
 //! The words of a line, taken one after the other. Words are separated by exactly one space, so two spaces have an
 //! empty word between them, and a line begins and ends with a word.
 
-ghost use Rattle.std.specs.Prelude.{◌≡◌, ◌≢◌, ◌≤◌, ◌∷◌, [], IfNone, MatchOption};
+ghost use Rattle.std.specs.Prelude.{◌≡◌, ◌≢◌, ◌<◌, ◌≤◌, ◌^◌, ◌∷◌, [], IfNone, MatchOption};
 ghost use Rattle.std.specs.Fmt.{decimal};
 ghost use Rattle.hx_board.specs.Cells.{OnBoard};
 ghost use Rattle.hx_board.specs.Graph.{IsVertex};
 ghost use Rattle.hx_text.specs.StepTexts.{vertex_word};
-ghost use Rattle.hx_text.specs.Words.{Takes, IsNumber, IsSet, IsCut, Lacks, words_in, mask_word, colour_word, cell_word};
+ghost use Rattle.hx_text.specs.Words.{Takes, IsNumber, IsSet, Lacks, words_in, mask_word, colour_word, cell_word};
 
+use crate::marks::cut;
 use crate::values;
 use hx_board::{Cell, Colour, Mask, Size, Vertex};
-use memchr::memchr;
 use std::marker::Model;
 
 /// The words of a line that are still to be taken, seen as a list of words.
@@ -94,15 +94,20 @@ impl<'a> Words<'a> {
         ensures { Takes decimal IsNumber self.old result self.new }
     {
         let word = self.next()?;
-        values::number(word)
+        values::read_number(word)
     }
 
     /// Takes a number that is no larger than this.
-    pub(crate) fn count(&mut self, most: u32) -> Option<u32>
+    pub(crate) fn count(&mut self, most: usize) -> Option<u32>
+        requires { most < 2 ^ 32 }
         ensures { Takes decimal (λ n. n ≤ most) self.old result self.new }
     {
         let number = self.number()?;
-        if number <= most { Some(number) } else { None }
+        if number as usize <= most {
+            Some(number)
+        } else {
+            None
+        }
     }
 
     /// Takes a set of cells.
@@ -143,14 +148,4 @@ impl<'a> Words<'a> {
     {
         if self.more { None } else { Some(()) }
     }
-}
-
-/// The bytes before the first mark, and those after it.
-// A call that is not put in place would hand over both parts through memory, word by word.
-#[inline(always)]
-pub fn cut(bytes: &[u8], mark: u8) -> Option<(&[u8], &[u8])>
-    ensures { MatchOption result (Lacks mark bytes.now) (λ parts. IsCut mark bytes.now parts.0.now parts.1.now) }
-{
-    let place = memchr(mark, bytes)?;
-    Some((&bytes[..place], &bytes[place + 1..]))
 }

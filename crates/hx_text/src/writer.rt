@@ -13,7 +13,7 @@ ghost use Rattle.hx_text.specs.Entries.{answer_line, entry_line, entries_for, en
 ghost use Rattle.hx_text.specs.Spelling.{Spells, each_line, part_text, parts_text};
 ghost use Rattle.hx_text.specs.TreeTexts.{ListsFit, front_lines, node_lines, end_line};
 
-use crate::spelling::{ROOM, Text};
+use crate::texts::{TEXT_ROOM, Text};
 use hx_board::{Colour, Position, Size};
 use hx_inferior::FillStep;
 use hx_io::{Failed, Sink, write_all};
@@ -231,7 +231,7 @@ fn write_fill<K: Sink>(sink: &mut K, text: &mut Text, fill: &FillStep) -> Result
 
 /// Spells these bytes.
 fn write_bytes<K: Sink>(sink: &mut K, text: &mut Text, bytes: &[u8]) -> Result<(), Failed>
-    requires { length bytes.now ≤ ROOM }
+    requires { length bytes.now ≤ TEXT_ROOM }
     ensures bytes { Spells (K.taken sink.old) text.old (K.taken sink.new) text.new result bytes.now }
     ensures cause { HasCause (K.faults sink.old) (K.faults sink.new) result }
 {
@@ -242,8 +242,8 @@ fn write_bytes<K: Sink>(sink: &mut K, text: &mut Text, bytes: &[u8]) -> Result<(
 
 /// Writes what waits in the text where so many bytes more might not fit.
 fn make_room<K: Sink>(sink: &mut K, text: &mut Text, bytes: usize) -> Result<(), Failed>
-    requires { bytes ≤ ROOM }
-    ensures room { OnOk result (length text.new + bytes ≤ ROOM) }
+    requires { bytes ≤ TEXT_ROOM }
+    ensures room { OnOk result (length text.new + bytes ≤ TEXT_ROOM) }
     ensures bytes { Spells (K.taken sink.old) text.old (K.taken sink.new) text.new result [] }
     ensures cause { HasCause (K.faults sink.old) (K.faults sink.new) result }
 {

@@ -1,12 +1,17 @@
-use Rattle.std.proofs.Common.{None}
+use Rattle.std.proofs.Common.{◌∙◌, sym, None}
 use Rattle.hx_text.specs.Words.{Reads}
-use Rattle.hx_text.specs.Entries.{entry_line, IsEntry}
+use Rattle.hx_text.specs.Entries.{entry_line, IsEntryLine}
 use Rattle.hx_text.specs.Places.{kind_due}
 use Rattle.hx_text.proofs.BegunFaults.{inside_wrong}
+use Rattle.hx_text.proofs.BegunSteps.{long_or_takes_memory}
 use Rattle.hx_text.proofs.begun_nodes.inside.Goals as goal
 
 pub returns-in-Ok-None : goal.returns-in-Ok-None
 returns-in-Ok-None c = λ nodes lines stands begins.
-    let reads : Reads entry_line (IsEntry c.args.begun.so_far.size (kind_due c.args.begun)) c.args.line.now None =
-    rw (c.in-Ok-None.field-0-is, c.size.ensures, c.kind_due.ensures) at c.in-Ok-None.ensures in
+    let reads : Reads entry_line (IsEntryLine c.args.begun.so_far.size (kind_due c.args.begun)) c.args.line.now None =
+    rw (c.in-Ok-None.field-0-is, c.size.ensures, c.kind_due.ensures) at c.in-Ok-None.ensures.reads in
     inside_wrong c.args.begun c.args.line.now nodes lines reads stands begins
+
+pub returns-in-Err : goal.returns-in-Err
+returns-in-Err c = λ nodes lines stands.
+    long_or_takes_memory c.args.begun c.args.line.now (sym c.kind_due.ensures ∙ c.in-Err.ensures.memory.0) c.in-Err.ensures.memory.1
