@@ -31,13 +31,14 @@ fn by_links(heading: Heading, steps: Vec<Step>) -> Node {
 /// Steps that join Black's sides over a1 of a board of one cell: so many that join the first side with it, then one that joins
 /// it with the last, and one over both.
 fn ways_over_a1(alloc: Global, count: usize) -> Result<Vec<Step>, Fail> {
-    let a1 = of(0, 0)?;
+    let a1 = cell(0, 0)?;
+    let right = u32::try_from(count).or(Err("count"))?;
     let mut steps = Vec::new(alloc);
     for _ in 0..count {
-        steps.push(base(First, a1))?;
+        steps.push(base(First, Vertex::Of(a1)))?;
     }
-    steps.push(base(a1, Last))?;
-    steps.push(over_cell(0, count as u32))?;
+    steps.push(base(Vertex::Of(a1), Last))?;
+    steps.push(over_cell(0, right))?;
     Ok(steps)
 }
 
