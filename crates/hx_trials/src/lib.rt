@@ -7,4 +7,8 @@
 #![tactic(auto)]
 
 #[cfg(test)]
+mod books;
+#[cfg(test)]
+mod numbers;
+#[cfg(test)]
 mod trees;
