@@ -10,16 +10,16 @@ use Rattle.hx_board.specs.declared.vertices.Vertex.TheVariants.{Of}
 use Rattle.hx_board.specs.Cells.{Extent, IsExtent}
 use Rattle.hx_board.specs.Positions.{Board}
 use Rattle.hx_board.specs.Graph.{IsVertex, IsOwn}
-use Rattle.hx_board.specs.Floods.{code_of}
+use Rattle.hx_board.specs.VertexSets.{code_of, IsVertexAt}
 use Rattle.hx_link.specs.declared.links.Kind.TheVariants.{Full}
 use Rattle.hx_link.specs.declared.links.Link.{Link}
 use Rattle.hx_link.specs.declared.steps.Step.TheVariants.{AndStone, AndCell}
 use Rattle.hx_link.specs.Steps.{HasEnds, MeetAt, GivesAndStone, GivesAndCell}
 use Rattle.hx_linkset.specs.States.{Standing, IsLive, IsLiveAt, Names}
 use Rattle.hx_linkset.specs.LiveOf.{IsLiveOf, IsFirstFrom}
-use Rattle.hx_linkset.proofs.PlaceLaws.{same_some}
+use Rattle.hx_board.proofs.ListLaws.{same_some}
 use Rattle.hx_search.specs.Closed.{IsSettled, IsGrown, IsStuck}
-use Rattle.hx_search.specs.Progress.{IsUnsettled, IsVertexAt, IsPairSettled, AreRowsSettled, and_at, IsChainSettled, IsChainSettledTo, IsEndSettledBelow, IsEndSettled}
+use Rattle.hx_search.specs.Progress.{IsUnsettled, IsPairSettled, AreRowsSettled, and_at, IsChainSettled, IsChainSettledTo, IsEndSettledBelow, IsEndSettled}
 use Rattle.hx_search.proofs.GrowthLaws.{settled-on, live_of-on, live_of-back}
 use Rattle.hx_search.proofs.VertexLaws.{vertex-small, below-more, below-skip, turned, live_of-turned, live_of-vertex, empty-not_own}
 

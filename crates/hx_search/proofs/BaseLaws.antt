@@ -4,7 +4,7 @@ use Rattle.hx_board.specs.declared.vertices.Vertex.{Vertex}
 use Rattle.hx_board.specs.Cells.{Extent, IsExtent}
 use Rattle.hx_board.specs.Positions.{Board}
 use Rattle.hx_board.specs.Graph.{IsVertex, Joined}
-use Rattle.hx_board.specs.Floods.{code_of}
+use Rattle.hx_board.specs.VertexSets.{code_of, IsVertexAt}
 use Rattle.hx_board.proofs.Joins.{joined-sym}
 use Rattle.hx_link.specs.declared.links.Link.{Link}
 use Rattle.hx_link.specs.declared.steps.Step.TheVariants.{Base}
@@ -12,7 +12,7 @@ use Rattle.hx_link.specs.Steps.{HasEnds, GivesBase}
 use Rattle.hx_linkset.specs.States.{Standing}
 use Rattle.hx_linkset.specs.Answers.{Gives}
 use Rattle.hx_search.specs.Closed.{IsSettled, IsGrown, IsStuck}
-use Rattle.hx_search.specs.Progress.{IsUnsettled, IsVertexAt, AreBasesOf, AreBasesBelow}
+use Rattle.hx_search.specs.Progress.{IsUnsettled, AreBasesOf, AreBasesBelow}
 use Rattle.hx_search.proofs.GrowthLaws.{settled-on}
 use Rattle.hx_search.proofs.VertexLaws.{vertex-small, below-more, below-skip, end-vertex}
 

@@ -19,12 +19,12 @@ use Rattle.hx_link.specs.Steps.{HasEnds, IsLink, IsOutside, IsOneOf, links_at, c
 use Rattle.hx_link.proofs.PartLaws.{part_at}
 use Rattle.hx_linkset.specs.States.{Standing, IsRight}
 use Rattle.hx_linkset.specs.LiveOf.{IsLiveOf, IsFirstFrom}
-use Rattle.hx_linkset.proofs.PlaceLaws.{get-lt, same_some, get-push, get-push_before, get-push_last}
+use Rattle.hx_board.proofs.ListLaws.{get-lt, same_some, get-push, get-push_before, get-push_last}
 use Rattle.hx_linkset.proofs.NextLaws.{live-is_link}
 use Rattle.hx_search.specs.Closed.{IsForked}
 use Rattle.hx_search.specs.Progress.{AreParts, AllShare, IsFork}
 use Rattle.hx_search.proofs.GrowthLaws.{get_there}
-use Rattle.hx_search.proofs.CountLaws.{count-small, count-less}
+use Rattle.hx_board.proofs.CountLaws.{count-small, count-less}
 
 -- ---- sets
 
@@ -111,7 +111,7 @@ module _ (set : Standing) (right : IsRight set.player set.present) (a b : Vertex
         let fewer = count-less shared carrier n (omega (arith, small)) member (has-difference_right shared carrier n gone) in
         let P : ℕ → Type 0 = λ m. IsLiveOf set Semi a b m in
         record {
-          each = λ k place h. ⊎_elim (λ w. parts_ok.each k place w.1) (λ w. subst P (sym w.1) is.is) (get-push parts next place k h);
+          each = λ k place h. ⊎_elim (λ w. parts_ok.each k place w) (λ w. subst P (sym w.1) is.is) (get-push parts next place k h);
           some = (parts_ok.some.0, get-push_before parts next 0 parts_ok.some.0 parts_ok.some.1);
           lacking = λ cell lacks. ⊎_elim
               (λ k. let w = parts_ok.lacking cell k in (w.0, (w.1.0, (get-push_before parts next w.0 w.1.0 w.1.1.0, w.1.1.1))))

@@ -15,7 +15,7 @@ use Rattle.hx_linkset.specs.States.{Standing, IsLive, Names, GivesFromLive, adde
 use Rattle.hx_linkset.specs.Answers.{Gives, Covers, IsNew, IsCovered, IsRefused, IsFull}
 use Rattle.hx_linkset.specs.LiveOf.{IsLiveOf}
 use Rattle.hx_linkset.proofs.GivenLaws.{from_live-live}
-use Rattle.hx_linkset.proofs.PlaceLaws.{get-lt, get-push_before, get-push_last}
+use Rattle.hx_board.proofs.ListLaws.{get-lt, get-push_before, get-push_last}
 use Rattle.hx_search.specs.Closed.{IsSettled, IsGrown}
 use Rattle.hx_search.specs.Progress.{IsUnsettled}
 

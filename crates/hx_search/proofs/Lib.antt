@@ -3,7 +3,6 @@ pub mod VertexLaws
 pub mod BaseLaws
 pub mod AndLaws
 pub mod TurnedAnds
-pub mod CountLaws
 pub mod ForkLaws
 pub mod OrLaws
 pub mod DecidedLaws

@@ -4,7 +4,7 @@ use Rattle.std.proofs.lemmas.Bool.{cases_lt}
 use Rattle.hx_board.specs.declared.vertices.Vertex.{Vertex}
 use Rattle.hx_board.specs.Cells.{Extent, IsExtent}
 use Rattle.hx_board.specs.Graph.{IsVertex}
-use Rattle.hx_board.specs.Floods.{code_of}
+use Rattle.hx_board.specs.VertexSets.{code_of, IsVertexAt}
 use Rattle.hx_link.specs.declared.links.Kind.TheVariants.{Full, Semi}
 use Rattle.hx_link.specs.declared.links.Link.{Link}
 use Rattle.hx_link.specs.declared.steps.Step.TheVariants.{Or}
@@ -15,7 +15,7 @@ use Rattle.hx_linkset.specs.Answers.{IsCovered, IsFull}
 use Rattle.hx_linkset.specs.LiveOf.{IsLiveOf}
 use Rattle.hx_linkset.proofs.NextLaws.{live-is_link}
 use Rattle.hx_search.specs.Closed.{IsForked, HasFull, IsStuck}
-use Rattle.hx_search.specs.Progress.{IsVertexAt, IsFork, IsJoinedWhereForked, AreForksOf, AreForksBelow}
+use Rattle.hx_search.specs.Progress.{IsFork, IsJoinedWhereForked, AreForksOf, AreForksBelow}
 use Rattle.hx_search.proofs.VertexLaws.{vertex-small, below-more, below-skip, live_of-turned, live_of-vertex}
 
 -- ---- one Or

@@ -11,7 +11,7 @@ use Rattle.hx_link.specs.declared.steps.Step.TheVariants.{AndStone, AndCell}
 use Rattle.hx_link.specs.Steps.{HasEnds, MeetAt, GivesAndStone, GivesAndCell}
 use Rattle.hx_linkset.specs.States.{Standing, IsLiveAt}
 use Rattle.hx_linkset.specs.Answers.{Gives, Covers}
-use Rattle.hx_linkset.proofs.PlaceLaws.{get-lt, same_some}
+use Rattle.hx_board.proofs.ListLaws.{get-lt, same_some}
 use Rattle.hx_search.specs.Progress.{AreRowsSettled}
 use Rattle.hx_search.proofs.VertexLaws.{turned}
 

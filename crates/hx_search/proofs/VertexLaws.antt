@@ -8,7 +8,7 @@ use Rattle.hx_board.specs.declared.vertices.Vertex.TheVariants.{Of, First, Last}
 use Rattle.hx_board.specs.Cells.{Extent, IsExtent}
 use Rattle.hx_board.specs.Positions.{Board, IsEmpty}
 use Rattle.hx_board.specs.Graph.{IsVertex, IsOwn}
-use Rattle.hx_board.specs.Floods.{code_of}
+use Rattle.hx_board.specs.VertexSets.{code_of, IsVertexAt}
 use Rattle.hx_board.proofs.CellLaws.{on_board-small}
 use Rattle.hx_link.specs.declared.links.Kind.{Kind}
 use Rattle.hx_link.specs.declared.links.Link.{Link}
@@ -17,7 +17,6 @@ use Rattle.hx_linkset.specs.States.{Standing}
 use Rattle.hx_linkset.specs.LiveOf.{IsLiveOf}
 use Rattle.hx_board.specs.Positions.{IsBoard}
 use Rattle.hx_search.specs.Closed.{IsGrown}
-use Rattle.hx_search.specs.Progress.{IsVertexAt}
 
 pub vertex-small : (size : Extent) (v : Vertex) → IsExtent size.rows size.cols → IsVertex size v → code_of v < 123
 vertex-small size (Of cell) extent is = omega (arith, on_board-small size cell extent is)

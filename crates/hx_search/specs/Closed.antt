@@ -7,6 +7,7 @@ use Rattle.hx_link.specs.declared.links.Kind.TheVariants.{Full, Semi}
 use Rattle.hx_link.specs.declared.links.Link.{Link}
 use Rattle.hx_link.specs.declared.steps.Step.{Step}
 use Rattle.hx_link.specs.declared.steps.Step.TheVariants.{Base, AndStone, AndCell}
+use Rattle.hx_linkset.specs.declared.sets.TheConstants.{MOST_LINKS}
 use Rattle.hx_linkset.specs.States.{Standing}
 use Rattle.hx_linkset.specs.Answers.{Gives, Covers}
 use Rattle.hx_linkset.specs.LiveOf.{IsLiveOf}
@@ -56,10 +57,10 @@ pub record IsGrown (old new : Standing) : Type 0 where
 
 -- the set holds all the links that it can, and is not closed
 pub record IsStuck (set : Standing) : Type 0 where
-  pub full : length set.present.links ≡ 8192
+  pub full : length set.present.links ≡ MOST_LINKS
   pub not_closed : IsClosed set → ⊥
 
 -- what `close` answers of the set
 abbrev pub IsAnswer : Standing → Closure → Type 0
 IsAnswer set Closed = IsClosed set
-IsAnswer set (Limit links) = (links ≡ 8192) × IsStuck set
+IsAnswer set (Limit links) = (links ≡ MOST_LINKS) × IsStuck set

@@ -10,7 +10,8 @@ use Rattle.hx_search.specs.declared.decisions.Reached.TheVariants.{Decided, Open
 
 -- a live link between the player's two sides is at this place, and it is Full, or the player is to move
 abbrev pub Decides : Standing → Colour → ℕ → Type 0
-Decides set to_move place = IsLiveOf set Full First Last place ⊎ (IsLiveOf set Semi First Last place × (set.player ≡ to_move))
+Decides set to_move place = IsLiveOf set Full First Last place
+    ⊎ (IsLiveOf set Semi First Last place × (set.player ≡ to_move))
 
 -- what `decided` answers of the set
 abbrev pub IsReached : Standing → Colour → Reached → Type 0

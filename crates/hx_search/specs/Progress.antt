@@ -3,15 +3,16 @@ use Rattle.std.specs.Prelude.{◌≡◌, ℕ, ◌+◌, ◌<◌, ◌≤◌, Bool,
 use Rattle.std.specs.declared.option.Option.{Option}
 use Rattle.std.specs.declared.option.Option.TheVariants.{None, Some}
 use Rattle.hx_board.specs.declared.vertices.Vertex.{Vertex}
-use Rattle.hx_board.specs.Cells.{Extent}
 use Rattle.hx_board.specs.Sets.{has, IsSubset, count_below}
 use Rattle.hx_board.specs.Graph.{IsVertex, IsOwn}
-use Rattle.hx_board.specs.Floods.{code_of}
+use Rattle.hx_board.specs.VertexSets.{code_of}
+use Rattle.hx_board.specs.declared.vertices.TheConstants.{VERTICES}
 use Rattle.hx_link.specs.declared.links.Kind.TheVariants.{Full, Semi}
 use Rattle.hx_link.specs.declared.links.Link.{Link}
 use Rattle.hx_link.specs.Steps.{HasEnds}
 use Rattle.hx_link.specs.declared.steps.Step.{Step}
 use Rattle.hx_link.specs.declared.steps.Step.TheVariants.{Base, AndStone, AndCell, Or}
+use Rattle.hx_linkset.specs.declared.sets.TheConstants.{MOST_LINKS}
 use Rattle.hx_linkset.specs.States.{Standing}
 use Rattle.hx_linkset.specs.Answers.{Gives}
 use Rattle.hx_linkset.specs.LiveOf.{IsLiveOf}
@@ -27,7 +28,7 @@ use Rattle.hx_search.specs.Closed.{IsSettled, IsForked, HasFull, IsStuck}
 
 -- the set holds all the links that it can, and what the step gives no live link covers
 pub record IsUnsettled (set : Standing) (step : Step) : Type 0 where
-  pub full : length set.present.links ≡ 8192
+  pub full : length set.present.links ≡ MOST_LINKS
   pub not_settled : IsSettled set step → ⊥
 
 -- what became of one step
@@ -50,36 +51,34 @@ IsPassed old new Fact AtLimit = IsStuck new
 
 -- what became of candidates: where one was added there are more links, and no more than there may be
 abbrev pub IsTaken : Standing → Standing → Taken → Type 0
-IsTaken old new (New index) = (length old.present.links < length new.present.links) × (length new.present.links ≤ 8192)
+IsTaken old new (New index) = (length old.present.links < length new.present.links)
+    × (length new.present.links ≤ MOST_LINKS)
 IsTaken old new NoMore = Unit {0}
 IsTaken old new NoRoom = Unit {0}
-
--- ---- vertices
-
--- the vertex of the board that has this number
-pub record IsVertexAt (size : Extent) (code : ℕ) (vertex : Vertex) : Type 0 where
-  pub is_vertex : IsVertex size vertex
-  pub is_code : code_of vertex ≡ code
 
 -- ---- bases
 
 -- the Bases of a vertex with those of the board that have a number from one bound to another
 abbrev pub AreBasesOf : Standing → Vertex → ℕ → ℕ → Type 0
-AreBasesOf set a from bound = (b : Vertex) → IsVertex set.present.board.size b → code_of b < bound → from ≤ code_of b → IsSettled set (Base a b)
+AreBasesOf set a from bound = (b : Vertex) → IsVertex set.present.board.size b
+    → code_of b < bound → from ≤ code_of b → IsSettled set (Base a b)
 
 -- the Bases of each vertex below a bound with those above it
 abbrev pub AreBasesBelow : Standing → ℕ → Type 0
-AreBasesBelow set bound = (a : Vertex) → IsVertex set.present.board.size a → code_of a < bound → AreBasesOf set a (code_of a + 1) 123
+AreBasesBelow set bound = (a : Vertex) → IsVertex set.present.board.size a → code_of a < bound
+    → AreBasesOf set a (code_of a + 1) VERTICES
 
 -- ---- ands
 
 -- both Ands of two places
 abbrev pub IsPairSettled : Standing → ℕ → ℕ → Type 0
-IsPairSettled set left right = IsSettled set (AndStone left right) × IsSettled set (AndCell left right)
+IsPairSettled set left right =
+    IsSettled set (AndStone left right) × IsSettled set (AndCell left right)
 
 -- of each link below a bound, the Ands with each earlier one
 abbrev pub AreRowsSettled : Standing → ℕ → Type 0
-AreRowsSettled set bound = (left right : ℕ) → left < right → right < bound → IsPairSettled set left right
+AreRowsSettled set bound = (left right : ℕ) → left < right → right < bound
+    → IsPairSettled set left right
 
 -- the And over an own vertex, or over an empty cell
 abbrev pub and_at : Bool → ℕ → ℕ → Step
@@ -88,16 +87,19 @@ and_at false left right = AndCell left right
 
 -- the And over one end of a link with each earlier Full link that leads from there to a vertex
 abbrev pub IsChainSettled : Standing → Bool → Vertex → Vertex → ℕ → ℕ → Type 0
-IsChainSettled set own end to bound right = (left : ℕ) → left < bound → IsLiveOf set Full end to left → IsSettled set (and_at own left right)
+IsChainSettled set own end to bound right = (left : ℕ) → left < bound
+    → IsLiveOf set Full end to left → IsSettled set (and_at own left right)
 
 -- as far as the walk along these links has come: the next one is at this place, or no more come
 abbrev pub IsChainSettledTo : Standing → Bool → Vertex → Vertex → ℕ → Option ℕ → Type 0
 IsChainSettledTo set own end to right None = IsChainSettled set own end to right right
-IsChainSettledTo set own end to right (Some left) = IsLiveOf set Full end to left × IsChainSettled set own end to left right
+IsChainSettledTo set own end to right (Some left) = IsLiveOf set Full end to left
+    × IsChainSettled set own end to left right
 
 -- with the links to each vertex of the board below a bound
 abbrev pub IsEndSettledBelow : Standing → Bool → Vertex → ℕ → ℕ → Type 0
-IsEndSettledBelow set own end right bound = (to : Vertex) → IsVertex set.present.board.size to → code_of to < bound → IsChainSettled set own end to right right
+IsEndSettledBelow set own end right bound = (to : Vertex) → IsVertex set.present.board.size to
+    → code_of to < bound → IsChainSettled set own end to right right
 
 -- the Ands over one end of a link with all earlier Full links that lead from there
 abbrev pub IsEndSettled : Standing → Vertex → ℕ → Type 0
@@ -112,12 +114,15 @@ pub record AreParts (set : Standing) (a b : Vertex) (parts : List ℕ) (shared :
   pub each : (k place : ℕ) → slice_get parts k ≡ Some place → IsLiveOf set Semi a b place
   pub some : (place : ℕ) × (slice_get parts 0 ≡ Some place)
   pub lacking : (cell : ℕ) → has shared cell ≡ false
-      → (k : ℕ) × ((place : ℕ) × ((slice_get parts k ≡ Some place) × ((link : Link) × ((slice_get set.present.links place ≡ Some link) × (has link.carrier cell ≡ false)))))
+      → (k : ℕ) × ((place : ℕ) × ((slice_get parts k ≡ Some place)
+      × ((link : Link) × ((slice_get set.present.links place ≡ Some link)
+      × (has link.carrier cell ≡ false)))))
   pub few : length parts + count_below 128 shared ≤ 122
 
 -- the live Semi links of two ends up to a place have all that is shared
 abbrev pub AllShare : Standing → Vertex → Vertex → ℕ → ℕ → Type 0
-AllShare set a b shared last = (place : ℕ) → place ≤ last → (semi : IsLiveOf set Semi a b place) → IsSubset shared semi.link.carrier
+AllShare set a b shared last = (place : ℕ) → place ≤ last → (semi : IsLiveOf set Semi a b place)
+    → IsSubset shared semi.link.carrier
 
 -- the ends are forked, and the Or of these parts gives a link of them
 pub record IsFork (set : Standing) (a b : Vertex) (parts : List ℕ) : Type 0 where
@@ -133,8 +138,10 @@ IsJoinedWhereForked set a b = IsForked set a b → HasFull set a b
 
 -- one vertex with those of the board that have a number from one bound to another
 abbrev pub AreForksOf : Standing → Vertex → ℕ → ℕ → Type 0
-AreForksOf set a from bound = (b : Vertex) → IsVertex set.present.board.size b → code_of b < bound → from ≤ code_of b → IsJoinedWhereForked set a b
+AreForksOf set a from bound = (b : Vertex) → IsVertex set.present.board.size b
+    → code_of b < bound → from ≤ code_of b → IsJoinedWhereForked set a b
 
 -- each vertex below a bound with those above it
 abbrev pub AreForksBelow : Standing → ℕ → Type 0
-AreForksBelow set bound = (a : Vertex) → IsVertex set.present.board.size a → code_of a < bound → AreForksOf set a (code_of a + 1) 123
+AreForksBelow set bound = (a : Vertex) → IsVertex set.present.board.size a → code_of a < bound
+    → AreForksOf set a (code_of a + 1) VERTICES

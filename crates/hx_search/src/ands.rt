@@ -9,8 +9,7 @@ ghost use Rattle.hx_search.specs.Closed.{IsGrown};
 ghost use Rattle.hx_search.specs.Progress.{IsTried, and_at, IsChainSettled, IsEndSettled, IsPairSettled, AreRowsSettled};
 
 use crate::tries::{Tried, settle};
-use crate::vertices::{CODES, is_own, vertex_at};
-use hx_board::{Memory, Vertex};
+use hx_board::{Memory, VERTICES, Vertex};
 use hx_link::{Kind, Step};
 use hx_linkset::LinkSet;
 
@@ -35,7 +34,8 @@ fn settle_chain(
 ) -> Result<Tried, Memory>
     requires { right < length set.old.present.links }
     ensures grown { IsGrown set.old set.new }
-    ensures tried { IfOk result (IsTried set.new (IsChainSettled set.new own end.now to.now right right)) }
+    ensures tried { IfOk result (IsTried set.new
+        (IsChainSettled set.new own end.now to.now right right)) }
 {
     let mut next = set.first_of(Kind::Full, *end, *to);
     loop {
@@ -61,9 +61,9 @@ fn settle_end(set: &mut LinkSet, end: &Vertex, right: u32) -> Result<Tried, Memo
     ensures tried { IfOk result (IsTried set.new (IsEndSettled set.new end.now right)) }
 {
     let size = set.position().size();
-    let own = is_own(set.position(), set.colour(), end);
-    for code in 0..CODES {
-        let Some(to) = vertex_at(size, code) else {
+    let own = set.position().owns(set.colour(), end);
+    for code in 0..VERTICES as u8 {
+        let Some(to) = size.vertex(code) else {
             continue;
         };
         match settle_chain(set, own, end, &to, right) {
@@ -79,7 +79,8 @@ fn settle_end(set: &mut LinkSet, end: &Vertex, right: u32) -> Result<Tried, Memo
 fn settle_row(set: &mut LinkSet, right: u32) -> Result<Tried, Memory>
     requires { right < length set.old.present.links }
     ensures grown { IsGrown set.old set.new }
-    ensures tried { IfOk result (IsTried set.new ((left : ℕ) → left < right → IsPairSettled set.new left right)) }
+    ensures tried { IfOk result (IsTried set.new
+        ((left : ℕ) → left < right → IsPairSettled set.new left right)) }
 {
     let Some(link) = set.link(right) else {
         return Ok(Tried::Settled);
@@ -103,10 +104,13 @@ fn settle_row(set: &mut LinkSet, right: u32) -> Result<Tried, Memory>
 pub(crate) fn settle_ands(set: &mut LinkSet, from: u32) -> Result<Tried, Memory>
     requires { AreRowsSettled set.old from }
     ensures grown { IsGrown set.old set.new }
-    ensures tried { IfOk result (IsTried set.new (AreRowsSettled set.new (length set.new.present.links))) }
+    ensures tried { IfOk result (IsTried set.new
+        (AreRowsSettled set.new (length set.new.present.links))) }
 {
     let mut right = from;
     loop {
+        // no set holds more links than this call tells, so the loop ends
+        set.keeps();
         let count = set.count();
         if count <= right {
             return Ok(Tried::Settled);

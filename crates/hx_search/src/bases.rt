@@ -1,24 +1,23 @@
 //! The links that need no cell: those of any two vertices that are joined already.
 
 ghost use Rattle.std.specs.Prelude.{◌≡◌, ◌<◌, IfOk};
-ghost use Rattle.hx_board.specs.Floods.{code_of};
+ghost use Rattle.hx_board.specs.VertexSets.{code_of};
 ghost use Rattle.hx_search.specs.Closed.{IsGrown};
 ghost use Rattle.hx_search.specs.Progress.{IsTried, AreBasesOf, AreBasesBelow};
 
 use crate::tries::{Tried, settle};
-use crate::vertices::{CODES, vertex_at};
-use hx_board::{Memory, Vertex};
+use hx_board::{Memory, VERTICES, Vertex};
 use hx_link::Step;
 use hx_linkset::LinkSet;
 
 /// Tries the Base of a vertex with each vertex from a number on.
 fn settle_bases_of(set: &mut LinkSet, a: &Vertex, from: u8) -> Result<Tried, Memory>
     ensures grown { IsGrown set.old set.new }
-    ensures tried { IfOk result (IsTried set.new (AreBasesOf set.new a.now from 123)) }
+    ensures tried { IfOk result (IsTried set.new (AreBasesOf set.new a.now from VERTICES)) }
 {
     let size = set.position().size();
-    for code in from..CODES {
-        let Some(b) = vertex_at(size, code) else {
+    for code in from..VERTICES as u8 {
+        let Some(b) = size.vertex(code) else {
             continue;
         };
         match settle(set, Step::Base { a: *a, b }) {
@@ -33,11 +32,11 @@ fn settle_bases_of(set: &mut LinkSet, a: &Vertex, from: u8) -> Result<Tried, Mem
 /// Tries the Base of any two vertices.
 pub(crate) fn settle_bases(set: &mut LinkSet) -> Result<Tried, Memory>
     ensures grown { IsGrown set.old set.new }
-    ensures tried { IfOk result (IsTried set.new (AreBasesBelow set.new 123)) }
+    ensures tried { IfOk result (IsTried set.new (AreBasesBelow set.new VERTICES)) }
 {
     let size = set.position().size();
-    for code in 0..CODES {
-        let Some(a) = vertex_at(size, code) else {
+    for code in 0..VERTICES as u8 {
+        let Some(a) = size.vertex(code) else {
             continue;
         };
         match settle_bases_of(set, &a, code + 1) {

@@ -4,13 +4,13 @@
 //! could cover it has been added before, and the set holds no link that a later one makes idle.
 
 use crate::covers::{Caps, is_wanted};
-use hx_board::{Mask, Memory, Vertex};
+use hx_board::{CELLS, Mask, Memory, Vertex};
 use hx_link::{Kind, Step};
 use hx_linkset::LinkSet;
 use std::alloc::Global;
 
 /// The most cells of a carrier.
-pub(crate) const MOST_CELLS: usize = 121;
+pub(crate) const MOST_CELLS: usize = CELLS;
 
 /// A step, and the link that it gives. Its ends are in either order.
 #[derive(Drop)]

@@ -3,7 +3,8 @@
 
 ghost use Rattle.std.specs.Prelude.{IfOk};
 ghost use Rattle.hx_linkset.specs.States.{IsRight};
-ghost use Rattle.hx_search.specs.Closed.{IsGrown, IsAnswer};
+ghost use Rattle.hx_search.specs.Closed.{IsClosed, IsGrown, IsAnswer};
+ghost use Rattle.hx_search.specs.Progress.{IsTried};
 
 use crate::ands::settle_ands;
 use crate::bases::settle_bases;
@@ -38,16 +39,19 @@ pub fn close(set: &mut LinkSet) -> Result<Closure, Memory>
     ensures answer { IfOk result (IsAnswer set.new) }
     ensures right { IsRight set.new.player set.new.present }
 {
-    let closure = add_all(set);
-    // that live links come by steps from earlier ones is what this call promises
-    let _colour = set.colour();
-    closure
+    let added = add_all(set);
+    set.keeps();
+    match added {
+        Ok(Tried::Settled) => Ok(Closure::Closed),
+        Ok(Tried::Stopped) => Ok(LIMIT),
+        Err(Memory) => Err(Memory),
+    }
 }
 
 /// Adds useful links, then the Bases, and then Ands and Ors in turn.
-fn add_all(set: &mut LinkSet) -> Result<Closure, Memory>
+fn add_all(set: &mut LinkSet) -> Result<Tried, Memory>
     ensures grown { IsGrown set.old set.new }
-    ensures answer { IfOk result (IsAnswer set.new) }
+    ensures tried { IfOk result (IsTried set.new (IsClosed set.new)) }
 {
     match add_useful(set, Until::Through) {
         Ok(()) => {}
@@ -55,25 +59,23 @@ fn add_all(set: &mut LinkSet) -> Result<Closure, Memory>
     }
     match settle_bases(set) {
         Ok(Tried::Settled) => {}
-        Ok(Tried::Stopped) => return Ok(LIMIT),
+        Ok(Tried::Stopped) => return Ok(Tried::Stopped),
         Err(Memory) => return Err(Memory),
     }
     let mut settled = 0;
     loop {
         match settle_ands(set, settled) {
             Ok(Tried::Settled) => {}
-            Ok(Tried::Stopped) => return Ok(LIMIT),
+            Ok(Tried::Stopped) => return Ok(Tried::Stopped),
             Err(Memory) => return Err(Memory),
         }
+        // The board is a position's, so each vertex has its code; and no set holds more links than this tells, so the loop ends.
+        set.keeps();
         settled = set.count();
         match join_all(set) {
-            Ok(Passed::Same) => {
-                // it tells also that the board is one, so that each vertex has its number
-                let _colour = set.colour();
-                return Ok(Closure::Closed);
-            }
+            Ok(Passed::Same) => return Ok(Tried::Settled),
             Ok(Passed::More) => {}
-            Ok(Passed::Full) => return Ok(LIMIT),
+            Ok(Passed::Full) => return Ok(Tried::Stopped),
             Err(Memory) => return Err(Memory),
         }
     }

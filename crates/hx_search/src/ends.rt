@@ -4,17 +4,16 @@
 //! connection. One vertex stands for a group: a side, where the group has one, and else its first stone in cell order. Links
 //! are made between empty cells, sides and these stones alone.
 
-use crate::vertices::{CODES, code, vertex_at};
-use hx_board::{Cell, Colour, Groups, Mask, Position, Reach, Vertex};
+use hx_board::{Cell, Colour, Groups, Mask, Position, VERTICES, Vertex, VertexSet};
 
-/// What each vertex is joined with, and the cells that links are made of.
+/// What each vertex is joined with, and the vertices that links are made of.
 #[derive(Clone, Copy)]
 pub(crate) struct Ends {
-    reaches: [Reach; 123],
+    reaches: [VertexSet; VERTICES],
     stones: Mask,
 
-    /// The empty cells, and the stones that stand for their groups.
-    useful: Mask,
+    /// The sides, the empty cells, and the stones that stand for their groups.
+    useful: VertexSet,
 }
 
 impl Ends {
@@ -24,7 +23,9 @@ impl Ends {
         let mut ends = Ends {
             reaches,
             stones,
-            useful: position.empties(),
+            useful: VertexSet::of_cells(position.empties())
+                .with(Vertex::First)
+                .with(Vertex::Last),
         };
         let mut rest = stones;
         for _ in 0..121u8 {
@@ -33,38 +34,30 @@ impl Ends {
             };
             rest = rest.without(cell);
             if ends.stands_for(position, &cell) == Vertex::Of(cell) {
-                ends.useful = ends.useful.with(cell);
+                ends.useful = ends.useful.with(Vertex::Of(cell));
             }
         }
         ends
     }
 
     /// What a vertex is joined with.
-    pub(crate) fn reach(&self, vertex: &Vertex) -> Reach {
-        self.reaches[code(vertex) as usize]
+    pub(crate) fn reach(&self, vertex: &Vertex) -> VertexSet {
+        self.reaches[vertex.code() as usize]
     }
 
     /// Whether two vertices are joined.
     pub(crate) fn are_joined(&self, a: &Vertex, b: &Vertex) -> bool {
-        let reach = self.reach(a);
-        match b {
-            Vertex::Of(cell) => reach.cells.has(*cell),
-            Vertex::First => reach.first,
-            Vertex::Last => reach.last,
-        }
+        self.reach(a).has(*b)
     }
 
     /// Whether links are made of a vertex.
     pub(crate) fn is_useful(&self, vertex: &Vertex) -> bool {
-        match vertex {
-            Vertex::Of(cell) => self.useful.has(*cell),
-            Vertex::First | Vertex::Last => true,
-        }
+        self.useful.has(*vertex)
     }
 
     /// The stones that stand for their groups.
     pub(crate) fn standing(&self) -> Mask {
-        self.useful.meet(self.stones)
+        self.useful.cells().meet(self.stones)
     }
 
     /// Whether a cell has a stone of the player's.
@@ -74,19 +67,19 @@ impl Ends {
 
     /// The stones of the group of a stone.
     pub(crate) fn group(&self, stone: &Cell) -> Mask {
-        self.reach(&Vertex::Of(*stone)).cells.meet(self.stones)
+        self.reach(&Vertex::Of(*stone)).cells().meet(self.stones)
     }
 
     /// The vertex that stands for the group of a stone.
     pub(crate) fn stands_for(&self, position: &Position, stone: &Cell) -> Vertex {
         let reach = self.reach(&Vertex::Of(*stone));
-        if reach.first {
+        if reach.has(Vertex::First) {
             return Vertex::First;
         }
-        if reach.last {
+        if reach.has(Vertex::Last) {
             return Vertex::Last;
         }
-        match reach.cells.meet(self.stones).least(position.size()) {
+        match reach.cells().meet(self.stones).least(position.size()) {
             Some(least) => Vertex::Of(least),
             None => Vertex::Of(*stone),
         }
@@ -94,18 +87,13 @@ impl Ends {
 }
 
 /// What each vertex of the board is joined with.
-fn reaches_of(position: &Position, colour: Colour) -> [Reach; 123] {
+fn reaches_of(position: &Position, colour: Colour) -> [VertexSet; VERTICES] {
     let groups = Groups::of(position, colour);
     let size = position.size();
-    let nowhere = Reach {
-        cells: Mask::empty(),
-        first: false,
-        last: false,
-    };
-    let mut reaches = [nowhere; 123];
-    for place in 0..CODES {
-        if let Some(vertex) = vertex_at(size, place) {
-            reaches[place as usize] = groups.joined_with(vertex);
+    let mut reaches = [VertexSet::empty(); VERTICES];
+    for code in 0..VERTICES as u8 {
+        if let Some(vertex) = size.vertex(code) {
+            reaches[code as usize] = groups.joined_with(vertex);
         }
     }
     reaches

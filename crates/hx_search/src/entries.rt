@@ -1,8 +1,7 @@
 //! The Full links at each vertex, so that a link is tried with those alone that it may meet.
 
 use crate::ends::Ends;
-use crate::vertices::code;
-use hx_board::{Mask, Memory, Vertex};
+use hx_board::{Mask, Memory, VERTICES, Vertex};
 use hx_link::Link;
 use std::alloc::Global;
 
@@ -28,7 +27,7 @@ pub(crate) struct Entries {
     all: Vec<Entry>,
 
     /// The place of the last entry at each vertex.
-    last: [Option<u32>; 123],
+    last: [Option<u32>; VERTICES],
 }
 
 impl Entries {
@@ -38,7 +37,7 @@ impl Entries {
         };
         Ok(Entries {
             all,
-            last: [None; 123],
+            last: [None; VERTICES],
         })
     }
 
@@ -48,7 +47,7 @@ impl Entries {
 
     /// The place of the last entry at a vertex.
     pub(crate) fn last_at(&self, vertex: &Vertex) -> Option<u32> {
-        self.last[code(vertex) as usize]
+        self.last[vertex.code() as usize]
     }
 
     pub(crate) fn get(&self, place: u32) -> Option<Entry> {
@@ -79,7 +78,7 @@ impl Entries {
         if self.all.push(entry).is_err() {
             return Err(Memory);
         }
-        self.last[code(at) as usize] = Some(place);
+        self.last[at.code() as usize] = Some(place);
         Ok(())
     }
 }

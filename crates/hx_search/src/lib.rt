@@ -17,15 +17,12 @@ mod tries;
 mod useful_ands;
 mod useful_bases;
 mod useful_ors;
-mod vertices;
 mod work;
 
 pub use closures::{Closure, close};
 pub use decisions::{Reached, decided};
 pub use reaches::reach;
 
-#[cfg(test)]
-mod plain;
 #[cfg(test)]
 mod reach_tests;
 #[cfg(test)]

@@ -5,8 +5,7 @@ ghost use Rattle.hx_search.specs.Closed.{IsGrown};
 ghost use Rattle.hx_search.specs.Progress.{IsPassed, IsJoinedWhereForked, AreForksOf, AreForksBelow};
 
 use crate::parts::parts_of;
-use crate::vertices::{CODES, vertex_at};
-use hx_board::{Memory, Vertex};
+use hx_board::{Memory, VERTICES, Vertex};
 use hx_link::{Kind, Step};
 use hx_linkset::{Added, LinkSet};
 
@@ -26,7 +25,8 @@ pub(crate) enum Passed {
 /// Tries an Or of two vertices.
 fn join(set: &mut LinkSet, a: &Vertex, b: &Vertex) -> Result<Passed, Memory>
     ensures grown { IsGrown set.old set.new }
-    ensures passed { IfOk result (IsPassed set.old set.new (IsJoinedWhereForked set.new a.now b.now)) }
+    ensures passed { IfOk result (IsPassed set.old set.new
+        (IsJoinedWhereForked set.new a.now b.now)) }
 {
     let None = set.first_of(Kind::Full, *a, *b) else {
         return Ok(Passed::Same);
@@ -48,12 +48,13 @@ fn join(set: &mut LinkSet, a: &Vertex, b: &Vertex) -> Result<Passed, Memory>
 /// Tries an Or of a vertex with each vertex from a number on.
 fn join_from(set: &mut LinkSet, a: &Vertex, from: u8) -> Result<Passed, Memory>
     ensures grown { IsGrown set.old set.new }
-    ensures passed { IfOk result (IsPassed set.old set.new (AreForksOf set.new a.now from 123)) }
+    ensures passed { IfOk result (IsPassed set.old set.new
+        (AreForksOf set.new a.now from VERTICES)) }
 {
     let size = set.position().size();
     let mut more = false;
-    for code in from..CODES {
-        let Some(b) = vertex_at(size, code) else {
+    for code in from..VERTICES as u8 {
+        let Some(b) = size.vertex(code) else {
             continue;
         };
         match join(set, a, &b) {
@@ -73,12 +74,12 @@ fn join_from(set: &mut LinkSet, a: &Vertex, from: u8) -> Result<Passed, Memory>
 /// Tries an Or of any two vertices.
 pub(crate) fn join_all(set: &mut LinkSet) -> Result<Passed, Memory>
     ensures grown { IsGrown set.old set.new }
-    ensures passed { IfOk result (IsPassed set.old set.new (AreForksBelow set.new 123)) }
+    ensures passed { IfOk result (IsPassed set.old set.new (AreForksBelow set.new VERTICES)) }
 {
     let size = set.position().size();
     let mut more = false;
-    for code in 0..CODES {
-        let Some(a) = vertex_at(size, code) else {
+    for code in 0..VERTICES as u8 {
+        let Some(a) = size.vertex(code) else {
             continue;
         };
         match join_from(set, &a, code + 1) {

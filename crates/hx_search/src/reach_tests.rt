@@ -1,85 +1,222 @@
-//! What useful links show on small boards.
-
-ghost use Rattle.std.specs.Prelude.{◌≡◌, ◌≢◌, [], ◌∷◌, OnOk};
+//! `reach` on sets that stones are put on, beside `reach` on new sets of the same positions and beside `close`.
+//!
+//! No clause says which links `reach` adds. That it leaves none out which it looks for shows in two ways: it answers the
+//! same on both sets, and the numbers of links over a whole table are what they were. Each part of it, as the Bases near new
+//! stones or the most links of two ends, changes some of these numbers.
 
 use super::*;
 use hx_board::Colour::{Black, White};
-use hx_board::{Cell, Colour, Position, Size};
+use hx_board::{Colour, Position, Size};
 use hx_link::Kind;
 use hx_linkset::LinkSet;
+use hx_samples::Draws;
 use std::alloc::Global;
-use std::process::Abort;
 use std::test::Fail;
 
-/// No link for Black on the empty board.
-fn empty(alloc: Global, side: u8) -> Result<LinkSet, Fail> {
-    let size = Size::new(side, side).ok_or("size")?;
-    let position = Position::empty(size);
-    Ok(LinkSet::new(alloc, &position, Black).ok().ok_or("memory")?)
+/// What came of many calls.
+#[derive(Clone, Copy, PartialEq, Eq, Debug)]
+struct Tally {
+    calls: u32,
+    decided: u32,
+
+    /// The links that are held after each call, by the sets that stones are put on and by the new ones.
+    full: u32,
+    semi: u32,
+    new_full: u32,
+    new_semi: u32,
+
+    /// How many answers differ from that of a new set, and from that of a closed one.
+    not_as_new: u32,
+    not_as_closed: u32,
 }
 
-fn reached(set: &mut LinkSet, to_move: Colour) -> Result<Reached, Fail>
-    ensures { OnOk result (set.new.past ≡ set.old.past) }
-{
-    Ok(reach(set, to_move).ok().ok_or("memory")?)
+const NONE: Tally = Tally {
+    calls: 0,
+    decided: 0,
+    full: 0,
+    semi: 0,
+    new_full: 0,
+    new_semi: 0,
+    not_as_new: 0,
+    not_as_closed: 0,
+};
+
+/// How many links of a kind are held.
+fn count_of(set: &LinkSet, kind: Kind) -> u32 {
+    let mut count = 0u32;
+    for index in 0..set.count() {
+        if let Some(link) = set.held(index)
+            && link.kind == kind
+        {
+            count = count.wrapping_add(1);
+        }
+    }
+    count
 }
 
-/// The kind of the link that decides the position, and the number of its cells.
-fn deciding(set: &mut LinkSet, to_move: Colour) -> Result<(Kind, u32), Fail>
-    ensures { OnOk result (set.new.past ≡ set.old.past) }
-{
-    let Reached::Decided(index) = reached(set, to_move)? else {
-        return Err("open".into());
-    };
-    let link = set.link(index).ok_or("link")?;
-    if link.joins_sides() {
-        Ok((link.kind, link.carrier.count()))
-    } else {
-        Err("sides".into())
+/// The kind of the link that decides the position.
+fn kind_of(set: &LinkSet, reached: Reached) -> Option<Kind> {
+    match reached {
+        Reached::Open => None,
+        Reached::Decided(index) => match set.held(index) {
+            Some(link) if link.kind == Kind::Full => Some(Kind::Full),
+            _ => Some(Kind::Semi),
+        },
     }
 }
 
-fn plays(rt: &impl Abort, set: &mut LinkSet, colour: Colour, cell: Cell)
-    ensures { set.new.past ≡ set.old.present ∷ set.old.past }
-{
-    let is_empty = set.position().empties().has(cell);
-    assert!(rt; is_empty);
-    set.play(colour, cell);
+impl Tally {
+    /// Counts one call more, and says whether the position is decided.
+    fn count(&mut self, alloc: Global, set: &mut LinkSet, to_move: Colour) -> Result<bool, Fail> {
+        let reached = reach(set, to_move).ok().ok_or("memory")?;
+        let kind = kind_of(set, reached);
+        let mut new = LinkSet::new(alloc, set.position(), set.colour())
+            .ok()
+            .ok_or("memory")?;
+        let reached = reach(&mut new, to_move).ok().ok_or("memory")?;
+        let new_kind = kind_of(&new, reached);
+        self.calls = self.calls.wrapping_add(1);
+        self.decided = self.decided.wrapping_add(u32::from(kind.is_some()));
+        self.full = self.full.wrapping_add(count_of(set, Kind::Full));
+        self.semi = self.semi.wrapping_add(count_of(set, Kind::Semi));
+        self.new_full = self.new_full.wrapping_add(count_of(&new, Kind::Full));
+        self.new_semi = self.new_semi.wrapping_add(count_of(&new, Kind::Semi));
+        self.not_as_new = self.not_as_new.wrapping_add(u32::from(kind != new_kind));
+        close(&mut new).ok().ok_or("memory")?;
+        let is_decided = decided(&new, to_move) != Reached::Open;
+        let differ = kind.is_some() != is_decided;
+        self.not_as_closed = self.not_as_closed.wrapping_add(u32::from(differ));
+        Ok(kind.is_some())
+    }
+
+    /// Counts the calls of one game: the set is reached, and stones are put, in turns and some more of either colour, until it
+    /// is decided.
+    fn count_game(
+        &mut self,
+        alloc: Global,
+        start: &Position,
+        player: Colour,
+        seed: u32,
+    ) -> Result<(), Fail> {
+        let mut draws = Draws::new(u64::from(seed));
+        let mut set = LinkSet::new(alloc, start, player).ok().ok_or("memory")?;
+        let mut turn = Black;
+        for round in 0..12u8 {
+            // A Semi link decides in each third call alone, so that many games go on for long.
+            let to_move = if round % 3 == 1 {
+                player
+            } else {
+                player.other()
+            };
+            if self.count(alloc, &mut set, to_move)? {
+                break;
+            }
+            put_stone(&mut set, &mut draws, turn);
+            for _ in 0..draws.below(3) {
+                let colour = draws.colour();
+                put_stone(&mut set, &mut draws, colour);
+            }
+            turn = turn.other();
+        }
+        Ok(())
+    }
+}
+
+/// Puts a stone on some empty cell, where there is one.
+fn put_stone(set: &mut LinkSet, draws: &mut Draws, colour: Colour) {
+    let position = *set.position();
+    if let Some(cell) = draws.cell(position.size(), position.empties()) {
+        set.play(colour, cell);
+    }
+}
+
+/// What comes of so many games, as many for Black's links as for White's, from positions with so many stones.
+fn tally_of(alloc: Global, rows: u8, cols: u8, stones: u32, games: u32) -> Result<Tally, Fail> {
+    let size = Size::new(rows, cols).ok_or("size")?;
+    let mut draws = Draws::new(u64::from(stones));
+    let mut tally = NONE;
+    for seed in 0..games {
+        let empty = size.all().count().saturating_sub(stones);
+        let start = draws.position(size, empty);
+        let player = if seed % 2 == 0 { Black } else { White };
+        tally.count_game(alloc, &start, player, seed)?;
+    }
+    Ok(tally)
+}
+
+#[test]
+fn four_by_four(rt: HostRuntime) -> Result<(), Fail> {
+    let expected = Tally {
+        calls: 69,
+        decided: 17,
+        full: 5205,
+        semi: 10695,
+        new_full: 2588,
+        new_semi: 4385,
+        ..NONE
+    };
+    assert_eq!(rt; tally_of(rt.alloc(), 4, 4, 2, 20)?, expected);
+    Ok(())
+}
+
+#[test]
+fn five_by_five(rt: HostRuntime) -> Result<(), Fail> {
+    let expected = Tally {
+        calls: 71,
+        decided: 18,
+        full: 9708,
+        semi: 21852,
+        new_full: 6386,
+        new_semi: 13155,
+        ..NONE
+    };
+    assert_eq!(rt; tally_of(rt.alloc(), 5, 5, 4, 20)?, expected);
+    Ok(())
+}
+
+#[test]
+fn six_by_six(rt: HostRuntime) -> Result<(), Fail> {
+    let expected = Tally {
+        calls: 57,
+        decided: 9,
+        full: 21394,
+        semi: 42796,
+        new_full: 11046,
+        new_semi: 23009,
+        not_as_closed: 1,
+        ..NONE
+    };
+    assert_eq!(rt; tally_of(rt.alloc(), 6, 6, 8, 12)?, expected);
+    Ok(())
+}
+
+/// On boards with more than eight rows or columns there are fewer links of each two ends.
+#[test]
+fn nine_by_four(rt: HostRuntime) -> Result<(), Fail> {
+    let expected = Tally {
+        calls: 65,
+        decided: 5,
+        full: 20267,
+        semi: 51418,
+        new_full: 7320,
+        new_semi: 13163,
+        ..NONE
+    };
+    assert_eq!(rt; tally_of(rt.alloc(), 9, 4, 6, 10)?, expected);
+    Ok(())
 }
 
 #[test]
 fn the_mover_wins_small_empty_boards(rt: HostRuntime) -> Result<(), Fail> {
     for side in 1..=5u8 {
-        let mut set = empty(rt.alloc(), side)?;
-        assert_eq!(rt; reached(&mut set, White)?, Reached::Open);
-        let mut set = empty(rt.alloc(), side)?;
-        let (kind, _cells) = deciding(&mut set, Black)?;
-        assert_eq!(rt; kind, Kind::Semi);
+        let size = Size::new(side, side).ok_or("size")?;
+        for (to_move, kind) in [(White, None), (Black, Some(Kind::Semi))] {
+            let mut set = LinkSet::new(rt.alloc(), &Position::empty(size), Black)
+                .ok()
+                .ok_or("memory")?;
+            let reached = reach(&mut set, to_move).ok().ok_or("memory")?;
+            assert_eq!(rt; kind_of(&set, reached), kind);
+        }
     }
-    Ok(())
-}
-
-#[test]
-fn a_stone_in_the_middle_decides(rt: HostRuntime) -> Result<(), Fail> {
-    let size = Size::new(3, 3).ok_or("size")?;
-    let (middle, corner) = (size.cell(1, 1).ok_or("b2")?, size.cell(0, 0).ok_or("a1")?);
-    let mut set = empty(rt.alloc(), 3)?;
-    assert_eq!(rt; reached(&mut set, White)?, Reached::Open);
-    let count = set.count();
-
-    plays(&rt, &mut set, Black, middle);
-    let decided = deciding(&mut set, White)?;
-    assert_eq!(rt; decided, (Kind::Full, 4));
-    set.undo();
-    assert_eq!(rt; set.count(), count);
-
-    // In the corner it does not, and the opponent's stone in the middle leaves no way at all.
-    plays(&rt, &mut set, Black, corner);
-    assert_eq!(rt; reached(&mut set, White)?, Reached::Open);
-    plays(&rt, &mut set, White, middle);
-    assert_eq!(rt; reached(&mut set, Black)?, Reached::Open);
-    set.undo();
-    set.undo();
-    assert_eq!(rt; set.count(), count);
     Ok(())
 }

@@ -150,8 +150,7 @@ pub fn reach(set: &mut LinkSet, to_move: Colour) -> Result<Reached, Memory>
     ensures right { IsRight set.new.player set.new.present }
 {
     let added = add_useful(set, Until::Decided(to_move));
-    // that live links come by steps from earlier ones is what this call promises
-    let _colour = set.colour();
+    set.keeps();
     match added {
         Ok(()) => Ok(decided(set, to_move)),
         Err(Memory) => Err(Memory),

@@ -4,8 +4,7 @@ use crate::candidates::{Candidate, Candidates};
 use crate::covers::is_covered;
 use crate::ends::Ends;
 use crate::entries::{Entries, Entry};
-use crate::vertices::is_in;
-use hx_board::{Cell, Mask, Memory, Reach, Vertex};
+use hx_board::{Cell, Mask, Memory, Vertex, VertexSet};
 use hx_link::{Kind, Link, Step};
 use hx_linkset::LinkSet;
 
@@ -16,32 +15,25 @@ struct Ruled {
     cells: Mask,
 
     /// Where the other link does not lead: to what the far end is joined with already, and into the carrier.
-    ends: Reach,
+    ends: VertexSet,
 }
 
 impl Ruled {
     fn by(ends: &Ends, link: &Entry) -> Ruled {
-        let reach = ends.reach(&link.to);
         let cells = match link.to {
             Vertex::Of(cell) => link.carrier.with(cell),
             Vertex::First | Vertex::Last => link.carrier,
         };
         Ruled {
             cells,
-            ends: Reach {
-                cells: reach.cells.union(link.carrier),
-                ..reach
-            },
+            ends: ends
+                .reach(&link.to)
+                .union(VertexSet::of_cells(link.carrier)),
         }
     }
 
     fn out(&self, other: &Entry) -> bool {
-        other.carrier.meet(self.cells).bits() != 0
-            || match other.to {
-                Vertex::Of(cell) => self.ends.cells.has(cell),
-                Vertex::First => self.ends.first,
-                Vertex::Last => self.ends.last,
-            }
+        other.carrier.meets(self.cells) || self.ends.has(other.to)
     }
 }
 
@@ -61,8 +53,8 @@ fn push_and(
             (Kind::Semi, both.with(*cell), Step::AndCell { left, right })
         }
         _ => {
-            let empties = set.position().empties();
-            if is_in(&one.to, empties) && is_in(&other.to, empties) {
+            let empties = VertexSet::of_cells(set.position().empties());
+            if empties.has(one.to) && empties.has(other.to) {
                 return Ok(());
             }
             (Kind::Full, both, Step::AndStone { left, right })

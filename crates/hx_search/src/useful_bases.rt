@@ -8,7 +8,7 @@ ghost use Rattle.hx_board.specs.Cells.{OnBoard};
 use crate::candidates::{Candidate, Candidates};
 use crate::covers::is_covered;
 use crate::ends::Ends;
-use hx_board::{Cell, Mask, Memory, Position, Vertex, neighbours};
+use hx_board::{CELLS, Cell, Mask, Memory, Position, Vertex, neighbours};
 use hx_link::Kind;
 use hx_linkset::LinkSet;
 
@@ -16,17 +16,17 @@ use hx_linkset::LinkSet;
 #[derive(Clone, Copy)]
 struct Beside {
     /// The cells that it touches.
-    cells: [Mask; 121],
+    cells: [Mask; CELLS],
 
     /// The stones of the groups of which it touches a stone.
-    groups: [Mask; 121],
+    groups: [Mask; CELLS],
 }
 
 impl Beside {
     fn of(position: &Position, ends: &Ends, cells: Mask) -> Beside {
         let mut beside = Beside {
-            cells: [Mask::empty(); 121],
-            groups: [Mask::empty(); 121],
+            cells: [Mask::empty(); CELLS],
+            groups: [Mask::empty(); CELLS],
         };
         let mut rest = cells;
         for _ in 0..121u8 {
@@ -61,7 +61,7 @@ impl Beside {
                 break;
             };
             rest = rest.without(other);
-            if self.cells[other.index() as usize].meet(groups).bits() != 0 {
+            if self.cells[other.index() as usize].meets(groups) {
                 near = near.with(other);
             }
         }
@@ -114,7 +114,7 @@ fn push_bases_between(
             break;
         };
         rest = rest.without(cell);
-        let joined = ends.reach(&Vertex::Of(cell)).cells.meet(rest);
+        let joined = ends.reach(&Vertex::Of(cell)).cells().meet(rest);
         let near = beside.near(set.position(), &cell, joined);
         push_bases_of(set, candidates, &Vertex::Of(cell), near)?;
     }
@@ -133,7 +133,7 @@ pub(crate) fn push_bases(
         push_base(set, candidates, &Vertex::First, &Vertex::Last)?;
     }
     for side in [Vertex::First, Vertex::Last] {
-        let near = ends.reach(&side).cells.meet(empties);
+        let near = ends.reach(&side).cells().meet(empties);
         push_bases_of(set, candidates, &side, near)?;
     }
     let mut rest = ends.standing().meet(cells);
@@ -143,7 +143,7 @@ pub(crate) fn push_bases(
         };
         rest = rest.without(stone);
         let stone = Vertex::Of(stone);
-        let near = ends.reach(&stone).cells.meet(empties);
+        let near = ends.reach(&stone).cells().meet(empties);
         push_bases_of(set, candidates, &stone, near)?;
     }
     push_bases_between(set, ends, candidates, empties)

@@ -110,7 +110,7 @@ impl<'a> OrSearch<'a> {
                 continue;
             }
             self.visits = self.visits.saturating_add(1);
-            if shared.bits() == 0 {
+            if shared.is_empty() {
                 self.push(set, candidates, &chosen.with(&part))?;
             } else if left > 1 {
                 self.widen(set, candidates, &chosen.with(&part), place + 1, left - 1)?;
@@ -170,7 +170,7 @@ fn push_wide(
     let mut links = SmallVec::<u32, 8>::new(set.allocator());
     links.push(start.link).map_err(|_| Memory)?;
     for _ in 0..121u8 {
-        if shared.bits() == 0 {
+        if shared.is_empty() {
             break;
         }
         let Some(part) = best_of(parts, shared, carrier) else {
@@ -232,7 +232,7 @@ fn push_ors_of(
         }
     }
     let has_full = set.first_of(Kind::Full, *a, *b).is_some();
-    if has_full || shared_by_all(start, parts).bits() != 0 {
+    if has_full || !shared_by_all(start, parts).is_empty() {
         return Ok(());
     }
     push_wide(set, candidates, a, b, start, parts)

@@ -11,8 +11,7 @@ use crate::entries::Entries;
 use crate::useful_ands::{push_ands, push_ands_over};
 use crate::useful_bases::{push_base, push_bases};
 use crate::useful_ors::{push_ors, push_ors_between};
-use crate::vertices::{code, is_in};
-use hx_board::{Mask, Memory, Position, Vertex};
+use hx_board::{Mask, Memory, Position, VERTICES, Vertex, VertexSet};
 use hx_link::{Kind, Link};
 use hx_linkset::LinkSet;
 
@@ -89,15 +88,15 @@ impl Work {
         let mut seen = Pairs::none();
         let empties = set.position().empties();
         let empties_before = before.empties();
-        let others = set.position().stones(set.colour().other());
+        let others = VertexSet::of_cells(set.position().stones(set.colour().other()));
         for index in 0..set.count() {
             let Some(link) = set.held(index) else {
                 break;
             };
             if link.kind == Kind::Semi
                 || !link.carrier.inside(empties_before)
-                || is_in(&link.a, others)
-                || is_in(&link.b, others)
+                || others.has(link.a)
+                || others.has(link.b)
             {
                 continue;
             }
@@ -143,7 +142,7 @@ impl Work {
                 break;
             };
             rest = rest.without(stone);
-            near = near.union(self.ends.reach(&Vertex::Of(stone)).cells);
+            near = near.union(self.ends.reach(&Vertex::Of(stone)).cells());
         }
         near
     }
@@ -152,19 +151,20 @@ impl Work {
 /// Pairs of vertices.
 #[derive(Clone, Copy)]
 struct Pairs {
-    others: [u128; 123],
+    others: [VertexSet; VERTICES],
 }
 
 impl Pairs {
     fn none() -> Pairs {
-        Pairs { others: [0; 123] }
+        Pairs {
+            others: [VertexSet::empty(); VERTICES],
+        }
     }
 
     /// Adds a pair, and says whether it is new.
     fn add(&mut self, a: &Vertex, b: &Vertex) -> bool {
-        let others = self.others[code(a) as usize];
-        let with = others | (1 << code(b));
-        self.others[code(a) as usize] = with;
-        with != others
+        let others = self.others[a.code() as usize];
+        self.others[a.code() as usize] = others.with(*b);
+        !others.has(*b)
     }
 }

@@ -10,7 +10,7 @@ loop-code-preserved-in_default c =
     let is_size : c.size-size.result ≡ c.loop-code.set.present.board.size = size-on _ _ c.size-size.result c.position.result.now c.loop-code.invariant.grown c.size-size.ensures.value c.position.ensures in
     record {
       grown = c.loop-code.invariant.grown;
-      settled = end-skip c.loop-code.set c.size-size.result is_size c.loop-code.code c.in_default.ensures c.is_own-own.result c.args.end.now c.args.right c.loop-code.invariant.settled;
+      settled = end-skip c.loop-code.set c.size-size.result is_size c.loop-code.code c.in_default.ensures c.owns-own.result c.args.end.now c.args.right c.loop-code.invariant.settled;
     }
 
 pub settle_chain-requires : goal.settle_chain-requires
@@ -23,7 +23,7 @@ loop-code-preserved c =
     let inside : c.args.right < length c.loop-code.set.present.links = omega (arith, c.loop-code.invariant.grown.longer, c.requires) in
     record {
       grown = grown;
-      settled = end-more c.loop-code.set c.settle_chain.new.set c.settle_chain.ensures.grown c.is_own-own.result c.args.end.now c.args.right inside c.size-size.result is_size
+      settled = end-more c.loop-code.set c.settle_chain.new.set c.settle_chain.ensures.grown c.owns-own.result c.args.end.now c.args.right inside c.size-size.result is_size
           (size-extent c.size-size.result c.position.result.now c.size-size.ensures.value c.size-size.ensures.valid)
           c.loop-code.code c.in-Some.to c.in-Some.ensures c.loop-code.invariant.settled (rw c.in-Ok-Settled.field-0-is at c.in-Ok-Settled.ensures.tried);
     }
@@ -32,6 +32,6 @@ pub returns-clause-tried : goal.returns-clause-tried
 returns-clause-tried c =
     let is_size : c.size-size.result ≡ c.loop-code.set.present.board.size = size-on _ _ c.size-size.result c.position.result.now c.loop-code.invariant.grown c.size-size.ensures.value c.position.ensures in
     end-done c.loop-code.set (set-extent c.loop-code.set c.size-size.result is_size (size-extent c.size-size.result c.position.result.now c.size-size.ensures.value c.size-size.ensures.valid))
-    c.args.end.now c.args.right c.is_own-own.result c.loop-code.code c.loop-code-test.false
-    (own-on c.args.set.now c.loop-code.set c.args.end.now c.is_own-own.result c.loop-code.invariant.grown (own-is c.args.set.now c.args.end.now c.is_own-own.result c.position-2.result.now c.colour.result c.position-2.ensures c.colour.ensures.value c.is_own-own.ensures))
+    c.args.end.now c.args.right c.owns-own.result c.loop-code.code c.loop-code-test.false
+    (own-on c.args.set.now c.loop-code.set c.args.end.now c.owns-own.result c.loop-code.invariant.grown (own-is c.args.set.now c.args.end.now c.owns-own.result c.position-2.result.now c.colour.result c.position-2.ensures c.colour.ensures c.owns-own.ensures))
     c.loop-code.invariant.settled
