@@ -7,4 +7,6 @@
 #![tactic(auto)]
 
 #[cfg(test)]
+mod texts;
+#[cfg(test)]
 mod trees;
