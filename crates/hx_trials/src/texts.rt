@@ -2,8 +2,6 @@
 //! line and word by word.
 
 mod damages;
-mod drawn;
-mod entries_read;
 mod lines;
 mod read;
 mod spelled;

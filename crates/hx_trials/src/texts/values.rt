@@ -1,7 +1,7 @@
 //! Words read as values, each of which has one spelling. A word that is missing is read as one without a byte, which spells
 //! nothing.
 
-use hx_board::{Cell, Colour, Mask, Size, Vertex};
+use hx_board::{Colour, Mask, Size};
 
 /// The word in this place.
 pub(crate) fn word(words: &[Vec<u8>], place: usize) -> &[u8] {
@@ -27,12 +27,6 @@ pub(crate) fn number(word: &[u8]) -> Option<u32> {
     u32::try_from(value).ok()
 }
 
-/// A number that is at most this one.
-pub(crate) fn count(word: &[u8], most: u32) -> Option<u32> {
-    let count = number(word)?;
-    if count <= most { Some(count) } else { None }
-}
-
 pub(crate) fn colour(word: &[u8]) -> Option<Colour> {
     if word == b"black".as_slice() {
         Some(Colour::Black)
@@ -40,31 +34,6 @@ pub(crate) fn colour(word: &[u8]) -> Option<Colour> {
         Some(Colour::White)
     } else {
         None
-    }
-}
-
-/// The cell of the board whose column's letter and row's number the word is.
-pub(crate) fn cell(size: Size, word: &[u8]) -> Option<Cell> {
-    let (letter, digits) = word.split_first()?;
-    for row in 0..size.rows() {
-        for col in 0..size.cols() {
-            if *letter == b'a'.wrapping_add(col)
-                && number(digits) == Some(u32::from(row).wrapping_add(1))
-            {
-                return size.cell(row, col);
-            }
-        }
-    }
-    None
-}
-
-pub(crate) fn vertex(size: Size, word: &[u8]) -> Option<Vertex> {
-    if word == b"first".as_slice() {
-        Some(Vertex::First)
-    } else if word == b"last".as_slice() {
-        Some(Vertex::Last)
-    } else {
-        Some(Vertex::Of(cell(size, word)?))
     }
 }
 
