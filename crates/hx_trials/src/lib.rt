@@ -7,6 +7,10 @@
 #![tactic(auto)]
 
 #[cfg(test)]
+mod books;
+#[cfg(test)]
+mod numbers;
+#[cfg(test)]
 mod texts;
 #[cfg(test)]
 mod trees;
