@@ -11,4 +11,6 @@ mod books;
 #[cfg(test)]
 mod numbers;
 #[cfg(test)]
+mod texts;
+#[cfg(test)]
 mod trees;
