@@ -13,4 +13,6 @@ mod machines;
 #[cfg(test)]
 mod numbers;
 #[cfg(test)]
+mod texts;
+#[cfg(test)]
 mod trees;
