@@ -1,5 +1,5 @@
-use Rattle.std.proofs.Common.{◌≡◌, ◌×◌}
+use Rattle.std.proofs.Common.{◌≡◌}
 use Rattle.hx_trials.proofs.machines.counts.steps.Given as goal
 
 abbrev pub invariant-loop : goal.invariant-loop
-invariant-loop l = (l.first.made ≡ l.counts) × (l.second.made ≡ l.counts)
+invariant-loop g l = (l.first.made ≡ l.counts) × (l.second.made ≡ l.counts)
