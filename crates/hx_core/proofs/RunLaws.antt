@@ -3,11 +3,10 @@ use Rattle.std.proofs.Common.{◌≡◌, ℕ, List, [], ◌∷◌, ◌++◌, sym
 use Rattle.std.proofs.lemmas.List.{append-nil}
 use Rattle.hx_tree.proofs.TreeGrowth.{valid_tree}
 use Rattle.hx_count.specs.Machine.{CountsState, counts_step}
-use Rattle.hx_count.specs.declared.events.CountEvent.TheVariants.{Spend as SpendUnit, Hold as HoldWord, Release as ReleaseWord, Look as LookAt}
+use Rattle.hx_count.specs.declared.events.CountEvent.TheVariants.{Spend as SpendUnit, Hold as HoldWord, Release as ReleaseWord}
 use Rattle.hx_core.specs.declared.events.Event.{Event}
 use Rattle.hx_core.specs.declared.events.Event.TheVariants.{Look, Store, Tell, Spend, Hold, Release, LookAtWord}
 use Rattle.hx_core.specs.declared.events.Reply.{Reply}
-use Rattle.hx_core.specs.BookMachine.{BookState}
 use Rattle.hx_core.specs.Machine.{MachineState, machine_start, CanHappen, MachineStep, LeadsTo}
 use Rattle.hx_core.specs.Runs.{IsBook, AreCounts, IsKept, EveryRunKeeps, EveryRunGivesATree, IsGrown, EveryRunGrows, EveryRunGoesOn}
 use Rattle.hx_core.proofs.BookSteps.{BookGrows, book-begun, look-kept, look-grows, told-kept, told-grows, store-kept, store-grows}

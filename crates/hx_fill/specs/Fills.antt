@@ -14,6 +14,7 @@ IsDeadOrPair (Other cell) = ⊥
 IsDeadOrPair (Dead cell) = Unit {0}
 IsDeadOrPair (Pair a b) = Unit {0}
 
+-- steps that put stones of their own players alone
 abbrev pub AreDeadOrPairs : List Fill → Type 0
 AreDeadOrPairs fills = All (λ fill. IsDeadOrPair fill.step) fills
 
@@ -27,6 +28,7 @@ pub record HasNone (board : Board) (player : Colour) : Type 0 where
   pub none_dead : (cell : ℕ) → IsDead board player cell → ⊥
   pub no_pair : (a b : ℕ) → IsPair board player a b → ⊥
 
+-- for neither player a cell is dead or two are a pair
 abbrev pub NothingLeft : Board → Type 0
 NothingLeft board = (player : Colour) → HasNone board player
 
@@ -49,6 +51,7 @@ winner_steps Black White step = single_stones step
 winner_steps White Black step = single_stones step
 winner_steps White White step = step ∷ []
 
+-- the steps of some fills as steps for the winner
 abbrev pub winner_steps_all : Colour → List Fill → List FillStep
 winner_steps_all winner [] = []
 winner_steps_all winner (fill ∷ rest) = winner_steps winner fill.colour fill.step ++ winner_steps_all winner rest

@@ -25,6 +25,7 @@ abbrev pub IsUnderLine : Board → Colour → Line → Type 0
 IsUnderLine board mover (Child cell child) = ⊥
 IsUnderLine board mover (Under cell better kill) = IsDominated board mover better cell kill
 
+-- some line is for the cell
 abbrev pub HasLine : List Line → ℕ → Type 0
 HasLine lines cell = Contains (cells_of lines) cell
 

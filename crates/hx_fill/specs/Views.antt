@@ -12,6 +12,7 @@ use Rattle.hx_board.specs.Graph.{Grouped, Joined}
 use Rattle.hx_board.specs.VertexSets.{IsSetOf}
 use Rattle.hx_inferior.specs.Inferior.{IsOpenNeighbour}
 
+-- a set of vertices, with the joint ones where it has the stone's cell
 abbrev pub widened_if : Bool → ℕ → ℕ → ℕ
 widened_if true joint set = union set joint
 widened_if false joint set = set

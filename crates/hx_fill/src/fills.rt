@@ -31,7 +31,8 @@ impl Filled {
     /// Does a step that is right for the player.
     pub(crate) fn add(&mut self, colour: Colour, step: FillStep) -> Result<(), Memory>
         requires { MayFill self.old.position colour step }
-        ensures { OnOk result (DoesStep colour step self.old.position self.old.steps.items self.new.position self.new.steps.items) }
+        ensures { OnOk result (DoesStep colour step
+            self.old.position self.old.steps.items self.new.position self.new.steps.items) }
     {
         if self.steps.reserve(1).is_err() {
             return Err(Memory);

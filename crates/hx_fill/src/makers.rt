@@ -32,7 +32,8 @@ pub(crate) struct Makers {
 /// none of them is left.
 pub(crate) fn makers_of(view: &View, cell: Cell, around: VertexSet, among: Mask) -> Makers
     requires empty { IsEmpty view.now.board cell }
-    requires around { IsSetOf view.now.board.size (IsOpenNeighbour view.now.board view.now.player cell) around }
+    requires around { IsSetOf view.now.board.size
+        (IsOpenNeighbour view.now.board view.now.player cell) around }
     ensures { AreMakers view.now.board view.now.player cell among result }
 {
     let all = Makers {
@@ -46,7 +47,8 @@ pub(crate) fn makers_of(view: &View, cell: Cell, around: VertexSet, among: Mask)
 pub(crate) fn partner_of(view: &View, cell: Cell, makers: Mask) -> Option<Cell>
     requires empty { IsEmpty view.now.board cell }
     requires makers { AreMakersAmong view.now.board view.now.player cell makers }
-    ensures { Finds result (λ other. (has makers other ≡ true) × IsPair view.now.board view.now.player cell other) }
+    ensures { Finds result (λ other.
+        (has makers other ≡ true) × IsPair view.now.board view.now.player cell other) }
 {
     let size = view.position().size();
     let mut left = makers;

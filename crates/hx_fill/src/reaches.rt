@@ -32,7 +32,8 @@ pub(crate) fn reached_around(view: &View, around: VertexSet) -> VertexSet
 /// All that an open neighbour of some cell among these is joined with.
 pub(crate) fn reached_around_each(view: &View, cells: Mask) -> VertexSet
     requires { (n : ℕ) → has cells n ≡ true → IsEmpty view.now.board n }
-    ensures { (cell : ℕ) → has cells cell ≡ true → HoldsReached view.now.board view.now.player cell result }
+    ensures { (cell : ℕ) → has cells cell ≡ true
+        → HoldsReached view.now.board view.now.player cell result }
 {
     let size = view.position().size();
     let mut found = VertexSet::empty();

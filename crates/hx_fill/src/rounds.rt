@@ -38,7 +38,8 @@ pub fn fill_in(alloc: Global, position: &Position) -> Result<Filled, Memory>
 
 /// Looks at each empty cell for one player.
 fn fill_round(filled: &mut Filled, colour: Colour) -> Result<(), Memory>
-    ensures { OnOk result (IsRound colour 0 filled.old.position filled.old.steps.items filled.new.position filled.new.steps.items) }
+    ensures { OnOk result (IsRound colour 0
+        filled.old.position filled.old.steps.items filled.new.position filled.new.steps.items) }
 {
     let size = filled.position.size();
     let groups = Groups::of(&filled.position, colour);
@@ -59,7 +60,8 @@ fn fill_at(filled: &mut Filled, view: &View, colour: Colour, cell: Cell) -> Resu
     requires colour { view.now.player ≡ colour }
     requires grown { HasNoStoneLess view.now.board filled.old.position }
     requires empty { IsEmpty filled.old.position cell }
-    ensures { OnOk result (LooksAt view.now.board colour cell filled.old.position filled.old.steps.items filled.new.position filled.new.steps.items) }
+    ensures { OnOk result (LooksAt view.now.board colour cell
+        filled.old.position filled.old.steps.items filled.new.position filled.new.steps.items) }
 {
     let around = open_around(view.position(), view.colour(), cell);
     let makers = makers_of(view, cell, around, filled.position.empties());

@@ -65,7 +65,8 @@ impl KeptThreats {
     fn take(&mut self, set: &LinkSet, link: &Between) -> Result<(), Memory>
         requires link { IsBetween set.now link.now }
         requires threats { AreKept set.now self.old.places.items self.old.cells }
-        ensures { OnOk result (IsTaken set.now link.now.place self.old.cells self.new.places.items self.new.cells) }
+        ensures { OnOk result (IsTaken set.now link.now.place
+            self.old.cells self.new.places.items self.new.cells) }
     {
         let has_all = self.cells.inside(link.carrier);
         if has_all {

@@ -9,8 +9,8 @@ ghost use Rattle.hx_board.specs.Finds.{Finds};
 ghost use Rattle.hx_board.specs.Colours.{other_of};
 ghost use Rattle.hx_board.specs.Sets.{has};
 ghost use Rattle.hx_board.specs.Positions.{IsEmpty};
-ghost use Rattle.hx_inferior.specs.declared.dominations.Kill.TheVariants.{ByDead, ByPair};
 ghost use Rattle.hx_board.specs.VertexSets.{IsSetOf};
+ghost use Rattle.hx_inferior.specs.declared.dominations.Kill.TheVariants.{ByDead, ByPair};
 ghost use Rattle.hx_inferior.specs.Inferior.{IsDominated, IsOpenNeighbour};
 ghost use Rattle.hx_fill.specs.Unders.{AreOthers, IsWorse, IsBetter};
 
@@ -93,7 +93,8 @@ impl Turn {
         requires empty { IsEmpty self.now.position cell }
         requires around { IsSetOf self.now.position.size
             (IsOpenNeighbour self.now.position self.now.mover cell) around }
-        ensures { (better partner : ℕ) → IsDominated self.now.position self.now.mover better cell (ByPair partner)
+        ensures { (better partner : ℕ)
+            → IsDominated self.now.position self.now.mover better cell (ByPair partner)
             → has result better ≡ true }
     {
         let _size = self.position.size();
@@ -148,8 +149,8 @@ impl Turn {
         requires better { IsEmpty self.now.position better }
         requires worse { IsWorse self.now.position self.now.mover worse.now }
         requires differ { better ≢ worse.now.cell }
-        ensures { Finds result
-            (λ partner. IsDominated self.now.position self.now.mover better worse.now.cell (ByPair partner)) }
+        ensures { Finds result (λ partner.
+            IsDominated self.now.position self.now.mover better worse.now.cell (ByPair partner)) }
     {
         let own = View::after(&self.position, self.mover, &self.own, self.mover, better);
         let makers = makers_of(&own, worse.cell, worse.own, self.position.empties());
@@ -161,7 +162,8 @@ impl Turn {
         requires better { IsEmpty self.now.position better }
         requires worse { IsWorse self.now.position self.now.mover worse.now }
         requires differ { better ≢ worse.now.cell }
-        ensures { Finds result (IsDominated self.now.position self.now.mover better worse.now.cell) }
+        ensures { Finds result
+            (IsDominated self.now.position self.now.mover better worse.now.cell) }
     {
         let can_be_dead = worse.by_dead.has(better);
         if can_be_dead && self.is_dead_after(better, worse) {

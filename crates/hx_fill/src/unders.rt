@@ -55,7 +55,8 @@ impl Sieve {
     fn sift(&mut self, turn: &Turn, cell: Cell) -> Result<(), Memory>
         requires empty { AreEmpties turn.now.position self.old.without_line }
         requires no_line { has self.old.without_line cell ≡ true }
-        ensures { OnOk result (Sifts turn.now.position turn.now.mover cell self.old.lines.items self.old.without_line self.old.betters
+        ensures { OnOk result (Sifts turn.now.position turn.now.mover cell
+            self.old.lines.items self.old.without_line self.old.betters
             self.new.lines.items self.new.without_line self.new.betters) }
     {
         let is_better = self.betters.has(cell);
@@ -71,7 +72,8 @@ impl Sieve {
 
     /// Adds a line.
     fn add(&mut self, cell: Cell, better: &Better) -> Result<(), Memory>
-        ensures { OnOk result (AddsLine cell better.now self.old.lines.items self.old.without_line self.old.betters
+        ensures { OnOk result (AddsLine cell better.now
+            self.old.lines.items self.old.without_line self.old.betters
             self.new.lines.items self.new.without_line self.new.betters) }
     {
         if self.lines.reserve(1).is_err() {

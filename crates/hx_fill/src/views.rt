@@ -90,7 +90,8 @@ impl<'a> View<'a> {
     /// All that a vertex is joined with.
     pub(crate) fn joined_with(&self, vertex: Vertex) -> VertexSet
         requires { IsVertex self.now.board.size vertex }
-        ensures { IsSetOf self.now.board.size (Joined self.now.board self.now.player vertex) result }
+        ensures { IsSetOf self.now.board.size
+            (Joined self.now.board self.now.player vertex) result }
     {
         let joined = self.groups.joined_with(vertex);
         match self.stone {

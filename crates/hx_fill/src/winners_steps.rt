@@ -20,7 +20,8 @@ use std::alloc::Global;
 pub fn steps_for(alloc: Global, filled: &Filled, winner: Colour) -> Result<FillSteps, Memory>
     requires { AreDeadOrPairs filled.now.steps.items }
     ensures steps { IfOk result (λ steps. steps ≡ winner_steps_all winner filled.now.steps.items) }
-    ensures right { IfOk result (λ steps. (board final : Board) → FillsTo board filled.now.steps.items final
+    ensures right { IfOk result (λ steps. (board final : Board)
+        → FillsTo board filled.now.steps.items final
         → MayFillAll board winner steps × (filled_all board winner steps ≡ final)) }
     ensures none { IfOk result (λ steps. (steps ≡ []) ↔ (filled.now.steps.items ≡ [])) }
 {
@@ -33,7 +34,8 @@ pub fn steps_for(alloc: Global, filled: &Filled, winner: Colour) -> Result<FillS
 
 /// Adds the steps for one fill.
 fn push_steps(steps: &mut Vec<FillStep>, fill: &Fill, winner: Colour) -> Result<(), Memory>
-    ensures { OnOk result (steps.new.items ≡ steps.old.items ++ winner_steps winner fill.now.colour fill.now.step) }
+    ensures { OnOk result (steps.new.items
+        ≡ steps.old.items ++ winner_steps winner fill.now.colour fill.now.step) }
 {
     if fill.colour == winner {
         return push(steps, fill.step);

@@ -1,7 +1,7 @@
 -- A chain that is followed to its end: it has an end, since each place is above the one before it and below the number of
 -- links (`chain-ends`); and what it gives is the list of all its links (`chain-exact`).
 use Rattle.std.proofs.lemmas.Bool.{cases_lt}
-use Rattle.std.proofs.Common.{◌≡◌, ℕ, zero, suc, ◌+◌, ◌-◌, ◌<◌, ◌≤◌, List, [], ◌∷◌, length, get_or, refl, ⊎_elim, arith}
+use Rattle.std.proofs.Common.{ℕ, zero, suc, ◌+◌, ◌-◌, ◌≤◌, List, [], ◌∷◌, length, get_or, refl, ⊎_elim, arith}
 use Rattle.hx_board.specs.declared.vertices.Vertex.{Vertex}
 use Rattle.hx_link.specs.declared.links.Kind.{Kind}
 use Rattle.hx_linkset.specs.States.{Standing, IsRight}

@@ -4,11 +4,9 @@ use Rattle.std.proofs.Common.{◌≡◌, ℕ, zero, suc, ◌+◌, ◌-◌, ◌<�
 use Rattle.std.specs.Prelude.{slice_get}
 use Rattle.std.proofs.lemmas.Bool.{cases_lt}
 use Rattle.hx_board.specs.declared.vertices.Vertex.{Vertex}
-use Rattle.hx_board.specs.VertexSets.{code_of}
 use Rattle.hx_link.specs.declared.links.Kind.{Kind}
 use Rattle.hx_link.specs.declared.links.Link.{Link}
-use Rattle.hx_link.specs.declared.steps.Step.{Step}
-use Rattle.hx_link.specs.Steps.{HasEnds, IsLink}
+use Rattle.hx_link.specs.Steps.{IsLink}
 use Rattle.hx_linkset.specs.States.{Standing, IsLive, IsRight}
 use Rattle.hx_linkset.specs.Rings.{Rings}
 use Rattle.hx_linkset.specs.Held.{IsHeadBetween, head_for, head_of, head_at, IsLinked, RingsHold, IsLiveThere}

@@ -1,5 +1,5 @@
 -- Two ends in either order, of which one is the lower. A link whose lower end comes first has it where they have it.
-use Rattle.std.proofs.Common.{◌≡◌, ◌<◌, sym, ap, ◌∙◌, inl, inr, ◌⊎◌, ⊎_elim, arith}
+use Rattle.std.proofs.Common.{◌≡◌, ◌<◌, sym, ap, ◌∙◌, inl, inr, ⊎_elim, arith}
 use Rattle.hx_board.specs.declared.vertices.Vertex.{Vertex}
 use Rattle.hx_board.specs.VertexSets.{code_of}
 use Rattle.hx_link.specs.declared.links.Link.{Link}

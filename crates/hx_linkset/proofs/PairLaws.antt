@@ -6,15 +6,14 @@
 use Rattle.std.proofs.lemmas.Bool.{cases_lt, cases_eq}
 use Rattle.std.proofs.lemmas.Bool.Decides.{nat_tests}
 use Rattle.std.proofs.Common.{◌≡◌, ◌≢◌, ℕ, zero, suc, ◌+◌, ◌-◌, ◌<◌, ◌≤◌, Bool, true, false, List, [], ◌∷◌, length, get_or, refl, sym, ap, ◌∙◌, subst, inl, inr, Some, None, Option, ◌⊎◌, ⊎_elim, arith, ltb}
-use Rattle.std.specs.Prelude.{slice_get, All, Contains}
-use Rattle.std.specs.List.Sorted.{IsStrictlyIncreasing}
+use Rattle.std.specs.Prelude.{slice_get}
 use Rattle.hx_board.specs.declared.vertices.Vertex.{Vertex}
-use Rattle.hx_board.specs.VertexSets.{code_of, IsSomeVertex}
+use Rattle.hx_board.specs.VertexSets.{IsSomeVertex}
 use Rattle.hx_link.specs.declared.links.Kind.{Kind}
 use Rattle.hx_link.specs.declared.links.Kind.TheVariants.{Full, Semi}
 use Rattle.hx_link.specs.declared.links.Link.{Link}
 use Rattle.hx_link.specs.Steps.{HasEnds}
-use Rattle.hx_linkset.specs.States.{Standing, IsLive, IsRight}
+use Rattle.hx_linkset.specs.States.{Standing, IsRight}
 use Rattle.hx_linkset.specs.Rings.{Rings}
 use Rattle.hx_linkset.specs.Held.{AreInOrder, head_for, head_of, head_at, IsLinked, RingsHold, IsLiveThere}
 use Rattle.hx_linkset.specs.LivePairs.{IsLivePair, AreLivePairs, turn_by, turn_of, from_turn, pairs_from}

@@ -8,7 +8,6 @@ use Rattle.std.specs.declared.option.Option.TheVariants.{None, Some}
 use Rattle.hx_board.specs.declared.colours.Colour.{Colour}
 use Rattle.hx_board.specs.declared.vertices.Vertex.{Vertex}
 use Rattle.hx_board.specs.declared.vertices.TheConstants.{VERTICES}
-use Rattle.hx_board.specs.declared.vertices.Vertex.TheVariants.{Of, First, Last}
 use Rattle.hx_board.specs.Positions.{Board}
 use Rattle.hx_board.specs.VertexSets.{code_of, IsSomeVertex}
 use Rattle.hx_link.specs.declared.links.Kind.{Kind}

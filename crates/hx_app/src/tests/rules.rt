@@ -136,76 +136,62 @@ fn each_rule_shows_who_wins(rt: HostRuntime) -> Result<(), Fail> {
     Ok(())
 }
 
-#[test]
-fn each_change_of_an_answered_node_is_found(rt: HostRuntime) -> Result<(), Fail> {
-    let changes = [
-        (
-            "2\nline a1 child 1\nline b1 child 3",
-            "1\nline a1 child 1",
-            "no node 4\n",
-        ),
-        ("line b1 child 3\n", "", "no text 9\n"),
-        ("all 0 0 2", "all 0 0 1", "no node 4\n"),
-        ("all 0 0 2", "all 0 1 2", "no text 8\n"),
-        ("white black all", "black black all", "no node 4\n"),
-    ];
-    assert_found(
-        &rt,
-        rt.alloc(),
-        trial_of(&["check"], ROW_OF_TWO, 4096),
-        1,
-        &changes,
-    )
-}
+/// What stands in a tree, what is put in its first place there, and the answer.
+const CHANGES_OF_ROW: [(&str, &str, &str); 5] = [
+    (
+        "2\nline a1 child 1\nline b1 child 3",
+        "1\nline a1 child 1",
+        "no node 4\n",
+    ),
+    ("line b1 child 3\n", "", "no text 9\n"),
+    ("all 0 0 2", "all 0 0 1", "no node 4\n"),
+    ("all 0 0 2", "all 0 1 2", "no text 8\n"),
+    ("white black all", "black black all", "no node 4\n"),
+];
+
+/// The same of the two bridges.
+const CHANGES_OF_BRIDGES: [(&str, &str, &str); 3] = [
+    ("stone 6 13", "stone 6 6", "no node 0\n"),
+    ("base first b1", "base first b2", "no node 0\n"),
+    ("links 15", "links 8193", "no text 3\n"),
+];
+
+/// The same of the threats: both threats are one, and a2 is in it; a link that does not join the two sides.
+const CHANGES_OF_THREATS: [(&str, &str, &str); 2] = [
+    ("threat 5", "threat 2", "no node 0\n"),
+    ("threat 2", "threat 3", "no node 0\n"),
+];
+
+/// The same of the pair.
+const CHANGES_OF_PAIR: [(&str, &str, &str); 2] = [
+    ("pair a2 b2", "dead a2", "no node 1\n"),
+    ("fill 1 0\npair a2 b2", "fill 0 0", "no node 1\n"),
+];
+
+/// The same of the dominated line.
+const CHANGES_OF_LINE: [(&str, &str, &str); 1] = [(
+    "line a1 dead a2",
+    "line a1 dead a1",
+    "no node 4\n",
+)];
 
 #[test]
-fn each_change_of_links_is_found(rt: HostRuntime) -> Result<(), Fail> {
-    let bridges = [
-        ("stone 6 13", "stone 6 6", "no node 0\n"),
-        ("base first b1", "base first b2", "no node 0\n"),
-        ("links 15", "links 8193", "no text 3\n"),
+fn each_change_of_a_rule_is_found(rt: HostRuntime) -> Result<(), Fail> {
+    let changes: [(&str, &[(&str, &str, &str)]); 5] = [
+        (ROW_OF_TWO, &CHANGES_OF_ROW),
+        (TWO_BRIDGES, &CHANGES_OF_BRIDGES),
+        (DISJOINT_THREATS, &CHANGES_OF_THREATS),
+        (CAPTURED_PAIR, &CHANGES_OF_PAIR),
+        (DOMINATED_LINE, &CHANGES_OF_LINE),
     ];
-    assert_found(
-        &rt,
-        rt.alloc(),
-        trial_of(&["check"], TWO_BRIDGES, 4096),
-        1,
-        &bridges,
-    )?;
-    let threats = [
-        // Both threats are one, and a2 is in it.
-        ("threat 5", "threat 2", "no node 0\n"),
-        // It does not join the two sides.
-        ("threat 2", "threat 3", "no node 0\n"),
-    ];
-    assert_found(
-        &rt,
-        rt.alloc(),
-        trial_of(&["check"], DISJOINT_THREATS, 4096),
-        1,
-        &threats,
-    )
-}
-
-#[test]
-fn each_change_of_inferior_cells_is_found(rt: HostRuntime) -> Result<(), Fail> {
-    let pair = [
-        ("pair a2 b2", "dead a2", "no node 1\n"),
-        ("fill 1 0\npair a2 b2", "fill 0 0", "no node 1\n"),
-    ];
-    assert_found(
-        &rt,
-        rt.alloc(),
-        trial_of(&["check"], CAPTURED_PAIR, 4096),
-        1,
-        &pair,
-    )?;
-    let line = [("line a1 dead a2", "line a1 dead a1", "no node 4\n")];
-    assert_found(
-        &rt,
-        rt.alloc(),
-        trial_of(&["check"], DOMINATED_LINE, 4096),
-        1,
-        &line,
-    )
+    for (text, changed) in changes {
+        assert_found(
+            &rt,
+            rt.alloc(),
+            trial_of(&["check"], text, 4096),
+            1,
+            changed,
+        )?;
+    }
+    Ok(())
 }

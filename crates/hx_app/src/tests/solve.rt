@@ -40,29 +40,12 @@ fn one_cell_has_one_tree(rt: HostRuntime) -> Result<(), Fail> {
 }
 
 #[test]
-fn more_than_nine_empty_cells_are_not_searched(rt: HostRuntime) -> Result<(), Fail> {
+fn each_change_of_a_position_is_found(rt: HostRuntime) -> Result<(), Fail> {
     let trial = trial_of(&["solve"], ONE_CELL, 4096);
-    let changes = [
+    assert_found(&rt, rt.alloc(), trial, 4, &CHANGES)?;
+    let larger = [
         ("size 1 1", "size 2 5", "unknown sweep 10\n"),
         ("size 1 1", "size 11 11", "unknown sweep 121\n"),
     ];
-    assert_found(&rt, rt.alloc(), trial, 3, &changes)
-}
-
-#[test]
-fn each_change_of_a_position_is_found(rt: HostRuntime) -> Result<(), Fail> {
-    let trial = trial_of(&["solve"], ONE_CELL, 4096);
-    assert_found(&rt, rt.alloc(), trial, 4, &CHANGES)
-}
-
-#[test]
-fn one_byte_above_the_limit_is_no_position(rt: HostRuntime) -> Result<(), Fail> {
-    let alloc = rt.alloc();
-    let mut text = "sixteen letters.".repeat(alloc, 256)?;
-    let longest = trial_of(&["solve"], text.as_str(), 4096);
-    let _ = assert_answer(&rt, alloc, longest, 4, "bad position 1\n")?;
-    text.push('.')?;
-    let too_long = trial_of(&["solve"], text.as_str(), 4096);
-    let _ = assert_answer(&rt, alloc, too_long, 8, "too long\n")?;
-    Ok(())
+    assert_found(&rt, rt.alloc(), trial, 3, &larger)
 }
