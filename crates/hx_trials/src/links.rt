@@ -1,0 +1,9 @@
+//! Sets of links, what closes them, fill-in, and what must be answered.
+
+mod closed;
+mod fills;
+mod musts;
+mod runs;
+mod sets;
+mod tests;
+mod unders;
