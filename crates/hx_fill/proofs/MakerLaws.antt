@@ -1,6 +1,6 @@
 -- The makers of a cell. With a further stone of the player the cell is dead where each of its open neighbours is joined with all of
 -- them, or with the stone's cell: two that were not joined are both joined with that cell, and so with each other.
-use Rattle.std.proofs.Common.{◌≡◌, ◌≢◌, ℕ, ◌<◌, true, false, ◌&&◌, refl, sym, ◌∙◌, subst, ◌⊎◌, inl, inr, ⊎_elim, ◌↔◌, IsTrue, ltb}
+use Rattle.std.proofs.Common.{◌≡◌, ◌≢◌, ℕ, true, false, ◌&&◌, sym, ◌∙◌, subst, inl, inr, ⊎_elim, ◌↔◌, IsTrue, ltb}
 use Rattle.std.proofs.lemmas.Bool.{false≢true, lt-ltb}
 use Rattle.hx_board.specs.declared.cells.TheConstants.{CELLS}
 use Rattle.hx_board.specs.declared.colours.Colour.{Colour}
@@ -9,7 +9,7 @@ use Rattle.hx_board.specs.declared.vertices.Vertex.TheVariants.{Of}
 use Rattle.hx_board.specs.Sets.{has, remove, intersection, IsSubset}
 use Rattle.hx_board.specs.Cells.{IsExtent, OnBoard}
 use Rattle.hx_board.specs.Positions.{Board, IsEmpty, put}
-use Rattle.hx_board.specs.Graph.{IsVertex, Joined}
+use Rattle.hx_board.specs.Graph.{Joined}
 use Rattle.hx_board.specs.VertexSets.{code_of, IsVertexCode, IsSetOf}
 use Rattle.hx_board.proofs.SetLaws.{has-empty, has-remove_before, has-intersection_left, has-intersection_right, has-intersection_both, and_left, and_both, removed, removed_cases, removed_still, has-remove_other, by_member}
 use Rattle.hx_board.proofs.CellLaws.{on_board-small}

@@ -7,7 +7,7 @@ ghost use Rattle.hx_fill.specs.Fills.{AreDeadOrPairs};
 use super::*;
 use hx_board::Colour::{Black, White};
 use hx_board::Vertex::{First, Last};
-use hx_board::{Cell, Colour, Mask, Position, Size, Vertex};
+use hx_board::{Colour, Mask, Position, Size, Vertex};
 use hx_inferior::{FillStep, Kill};
 use hx_link::{Parts, Step};
 use hx_linkset::{Added, LinkSet};
@@ -68,13 +68,17 @@ const MOST: u8 = 6;
 
 /// Whether the mover wins by a move to one of the cells.
 fn wins_by(position: &Position, mover: Colour, cells: Mask) -> bool {
-    let mut left = position.empties().meet(cells);
-    while let Some(cell) = left.least(position.size()) {
-        left = left.without(cell);
-        if position.empties().has(cell) {
-            let next = position.with(mover, cell);
-            if wins(&next, mover, mover.other(), MOST) {
-                return true;
+    let size = position.size();
+    for row in 0..size.rows() {
+        for col in 0..size.cols() {
+            if let Some(cell) = size.cell(row, col)
+                && cells.has(cell)
+                && position.empties().has(cell)
+            {
+                let next = position.with(mover, cell);
+                if wins(&next, mover, mover.other(), MOST) {
+                    return true;
+                }
             }
         }
     }
@@ -158,14 +162,12 @@ fn planned(rt: &impl Abort, alloc: Global, size: Size, plans: &[Plan]) -> Result
 }
 
 /// Links 8 and 14 join the two sides, on a1, b1 and a2, and on b1, a2 and b2.
-fn plans(a1: Cell, b1: Cell, a2: Cell, b2: Cell) -> [Plan; 15] {
-    let (a1, b1, a2, b2) = (
-        Vertex::Of(a1),
-        Vertex::Of(b1),
-        Vertex::Of(a2),
-        Vertex::Of(b2),
-    );
-    [
+fn plans(size: Size) -> Result<[Plan; 15], Fail> {
+    let a1 = Vertex::Of(size.cell(0, 0).ok_or("a1")?);
+    let b1 = Vertex::Of(size.cell(0, 1).ok_or("b1")?);
+    let a2 = Vertex::Of(size.cell(1, 0).ok_or("a2")?);
+    let b2 = Vertex::Of(size.cell(1, 1).ok_or("b2")?);
+    Ok([
         Plan::Base(First, a1),
         Plan::Base(a1, a2),
         Plan::Cell(0, 1),
@@ -181,7 +183,7 @@ fn plans(a1: Cell, b1: Cell, a2: Cell, b2: Cell) -> [Plan; 15] {
         Plan::Cell(4, 7),
         Plan::Or(11, 12),
         Plan::Cell(3, 13),
-    ]
+    ])
 }
 
 /// Two links between the sides share b1 and a2, of which either is better than the other: once White has a2, b1 is a pair with
@@ -189,9 +191,10 @@ fn plans(a1: Cell, b1: Cell, a2: Cell, b2: Cell) -> [Plan; 15] {
 #[test]
 fn threats_that_overlap(rt: HostRuntime) -> Result<(), Fail> {
     let size = Size::new(2, 2).ok_or("size")?;
-    let (a1, b1) = (size.cell(0, 0).ok_or("a1")?, size.cell(0, 1).ok_or("b1")?);
-    let (a2, b2) = (size.cell(1, 0).ok_or("a2")?, size.cell(1, 1).ok_or("b2")?);
-    let set = planned(&rt, rt.alloc(), size, &plans(a1, b1, a2, b2))?;
+    let set = planned(&rt, rt.alloc(), size, &plans(size)?)?;
+    let b1 = size.cell(0, 1).ok_or("b1")?;
+    let a2 = size.cell(1, 0).ok_or("a2")?;
+    let b2 = size.cell(1, 1).ok_or("b2")?;
     let found = must(&set).map_err(|_| "memory")?;
     assert_eq!(rt; found.threats.items(), [8, 14].as_slice());
     assert_eq!(rt; found.cells, Mask::of(B1 | A2));
