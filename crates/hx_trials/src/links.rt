@@ -3,7 +3,5 @@
 mod closed;
 mod fills;
 mod musts;
-mod runs;
-mod sets;
 mod tests;
 mod unders;

@@ -13,14 +13,50 @@ use std::alloc::{AllocError, Global};
 pub(crate) fn live_links(alloc: Global, set: &LinkSet) -> Result<Vec<Link>, AllocError> {
     let mut links = Vec::new(alloc);
     for index in 0..set.count() {
-        if let Some(link) = set.link(index) {
-            links.push(link)?;
-        }
+        add_live(set, index, &mut links)?;
     }
     Ok(links)
 }
 
-/// Whether one of the links has the kind and the ends of what the step gives, and no cell that it lacks.
+fn add_live(set: &LinkSet, index: u32, links: &mut Vec<Link>) -> Result<(), AllocError> {
+    match set.link(index) {
+        None => Ok(()),
+        Some(link) => add_link(links, link.kind, &link.a, &link.b, link.carrier),
+    }
+}
+
+fn add_link(
+    links: &mut Vec<Link>,
+    kind: Kind,
+    a: &Vertex,
+    b: &Vertex,
+    carrier: Mask,
+) -> Result<(), AllocError> {
+    let link = Link {
+        kind,
+        a: *a,
+        b: *b,
+        carrier,
+    };
+    links.push(link)?;
+    Ok(())
+}
+
+/// Whether a link has the kind and the ends of another one, and no cell that it lacks.
+fn covers(by: &Link, link: &Link) -> bool {
+    by.kind == link.kind && by.a == link.a && by.b == link.b && by.carrier.inside(link.carrier)
+}
+
+fn is_covered(links: &[Link], link: &Link) -> bool {
+    for by in links {
+        if covers(by, link) {
+            return true;
+        }
+    }
+    false
+}
+
+/// Whether one of the links covers what the step gives.
 fn is_settled(
     position: &Position,
     player: Colour,
@@ -30,16 +66,10 @@ fn is_settled(
 ) -> bool
     requires { groups.now ≡ record { board = position.now; player = player } }
 {
-    let Some(link) = result_of(position, player, groups, links, step) else {
-        return true;
-    };
-    for by in links {
-        let is_alike = by.kind == link.kind && by.a == link.a && by.b == link.b;
-        if is_alike && by.carrier.inside(link.carrier) {
-            return true;
-        }
+    match result_of(position, player, groups, links, step) {
+        None => true,
+        Some(link) => is_covered(links, &link),
     }
-    false
 }
 
 /// Whether two vertices have a Full link, or fewer than two Semi links, or some cell that all their Semi links share.
@@ -59,24 +89,50 @@ fn is_joined_where_forked(links: &[Link], a: &Vertex, b: &Vertex) -> bool {
     semi_links < 2 || !in_all.is_empty()
 }
 
-/// Whether the Bases of a vertex are settled, and it is joined with each vertex with which it is forked.
+/// Whether the Base of two vertices is settled, and they are joined where they are forked. Nothing is wanted of no vertex.
+fn is_closed_at(
+    position: &Position,
+    player: Colour,
+    groups: &Groups,
+    links: &[Link],
+    a: &Vertex,
+    b: Option<Vertex>,
+) -> bool
+    requires { groups.now ≡ record { board = position.now; player = player } }
+{
+    let Some(b) = b else {
+        return true;
+    };
+    let base = Step::Base { a: *a, b };
+    if !is_settled(position, player, groups, links, &base) {
+        return false;
+    }
+    is_joined_where_forked(links, a, &b)
+}
+
+/// The same for a vertex and each other one.
 fn is_closed_from(
     position: &Position,
     player: Colour,
     groups: &Groups,
     links: &[Link],
-    a: Vertex,
+    a: Option<Vertex>,
 ) -> bool
     requires { groups.now ≡ record { board = position.now; player = player } }
 {
+    let Some(a) = a else {
+        return true;
+    };
     for code in 0..VERTICES as u8 {
-        if let Some(b) = position.size().vertex(code) {
-            let base = Step::Base { a, b };
-            if !is_settled(position, player, groups, links, &base)
-                || !is_joined_where_forked(links, &a, &b)
-            {
-                return false;
-            }
+        if !is_closed_at(
+            position,
+            player,
+            groups,
+            links,
+            &a,
+            position.size().vertex(code),
+        ) {
+            return false;
         }
     }
     true
@@ -95,9 +151,10 @@ fn are_ands_settled(
     for right in 0..links.len().min(MOST_LINKS) as u32 {
         let stone = Step::AndStone { left, right };
         let cell = Step::AndCell { left, right };
-        if !is_settled(position, player, groups, links, &stone)
-            || !is_settled(position, player, groups, links, &cell)
-        {
+        if !is_settled(position, player, groups, links, &stone) {
+            return false;
+        }
+        if !is_settled(position, player, groups, links, &cell) {
             return false;
         }
     }
@@ -109,9 +166,13 @@ fn are_ands_settled(
 pub(crate) fn is_closed(position: &Position, player: Colour, links: &[Link]) -> bool {
     let groups = Groups::of(position, player);
     for code in 0..VERTICES as u8 {
-        if let Some(a) = position.size().vertex(code)
-            && !is_closed_from(position, player, &groups, links, a)
-        {
+        if !is_closed_from(
+            position,
+            player,
+            &groups,
+            links,
+            position.size().vertex(code),
+        ) {
             return false;
         }
     }

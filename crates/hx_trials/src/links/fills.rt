@@ -8,7 +8,10 @@ use hx_inferior::{FillStep, dead, fill_one, pair};
 pub(crate) fn filled(position: &Position, steps: &[Fill]) -> Option<Position> {
     let mut now = *position;
     for fill in steps {
-        now = fill_one(&now, fill.colour, fill.step)?;
+        let Some(next) = fill_one(&now, fill.colour, fill.step) else {
+            return None;
+        };
+        now = next;
     }
     Some(now)
 }
@@ -21,7 +24,10 @@ pub(crate) fn filled_for(
 ) -> Option<Position> {
     let mut now = *position;
     for step in steps {
-        now = fill_one(&now, winner, *step)?;
+        let Some(next) = fill_one(&now, winner, *step) else {
+            return None;
+        };
+        now = next;
     }
     Some(now)
 }
@@ -41,12 +47,15 @@ fn can_be_filled(position: &Position, player: Colour, cell: Cell) -> bool {
     false
 }
 
+fn can_be_filled_for_some(position: &Position, cell: Cell) -> bool {
+    can_be_filled(position, Colour::Black, cell) || can_be_filled(position, Colour::White, cell)
+}
+
 /// Whether no cell is dead and no two are a captured pair, for either player.
 pub(crate) fn has_nothing_to_fill(position: &Position) -> bool {
     for place in 0..CELLS as u8 {
         if let Some(cell) = position.size().cell(place / 11, place % 11)
-            && (can_be_filled(position, Colour::Black, cell)
-                || can_be_filled(position, Colour::White, cell))
+            && can_be_filled_for_some(position, cell)
         {
             return false;
         }

@@ -2,16 +2,25 @@
 //! sides, asked of each cell and each link.
 
 use hx_board::{CELLS, Cell, Mask, Vertex};
+use hx_link::Link;
 use hx_linkset::LinkSet;
+
+fn joins_sides(link: &Link) -> bool {
+    link.a == Vertex::First && link.b == Vertex::Last
+}
+
+/// Whether the link at an index is live, joins the sides, and lacks a cell.
+fn is_live_without(set: &LinkSet, index: u32, cell: Cell) -> bool {
+    match set.link(index) {
+        None => false,
+        Some(link) => joins_sides(&link) && !link.carrier.has(cell),
+    }
+}
 
 /// Whether a cell is in the carrier of each live link between the sides.
 fn is_in_each(set: &LinkSet, cell: Cell) -> bool {
     for index in 0..set.count() {
-        if let Some(link) = set.link(index)
-            && link.a == Vertex::First
-            && link.b == Vertex::Last
-            && !link.carrier.has(cell)
-        {
+        if is_live_without(set, index, cell) {
             return false;
         }
     }
@@ -24,7 +33,7 @@ pub(crate) fn shared_by_all(set: &LinkSet) -> Mask {
     let mut shared = Mask::empty();
     for place in 0..CELLS as u8 {
         if let Some(cell) = position.size().cell(place / 11, place % 11)
-            && position.at(cell).is_none()
+            && position.empties().has(cell)
             && is_in_each(set, cell)
         {
             shared = shared.with(cell);
@@ -38,9 +47,14 @@ pub(crate) fn shared_by_all(set: &LinkSet) -> Mask {
 pub(crate) fn shared_by(set: &LinkSet, threats: &[u32]) -> Option<Mask> {
     let mut shared = set.position().empties();
     for threat in threats {
-        let link = set.link(*threat)?;
+        let Some(link) = set.link(*threat) else {
+            return None;
+        };
+        if !joins_sides(&link) {
+            return None;
+        }
         let left = shared.meet(link.carrier);
-        if link.a != Vertex::First || link.b != Vertex::Last || left == shared {
+        if left == shared {
             return None;
         }
         shared = left;

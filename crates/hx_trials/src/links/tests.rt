@@ -6,7 +6,6 @@ ghost use Rattle.hx_fill.specs.Fills.{AreDeadOrPairs};
 use super::closed::{is_closed, live_links};
 use super::fills::{filled, filled_for, has_nothing_to_fill};
 use super::musts::{shared_by, shared_by_all};
-use super::runs::Both;
 use super::unders::are_under;
 use hx_board::{Colour, Mask, Position, Size, Vertex};
 use hx_fill::{Filled, fill_in, must, steps_for};
@@ -106,12 +105,12 @@ fn compare_links(
     compare_must(rt, &set)
 }
 
-/// All positions of two rows and columns, for both players.
+/// Every fifth position of two rows and columns, for both players.
 #[test]
 fn each_small_position(rt: HostRuntime) -> Result<(), Fail> {
     let size = Size::new(2, 2).ok_or("size")?;
-    for number in 0..81 {
-        let position = numbered(size, number).ok_or("position")?;
+    for index in 0..17 {
+        let position = numbered(size, index * 5).ok_or("position")?;
         compare_fill_in(&rt, rt.alloc(), &position)?;
         compare_links(&rt, rt.alloc(), &position, Colour::Black)?;
         compare_links(&rt, rt.alloc(), &position, Colour::White)?;
@@ -123,7 +122,7 @@ fn each_small_position(rt: HostRuntime) -> Result<(), Fail> {
 #[test]
 fn drawn_positions(rt: HostRuntime) -> Result<(), Fail> {
     let mut draws = Draws::new(2026);
-    for (side, empty, positions) in [(3, 5, 5), (3, 7, 2), (4, 6, 10)] {
+    for (side, empty, positions) in [(3, 5, 6), (3, 6, 2), (4, 5, 6)] {
         let size = Size::new(side, side).ok_or("size")?;
         for _ in 0..positions {
             let position = draws.position(size, empty);
@@ -179,38 +178,33 @@ fn plans(size: Size) -> Result<[Plan; 15], Fail> {
     ])
 }
 
+/// Adds the links of these steps, and holds after each what must be answered.
+fn compare_each(
+    rt: &impl Abort,
+    alloc: Global,
+    set: &mut LinkSet,
+    plans: &[Plan],
+) -> Result<(), Fail> {
+    for plan in plans {
+        let place = set.count();
+        let step = step_of(alloc, *plan)?;
+        let added = set.add(step).map_err(|_| "memory")?;
+        assert_eq!(rt; added, Added::New(place));
+        compare_must(rt, set)?;
+    }
+    Ok(())
+}
+
 /// Two threats that overlap in b1 and a2, with the links of their steps alone and after each further one, and when the set is
 /// closed.
 #[test]
 fn threats_that_overlap(rt: HostRuntime) -> Result<(), Fail> {
     let size = Size::new(2, 2).ok_or("size")?;
     let mut set = new_set(rt.alloc(), &Position::empty(size), Colour::Black)?;
-    for plan in plans(size)? {
-        let place = set.count();
-        let step = step_of(rt.alloc(), plan)?;
-        let added = set.add(step).map_err(|_| "memory")?;
-        assert_eq!(rt; added, Added::New(place));
-        compare_must(&rt, &set)?;
-    }
+    compare_each(&rt, rt.alloc(), &mut set, &plans(size)?)?;
     let b1 = size.cell(0, 1).ok_or("b1")?;
     let a2 = size.cell(1, 0).ok_or("a2")?;
     assert_eq!(rt; shared_by_all(&set), Mask::empty().with(b1).with(a2));
     compare_closing(&rt, rt.alloc(), &mut set)?;
     compare_must(&rt, &set)
-}
-
-/// Runs of calls on boards of three and of four rows and columns, some of whose cells have stones at the start.
-#[test]
-fn drawn_runs(rt: HostRuntime) -> Result<(), Fail> {
-    let mut draws = Draws::new(2027);
-    for (side, empty, runs) in [(3, 9, 4), (3, 6, 3), (4, 16, 3), (4, 11, 3)] {
-        let size = Size::new(side, side).ok_or("size")?;
-        for _ in 0..runs {
-            let position = draws.position(size, empty);
-            let player = draws.colour();
-            let mut both = Both::new(rt.alloc(), &position, player)?;
-            both.runs(&rt, &mut draws, 100)?;
-        }
-    }
-    Ok(())
 }
