@@ -8,7 +8,7 @@ use Rattle.hx_core.specs.declared.events.Event.{Event}
 use Rattle.hx_core.specs.declared.events.Event.TheVariants.{Look, Store, Tell, Spend, Hold, Release, LookAtWord}
 use Rattle.hx_core.specs.declared.events.Reply.{Reply}
 use Rattle.hx_core.specs.Machine.{MachineState, machine_start, CanHappen, MachineStep, LeadsTo}
-use Rattle.hx_core.specs.Runs.{IsBook, AreCounts, IsKept, EveryRunKeeps, EveryRunGivesATree, IsGrown, EveryRunGrows, EveryRunGoesOn}
+use Rattle.hx_core.specs.Runs.{IsBook, AreCounts, IsKept, EveryRunKeeps, EveryRunGivesATree, IsLaterState, EveryRunGrows, EveryRunGoesOn}
 use Rattle.hx_core.proofs.BookSteps.{BookGrows, book-begun, look-kept, look-grows, told-kept, told-grows, store-kept, store-grows}
 use Rattle.hx_core.proofs.CountSteps.{counts-begun, counts-kept}
 
@@ -65,13 +65,13 @@ module _ (workers slots budget words : ℕ) where
   run-kept old (event ∷ events) new kept run =
       run-kept run.1.1.0 events new (step-kept workers slots budget words old kept event run.1.0 run.1.1.0 run.0 run.1.1.1.0) run.1.1.1.1
 
-  run-grows : (old : MachineState) (events : List Event) (new : MachineState) → IsKept workers slots budget words old → LeadsTo old events new → IsGrown old new
-  run-grows old [] new kept run = subst (λ (s : MachineState). IsGrown old s) (sym run)
+  run-grows : (old : MachineState) (events : List Event) (new : MachineState) → IsKept workers slots budget words old → LeadsTo old events new → IsLaterState old new
+  run-grows old [] new kept run = subst (λ (s : MachineState). IsLaterState old s) (sym run)
       (record { extends = ([], sym (append-nil old.book.nodes)); seen = λ worker. omega arith })
   run-grows old (event ∷ events) new kept run =
       let between : MachineState = run.1.1.0 in
       let first : BookGrows old.book between.book = step-grows workers slots budget words old kept event run.1.0 between run.0 run.1.1.1.0 in
-      let rest : IsGrown between new =
+      let rest : IsLaterState between new =
       run-grows between events new (step-kept workers slots budget words old kept event run.1.0 between run.0 run.1.1.1.0) run.1.1.1.1 in
       record {
         extends = (

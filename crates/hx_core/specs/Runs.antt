@@ -42,7 +42,7 @@ EveryRunGivesATree =
     → state.book.nodes ≢ [] → IsValidTree state.book.nodes
 
 -- the later list begins with the earlier one, and each worker has seen what it had seen, or more
-pub record IsGrown (old new : MachineState) : Type 0 where
+pub record IsLaterState (old new : MachineState) : Type 0 where
   pub extends : Extends new.book.nodes old.book.nodes
   pub seen : (worker : ℕ) → seen_by old.book worker ≤ seen_by new.book worker
 
@@ -50,7 +50,7 @@ pub record IsGrown (old new : MachineState) : Type 0 where
 abbrev pub EveryRunGrows : Type 0
 EveryRunGrows =
     (workers slots budget words : ℕ) (earlier later : List Event) (old new : MachineState) → LeadsTo (machine_start workers slots budget words) earlier old
-    → LeadsTo old later new → IsGrown old new
+    → LeadsTo old later new → IsLaterState old new
 
 -- events that lead from one state to a second, and events that lead from there to a third, lead from the first to the third
 abbrev pub EveryRunGoesOn : Type 0

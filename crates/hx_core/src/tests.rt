@@ -5,7 +5,7 @@ ghost use Rattle.hx_tree.specs.Trees.{AreRight};
 ghost use Rattle.hx_count.specs.Machine.{granted_to_all};
 ghost use Rattle.hx_core.specs.declared.events.Event.{Event as Happening};
 ghost use Rattle.hx_core.specs.Machine.{machine_start, CanHappen, LeadsTo};
-ghost use Rattle.hx_core.specs.Runs.{IsGrown};
+ghost use Rattle.hx_core.specs.Runs.{IsLaterState};
 
 use super::*;
 use hx_board::Colour::{Black, White};
@@ -121,7 +121,7 @@ fn apply_after(state: &mut State, event: Event) -> Reply
     requires can { CanHappen state.old event }
     ensures right { AreRight state.new.book.nodes }
     ensures granted { granted_to_all state.new.counts ≤ 1 }
-    ensures grown { IsGrown state.old state.new }
+    ensures grown { IsLaterState state.old state.new }
 {
     every_run_goes_on();
     every_run_keeps();

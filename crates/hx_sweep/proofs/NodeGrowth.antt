@@ -19,15 +19,15 @@ use Rattle.hx_tree.specs.Rules.{IsRightRule}
 use Rattle.hx_tree.specs.Trees.{headings_of}
 use Rattle.hx_tree.proofs.TreeGrowth.{one_more_right}
 use Rattle.hx_sweep.specs.Moves.{IsByMoves}
-use Rattle.hx_sweep.specs.Growth.{heading_of, IsBegun, IsGrown, IsProved}
+use Rattle.hx_sweep.specs.Growth.{heading_of, IsBegun, HasMoreNodes, IsProved}
 
 -- ---- lists that grow
 
-pub grown_none : (board : Board) (nodes : List Node) (limit : ℕ) → IsBegun board nodes → IsGrown board.size limit nodes nodes
+pub grown_none : (board : Board) (nodes : List Node) (limit : ℕ) → IsBegun board nodes → HasMoreNodes board.size limit nodes nodes
 grown_none board nodes limit begun = record { more = []; same = sym (append-nil nodes); few = omega arith; right = begun.right; of_size = begun.of_size; by_moves = begun.by_moves }
 
-pub grown_on : (size : Extent) (first second whole : ℕ) (before between after : List Node) → IsGrown size first before between → IsGrown size second between after
-    → first + second ≤ whole → IsGrown size whole before after
+pub grown_on : (size : Extent) (first second whole : ℕ) (before between after : List Node) → HasMoreNodes size first before between → HasMoreNodes size second between after
+    → first + second ≤ whole → HasMoreNodes size whole before after
 grown_on size first second whole before between after one two enough = record {
   more = one.more ++ two.more;
   same = two.same ∙ ap (λ (nodes : List Node). nodes ++ two.more) one.same ∙ append_assoc before one.more two.more;
@@ -37,7 +37,7 @@ grown_on size first second whole before between after one two enough = record {
   by_moves = two.by_moves;
 }
 
-pub grown_less : (size : Extent) (limit whole : ℕ) (before after : List Node) → IsGrown size limit before after → limit ≤ whole → IsGrown size whole before after
+pub grown_less : (size : Extent) (limit whole : ℕ) (before after : List Node) → HasMoreNodes size limit before after → limit ≤ whole → HasMoreNodes size whole before after
 grown_less size limit whole before after grown enough = record { more = grown.more; same = grown.same; few = omega (arith, grown.few); right = grown.right; of_size = grown.of_size; by_moves = grown.by_moves }
 
 -- ---- room for the nodes after a move
@@ -63,7 +63,7 @@ moves_room (suc less) moves few =
 count_after : (board : Board) (stone : Colour) (cell : ℕ) → IsBoard board → IsEmpty board cell → empty_count (put board stone cell) ≡ empty_count board - 1
 count_after board stone cell valid empty = omega (arith, empty_count-put board stone cell valid empty)
 
-pub begun_after : (board : Board) (stone : Colour) (cell limit : ℕ) (before after : List Node) → IsBegun board before → IsGrown board.size limit before after
+pub begun_after : (board : Board) (stone : Colour) (cell limit : ℕ) (before after : List Node) → IsBegun board before → HasMoreNodes board.size limit before after
     → IsEmpty board cell → limit + sweep_size (empty_count board - 1) ≤ sweep_size (empty_count board) → IsBegun (put board stone cell) after
 begun_after board stone cell limit before after begun grown empty enough = record {
   valid = board-put board stone cell begun.valid empty;
@@ -74,7 +74,7 @@ begun_after board stone cell limit before after begun grown empty enough = recor
 }
 
 pub grown_after : (board : Board) (stone mover winner : Colour) (cell number : ℕ) (before after : List Node) → IsBoard board → IsEmpty board cell
-    → IsProved (put board stone cell) mover winner before after number → IsGrown board.size (sweep_size (empty_count board - 1)) before after
+    → IsProved (put board stone cell) mover winner before after number → HasMoreNodes board.size (sweep_size (empty_count board - 1)) before after
 grown_after board stone mover winner cell number before after valid empty proved =
     rw (size-put board stone cell, count_after board stone cell valid empty) at proved.grown
 
@@ -89,7 +89,7 @@ proved_leads board mover winner before after number proved = rw (proved.last, pr
     at_last (first ∷ front) = at_last front
 
 pub proved_by : (board : Board) (mover winner : Colour) (rule : Rule) (before between after : List Node) (number : ℕ) → IsBoard board
-    → IsGrown board.size (sweep_size (empty_count board) - 1) before between → IsRightRule (headings_of between) (heading_of board mover winner) rule
+    → HasMoreNodes board.size (sweep_size (empty_count board) - 1) before between → IsRightRule (headings_of between) (heading_of board mover winner) rule
     → IsByMoves rule → after ≡ between ++ (record { heading = heading_of board mover winner; rule = rule }) ∷ [] → number ≡ length between
     → IsProved board mover winner before after number
 proved_by board mover winner rule before between after number valid grown right moves same place = record {

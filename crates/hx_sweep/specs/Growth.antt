@@ -25,7 +25,7 @@ pub record IsBegun (board : Board) (nodes : List Node) : Type 0 where
   pub room : length nodes + sweep_size (empty_count board) ≤ 2 ^ 32
 
 -- right nodes by moves alone that were added to a list, so many at the most
-pub record IsGrown (size : Extent) (limit : ℕ) (before after : List Node) : Type 0 where
+pub record HasMoreNodes (size : Extent) (limit : ℕ) (before after : List Node) : Type 0 where
   pub more : List Node
   pub same : after ≡ before ++ more
   pub few : length more ≤ limit
@@ -35,7 +35,7 @@ pub record IsGrown (size : Extent) (limit : ℕ) (before after : List Node) : Ty
 
 -- right nodes that were added, the last of which has this number and says that the winner wins the board with this mover
 pub record IsProved (board : Board) (mover winner : Colour) (before after : List Node) (number : ℕ) : Type 0 where
-  pub grown : IsGrown board.size (sweep_size (empty_count board)) before after
+  pub grown : HasMoreNodes board.size (sweep_size (empty_count board)) before after
   pub front : List Node
   pub root : Node
   pub last : after ≡ front ++ root ∷ []

@@ -15,7 +15,7 @@ ghost use Rattle.hx_tree.specs.Answers.{IsRightAll};
 ghost use Rattle.hx_tree.specs.Rules.{IsRightRule};
 ghost use Rattle.hx_tree.specs.Trees.{headings_of};
 ghost use Rattle.hx_sweep.specs.Moves.{IsByMoves, IsChildLine};
-ghost use Rattle.hx_sweep.specs.Growth.{heading_of, IsBegun, IsGrown, IsProved};
+ghost use Rattle.hx_sweep.specs.Growth.{heading_of, IsBegun, HasMoreNodes, IsProved};
 
 use crate::winners::winning_move;
 use hx_board::{Cell, Colour, Memory, Position, chain};
@@ -58,7 +58,7 @@ fn rule(
     requires wins { Wins winner position.old to_move }
     requires begun { IsBegun position.old nodes.old.items }
     ensures kept { position.new ≡ position.old }
-    ensures grown { IfOk result (λ _. IsGrown position.old.size
+    ensures grown { IfOk result (λ _. HasMoreNodes position.old.size
         (sweep_size (empty_count position.old) - 1) nodes.old.items nodes.new.items) }
     ensures right { IfOk result
         (IsRightRule (headings_of nodes.new.items) (heading_of position.old to_move winner)) }
@@ -97,7 +97,7 @@ fn answers(
     requires no_chain { ¬ HasChain position.old winner }
     requires begun { IsBegun position.old nodes.old.items }
     ensures kept { position.new ≡ position.old }
-    ensures grown { IfOk result (λ _. IsGrown position.old.size
+    ensures grown { IfOk result (λ _. HasMoreNodes position.old.size
         (sweep_size (empty_count position.old) - 1) nodes.old.items nodes.new.items) }
     ensures right { IfOk result (λ lines. IsRightAll (headings_of nodes.new.items)
         (heading_of position.old (other_of winner) winner) [] [] lines.items) }

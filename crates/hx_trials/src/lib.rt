@@ -7,6 +7,12 @@
 #![tactic(auto)]
 
 #[cfg(test)]
+mod books;
+#[cfg(test)]
 mod links;
+#[cfg(test)]
+mod numbers;
+#[cfg(test)]
+mod texts;
 #[cfg(test)]
 mod trees;

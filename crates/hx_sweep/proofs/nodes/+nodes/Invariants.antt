@@ -5,7 +5,7 @@ use Rattle.hx_board.specs.Sets.{count_below}
 use Rattle.hx_board.specs.Counts.{empty_count, sweep_size}
 use Rattle.hx_tree.specs.Trees.{headings_of}
 use Rattle.hx_board.specs.Colours.{other_of}
-use Rattle.hx_sweep.specs.Growth.{heading_of, IsGrown}
+use Rattle.hx_sweep.specs.Growth.{heading_of, HasMoreNodes}
 use Rattle.hx_tree.proofs.LinesInOrder.{AreAnsweredSoFar}
 use Rattle.hx_sweep.proofs.nodes.+nodes.Given as goal
 
@@ -25,7 +25,7 @@ abbrev pub invariant-answers-loop-cell : goal.invariant-answers-loop-cell
 invariant-answers-loop-cell l = record {
   kept : l.position ≡ l.fn.position;
   answered : AreAnsweredSoFar (headings_of l.nodes.items) (heading_of l.fn.position (other_of l.winner) l.winner) l.left l.lines.items;
-  grown : IsGrown l.fn.position.size (length l.lines.items * sweep_size (empty_count l.fn.position - 1)) l.fn.nodes.items l.nodes.items;
+  grown : HasMoreNodes l.fn.position.size (length l.lines.items * sweep_size (empty_count l.fn.position - 1)) l.fn.nodes.items l.nodes.items;
 }
 
 abbrev pub decreases-answers-loop-cell : goal.decreases-answers-loop-cell
