@@ -31,8 +31,10 @@ fn plain_find(held: &[Place], place: &Place) -> Option<u32> {
 }
 
 fn by_chain(position: Position, to_move: Colour, winner: Colour) -> Node
-    ensures { result ≡ record { heading = record { position = position; to_move = to_move; winner = winner };
-        rule = Chain } }
+    ensures { result ≡ record {
+      heading = record { position = position; to_move = to_move; winner = winner };
+      rule = Chain;
+    } }
 {
     let heading = Heading {
         position,
@@ -56,10 +58,22 @@ fn put_chain(book: &mut Book, place: &Place, winner: Colour) -> Option<Option<u3
 }
 
 /// Puts a won position into the book and into the list: both answer the same, and the book finds what the list has.
-fn compare(rt: &impl Abort, book: &mut Book, held: &mut Vec<Place>, place: &Place) -> Result<(), Fail> {
+fn compare(
+    rt: &impl Abort,
+    book: &mut Book,
+    held: &mut Vec<Place>,
+    place: &Place,
+) -> Result<(), Fail> {
     let found = book.find(&place.position, place.to_move);
-    assert_eq!(rt; found.map(|it| it.index), plain_find(held.as_slice(), place));
-    let winner = if chain(&place.position, Black) { Black } else { White };
+    assert_eq!(rt;
+        found.map(|it| it.index),
+        plain_find(held.as_slice(), place)
+    );
+    let winner = if chain(&place.position, Black) {
+        Black
+    } else {
+        White
+    };
     let Some(answer) = put_chain(book, place, winner) else {
         return Ok(());
     };
@@ -85,8 +99,24 @@ fn positions_of_two_by_two(rt: HostRuntime) -> Result<(), Fail> {
         let mut held = Vec::new(rt.alloc());
         for number in 0..162u32 {
             let position = numbered(size, number % 81).ok_or("position")?;
-            compare(&rt, &mut book, &mut held, &Place { position, to_move: Black })?;
-            compare(&rt, &mut book, &mut held, &Place { position, to_move: White })?;
+            compare(
+                &rt,
+                &mut book,
+                &mut held,
+                &Place {
+                    position,
+                    to_move: Black,
+                },
+            )?;
+            compare(
+                &rt,
+                &mut book,
+                &mut held,
+                &Place {
+                    position,
+                    to_move: White,
+                },
+            )?;
         }
         assert_eq!(rt; book.held() as usize, held.len());
     }
