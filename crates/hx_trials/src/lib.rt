@@ -9,6 +9,8 @@
 #[cfg(test)]
 mod books;
 #[cfg(test)]
+mod links;
+#[cfg(test)]
 mod machines;
 #[cfg(test)]
 mod numbers;

@@ -2,8 +2,13 @@
 //! line and word by word.
 
 mod damages;
+mod drawn;
+mod entries_read;
 mod lines;
 mod read;
 mod spelled;
 mod tables;
+mod trees_read;
+mod trees_spelled;
+mod trees_tables;
 mod values;
