@@ -34,8 +34,8 @@ pub(crate) fn liveness_of(position: &Position, player: Colour) -> Liveness
 
 /// Whether a link is live on each position of which this tells it.
 #[inline(always)]
-pub(crate) fn is_live(liveness: Liveness, link: &Link) -> bool
-    ensures { (board : Board) (player : Colour) → Tells liveness board player
+pub(crate) fn is_live(liveness: &Liveness, link: &Link) -> bool
+    ensures { (board : Board) (player : Colour) → Tells liveness.now board player
         → IsTrue result ↔ IsLive board player link.now }
 {
     let (_a, _b) = (link.a.code(), link.b.code());
@@ -46,10 +46,12 @@ pub(crate) fn is_live(liveness: Liveness, link: &Link) -> bool
 
 /// Whether a link is live before a play and not after it.
 #[inline(always)]
-pub(crate) fn is_dropped(before: Liveness, after: Liveness, link: &Link) -> bool
-    ensures dropped { (old new : Board) (player : Colour) → Tells before old player → Tells after new player
+pub(crate) fn is_dropped(before: &Liveness, after: &Liveness, link: &Link) -> bool
+    ensures dropped { (old new : Board) (player : Colour)
+        → Tells before.now old player → Tells after.now new player
         → IsTrue result → IsLive old player link.now × (IsLive new player link.now → ⊥) }
-    ensures kept { (old new : Board) (player : Colour) → Tells before old player → Tells after new player
+    ensures kept { (old new : Board) (player : Colour)
+        → Tells before.now old player → Tells after.now new player
         → result ≡ false → IsLive old player link.now → IsLive new player link.now }
 {
     !is_live(after, link) && is_live(before, link)

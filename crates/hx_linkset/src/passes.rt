@@ -34,7 +34,7 @@ pub(crate) fn drop_dead(
     let live = liveness_of(before, player);
     let kept = liveness_of(after, player);
     for (place, link) in links.iter().enumerate() {
-        let drops = is_dropped(live, kept, link);
+        let drops = is_dropped(&live, &kept, link);
         if !drops {
             continue;
         }
@@ -78,7 +78,8 @@ pub(crate) fn put_back(chains: &mut Chains, log: &mut Vec<u16>, kept: usize)
 
 /// Cuts the last links off the lists of Full links, until so many are left.
 pub(crate) fn cut_fulls(fulls: &mut FullLists, links: &[Link], kept: usize)
-    requires { AreFullLists links.now fulls.old }
+    requires fits { kept ≤ length links.now }
+    requires lists { AreFullLists links.now fulls.old }
     ensures { AreFullLists (take kept links.now) fulls.new }
 {
     let mut left = links.len();

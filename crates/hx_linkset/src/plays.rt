@@ -57,8 +57,8 @@ pub(crate) fn with_all(position: &Position, stones: &[(Colour, Cell)]) -> Positi
     ensures { result ≡ put_all position.now stones.now }
 {
     let mut after = *position;
-    for (colour, cell) in stones {
-        after.play(*colour, *cell);
+    for stone in stones {
+        after.play(stone.0, stone.1);
     }
     after
 }
@@ -68,12 +68,12 @@ pub(crate) fn can_put(position: &Position, stones: &[(Colour, Cell)]) -> bool
     ensures { IsTrue result ↔ CanPut position.now stones.now }
 {
     let mut after = *position;
-    for (colour, cell) in stones {
-        let is_empty = after.empties().has(*cell);
+    for stone in stones {
+        let is_empty = after.empties().has(stone.1);
         if !is_empty {
             return false;
         }
-        after.play(*colour, *cell);
+        after.play(stone.0, stone.1);
     }
     true
 }

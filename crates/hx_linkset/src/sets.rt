@@ -190,7 +190,7 @@ impl LinkSet {
         match self.links.as_slice().get(index as usize) {
             None => None,
             Some(link) => {
-                let live = is_live(self.liveness, link);
+                let live = is_live(&self.liveness, link);
                 if live { Some(*link) } else { None }
             }
         }
@@ -452,7 +452,7 @@ impl LinkSet {
         ) else {
             return None;
         };
-        let live = is_live(self.liveness, &link);
+        let live = is_live(&self.liveness, &link);
         if live { Some(link) } else { None }
     }
 

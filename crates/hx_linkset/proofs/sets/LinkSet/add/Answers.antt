@@ -15,11 +15,11 @@ grow-requires-clause-inside c =
     let P : Standing → Type 0 = λ s. Gives s c.args.step c.in-Some.link in
     let g : GivesFromLive c.self.inside.position c.self.inside.colour c.self.inside.links.items c.args.step c.in-Some.link = subst P (sym c.self.view_is) c.in-Some.ensures in
     rw c.head_for-head.ensures.value
-    (head-inside _ _ _ _ _ (now _ _ _ _ _ _ _ _ _ _ c.self.invariant) c.in-Some.link (from_live-live _ _ _ c.args.step c.in-Some.link g) (added-small _ _ _ _ _ _ _ _ _ _ c.self.invariant c.in-Some.link c.args.step g))
+    (head-inside _ _ _ _ _ (now _ _ _ _ _ _ _ _ _ _ _ _ c.self.invariant) c.in-Some.link (from_live-live _ _ _ c.args.step c.in-Some.link g) (added-small _ _ _ _ _ _ _ _ _ _ _ _ c.self.invariant c.in-Some.link c.args.step g))
 
 pub grow-requires-clause-room : goal.grow-requires-clause-room
 grow-requires-clause-room c =
-    let held = (now _ _ _ _ _ _ _ _ _ _ c.self.invariant).hold in
+    let held = (now _ _ _ _ _ _ _ _ _ _ _ _ c.self.invariant).hold in
     omega (arith, held.next_long, c.self.invariant.keeps.few)
 
 pub invariant_of-self-2 : goal.invariant_of-self-2
@@ -30,7 +30,7 @@ invariant_of-self-2 c =
     let few : length c.self.inside.links.items ≤ 8192 = c.self.invariant.keeps.few in
     let other : c.len-count.result ≢ 8192 = c.if-count-eq-MOST_LINKS.false in
     let rings : c.grow.new.self ≡ grown c.self.inside.chains c.head_for-head.result = search rules in
-    fields-added _ _ _ _ _ _ _ _ _ _ c.self.invariant c.in-Some.link c.args.step g _ _ c.grow.new.self
+    fields-added _ _ _ _ _ _ _ _ _ _ _ _ c.self.invariant c.in-Some.link c.args.step g _ _ c.grow.new.self
     (rw (c.push_reserved.ensures.items, c.reserve.ensures.items) refl)
     (rw (c.push_reserved-2.ensures.items, c.reserve-2.ensures.items) refl)
     (omega arith) (rw (← c.head_for-head.ensures.value) rings)
@@ -48,7 +48,7 @@ returns-clause-added c =
       uncovered = c.in_default-covering.ensures;
       place_is = count ∙ ap (λ (s : Standing). length s.present.links) c.self.view_is;
       small = omega arith;
-      grown = seen-added _ _ _ _ _ _ _ _ _ _ c.self.invariant c.in-Some.link c.args.step g _ _ c.grow.new.self
+      grown = seen-added _ _ _ _ _ _ _ _ _ _ _ _ c.self.invariant c.in-Some.link c.args.step g _ _ c.grow.new.self
           (rw (c.push_reserved.ensures.items, c.reserve.ensures.items) refl)
           (rw (c.push_reserved-2.ensures.items, c.reserve-2.ensures.items) refl)
           ∙ ap (λ (s : Standing). let t : Standing = record s { present = added s.present c.in-Some.link c.args.step } in t) c.self.view_is;
