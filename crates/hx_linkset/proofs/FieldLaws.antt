@@ -1,5 +1,5 @@
 -- What the fields of a set keep, they keep from call to call; and what contracts see of them is what the calls promise.
-use Rattle.std.proofs.Common.{◌≡◌, ℕ, get_or, ◌<◌, ◌≤◌, List, [], ◌∷◌, ◌++◌, length, take, reverse, refl, sym, ap, ◌∙◌, subst, inl, inr, Some, suc, arith}
+use Rattle.std.proofs.Common.{◌≡◌, ℕ, get_or, ◌<◌, ◌≤◌, List, [], ◌∷◌, ◌++◌, length, take, drop, reverse, refl, sym, ap, ◌∙◌, subst, inl, inr, Some, suc, arith}
 use Rattle.std.proofs.lemmas.List.{length-take-le}
 use Rattle.std.specs.Prelude.{slice_get}
 use Rattle.hx_board.specs.declared.colours.Colour.{Colour}
@@ -13,7 +13,8 @@ use Rattle.hx_linkset.specs.declared.liveness.Liveness.{Liveness}
 use Rattle.hx_linkset.specs.declared.plays.Stage.{Stage}
 use Rattle.hx_linkset.specs.declared.sets.TheConstants.{MOST_LINKS}
 use Rattle.hx_linkset.specs.States.{State, IsLive, IsRight, GivesFromLive, added}
-use Rattle.hx_linkset.specs.Plays.{HasMore, undone, past_of, Stands, HasRoom, standing}
+use Rattle.hx_linkset.specs.Plays.{HasMore, undone, past_of, Stands, HasRoom, stage_before, standing}
+use Rattle.hx_linkset.specs.LastStones.{board_before, AreDropped}
 use Rattle.hx_linkset.specs.Rings.{Rings, grown}
 use Rattle.hx_linkset.specs.Held.{AreHeads, head_of, head_at, IsLinked, RingsHold, IsPassed, IsLiveThere}
 use Rattle.hx_linkset.specs.History.{rings_before, HoldsLive, CanUndo, HasHistory, FieldsKeep}
@@ -26,6 +27,7 @@ use Rattle.hx_linkset.proofs.StonesLaws.{more-right, more-fewer_live, more-fewer
 use Rattle.hx_linkset.proofs.LogLaws.{log-none}
 use Rattle.hx_linkset.proofs.PassLaws.{head_at-low}
 use Rattle.hx_linkset.proofs.HistoryLaws.{LastFits, holds-now, history-played, history-added}
+use Rattle.hx_linkset.proofs.LastStoneLaws.{since, board-first, dropped-are}
 
 -- ---- no link yet
 
@@ -89,6 +91,20 @@ module _ (player : Colour) (board : Board) (links : List Link) (steps : List Ste
 
   pub right : IsRight player old
   right = keeps-right player old plays k.keeps
+
+  -- ---- before the last plays
+
+  abbrev first : Stage
+  first = stage_before (record { position = board; count = length links; logged = length log }) (reverse plays)
+
+  pub first-fits : first.logged ≤ length log
+  first-fits = (since player board links steps plays rings log k.keeps.stands k.history).0
+
+  pub first-board : first.position ≡ board_before (length links) board (past_of old (reverse plays))
+  first-board = board-first player board links steps plays rings log k.keeps.stands k.history
+
+  pub first-dropped : AreDropped (standing player old plays) (drop first.logged log)
+  first-dropped = dropped-are player board links steps plays rings log k.keeps.stands k.history
 
   -- ---- a play
 

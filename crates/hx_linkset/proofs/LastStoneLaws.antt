@@ -58,31 +58,39 @@ abbrev IsSince : Colour → List Link → Board → List ℕ → Stage → Type 
 IsSince player links board log first = (first.logged ≤ length log) × HasDropped player links first.position board (drop first.logged log)
 
 module _ (player : Colour) where
-  pub since-last : (now : Stage) (board : Board) (links : List Link) (rings : Rings) (log : List ℕ) (plays : List Stage) → now.position ≡ board → now.count ≡ length links → now.logged ≡ length log → HasHistory player board links rings log plays
-      → IsSince player links board log (stage_before now plays)
-  since-last now board links rings log [] at counts logs h = (omega (arith, logs), dropped-none player links board now.position _ at (drop_all now.logged log (omega (arith, logs))))
-  since-last now board links rings log (play ∷ plays) at counts logs h = by_count play.count now.count
-      (λ same. subst Is (sym (chosen (stage_before play plays) now play.count now.count same)) (after_link same))
-      (λ differ. subst Is (sym (left_out (stage_before play plays) now play.count now.count differ))
-          (omega (arith, logs), dropped-none player links board now.position _ at (drop_all now.logged log (omega (arith, logs)))))
-    where
-      Is : Stage → Type 0
-      Is first = IsSince player links board log first
+  -- since a stage at which all is as it is now, nothing was dropped
+  since-now : (now : Stage) (board : Board) (links : List Link) (log : List ℕ) → now.position ≡ board → now.logged ≡ length log → IsSince player links board log now
+  since-now now board links log at logs = (omega (arith, logs), dropped-none player links board now.position _ at (drop_all now.logged log (omega (arith, logs))))
 
-      after_link : play.count ≡ now.count → Is (stage_before play plays)
-      after_link same =
-          let le : play.count ≤ length links = omega (arith, same, counts) in
-          let front : take play.count links ≡ links = take_all play.count links (omega (arith, same, counts)) in
-          let older : List ℕ = take play.logged log in
-          let earlier : IsSince player (take play.count links) play.position older (stage_before play plays) =
-          since-last play play.position (take play.count links) _ older plays refl (sym (length-take-le play.count links le)) (sym (length-take-le play.logged log h.1.0.fits)) h.1.1.1 in
-          let L : List Link → Type 0 = λ ls. HasDropped player ls (stage_before play plays).position play.position (drop (stage_before play plays).logged older) in
-          let M : List Link → Type 0 = λ ls. HasDropped player ls play.position board (drop play.logged log) in
-          let both = dropped-both player links _ play.position board _ _ (subst L front earlier.1) (subst M front h.1.1.0) in
-          let joined : drop (stage_before play plays).logged log ≡ drop (stage_before play plays).logged older ++ drop play.logged log =
-          ap (drop (stage_before play plays).logged) (sym (take-append-drop play.logged log)) ∙ drop-append-le (stage_before play plays).logged older (drop play.logged log) earlier.0 in
-          let D : List ℕ → Type 0 = λ xs. HasDropped player links (stage_before play plays).position board xs in
-          (omega (arith, earlier.0, length-take-le play.logged log h.1.0.fits, h.1.0.fits), subst D (sym joined) both)
+  -- since a stage before a play that came after the last link
+  since-play : (first play : Stage) (board : Board) (links : List Link) (log : List ℕ) → play.count ≡ length links → play.logged ≤ length log → HasDropped player (take play.count links) play.position board (drop play.logged log)
+      → IsSince player (take play.count links) play.position (take play.logged log) first → IsSince player links board log first
+  since-play first play board links log counts fits dropped earlier =
+      let front : take play.count links ≡ links = take_all play.count links (omega (arith, counts)) in
+      let older : List ℕ = take play.logged log in
+      let newer : List ℕ = drop play.logged log in
+      let L : List Link → Type 0 = λ ls. HasDropped player ls first.position play.position (drop first.logged older) in
+      let M : List Link → Type 0 = λ ls. HasDropped player ls play.position board newer in
+      let both : HasDropped player links first.position board (drop first.logged older ++ newer) =
+      dropped-both player links first.position play.position board (drop first.logged older) newer (subst L front earlier.1) (subst M front dropped) in
+      let joined : drop first.logged log ≡ drop first.logged older ++ newer =
+      ap (λ (xs : List ℕ). drop first.logged xs) (sym (take-append-drop play.logged log)) ∙ drop-append-le first.logged older newer earlier.0 in
+      let D : List ℕ → Type 0 = λ xs. HasDropped player links first.position board xs in
+      (omega (arith, earlier.0, length-take-le play.logged log fits, fits), subst D (sym joined) both)
+
+  since-last : (now : Stage) (board : Board) (links : List Link) (rings : Rings) (log : List ℕ) (plays : List Stage) → now.position ≡ board → now.count ≡ length links → now.logged ≡ length log → HasHistory player board links rings log plays
+      → IsSince player links board log (stage_before now plays)
+  since-last now board links rings log [] at counts logs h = since-now now board links log at logs
+  since-last now board links rings log (play ∷ plays) at counts logs h =
+      let Is : Stage → Type 0 = λ first. IsSince player links board log first in
+      by_count play.count now.count
+      (λ same.
+      let here : play.count ≡ length links = same ∙ counts in
+      let le : play.count ≤ length links = omega (arith, here) in
+      let earlier : IsSince player (take play.count links) play.position (take play.logged log) (stage_before play plays) =
+      since-last play play.position (take play.count links) _ (take play.logged log) plays refl (sym (length-take-le play.count links le)) (sym (length-take-le play.logged log h.1.0.fits)) h.1.1.1 in
+      subst Is (sym (chosen (stage_before play plays) now play.count now.count same)) (since-play (stage_before play plays) play board links log here h.1.0.fits h.1.1.0 earlier))
+      (λ differ. subst Is (sym (left_out (stage_before play plays) now play.count now.count differ)) (since-now now board links log at logs))
 
 -- the log from the stage on that was before the last stones names exactly the links that they dropped
 module _ (player : Colour) (board : Board) (links : List Link) (steps : List Step) (plays : List Stage) (rings : Rings) (log : List ℕ)

@@ -1,6 +1,6 @@
 //! How a set stood before the plays that stand, and the position after a play.
 
-ghost use Rattle.std.specs.Prelude.{◌≡◌, ◌↔◌, IsTrue, length, reverse};
+ghost use Rattle.std.specs.Prelude.{◌≡◌, ◌↔◌, ◌≤◌, IsTrue, length, reverse, drop};
 ghost use Rattle.hx_linkset.specs.States.{CanPut, put_all};
 ghost use Rattle.hx_linkset.specs.Plays.{stage_before};
 
@@ -49,6 +49,14 @@ pub(crate) fn before_last(now: &Stage, plays: &[Stage]) -> Stage
             }
         }
     }
+}
+
+/// What a log has from a place on.
+pub(crate) fn logged_from(log: &[u16], first: usize) -> &[u16]
+    requires { first ≤ length log.now }
+    ensures { result.now ≡ drop first log.now }
+{
+    &log[first..]
 }
 
 /// The position with these stones more.

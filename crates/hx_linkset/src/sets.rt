@@ -32,7 +32,7 @@ use crate::fulls::{FullIter, FullLists};
 use crate::liveness::{Liveness, is_live, liveness_of};
 use crate::pairs::{PairIter, in_order};
 use crate::passes::{cut_down, cut_fulls, drop_dead, put_back};
-use crate::plays::{Stage, before_last, can_put, stage_of, with_all};
+use crate::plays::{Stage, before_last, can_put, logged_from, stage_of, with_all};
 use hx_board::{CELLS, Cell, Colour, Groups, Mask, Memory, Position, Vertex};
 use hx_link::{Kind, Link, Step, result_of};
 use std::alloc::Global;
@@ -233,7 +233,7 @@ impl LinkSet {
     {
         let now = stage_of(&self.position, self.links.as_slice(), self.log.as_slice());
         let first = before_last(&now, self.plays.as_slice());
-        &self.log.as_slice()[first.logged..]
+        logged_from(self.log.as_slice(), first.logged)
     }
 
     /// The live Full links that end at a vertex, each once and in rising order of their indices.
