@@ -21,3 +21,5 @@ pub mod KeptStepLaws
 pub mod NextLaws
 pub mod ChainListLaws
 pub mod LastStoneLaws
+pub mod FullListLaws
+pub mod FullLaws

@@ -9,3 +9,4 @@ pub mod Marks
 pub mod Derivations
 pub mod LiveOf
 pub mod LastStones
+pub mod Fulls
