@@ -23,3 +23,5 @@ pub mod KeptStepLaws
 pub mod NextLaws
 pub mod ChainListLaws
 pub mod LastStoneLaws
+pub mod FullListLaws
+pub mod FullLaws

@@ -6,7 +6,7 @@ use Rattle.std.specs.declared.option.Option.TheVariants.{Some}
 use Rattle.hx_board.specs.declared.vertices.Vertex.{Vertex}
 use Rattle.hx_board.specs.declared.vertices.TheConstants.{VERTICES}
 use Rattle.hx_board.specs.Sets.{has, intersection}
-use Rattle.hx_board.specs.VertexSets.{code_of}
+use Rattle.hx_board.specs.VertexSets.{code_of, IsSomeVertex}
 use Rattle.hx_link.specs.declared.links.Kind.{Kind}
 use Rattle.hx_link.specs.declared.links.Kind.TheVariants.{Full, Semi}
 use Rattle.hx_link.specs.declared.links.Link.{Link}
@@ -52,8 +52,10 @@ fulls_from code place (link ∷ links) = seen_from code place link ++ fulls_from
 abbrev pub fulls_of : List Link → Vertex → List FullLink
 fulls_of links vertex = fulls_from (code_of vertex) 0 links
 
--- the list at the code of each vertex is that of the Full links that end there
+-- there is a list for each vertex, at its code, and in it stand the Full links that end there
 pub record AreFullLists (links : List Link) (lists : List (List FullLink)) : Type 0 where
+  pub long : length lists ≡ VERTICES
+  pub some : (place : ℕ) (link : Link) → slice_get links place ≡ Some link → link.kind ≡ Full → IsSomeVertex link.a × IsSomeVertex link.b
   pub each : (vertex : Vertex) → code_of vertex < VERTICES → slice_index_or lists (code_of vertex) [] ≡ fulls_of links vertex
 
 -- what is in each of some lists

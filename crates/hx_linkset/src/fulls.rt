@@ -8,7 +8,7 @@
 //! entries as they are gone along.
 
 ghost use Rattle.std.specs.Prelude.{◌≡◌, ◌<◌, List, [], ◌∷◌, ◌++◌, length, slice_set, slice_index_or, IfOk, OnOk, OnErr};
-ghost use Rattle.hx_board.specs.VertexSets.{code_of};
+ghost use Rattle.hx_board.specs.VertexSets.{IsSomeVertex};
 ghost use Rattle.hx_link.specs.declared.links.Link.{Link};
 ghost use Rattle.hx_linkset.specs.Fulls.{AreFullLists, fulls_of, is_live_from, live_from, live_at, without_last};
 
@@ -75,7 +75,7 @@ impl FullLists {
     /// The Full links at a vertex, in rising order of their indices, live or not.
     #[inline(always)]
     pub(crate) fn at(&self, vertex: &Vertex) -> &[FullLink]
-        ensures small { code_of vertex.now < VERTICES }
+        ensures some { IsSomeVertex vertex.now }
         ensures fulls { (links : List Link) → AreFullLists links self.now
             → result.now ≡ fulls_of links vertex.now }
     {
@@ -99,14 +99,9 @@ impl FullLists {
         ensures { (links : List Link) → AreFullLists (links ++ link.now ∷ []) self.old
             → AreFullLists links self.new }
     {
-        if link.kind == Kind::Semi {
-            return;
-        }
-        let first = link.a.code();
-        let second = link.b.code();
-        self.pop(first);
-        if first != second {
-            self.pop(second);
+        match link.kind {
+            Kind::Semi => {}
+            Kind::Full => self.leave(link),
         }
     }
 
@@ -132,6 +127,21 @@ impl FullLists {
         Ok(())
     }
 
+    /// Takes the Full link that came last away from its ends.
+    fn leave(&mut self, link: &Link)
+        requires { link.now.kind ≡ Kind.Full }
+        ensures { (links : List Link) → AreFullLists (links ++ link.now ∷ []) self.old
+            → AreFullLists links self.new }
+    {
+        let first = link.a.code();
+        let second = link.b.code();
+        self.pop(first);
+        if first == second {
+            return;
+        }
+        self.pop(second);
+    }
+
     /// Puts an entry at the end of the list at a code.
     fn push(&mut self, code: u8, full: FullLink) -> Result<(), Memory>
         requires { code < VERTICES }
@@ -139,7 +149,8 @@ impl FullLists {
             ≡ slice_set self.old code (slice_index_or self.old code [] ++ full ∷ [])) }
         ensures err { OnErr result (self.new ≡ self.old) }
     {
-        if self.lists[code as usize].push(full).is_err() {
+        let one = [full];
+        if self.lists[code as usize].extend_from_slice(&one).is_err() {
             return Err(Memory);
         }
         Ok(())
@@ -222,48 +233,5 @@ impl<'a> Iterator for FullIter<'a> {
             }
         }
         None
-    }
-}
-
-#[cfg(test)]
-mod tests {
-    use super::*;
-    use hx_board::{Cell, Size};
-    use std::test::Fail;
-
-    #[test]
-    fn lists(rt: HostRuntime) -> Result<(), Fail> {
-        let mut lists = FullLists::new(rt.alloc())?;
-        let size = Size::new(3, 3).ok_or("size")?;
-        let a1 = size.cell(0, 0).ok_or("cell")?;
-        let b2 = size.cell(1, 1).ok_or("cell")?;
-        let c3 = size.cell(2, 2).ok_or("cell")?;
-        let one = Link { kind: Kind::Full, a: Vertex::Of(a1), b: Vertex::First, carrier: Mask::empty().with(b2) };
-        let two = Link { kind: Kind::Full, a: Vertex::Of(c3), b: Vertex::First, carrier: Mask::empty() };
-        let three = Link { kind: Kind::Semi, a: Vertex::Of(c3), b: Vertex::First, carrier: Mask::empty() };
-        lists.add(0, &one)?;
-        lists.add(1, &two)?;
-        lists.add(2, &three)?;
-        lists.cut(&three);
-        assert_eq!(rt; lists.at(&Vertex::First).len(), 2);
-        assert_eq!(rt; lists.at(&Vertex::Of(a1)).len(), 1);
-        assert_eq!(rt; lists.at(&Vertex::Last).len(), 0);
-        let ends = VertexSet::empty().with(Vertex::Of(c3)).with(Vertex::Of(a1)).with(Vertex::First);
-        let mut seen = 0;
-        for full in FullIter::new(lists.at(&Vertex::First), &Vertex::First, Mask::empty(), ends) {
-            assert_eq!(rt; full, FullLink { index: 1, to: Vertex::Of(c3), carrier: Mask::empty() });
-            seen = 1;
-        }
-        assert_eq!(rt; seen, 1);
-        let mut seen = 0;
-        for full in FullIter::new(lists.at(&Vertex::First), &Vertex::First, Mask::empty().with(b2), ends) {
-            seen = if seen < 9 { seen + full.index + 1 } else { seen };
-        }
-        assert_eq!(rt; seen, 3);
-        lists.cut(&two);
-        assert_eq!(rt; lists.at(&Vertex::First).len(), 1);
-        assert_eq!(rt; lists.at(&Vertex::Of(c3)).len(), 0);
-        assert_eq!(rt; std::mem::size_of::<FullLink>(), 32);
-        Ok(())
     }
 }
