@@ -1,6 +1,5 @@
 -- What the fields of a set keep, they keep from call to call; and what contracts see of them is what the calls promise.
-use Rattle.std.proofs.Common.{◌≡◌, ℕ, get_or, ◌<◌, ◌≤◌, List, [], ◌∷◌, ◌++◌, length, take, drop, reverse, refl, sym, ap, ◌∙◌, subst, inl, inr, Some, suc, arith}
-use Rattle.std.proofs.lemmas.List.{length-take-le}
+use Rattle.std.proofs.Common.{◌≡◌, ℕ, get_or, ◌<◌, ◌≤◌, List, [], ◌∷◌, ◌++◌, length, drop, reverse, sym, ap, ◌∙◌, inl, inr, Some, suc, arith}
 use Rattle.std.specs.Prelude.{slice_get}
 use Rattle.hx_board.specs.declared.colours.Colour.{Colour}
 use Rattle.hx_board.specs.Positions.{Board, IsBoard}
@@ -13,11 +12,11 @@ use Rattle.hx_linkset.specs.declared.liveness.Liveness.{Liveness}
 use Rattle.hx_linkset.specs.declared.plays.Stage.{Stage}
 use Rattle.hx_linkset.specs.declared.sets.TheConstants.{MOST_LINKS}
 use Rattle.hx_linkset.specs.States.{State, IsLive, IsRight, GivesFromLive, added}
-use Rattle.hx_linkset.specs.Plays.{HasMore, undone, past_of, Stands, HasRoom, stage_before, standing}
+use Rattle.hx_linkset.specs.Plays.{HasMore, past_of, Stands, stage_before, standing}
 use Rattle.hx_linkset.specs.LastStones.{board_before, AreDropped}
 use Rattle.hx_linkset.specs.Rings.{Rings, grown}
 use Rattle.hx_linkset.specs.Held.{AreHeads, head_of, head_at, IsLinked, RingsHold, IsPassed, IsLiveThere}
-use Rattle.hx_linkset.specs.History.{rings_before, HoldsLive, CanUndo, HasHistory, FieldsKeep}
+use Rattle.hx_linkset.specs.History.{HoldsLive, HasHistory, FieldsKeep}
 use Rattle.hx_linkset.specs.Telling.{Tells}
 use Rattle.hx_linkset.specs.Fulls.{AreFullLists}
 use Rattle.hx_linkset.proofs.GivenLaws.{from_live-live}
@@ -141,55 +140,19 @@ module _ (player : Colour) (board : Board) (links : List Link) (steps : List Ste
       pub seen-played : standing player new plays' ≡ record { player = player; present = new; past = old ∷ past_of old (reverse plays) }
       seen-played = rw is_plays (standing-played player old plays after (length log) right_after filled k.keeps)
 
-  -- ---- the last play taken back
+  -- ---- the lists of Full links alone made anew
 
-  module _ (play : Stage) (earlier : List Stage) (is_plays : plays ≡ earlier ++ play ∷ []) where
-    last_first : reverse plays ≡ play ∷ reverse earlier
-    last_first = ap (reverse {A = Stage}) is_plays ∙ reverse-push earlier play
-
-    stands_at : Stands player old (play ∷ reverse earlier)
-    stands_at = let P : List Stage → Type 0 = λ ps. Stands player old ps in subst P last_first k.keeps.stands
-
-    room_at : HasRoom board (play ∷ reverse earlier)
-    room_at = let P : List Stage → Type 0 = λ ps. HasRoom board ps in subst P last_first k.keeps.room
-
-    history_at : HasHistory player board links rings log (play ∷ reverse earlier)
-    history_at = let P : List Stage → Type 0 = λ ps. HasHistory player board links rings log ps in subst P last_first k.history
-
-    pub count-fits : play.count ≤ length links
-    count-fits = stands_at.1.0
-
-    pub can-undo : CanUndo links rings log play
-    can-undo = history_at.1.0
-
-    module _ (links' : List Link) (steps' : List Step) (is_links : links' ≡ take play.count links) (is_steps : steps' ≡ take play.count steps) where
-      abbrev before : State
-      before = record { board = play.position; links = links'; steps = steps' }
-
-      before_is : undone old play ≡ before
-      before_is = rw (is_links, is_steps) refl
-
-      pub seen-undone : past_of old (reverse plays) ≡ before ∷ past_of before (reverse earlier)
-      seen-undone = ap (past_of old) last_first ∙ ap (λ (state : State). state ∷ past_of state (reverse earlier)) before_is
-
-      module _ (groups' : Grouped) (liveness' : Liveness) (rings' : Rings) (fulls' : List (List FullLink)) (log' : List ℕ) (plays_capacity' log_capacity' : ℕ)
-          (is_groups : groups' ≡ record { board = play.position; player = player }) (tells : Tells liveness' play.position player)
-          (is_rings : rings' ≡ rings_before rings links log play) (are_fulls : AreFullLists (take play.count links) fulls') (is_log : log' ≡ take play.logged log)
-          (is_capacity : plays_capacity' ≡ plays_capacity) (is_log_capacity : log_capacity' ≡ log_capacity) where
-        pub fields-undone : FieldsKeep player before earlier groups' liveness' rings' fulls' log' plays_capacity' log_capacity'
-        fields-undone = record {
-          keeps = record {
-            stands = let P : State → Type 0 = λ state. Stands player state (reverse earlier) in subst P before_is stands_at.1.1;
-            room = room_at.1;
-            few = omega (arith, ap (length {A = Link}) is_links, length-take-le play.count links count-fits, count-fits, k.keeps.few);
-          };
-          history = rw (is_links, is_rings, is_log) history_at.1.1.1;
-          groups_are = is_groups;
-          tells = tells;
-          fulls_are = rw is_links are_fulls;
-          plays_room = rw is_capacity k.plays_room;
-          log_room = rw is_log_capacity k.log_room;
-        }
+  pub fields-same : (links' : List Link) (steps' : List Step) (rings' : Rings) (fulls' : List (List FullLink)) → links' ≡ links → steps' ≡ steps → rings' ≡ rings → AreFullLists links fulls'
+      → FieldsKeep player (record { board = board; links = links'; steps = steps' }) plays groups liveness rings' fulls' log plays_capacity log_capacity
+  fields-same links' steps' rings' fulls' same_links same_steps same_rings are_fulls = record {
+    keeps = rw (same_links, same_steps) k.keeps;
+    history = rw (same_links, same_rings) k.history;
+    groups_are = k.groups_are;
+    tells = k.tells;
+    fulls_are = rw same_links are_fulls;
+    plays_room = k.plays_room;
+    log_room = k.log_room;
+  }
 
   -- ---- a link more
 

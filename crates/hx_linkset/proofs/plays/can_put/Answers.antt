@@ -1,9 +1,6 @@
-use Rattle.std.proofs.Common.{◌≡◌, ◌+◌, take, length, ℕ, List, sym, ap, ◌∙◌, subst, true, arith}
+use Rattle.std.proofs.Common.{sym, ap, ◌∙◌, subst}
 use Rattle.std.proofs.lemmas.Bool.{false≢true}
-use Rattle.std.proofs.lemmas.List.{take_all}
-use Rattle.hx_board.specs.declared.colours.Colour.{Colour}
 use Rattle.hx_board.specs.Positions.{Board, IsEmpty, put}
-use Rattle.hx_linkset.specs.States.{put_all, CanPut}
 use Rattle.hx_linkset.proofs.StonesLaws.{next-empty, next-put, next-can}
 use Rattle.hx_linkset.proofs.plays.can_put.Goals as goal
 
