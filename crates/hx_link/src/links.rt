@@ -50,7 +50,9 @@ pub fn ends_of(position: &Position, colour: Colour) -> VertexSet
         → (has result (code_of vertex) ≡ true) ↔ IsEnd position.now colour vertex }
 {
     let cells = position.size().all().minus(position.stones(colour.other()));
-    VertexSet::of_cells(cells).with(Vertex::First).with(Vertex::Last)
+    VertexSet::of_cells(cells)
+        .with(Vertex::First)
+        .with(Vertex::Last)
 }
 
 /// Whether a vertex is no cell of a set.

@@ -39,9 +39,7 @@ pub(crate) fn is_live(liveness: &Liveness, link: &Link) -> bool
         → IsTrue result ↔ IsLive board player link.now }
 {
     let (_a, _b) = (link.a.code(), link.b.code());
-    link.carrier.inside(liveness.empties)
-        && liveness.ends.has(link.a)
-        && liveness.ends.has(link.b)
+    link.carrier.inside(liveness.empties) && liveness.ends.has(link.a) && liveness.ends.has(link.b)
 }
 
 /// Whether a link is live before a play and not after it.

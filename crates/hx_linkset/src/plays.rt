@@ -75,13 +75,13 @@ pub(crate) fn with_all(position: &Position, stones: &[(Colour, Cell)]) -> Positi
 pub(crate) fn can_put(position: &Position, stones: &[(Colour, Cell)]) -> bool
     ensures { IsTrue result ↔ CanPut position.now stones.now }
 {
-    let mut after = *position;
+    let mut so_far = *position;
     for stone in stones {
-        let is_empty = after.empties().has(stone.1);
+        let is_empty = so_far.empties().has(stone.1);
         if !is_empty {
             return false;
         }
-        after.play(stone.0, stone.1);
+        so_far.play(stone.0, stone.1);
     }
     true
 }

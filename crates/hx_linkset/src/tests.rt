@@ -116,7 +116,11 @@ fn a_stone_drops_links_and_gives_them_back(rt: HostRuntime) -> Result<(), Fail> 
 
 /// The indices of the live Full links at a vertex.
 fn full_indices(alloc: Global, set: &LinkSet, vertex: Vertex) -> Result<Vec<u32>, AllocError> {
-    set.full_at(vertex).map(|full| full.index).collect(alloc)
+    let mut indices = Vec::new(alloc);
+    for full in set.full_at(vertex) {
+        indices.push(full.index)?;
+    }
+    Ok(indices)
 }
 
 #[test]
@@ -128,7 +132,10 @@ fn the_stones_of_a_turn_are_one_play(rt: HostRuntime) -> Result<(), Fail> {
     let left = live_indices(rt.alloc(), &set)?;
     assert_eq!(rt; left.as_slice(), [3, 4].as_slice());
     assert_eq!(rt; set.dropped(), [0, 1, 2, 5, 6].as_slice());
-    assert_eq!(rt; (set.plays(), set.before_last_stones().empty_count()), (1, 4));
+    assert_eq!(rt;
+        (set.plays(), set.before_last_stones().empty_count()),
+        (1, 4)
+    );
     let full = full_indices(rt.alloc(), &set, a2)?;
     assert_eq!(rt; full.as_slice(), [4].as_slice());
     set.undo();
