@@ -13,11 +13,12 @@ use Rattle.hx_tree.specs.declared.nodes.Line.{Line}
 use Rattle.hx_tree.specs.declared.nodes.Line.TheVariants.{Child, Under}
 use Rattle.hx_tree.specs.declared.nodes.Node.{Node}
 use Rattle.hx_tree.specs.declared.nodes.Rule.{Rule}
-use Rattle.hx_tree.specs.declared.nodes.Rule.TheVariants.{Chain, Links, Move, All, Fill}
+use Rattle.hx_tree.specs.declared.nodes.Rule.TheVariants.{Chain, Links, Move, All, Fill, Turned}
 use Rattle.hx_tree.specs.Headings.{IsHeading}
 use Rattle.hx_tree.specs.Rules.{IsRightRule, IsRightNode}
 use Rattle.hx_tree.specs.Fills.{filled_all}
 use Rattle.hx_tree.specs.Answers.{IsRightLine}
+use Rattle.hx_tree.specs.Turns.{IsTurnedHeading}
 use Rattle.hx_tree.proofs.FilledBoards.{size-filled_all}
 use Rattle.hx_tree.specs.Trees.{headings_of, AreRight}
 use Rattle.hx_book.specs.Trees.{NamesChild, Names, HasChildAt, LeadsTo, IsNeeded}
@@ -33,6 +34,11 @@ some-size : (found : Option Heading) (headings : List Heading) (place : ℕ) (bo
 some-size None headings place board mover winner size there is same = absurd is
 some-size (Some heading) headings place board mover winner size there is same =
     record { heading = heading; there = there; same_size = ap (λ (b : Board). b.size) is.same_position ∙ same }
+
+turned-size : (found : Option Heading) (headings : List Heading) (place : ℕ) (heading : Heading) → slice_get headings place ≡ found
+    → IsSomeAnd found (IsTurnedHeading heading) → HasSize headings heading.position.size place
+turned-size None headings place heading there is = absurd is
+turned-size (Some other) headings place heading there is = record { heading = other; there = there; same_size = is.turned.same_size }
 
 line-size : (before : List Heading) (heading : Heading) (links : List Link) (threats : List ℕ) (lines : List Line) (line : Line) (child : ℕ)
     → IsRightLine before heading links threats lines line → NamesChild line child → HasSize before heading.position.size child
@@ -54,6 +60,7 @@ rule-size before heading (All steps threats lines) child right names =
 rule-size before heading (Fill steps own) child right names = rw names
     (some-size (slice_get before own) before own (filled_all heading.position heading.winner steps) heading.to_move heading.winner heading.position.size refl right.leads
     (size-filled_all heading.position heading.winner steps))
+rule-size before heading (Turned own) child right names = rw names (turned-size (slice_get before own) before own heading refl right)
 
 -- ---- what stands before a place
 

@@ -8,7 +8,7 @@ use Rattle.hx_tree.specs.declared.nodes.Line.{Line}
 use Rattle.hx_tree.specs.declared.nodes.Line.TheVariants.{Child, Under}
 use Rattle.hx_tree.specs.declared.nodes.Node.{Node}
 use Rattle.hx_tree.specs.declared.nodes.Rule.{Rule}
-use Rattle.hx_tree.specs.declared.nodes.Rule.TheVariants.{Chain, Links, Move, All, Fill}
+use Rattle.hx_tree.specs.declared.nodes.Rule.TheVariants.{Chain, Links, Move, All, Fill, Turned}
 use Rattle.hx_tree.specs.Rules.{IsRightRule, IsRightNode}
 use Rattle.hx_tree.specs.Answers.{IsRightLine, AreAnswered, cell_of, cells_of}
 use Rattle.hx_book.specs.Trees.{NamesChild, HasLine, Names, renamed_line, renamed_rule, renamed_node}
@@ -101,6 +101,7 @@ module _ (before after : List Heading) (heading : Heading) (name : ℕ → ℕ) 
     answered = answered-renamed before after heading right.links threats name lines same right.answered;
   }
   rule-renamed (Fill steps child) same right = record { some = right.some; right = right.right; leads = rw (same child refl) right.leads }
+  rule-renamed (Turned child) same right = rw (same child refl) right
 
 pub node-renamed : (before after : List Heading) (name : ℕ → ℕ) (node : Node) → ((child : ℕ) → Names node.rule child → slice_get after (name child) ≡ slice_get before child)
     → IsRightNode before node → IsRightNode after (renamed_node name node)
@@ -128,6 +129,7 @@ module _ (one other : ℕ → ℕ) where
   rule-same (Move cell child) same = ap (λ (c : ℕ). Move cell c) (same child refl)
   rule-same (All steps threats lines) same = ap (λ (ls : List Line). All steps threats ls) (lines-same lines same)
   rule-same (Fill steps child) same = ap (λ (c : ℕ). Fill steps c) (same child refl)
+  rule-same (Turned child) same = ap (λ (c : ℕ). Turned c) (same child refl)
 
   -- a node is renamed alike by numbers that are the same for its children
   pub node-same : (node : Node) → ((child : ℕ) → Names node.rule child → one child ≡ other child) → renamed_node one node ≡ renamed_node other node

@@ -1,35 +1,18 @@
 -- The buckets of a book, for the functions inside the crate. An entry's bucket is computed from its position and mover. The
 -- entries of a bucket are chained: from its head to the newest of them, and from each to the next older one. A link is 0 at
 -- the end of a chain, and else one more than the place of an entry.
-use Rattle.std.specs.Prelude.{◌≡◌, ℕ, ◌-◌, ◌*◌, ◌/◌, ◌%◌, ◌^◌, ◌<◌, ◌≤◌, List, length, slice_get, slice_index, bit_xor}
+use Rattle.std.specs.Prelude.{◌≡◌, ℕ, ◌-◌, ◌*◌, ◌/◌, ◌^◌, ◌<◌, ◌≤◌, List, length, slice_get, slice_index}
 use Rattle.std.specs.declared.option.Option.TheVariants.{Some}
 use Rattle.hx_board.specs.declared.colours.Colour.{Colour}
-use Rattle.hx_board.specs.declared.colours.Colour.TheVariants.{Black, White}
 use Rattle.hx_board.specs.Positions.{Board}
+use Rattle.hx_turn.specs.Numbers.{folded_number}
 use Rattle.hx_tree.specs.declared.nodes.Node.{Node}
 use Rattle.hx_book.specs.declared.books.TheConstants.{MOST_BUCKETS}
 use Rattle.hx_book.specs.Entries.{IsBook}
 
--- the upper half of the product of two numbers below 2^64, with the lower half laid over it
-unfoldable pub folded : ℕ → ℕ → ℕ
-folded a b = bit_xor (a * b / 2 ^ 64) (a * b % 2 ^ 64)
-
--- the two halves of a set, each mixed with a key
-unfoldable pub folded_set : ℕ → ℕ → ℕ → ℕ
-folded_set set low_key high_key = folded (bit_xor (set % 2 ^ 64) low_key) (bit_xor (set / 2 ^ 64) high_key)
-
-abbrev pub mover_key : Colour → ℕ
-mover_key Black = 13287129219935123339
-mover_key White = 5871781006564002453
-
--- a number that differs between most positions and movers
-unfoldable pub number_of : Board → Colour → ℕ
-number_of board mover =
-    folded (bit_xor (folded_set board.black 11400714819323198485 14029467366897019727) (mover_key mover)) (bit_xor (folded_set board.white 1609587929392839161 9650029242287828579) 2870177450012600261)
-
 -- the bucket of a position and mover: as far into the buckets as their number is into the numbers below 2^64
 unfoldable pub bucket_of : ℕ → Board → Colour → ℕ
-bucket_of buckets board mover = number_of board mover * buckets / 2 ^ 64
+bucket_of buckets board mover = folded_number board mover * buckets / 2 ^ 64
 
 -- the entry at this place has this bucket
 pub record IsIn (buckets : ℕ) (nodes : List Node) (bucket place : ℕ) : Type 0 where

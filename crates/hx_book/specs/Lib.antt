@@ -1,5 +1,6 @@
 pub mod Entries
 pub mod Puts
+pub mod EitherEntry
 pub mod Buckets
 pub mod Trees
 pub mod Renaming

@@ -5,7 +5,7 @@ use Rattle.hx_tree.specs.declared.nodes.Line.{Line}
 use Rattle.hx_tree.specs.declared.nodes.Line.TheVariants.{Child, Under}
 use Rattle.hx_tree.specs.declared.nodes.Node.{Node}
 use Rattle.hx_tree.specs.declared.nodes.Rule.{Rule}
-use Rattle.hx_tree.specs.declared.nodes.Rule.TheVariants.{Chain, Links, Move, All, Fill}
+use Rattle.hx_tree.specs.declared.nodes.Rule.TheVariants.{Chain, Links, Move, All, Fill, Turned}
 use Rattle.hx_tree.specs.Trees.{headings_of, IsValidTree, IsRoot}
 
 -- a line names the place as that of its child
@@ -27,6 +27,7 @@ Names (Links steps) place = ⊥
 Names (Move cell child) place = place ≡ child
 Names (All steps threats lines) place = HasLine lines place
 Names (Fill steps child) place = place ≡ child
+Names (Turned child) place = place ≡ child
 
 -- the node at a place names another place as that of a child
 pub record HasChildAt (nodes : List Node) (place child : ℕ) : Type 0 where
@@ -57,6 +58,7 @@ renamed_rule name (Links steps) = Links steps
 renamed_rule name (Move cell child) = Move cell (name child)
 renamed_rule name (All steps threats lines) = All steps threats (map (renamed_line name) lines)
 renamed_rule name (Fill steps child) = Fill steps (name child)
+renamed_rule name (Turned child) = Turned (name child)
 
 abbrev pub renamed_node : (ℕ → ℕ) → Node → Node
 renamed_node name node = record { heading = node.heading; rule = renamed_rule name node.rule }

@@ -12,7 +12,7 @@ ghost use Rattle.hx_book.specs.Entries.{contents, IsBook};
 ghost use Rattle.hx_book.specs.Puts.{Puts};
 ghost use Rattle.hx_book.specs.Trees.{IsTreeOf};
 
-use crate::numbers::bucket;
+use crate::buckets::bucket;
 use crate::refusals::NoSlot;
 use crate::trees::tree_of;
 use hx_board::{Colour, Memory, Position};

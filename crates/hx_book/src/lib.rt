@@ -2,12 +2,14 @@
 #![tactic(auto)]
 
 mod books;
+mod buckets;
+mod either;
 mod growing;
-mod numbers;
 mod refusals;
 mod trees;
 
 pub use books::{Book, MOST_BUCKETS, MOST_SLOTS};
+pub use either::{Either, look_either};
 pub use growing::Proofs;
 pub use hx_tree::Found;
 pub use refusals::NoSlot;

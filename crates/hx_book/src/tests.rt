@@ -1,7 +1,7 @@
 //! The calls of a book on boards of one row.
 
 ghost use Rattle.std.specs.Prelude.{◌≡◌};
-ghost use Rattle.hx_tree.specs.declared.nodes.Rule.TheVariants.{Chain, Move};
+ghost use Rattle.hx_tree.specs.declared.nodes.Rule.TheVariants.{Chain, Move, Turned};
 
 use super::*;
 use hx_board::Colour::{Black, White};
@@ -79,6 +79,35 @@ fn put_move(
     Some(book.put(by_move(*position, winner, cell, found.index)))
 }
 
+fn by_turn(position: Position, to_move: Colour, found: Found) -> Node
+    ensures { result ≡ record { heading = record { position = position; to_move = to_move; winner = found.winner }; rule = Turned found.index } }
+{
+    let heading = Heading {
+        position,
+        to_move,
+        winner: found.winner,
+    };
+    let child = found.index;
+    let rule = Rule::Turned { child };
+    Node { heading, rule }
+}
+
+/// Puts in a node that stands on the entry of the turned position. None where there is none, or one of the position itself.
+fn put_turned<R: Wait>(
+    rt: &R,
+    book: &mut Book,
+    position: &Position,
+    to_move: Colour,
+) -> Option<u32> {
+    let _size = position.size();
+    let either = look_either(rt, book, position, to_move)?;
+    if !either.turned {
+        return None;
+    }
+    let node = by_turn(*position, to_move, either.found);
+    book.put(node).ok()
+}
+
 /// The tree of an entry that is there.
 fn tree_at(book: Book, index: u32) -> Result<Vec<Node>, Fail> {
     if index >= book.held() {
@@ -120,6 +149,30 @@ fn leaves_out_what_is_not_needed(rt: HostRuntime) -> Result<(), Fail> {
     let put = put_move(&mut book, &empty, Black, a1).ok_or("wrong")?;
     let tree = tree_at(book, put.ok().ok_or("no slot")?)?;
     let expected = [by_chain(black, White, Black), by_move(empty, Black, a1, 0)];
+    assert!(rt; tree.as_slice() == expected.as_slice());
+    Ok(())
+}
+
+/// Black's a1 and a2 on two rows and two columns come to b2 and b1.
+#[test]
+fn finds_what_was_turned(rt: HostRuntime) -> Result<(), Fail> {
+    let size = Size::new(2, 2).ok_or("size")?;
+    let (left, right) = (Mask::of(0x801), Mask::of(0x1002));
+    let position = Position::from_masks(size, left, Mask::empty()).ok_or("stones")?;
+    let other = Position::from_masks(size, right, Mask::empty()).ok_or("stones")?;
+    let mut book = Book::with_slots(rt.alloc(), 2).or(Err("memory"))?;
+    let found = store_chain(&rt, &mut book, &position, White, Black).ok_or("chain")?;
+    for (asked, turned) in [(position, false), (other, true)] {
+        let either = look_either(&rt, &mut book, &asked, White);
+        assert_eq!(rt; either, Some(Either { found, turned }));
+    }
+    assert!(rt; look_either(&rt, &mut book, &other, Black).is_none());
+    let index = put_turned(&rt, &mut book, &other, White).ok_or("not turned")?;
+    let tree = tree_at(book, index)?;
+    let expected = [
+        by_chain(position, White, Black),
+        by_turn(other, White, found),
+    ];
     assert!(rt; tree.as_slice() == expected.as_slice());
     Ok(())
 }

@@ -70,6 +70,7 @@ fn mark_children(marks: &mut Vec<bool>, rule: &Rule)
         Rule::Move { child, .. } => mark(marks, *child),
         Rule::All { lines, .. } => mark_lines(marks, lines.items()),
         Rule::Fill { child, .. } => mark(marks, *child),
+        Rule::Turned { child } => mark(marks, *child),
     }
 }
 
@@ -147,6 +148,9 @@ fn renamed(node: Node, names: &[u32]) -> Node
         },
         Rule::Fill { steps, child } => Rule::Fill {
             steps,
+            child: names[child as usize],
+        },
+        Rule::Turned { child } => Rule::Turned {
             child: names[child as usize],
         },
     };

@@ -2,5 +2,7 @@ pub mod Exchanges
 pub mod TurnedCells
 pub mod TurnedSets
 pub mod TurnedBoards
+pub mod TurnedStoneLaws
+pub mod NumberLaws
 pub mod TurnedGraphs
 pub mod TurnedGames

@@ -35,7 +35,7 @@ turned-mirrors board turned is turn = record {
 }
 
 -- a position's stones stand on its board, and no cell holds two
-stone-on_board : (board : Board) → IsBoard board → (player : Colour) (cell : ℕ) → has (stones_of board player) cell ≡ true → OnBoard board.size cell
+pub stone-on_board : (board : Board) → IsBoard board → (player : Colour) (cell : ℕ) → has (stones_of board player) cell ≡ true → OnBoard board.size cell
 stone-on_board board is Black cell = is.1.black_inside cell
 stone-on_board board is White cell = is.1.white_inside cell
 

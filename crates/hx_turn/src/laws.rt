@@ -1,7 +1,9 @@
 //! What a turn keeps. These functions do nothing: what they say stands in their contracts.
 
+ghost use Rattle.std.specs.Prelude.{◌≡◌};
 ghost use Rattle.hx_board.specs.Positions.{Board};
 ghost use Rattle.hx_turn.specs.Turned.{IsTurned, KeepsJoined, KeepsWinner};
+ghost use Rattle.hx_turn.specs.Numbers.{number_of};
 
 use hx_board::{Colour, Position};
 
@@ -17,6 +19,14 @@ pub fn turned_joins(position: &Position, colour: Colour)
 /// move.
 pub fn turned_keeps(position: &Position, to_move: Colour, colour: Colour)
     ensures { (turned : Board) → IsTurned position.now turned → KeepsWinner position.now to_move colour turned }
+{
+    let _size = position.size();
+}
+
+/// A position and the turned one have one number, with the same player to move.
+pub fn one_number(position: &Position, to_move: Colour)
+    ensures { (turned : Board) → IsTurned position.now turned
+        → number_of turned to_move ≡ number_of position.now to_move }
 {
     let _size = position.size();
 }

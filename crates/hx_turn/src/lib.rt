@@ -5,10 +5,14 @@
 #![tactic(auto)]
 
 mod laws;
+mod numbers;
+mod orientations;
 mod reversals;
 mod turns;
 
-pub use laws::{turned_joins, turned_keeps};
+pub use laws::{one_number, turned_joins, turned_keeps};
+pub use numbers::folded_number;
+pub use orientations::{Orientations, number};
 pub use turns::{is_turned, turned};
 
 #[cfg(test)]

@@ -2,6 +2,7 @@
 
 use super::*;
 use hx_board::{Colour, Mask, Position, Size};
+use hx_samples::Draws;
 use std::test::Fail;
 
 /// A position by the cells of its stones, each told by its row and column.
@@ -48,5 +49,37 @@ fn each_cell_of_each_board(rt: HostRuntime) -> Result<(), Fail> {
             }
         }
     }
+    Ok(())
+}
+
+/// A position and the turned one have one number, and each mover has another one. With a stone more they are what is made
+/// anew.
+#[test]
+fn one_number_of_both(rt: HostRuntime) -> Result<(), Fail> {
+    let mut draws = Draws::new(7);
+    for rows in 1..=11u8 {
+        let size = Size::new(rows, 12 - rows).ok_or("size")?;
+        let position = draws.position(size, 6);
+        let both = Orientations::of(&position);
+        let black = number(both.turned(), Colour::Black);
+        assert_eq!(rt; both.number(Colour::Black), black);
+        assert!(rt; both.number(Colour::White) != black);
+        one_number(&position, Colour::Black);
+        let cell = draws.cell(size, position.empties()).ok_or("full")?;
+        let more = both.with(Colour::White, cell);
+        assert_eq!(rt; *more.turned(), turned(more.position()));
+    }
+    Ok(())
+}
+
+/// The folded numbers of a position that is not its own turned one differ.
+#[test]
+fn folded_as_it_stands(rt: HostRuntime) -> Result<(), Fail> {
+    let size = Size::new(3, 2).ok_or("size")?;
+    let position = with_stones(size, &[(0, 0)], &[(0, 1)])?;
+    let here = folded_number(&position, Colour::White);
+    let there = folded_number(&turned(&position), Colour::White);
+    assert!(rt; here != there);
+    assert_eq!(rt; number(&position, Colour::White), here.min(there));
     Ok(())
 }

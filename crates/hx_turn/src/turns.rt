@@ -10,7 +10,7 @@ ghost use Rattle.hx_board.specs.Cells.{OnBoard};
 ghost use Rattle.hx_turn.specs.Turned.{turned_cell, IsTurned};
 
 use crate::reversals::reversed;
-use hx_board::{Colour, Mask, Position, Size};
+use hx_board::{Cell, Colour, Mask, Position, Size};
 
 /// The cells of the board to which those of a set come when the board is turned.
 fn turned_set(size: Size, cells: Mask) -> Mask
@@ -19,6 +19,19 @@ fn turned_set(size: Size, cells: Mask) -> Mask
 {
     let last = 11 * (size.rows() - 1) + (size.cols() - 1);
     Mask::of(reversed(cells.bits()) >> (127 - last)).meet(size.all())
+}
+
+/// The cell to which a cell of the board comes when the board is turned.
+pub(crate) fn turned_cell(size: Size, cell: Cell) -> Cell
+    requires { OnBoard size cell }
+    ensures { result ≡ turned_cell size cell }
+{
+    let row = size.rows() - 1 - cell.row();
+    let col = size.cols() - 1 - cell.col();
+    match size.cell(row, col) {
+        Some(there) => there,
+        None => unreachable!(),
+    }
 }
 
 /// The position turned by 180 degrees: on a board of R rows and C columns the cell in row r and column c holds what the cell

@@ -9,3 +9,6 @@ mark_lines-requires c = λ place has. c.requires place (rw c.in-All.is (rw c.ite
 
 pub mark-requires-in-Fill : goal.mark-requires-in-Fill
 mark-requires-in-Fill c = c.requires c.in-Fill.child (rw c.in-Fill.is refl)
+
+pub mark-requires-in-Turned : goal.mark-requires-in-Turned
+mark-requires-in-Turned c = c.requires c.in-Turned.child (rw c.in-Turned.is refl)

@@ -1,11 +1,11 @@
-//! The number by which a position and its mover are looked up.
+//! A position and its mover folded into one number.
 //!
 //! The four halves of the two sets of stones are each mixed with a key and multiplied in pairs, and the two results with
 //! the mover once more. Each product has 128 binary digits, of which the upper 64 are laid over the lower 64, so that each
 //! stone changes about half of the digits. This is the step of Wang Yi's wyhash.
 
-ghost use Rattle.std.specs.Prelude.{◌≡◌, ◌<◌};
-ghost use Rattle.hx_book.specs.Buckets.{folded, folded_set, mover_key, number_of, bucket_of};
+ghost use Rattle.std.specs.Prelude.{◌≡◌};
+ghost use Rattle.hx_turn.specs.Numbers.{folded, folded_set, mover_key, folded_number};
 
 use hx_board::{Colour, Mask, Position};
 
@@ -24,7 +24,7 @@ const WHITE_HIGH: u64 = 9650029242287828579;
 const LAST: u64 = 2870177450012600261;
 
 /// The upper half of the product, with the lower half laid over it.
-#[tactic(auto, unfolding(crate::specs::Buckets::folded))]
+#[tactic(auto, unfolding(crate::specs::Numbers::folded))]
 fn fold(a: u64, b: u64) -> u64
     ensures { result ≡ folded a b }
 {
@@ -35,7 +35,7 @@ fn fold(a: u64, b: u64) -> u64
 }
 
 /// The halves of a set, mixed with two keys.
-#[tactic(auto, unfolding(crate::specs::Buckets::folded_set))]
+#[tactic(auto, unfolding(crate::specs::Numbers::folded_set))]
 fn fold_set(set: Mask, low_key: u64, high_key: u64) -> u64
     ensures { result ≡ folded_set set low_key high_key }
 {
@@ -55,24 +55,12 @@ fn key_of(mover: Colour) -> u64
     }
 }
 
-/// The number of a position and mover.
-#[tactic(auto, unfolding(crate::specs::Buckets::number_of))]
-fn number(position: &Position, mover: Colour) -> u64
-    ensures { result ≡ number_of position.now mover }
+/// The number of a position as it stands, and of the player to move. The turned position mostly has another one.
+#[tactic(auto, unfolding(crate::specs::Numbers::folded_number))]
+pub fn folded_number(position: &Position, to_move: Colour) -> u64
+    ensures { result ≡ folded_number position.now to_move }
 {
     let black = fold_set(position.stones(Colour::Black), BLACK_LOW, BLACK_HIGH);
     let white = fold_set(position.stones(Colour::White), WHITE_LOW, WHITE_HIGH);
-    fold(black ^ key_of(mover), white ^ LAST)
-}
-
-/// The bucket of a position and mover: as far into the buckets as their number is into all numbers. A product is faster than a
-/// remainder by a number that is known only at run time.
-#[tactic(auto, unfolding(crate::specs::Buckets::bucket_of))]
-pub(crate) fn bucket(buckets: usize, position: &Position, mover: Colour) -> usize
-    requires { 0 < buckets }
-    ensures value { result ≡ bucket_of buckets position.now mover }
-    ensures below { result < buckets }
-{
-    let product = number(position, mover) as u128 * buckets as u128;
-    (product / HALF) as usize
+    fold(black ^ key_of(to_move), white ^ LAST)
 }

@@ -1,0 +1,48 @@
+//! A look in both orientations.
+//!
+//! Who wins a position wins the one turned by 180 degrees. So where the position itself has no entry, that of the turned one
+//! serves. The position is turned only then.
+
+ghost use Rattle.std.specs.Prelude.{◌≡◌};
+ghost use Rattle.hx_tree.specs.Entries.{Extends};
+ghost use Rattle.hx_book.specs.EitherEntry.{FindsEither};
+
+use crate::growing::Proofs;
+use hx_board::{Colour, Position};
+use hx_tree::Found;
+use hx_turn::turned;
+use std::sync::Wait;
+
+/// The entry of a position, or of the turned one where `turned` says so.
+#[derive(Clone, Copy, PartialEq, Eq, Debug)]
+pub struct Either {
+    pub found: Found,
+    pub turned: bool,
+}
+
+/// The first entry of a position and mover, or, where there is none, that of the turned position and the same mover. None
+/// only where neither has one.
+pub fn look_either<P: Proofs, R: Wait>(
+    rt: &R,
+    proofs: &mut P,
+    position: &Position,
+    to_move: Colour,
+) -> Option<Either>
+    ensures slots { P.slots proofs.new ≡ P.slots proofs.old }
+    ensures over { P.over proofs.new ≡ P.over proofs.old }
+    ensures seen { Extends (P.list proofs.new) (P.list proofs.old) }
+    ensures found { FindsEither (P.list proofs.old) (P.list proofs.new) position.now to_move result }
+{
+    if let Some(found) = proofs.look(rt, position, to_move) {
+        let turned = false;
+        return Some(Either { found, turned });
+    }
+    let other = turned(position);
+    match proofs.look(rt, &other, to_move) {
+        Some(found) => Some(Either {
+            found,
+            turned: true,
+        }),
+        None => None,
+    }
+}

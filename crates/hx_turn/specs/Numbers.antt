@@ -1,0 +1,33 @@
+-- Two numbers of a position and mover: one of the position as it stands, and one that the turned position has too. Both
+-- differ between most positions and movers.
+use Rattle.std.specs.Prelude.{ℕ, ◌*◌, ◌/◌, ◌%◌, ◌^◌, nat_le, bit_xor, if◌then◌else◌}
+use Rattle.hx_board.specs.declared.colours.Colour.{Colour}
+use Rattle.hx_board.specs.declared.colours.Colour.TheVariants.{Black, White}
+use Rattle.hx_board.specs.Positions.{Board}
+use Rattle.hx_turn.specs.TurnedStones.{turned_of}
+
+-- the upper half of the product of two numbers below 2^64, with the lower half laid over it
+unfoldable pub folded : ℕ → ℕ → ℕ
+folded a b = bit_xor (a * b / 2 ^ 64) (a * b % 2 ^ 64)
+
+-- the two halves of a set, each mixed with a key
+unfoldable pub folded_set : ℕ → ℕ → ℕ → ℕ
+folded_set set low_key high_key =
+    folded (bit_xor (set % 2 ^ 64) low_key) (bit_xor (set / 2 ^ 64) high_key)
+
+abbrev pub mover_key : Colour → ℕ
+mover_key Black = 13287129219935123339
+mover_key White = 5871781006564002453
+
+-- the stones of both players and the mover, folded into one number
+unfoldable pub folded_number : Board → Colour → ℕ
+folded_number board mover = folded
+    (bit_xor (folded_set board.black 11400714819323198485 14029467366897019727) (mover_key mover))
+    (bit_xor (folded_set board.white 1609587929392839161 9650029242287828579) 2870177450012600261)
+
+abbrev pub lesser : ℕ → ℕ → ℕ
+lesser a b = if nat_le a b then a else b
+
+-- the lesser of the folded numbers of the board and of the turned one
+abbrev pub number_of : Board → Colour → ℕ
+number_of board mover = lesser (folded_number board mover) (folded_number (turned_of board) mover)

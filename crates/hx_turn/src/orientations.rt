@@ -1,0 +1,104 @@
+//! A position beside the turned one.
+//!
+//! Who goes through many positions and asks for a number that turned positions share keeps both: a stone more is then one cell
+//! more in each, where to turn a position anew is to reverse two sets.
+
+ghost use Rattle.std.specs.Prelude.{◌≡◌};
+ghost use Rattle.hx_board.specs.Positions.{IsEmpty, put};
+ghost use Rattle.hx_turn.specs.Turned.{IsTurned};
+ghost use Rattle.hx_turn.specs.Numbers.{number_of};
+
+use crate::numbers::folded_number;
+use crate::turns::{turned, turned_cell};
+use hx_board::{Cell, Colour, Position};
+use std::marker::Model;
+
+/// A position and the one turned by 180 degrees. Contracts see it as the position's board.
+#[derive(Clone, Copy, PartialEq, Eq, Debug)]
+pub struct Orientations {
+    position: Position,
+    turned: Position,
+}
+
+impl Model for Orientations {
+    ghost use Rattle.std.specs.Prelude.{◌≡◌};
+    ghost use Rattle.std.proofs.Common.{ap, sym};
+    ghost use Rattle.hx_board.specs.Positions.{Board};
+    ghost use Rattle.hx_turn.specs.TurnedStones.{turned_of};
+
+    ghost Value = { Board };
+
+    ghost view = { λ o. o.position };
+
+    ghost invariant = { λ o. o.turned ≡ turned_of o.position };
+
+    ghost inverse = { λ b. record { position = b; turned = turned_of b } };
+
+    ghost inverse_ok = { λ a h. ap (λ (b : Board). record { position = a.position; turned = b }) (sym h) };
+}
+
+impl Orientations {
+    /// A position with the turned one.
+    pub fn of(position: &Position) -> Orientations
+        ensures { result ≡ position.now }
+    {
+        let _size = position.size();
+        Orientations {
+            position: *position,
+            turned: turned(position),
+        }
+    }
+
+    /// The position.
+    pub fn position(&self) -> &Position
+        ensures { result.now ≡ self.now }
+    {
+        &self.position
+    }
+
+    /// The position turned by 180 degrees.
+    pub fn turned(&self) -> &Position
+        ensures { IsTurned self.now result.now }
+    {
+        let _size = self.position.size();
+        &self.turned
+    }
+
+    /// Both with a stone of this colour more, on an empty cell of the position.
+    pub fn with(&self, colour: Colour, cell: Cell) -> Orientations
+        requires { IsEmpty self.now cell }
+        ensures { result ≡ put self.now colour cell }
+    {
+        let mut next = *self;
+        next.play(colour, cell);
+        next
+    }
+
+    /// Puts a stone of this colour on an empty cell of the position. Nothing else changes.
+    pub fn play(&mut self, colour: Colour, cell: Cell)
+        requires { IsEmpty self.old cell }
+        ensures { self.new ≡ put self.old colour cell }
+    {
+        let there = turned_cell(self.position.size(), cell);
+        self.position.play(colour, cell);
+        self.turned.play(colour, there);
+    }
+
+    /// The number of the position and the player to move, which the turned position has too: the lesser of the folded
+    /// numbers of both.
+    pub fn number(&self, to_move: Colour) -> u64
+        ensures { result ≡ number_of self.now to_move }
+    {
+        let here = folded_number(&self.position, to_move);
+        let there = folded_number(&self.turned, to_move);
+        if here <= there { here } else { there }
+    }
+}
+
+/// The number of a position and the player to move, which the turned position has too.
+pub fn number(position: &Position, to_move: Colour) -> u64
+    ensures { result ≡ number_of position.now to_move }
+{
+    let both = Orientations::of(position);
+    both.number(to_move)
+}
