@@ -13,7 +13,7 @@ use Rattle.hx_app.specs.declared.commands.Command.TheVariants.{Check, Solve}
 use Rattle.hx_app.specs.declared.solutions.Solution.{Solution}
 use Rattle.hx_app.specs.Commands.{Asks, limit_of}
 use Rattle.hx_app.specs.Judging.{IsYes, IsNoText, IsNoNode, IsTooManyNodes}
-use Rattle.hx_app.specs.Solving.{IsSolved, IsUnknown, IsBadPosition}
+use Rattle.hx_app.specs.Solving.{IsSolved, preamble_of, IsUnknown, IsBadPosition}
 use Rattle.hx_app.specs.Answers.{IsLong, WithinLimit, IsDueTo, answer_text, solution_text, status_of, yes_text}
 use Rattle.hx_app.specs.Promises.{SaysYes, IsProof, IsNoProof, SaysSolved, IsSmallPosition, IsLargePosition, IsNoPosition, IsUnlessStopped}
 use Rattle.hx_app.proofs.Positions.{same_empties, not_bad, position_text_short}
@@ -60,8 +60,9 @@ says_solved input solution taken_before taken_now is output = record {
   position = is.tree.position;
   to_move = is.tree.to_move;
   tree = solution_text solution;
-  is_text = written_is_text solution.size solution.nodes.items solution.winner (rw is.size is.text.is_board.0) (rw is.size is.tree.fits)
+  is_text = written_is_text (preamble_of solution) solution.nodes.items solution.winner (rw is.size is.text.is_board.0) is.fits
       (record { root = is.root; last = is.tree.last; same = sym is.winner }) (omega (arith, is.tree.few));
+  version = is.version;
   output = output;
   wins = root_wins solution.nodes.items is.root is.tree.valid is.tree.last;
 }

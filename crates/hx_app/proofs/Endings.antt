@@ -4,7 +4,7 @@ use Rattle.std.proofs.Common.{◌≡◌, ◌≢◌, ℕ, ◌+◌, ◌-◌, ◌<�
 use Rattle.std.proofs.lemmas.List.{append-nil, length-map}
 use Rattle.std.specs.Prelude.{slice_get}
 use Rattle.hx_board.specs.declared.colours.Colour.{Colour}
-use Rattle.hx_board.specs.Cells.{Extent}
+use Rattle.hx_text.specs.declared.versions.Preamble.{Preamble}
 use Rattle.hx_text.specs.TreeTexts.{AreTreeLinesOf}
 use Rattle.hx_tree.specs.declared.nodes.Heading.{Heading}
 use Rattle.hx_tree.specs.declared.nodes.Node.{Node}
@@ -51,32 +51,32 @@ root_heading headings nodes node root same last is =
 some_nodes : (nodes : List Node) (node : Node) → IsRoot nodes node → nodes ≢ []
 some_nodes nodes node last none = push-some last.front node (sym last.same ∙ none)
 
-ends : (reader : TreeReader) (nodes : List Node) (lines : List (List ℕ)) → HasRead reader nodes lines → HasReadAll reader
-    → Stands After nodes lines
-ends reader nodes lines read all = subst (λ (p : Place). Stands p nodes lines) all read
+ends : (reader : TreeReader) (nodes : List Node) (lines : List (List ℕ)) → HasRead reader nodes lines → (all : HasReadAll reader)
+    → Stands (After all.0) nodes lines
+ends reader nodes lines read all = subst (λ (p : Place). Stands p nodes lines) all.1 read
 
 module _ (input : List ℕ) (reader : TreeReader) (headings : List Heading) (later : List ℕ)
     (upto : JudgedUpTo input reader headings later) (all : HasReadAll reader) where
-  are : Stands After upto.nodes upto.lines
+  are : Stands (After all.0) upto.nodes upto.lines
   are = ends reader upto.nodes upto.lines upto.read all
 
   pub judged_yes : (root : Heading) → Some root ≡ slice_get headings (length headings - 1) → later ≡ [] → IsYes input root
   unfolding are
   judged_yes root is none = record {
     nodes = upto.nodes;
-    root = are.2.root.root;
+    root = are.1.root.root;
     text = record {
-      size = are.0;
-      winner = are.1;
+      preamble = all.0;
+      winner = are.0;
       lines = upto.lines;
-      are = are.2;
+      are = are.1;
       same = upto.parts ∙ ap
           (λ (t : List ℕ). text_of upto.lines ++ t) none ∙ append-nil (text_of upto.lines);
     };
     few = upto.few;
-    valid = valid_tree upto.nodes (some_nodes upto.nodes are.2.root.root are.2.root.last) upto.right;
-    last = are.2.root.last;
-    same = root_heading headings upto.nodes are.2.root.root root upto.same are.2.root.last is;
+    valid = valid_tree upto.nodes (some_nodes upto.nodes are.1.root.root are.1.root.last) upto.right;
+    last = are.1.root.last;
+    same = root_heading headings upto.nodes are.1.root.root root upto.same are.1.root.last is;
   }
 
   pub judged_surplus : (line : ℕ) → later ≢ [] → line ≡ lines_fed reader + 1 → IsNoText input line
@@ -84,7 +84,7 @@ module _ (input : List ℕ) (reader : TreeReader) (headings : List Heading) (lat
   judged_surplus line some is = record {
     fault = surplus input upto.lines later line upto.parts (is ∙ ap (λ (n : ℕ). n + 1) upto.counted)
         (Begins-stands reader.place upto.nodes upto.lines upto.read) some
-        (λ next begins. end_wrong are.0 are.1 upto.nodes upto.lines next are.2 begins);
+        (λ next begins. end_wrong all.0 are.0 upto.nodes upto.lines next are.1 begins);
     nodes = upto.nodes;
     ended = ended_in reader.place upto.nodes upto.lines upto.read upto.few;
     right = upto.right;
@@ -94,22 +94,22 @@ module _ (input : List ℕ) (reader : TreeReader) (headings : List Heading) (lat
   pub judged_some : None ≡ slice_get headings (length headings - 1) → ⊥
   unfolding are
   judged_some none =
-      let whole : headings ≡ headings_of (are.2.root.last.front ++ are.2.root.root ∷ []) = upto.same
-      ∙ ap headings_of are.2.root.last.same in
-      let found : None ≡ Some are.2.root.root.heading = none ∙ ap (λ (hs : List Heading). slice_get hs (length hs - 1)) whole
-      ∙ last_heading are.2.root.last.front are.2.root.root in
+      let whole : headings ≡ headings_of (are.1.root.last.front ++ are.1.root.root ∷ []) = upto.same
+      ∙ ap headings_of are.1.root.last.same in
+      let found : None ≡ Some are.1.root.root.heading = none ∙ ap (λ (hs : List Heading). slice_get hs (length hs - 1)) whole
+      ∙ last_heading are.1.root.last.front are.1.root.root in
       cc
 
 -- after the last line
 pub judged_end : (reader : TreeReader) (nodes : List Node) (lines : List (List ℕ)) (winner : Colour)
-    → HasReadAll reader × ((size : Extent) × AreTreeLinesOf size nodes winner lines) → HasRead reader nodes lines
+    → (preamble : Preamble) × (reader.place ≡ After preamble) × AreTreeLinesOf preamble nodes winner lines → HasRead reader nodes lines
 judged_end reader nodes lines winner told =
-    subst (λ (p : Place). Stands p nodes lines) (sym told.0) (told.1.0, winner, told.1.1)
+    subst (λ (p : Place). Stands p nodes lines) (sym told.1) (winner, told.2)
 
 pub nothing_whole : (reader : TreeReader) → HasRead reader [] [] → HasReadAll reader → ⊥
 nothing_whole reader read all =
-    let whole : Stands After [] [] = ends reader [] [] read all in
-    push-some whole.2.root.last.front whole.2.root.root (sym whole.2.root.last.same)
+    let whole : Stands (After all.0) [] [] = ends reader [] [] read all in
+    push-some whole.1.root.last.front whole.1.root.root (sym whole.1.root.last.same)
 
 pub surplus_answer : (input : List ℕ) (reader : TreeReader) (headings : List Heading) (later : List ℕ) (answer : Answer)
     → length input ≤ limit_of Check → JudgedUpTo input reader headings later → HasReadAll reader → later ≢ []

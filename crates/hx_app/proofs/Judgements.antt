@@ -141,10 +141,10 @@ module _ (input : List ℕ) (few : length input ≤ limit_of Check) where
   judged_too_many reader headings line later upto many =
       let told = many upto.nodes upto.lines upto.read in
       let next : IsNextNode reader.place line = told.1 in
-      let whole = node_of_head next.so_far.size next.head (subst (λ (p : Place). Stands p upto.nodes upto.lines) next.is upto.read).is_size next.fits in
+      let whole = node_of_head next.so_far.preamble next.head (subst (λ (p : Place). Stands p upto.nodes upto.lines) next.is upto.read).is_size next.fits in
       let stands : StandsSoFar next.so_far upto.nodes upto.lines = subst (λ (p : Place). Stands p upto.nodes upto.lines) next.is upto.read in
       record {
-        size = next.so_far.size;
+        preamble = next.so_far.preamble;
         is_size = stands.is_size;
         nodes = upto.nodes;
         each = stands.each;
@@ -155,7 +155,7 @@ module _ (input : List ℕ) (few : length input ≤ limit_of Check) where
         rest = later;
         parts = upto.parts ∙ sym (text_of-push upto.lines line later)
             ∙ ap (λ (ls : List (List ℕ)). text_of (ls ++ line ∷ []) ++ later) stands.same
-            ∙ ap (λ (l : List ℕ). text_of ((front_lines next.so_far.size ++ flat_map node_lines upto.nodes) ++ l ∷ []) ++ later) (next.same ∙ ap head_line (sym whole.2));
+            ∙ ap (λ (l : List ℕ). text_of ((front_lines next.so_far.preamble ++ flat_map node_lines upto.nodes) ++ l ∷ []) ++ later) (next.same ∙ ap head_line (sym whole.2));
       }
 
 -- what judging a node's line answers

@@ -5,15 +5,16 @@ use Rattle.std.proofs.lemmas.Bool.{cases_lt}
 use Rattle.std.proofs.lemmas.List.{append-nil, append_cancel_left, nil_from_length}
 use Rattle.std.proofs.lemmas.Grind.{flat_map-append}
 use Rattle.std.specs.Prelude.{flat_map}
-use Rattle.hx_board.specs.Cells.{Extent, IsExtent}
+use Rattle.hx_board.specs.Cells.{IsExtent}
 use Rattle.hx_tree.specs.declared.nodes.Node.{Node}
 use Rattle.hx_tree.specs.Trees.{IsLeastWrong}
 use Rattle.hx_tree.proofs.TreeGrowth.{least_wrong-append}
+use Rattle.hx_text.specs.declared.versions.Preamble.{Preamble}
 use Rattle.hx_text.specs.Grammars.{Begins}
 use Rattle.hx_text.specs.PositionTexts.{size_line}
-use Rattle.hx_text.specs.TreeTexts.{AreTreeLines, AreTreeLinesOf, EachNodeFits, NodeFits, front_lines, head_of, head_line, node_lines, end_line}
+use Rattle.hx_text.specs.TreeTexts.{AreTreeLines, AreTreeLinesOf, EachNodeFits, NodeFits, title_line, front_lines, head_of, head_line, node_lines, end_line}
 use Rattle.hx_text.proofs.Cuts.{Agree, Second_goes_on, First_goes_on, agree}
-use Rattle.hx_text.proofs.Injective.{size_injective}
+use Rattle.hx_text.proofs.Alignment.{preamble_injective}
 use Rattle.hx_text.proofs.NodeInjective.{head_not_end, node_cancel}
 use Rattle.hx_text.proofs.OneFault.{no_more}
 use Rattle.hx_text.proofs.TreeLacks.{AllLack-tree_lines, AllLack-begun}
@@ -22,55 +23,55 @@ use Rattle.hx_app.proofs.Readings.{GoOn, ended_first}
 
 -- lines of these nodes, and then lines that begin with no whole node
 record Ended (lines : List (List ℕ)) (nodes : List Node) : Type 0 where
-  size : Extent
-  is_size : IsExtent size.rows size.cols
-  each : EachNodeFits size nodes
+  preamble : Preamble
+  is_size : IsExtent preamble.size.rows preamble.size.cols
+  each : EachNodeFits preamble nodes
   tail : List (List ℕ)
-  same : lines ≡ (front_lines size ++ flat_map node_lines nodes) ++ tail
-  no_node : (node : Node) (rest : List (List ℕ)) → NodeFits size node → tail ≡ node_lines node ++ rest → ⊥
+  same : lines ≡ (front_lines preamble ++ flat_map node_lines nodes) ++ tail
+  no_node : (node : Node) (rest : List (List ℕ)) → NodeFits preamble node → tail ≡ node_lines node ++ rest → ⊥
 
-part_no_node : (size : Extent) (node : Node) (part rest : List (List ℕ)) → IsExtent size.rows size.cols → NodeFits size node
-    → node_lines node ≡ part ++ rest → rest ≢ [] → (other : Node) (more : List (List ℕ)) → NodeFits size other → part ≡ node_lines other ++ more → ⊥
-part_no_node size node part rest extent fits whole some other more fits_other e =
+part_no_node : (preamble : Preamble) (node : Node) (part rest : List (List ℕ)) → IsExtent preamble.size.rows preamble.size.cols → NodeFits preamble node
+    → node_lines node ≡ part ++ rest → rest ≢ [] → (other : Node) (more : List (List ℕ)) → NodeFits preamble other → part ≡ node_lines other ++ more → ⊥
+part_no_node preamble node part rest extent fits whole some other more fits_other e =
     let same : node_lines node ++ [] ≡ node_lines other ++ (more ++ rest) =
     append-nil (node_lines node) ∙ whole ∙ ap (λ (ls : List (List ℕ)). ls ++ rest) e ∙ append_assoc (node_lines other) more rest in
-    let none : [] ≡ more ++ rest = (node_cancel size node other [] (more ++ rest) extent fits fits_other same).1 in
+    let none : [] ≡ more ++ rest = (node_cancel preamble node other [] (more ++ rest) extent fits fits_other same).1 in
     some (nil_from_length rest (omega (arith, ap length none, length-append more rest)))
 
 ended_form : (lines : List (List ℕ)) (nodes : List Node) → EndedIn lines nodes → 2 ≤ length lines → Ended lines nodes
 ended_form lines nodes (Before_size none short) long = absurd (omega arith)
-ended_form lines nodes (Among_nodes size is_size each few same) long = record {
-  size = size;
+ended_form lines nodes (Among_nodes preamble is_size each few same) long = record {
+  preamble = preamble;
   is_size = is_size;
   each = each;
   tail = [];
-  same = same ∙ sym (append-nil (front_lines size ++ flat_map node_lines nodes));
+  same = same ∙ sym (append-nil (front_lines preamble ++ flat_map node_lines nodes));
   no_node = λ node rest fits e. cc;
 }
-ended_form lines nodes (Inside_node size is_size each few node fits part rest whole some same) long = record {
-  size = size;
+ended_form lines nodes (Inside_node preamble is_size each few node fits part rest whole some same) long = record {
+  preamble = preamble;
   is_size = is_size;
   each = each;
   tail = part;
   same = same;
-  no_node = part_no_node size node part rest is_size fits whole some;
+  no_node = part_no_node preamble node part rest is_size fits whole some;
 }
-ended_form lines nodes (After_end size winner whole few) long = record {
-  size = size;
+ended_form lines nodes (After_end preamble winner whole few) long = record {
+  preamble = preamble;
   is_size = whole.is_size;
   each = whole.each;
   tail = end_line (length nodes) winner ∷ [];
   same = whole.same;
   no_node = λ node rest fits e.
       let first : end_line (length nodes) winner ≡ head_line (head_of node) = cc in
-      head_not_end size (head_of node) (length nodes) winner whole.is_size fits.head whole.count (sym first);
+      head_not_end preamble (head_of node) (length nodes) winner whole.is_size fits.head whole.count (sym first);
 }
 
 long_lines : (lines : List (List ℕ)) (nodes : List Node) → EndedIn lines nodes → 1 ≤ length nodes → 2 ≤ length lines
 long_lines lines nodes (Before_size none short) some = absurd (omega (arith, ap length none))
-long_lines lines nodes (Among_nodes size is_size each few same) some = omega (arith, ap length same)
-long_lines lines nodes (Inside_node size is_size each few node fits part rest whole other same) some = omega (arith, ap length same)
-long_lines lines nodes (After_end size winner whole few) some = omega (arith, ap length whole.same)
+long_lines lines nodes (Among_nodes preamble is_size each few same) some = omega (arith, ap length same)
+long_lines lines nodes (Inside_node preamble is_size each few node fits part rest whole other same) some = omega (arith, ap length same)
+long_lines lines nodes (After_end preamble winner whole few) some = omega (arith, ap length whole.same)
 
 -- of two fronts of a list the longer one goes on
 record Longer (short long : List Node) : Type 0 where
@@ -93,39 +94,41 @@ longer (first ∷ short) (other ∷ long) x y e less =
     let on : Longer short long = longer short long x y rests (omega arith) in
     record { next = on.next; more = on.more; same = one_longer first other short long on.next on.more firsts on.same }
 
-fits_middle : (size : Extent) (front : List Node) (node : Node) (more : List Node) → EachNodeFits size (front ++ node ∷ more) → NodeFits size node
-fits_middle size [] node more each = each.0
-fits_middle size (first ∷ front) node more each = fits_middle size front node more each.1
+fits_middle : (preamble : Preamble) (front : List Node) (node : Node) (more : List Node) → EachNodeFits preamble (front ++ node ∷ more) → NodeFits preamble node
+fits_middle preamble [] node more each = each.0
+fits_middle preamble (first ∷ front) node more each = fits_middle preamble front node more each.1
 
 -- in lines that go on, further nodes ended, or none
 not_shorter : (lines more : List (List ℕ)) (a b : List Node) (form_a : Ended lines a) (form_b : Ended (lines ++ more) b) → Longer b a → ⊥
 not_shorter lines more a b form_a form_b longer =
     let flat_a : List (List ℕ) = flat_map node_lines a in
     let flat_b : List (List ℕ) = flat_map node_lines b in
-    let whole : (front_lines form_a.size ++ flat_a) ++ (form_a.tail ++ more) ≡ (front_lines form_b.size ++ flat_b) ++ form_b.tail =
-    sym (append_assoc (front_lines form_a.size ++ flat_a) form_a.tail more) ∙ ap (λ (ls : List (List ℕ)). ls ++ more) (sym form_a.same) ∙ form_b.same in
-    let second : size_line form_a.size ≡ size_line form_b.size = cc in
+    let whole : (front_lines form_a.preamble ++ flat_a) ++ (form_a.tail ++ more) ≡ (front_lines form_b.preamble ++ flat_b) ++ form_b.tail =
+    sym (append_assoc (front_lines form_a.preamble ++ flat_a) form_a.tail more) ∙ ap (λ (ls : List (List ℕ)). ls ++ more) (sym form_a.same) ∙ form_b.same in
+    let titles : title_line form_a.preamble.version ≡ title_line form_b.preamble.version = cc in
+    let second : size_line form_a.preamble.size ≡ size_line form_b.preamble.size = cc in
     let tails : flat_a ++ (form_a.tail ++ more) ≡ flat_b ++ form_b.tail = cc in
-    let sizes : form_a.size ≡ form_b.size = size_injective form_a.size form_b.size form_a.is_size form_b.is_size second in
+    let preambles : form_a.preamble ≡ form_b.preamble =
+    preamble_injective form_a.preamble form_b.preamble form_a.is_size form_b.is_size titles second in
     let later : List (List ℕ) = flat_map node_lines longer.more ++ (form_a.tail ++ more) in
     let split : flat_a ++ (form_a.tail ++ more) ≡ flat_b ++ (node_lines longer.next ++ later) =
     ap (λ (ns : List Node). flat_map node_lines ns ++ (form_a.tail ++ more)) longer.same
     ∙ ap (λ (ls : List (List ℕ)). ls ++ (form_a.tail ++ more)) (flat_map-append node_lines b (longer.next ∷ longer.more))
     ∙ append_assoc flat_b (node_lines longer.next ++ flat_map node_lines longer.more) (form_a.tail ++ more)
     ∙ ap (λ (ls : List (List ℕ)). flat_b ++ ls) (append_assoc (node_lines longer.next) (flat_map node_lines longer.more) (form_a.tail ++ more)) in
-    let fits : NodeFits form_b.size longer.next =
-    fits_middle form_b.size b longer.next longer.more (subst (λ (ns : List Node). EachNodeFits form_b.size ns) longer.same
-    (subst (λ (s : Extent). EachNodeFits s a) sizes form_a.each)) in
+    let fits : NodeFits form_b.preamble longer.next =
+    fits_middle form_b.preamble b longer.next longer.more (subst (λ (ns : List Node). EachNodeFits form_b.preamble ns) longer.same
+    (subst (λ (p : Preamble). EachNodeFits p a) preambles form_a.each)) in
     form_b.no_node longer.next later fits
     (append_cancel_left flat_b form_b.tail (node_lines longer.next ++ later) (sym tails ∙ split))
 
 -- the nodes that ended in some lines are the first ones of those that ended in more lines
 front_nodes : (lines more : List (List ℕ)) (a b : List Node) → EndedIn lines a → EndedIn (lines ++ more) b → Begins AreTreeLines (lines ++ more) → GoOn a b
 front_nodes lines more a b ended_a ended_b begins =
-    let whole : AreTreeLinesOf begins.1.size begins.1.nodes begins.1.winner (lines ++ (more ++ begins.0)) =
-    subst (AreTreeLinesOf begins.1.size begins.1.nodes begins.1.winner) (append_assoc lines more begins.0) begins.1.are in
-    let on_a : GoOn a begins.1.nodes = ended_first lines (more ++ begins.0) a begins.1.nodes begins.1.size begins.1.winner ended_a whole in
-    let on_b : GoOn b begins.1.nodes = ended_first (lines ++ more) begins.0 b begins.1.nodes begins.1.size begins.1.winner ended_b begins.1.are in
+    let whole : AreTreeLinesOf begins.1.preamble begins.1.nodes begins.1.winner (lines ++ (more ++ begins.0)) =
+    subst (AreTreeLinesOf begins.1.preamble begins.1.nodes begins.1.winner) (append_assoc lines more begins.0) begins.1.are in
+    let on_a : GoOn a begins.1.nodes = ended_first lines (more ++ begins.0) a begins.1.nodes begins.1.preamble begins.1.winner ended_a whole in
+    let on_b : GoOn b begins.1.nodes = ended_first (lines ++ more) begins.0 b begins.1.nodes begins.1.preamble begins.1.winner ended_b begins.1.are in
     ⊎_elim
     (λ (less : length a < length b).
     let goes_on : Longer a b = longer a b on_a.more on_b.more (sym on_a.same ∙ on_b.same) less in

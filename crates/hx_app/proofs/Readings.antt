@@ -4,11 +4,12 @@ use Rattle.std.proofs.Common.{◌≡◌, ℕ, ◌<◌, ◌≤◌, List, [], ◌�
 use Rattle.std.proofs.lemmas.List.{append-nil}
 use Rattle.std.specs.Prelude.{flat_map}
 use Rattle.hx_board.specs.declared.colours.Colour.{Colour}
-use Rattle.hx_board.specs.Cells.{Extent, IsExtent}
+use Rattle.hx_board.specs.Cells.{IsExtent}
 use Rattle.hx_tree.specs.declared.nodes.Node.{Node}
 use Rattle.hx_tree.specs.Trees.{IsValidTree, IsLeastWrong}
 use Rattle.hx_tree.proofs.TreeGrowth.{least_wrong-append, right_at-append}
 use Rattle.hx_text.specs.Words.{IsNumber}
+use Rattle.hx_text.specs.declared.versions.Preamble.{Preamble}
 use Rattle.hx_text.specs.Grammars.{text_of, IsFaultyLine}
 use Rattle.hx_text.specs.Entries.{entry_line, entries_of}
 use Rattle.hx_text.specs.TreeTexts.{AreTreeLines, AreTreeLinesOf, IsTreeText, EachNodeFits, NodeFits, front_lines, head_of, head_line, node_lines, end_line, tree_lines}
@@ -26,48 +27,48 @@ pub record GoOn (nodes all : List Node) : Type 0 where
   pub more : List Node
   pub same : all ≡ nodes ++ more
 
-pub ended_first : (lines more : List (List ℕ)) (nodes all : List Node) (size : Extent) (winner : Colour) → EndedIn lines nodes
-    → AreTreeLinesOf size all winner (lines ++ more) → GoOn nodes all
-ended_first lines more nodes all size winner (Before_size none short) are =
+pub ended_first : (lines more : List (List ℕ)) (nodes all : List Node) (preamble : Preamble) (winner : Colour) → EndedIn lines nodes
+    → AreTreeLinesOf preamble all winner (lines ++ more) → GoOn nodes all
+ended_first lines more nodes all preamble winner (Before_size none short) are =
     record { more = all; same = ap (λ (ns : List Node). ns ++ all) (sym none) }
-ended_first lines more nodes all size winner (Among_nodes first is_size each few same) are =
-    let on = aligned first nodes lines more size all winner is_size each same are in record { more = on.on.more; same = on.on.nodes_are }
-ended_first lines more nodes all size winner (Inside_node first is_size each few node fits part rest whole some same) are =
+ended_first lines more nodes all preamble winner (Among_nodes first is_size each few same) are =
+    let on = aligned first nodes lines more preamble all winner is_size each same are in record { more = on.on.more; same = on.on.nodes_are }
+ended_first lines more nodes all preamble winner (Inside_node first is_size each few node fits part rest whole some same) are =
     let front : List (List ℕ) = front_lines first ++ flat_map node_lines nodes in
     let same_lines : lines ++ more ≡ front ++ (part ++ more) = ap (λ (ls : List (List ℕ)). ls ++ more) same ∙ append_assoc front part more in
-    let on = aligned first nodes front (part ++ more) size all winner is_size each refl
-    (subst (AreTreeLinesOf size all winner) same_lines are) in record { more = on.on.more; same = on.on.nodes_are }
-ended_first lines more nodes all size winner (After_end first last whole few) are =
+    let on = aligned first nodes front (part ++ more) preamble all winner is_size each refl
+    (subst (AreTreeLinesOf preamble all winner) same_lines are) in record { more = on.on.more; same = on.on.nodes_are }
+ended_first lines more nodes all preamble winner (After_end first last whole few) are =
     let front : List (List ℕ) = front_lines first ++ flat_map node_lines nodes in
     let same : lines ++ more ≡ front ++ (end_line (length nodes) last ∷ more) = ap (λ (ls : List (List ℕ)). ls ++ more) whole.same
     ∙ append_assoc front (end_line (length nodes) last ∷ []) more in
-    let on = aligned first nodes front (end_line (length nodes) last ∷ more) size all winner whole.is_size whole.each refl
-    (subst (AreTreeLinesOf size all winner) same are) in record { more = on.on.more; same = on.on.nodes_are }
+    let on = aligned first nodes front (end_line (length nodes) last ∷ more) preamble all winner whole.is_size whole.each refl
+    (subst (AreTreeLinesOf preamble all winner) same are) in record { more = on.on.more; same = on.on.nodes_are }
 
 -- no more nodes ended than a text may have
 few_ended : (lines : List (List ℕ)) (nodes : List Node) → EndedIn lines nodes → length nodes ≤ most_nodes
 few_ended lines nodes (Before_size none short) = omega (arith, ap length none)
-few_ended lines nodes (Among_nodes size is_size each few same) = few
-few_ended lines nodes (Inside_node size is_size each few node fits part rest whole some same) = omega (arith, few)
-few_ended lines nodes (After_end size winner whole few) = few
+few_ended lines nodes (Among_nodes preamble is_size each few same) = few
+few_ended lines nodes (Inside_node preamble is_size each few node fits part rest whole some same) = omega (arith, few)
+few_ended lines nodes (After_end preamble winner whole few) = few
 
 -- a text with no more nodes than a text may have, which begins with these lines
 record Completed (lines : List (List ℕ)) : Type 0 where
-  size : Extent
+  preamble : Preamble
   nodes : List Node
   winner : Colour
   rest : List (List ℕ)
-  are : AreTreeLinesOf size nodes winner (lines ++ rest)
+  are : AreTreeLinesOf preamble nodes winner (lines ++ rest)
   few : length nodes ≤ most_nodes
 
 -- lines of nodes alone, after which the last line may follow
-with_end : (size : Extent) (front : List Node) (node : Node) (lines : List (List ℕ)) → IsExtent size.rows size.cols
-    → EachNodeFits size (front ++ node ∷ []) → length (front ++ node ∷ []) ≤ most_nodes
-    → lines ≡ front_lines size ++ flat_map node_lines (front ++ node ∷ []) → Completed lines
-with_end size front node lines is_size each few same =
+with_end : (preamble : Preamble) (front : List Node) (node : Node) (lines : List (List ℕ)) → IsExtent preamble.size.rows preamble.size.cols
+    → EachNodeFits preamble (front ++ node ∷ []) → length (front ++ node ∷ []) ≤ most_nodes
+    → lines ≡ front_lines preamble ++ flat_map node_lines (front ++ node ∷ []) → Completed lines
+with_end preamble front node lines is_size each few same =
     let end : List (List ℕ) = end_line (length (front ++ node ∷ [])) node.heading.winner ∷ [] in
     record {
-      size = size;
+      preamble = preamble;
       nodes = front ++ node ∷ [];
       winner = node.heading.winner;
       rest = end;
@@ -77,7 +78,7 @@ with_end size front node lines is_size each few same =
         root = record { root = node; last = record { front = front; same = refl }; same = refl };
         count = omega (arith, few);
         same = ap (λ (ls : List (List ℕ)). ls ++ end) same
-            ∙ append_assoc (front_lines size) (flat_map node_lines (front ++ node ∷ [])) end;
+            ∙ append_assoc (front_lines preamble) (flat_map node_lines (front ++ node ∷ [])) end;
       };
       few = few;
     }
@@ -88,52 +89,52 @@ last_split first [] = ([], first, refl)
 last_split first (next ∷ nodes) =
     let rest = last_split next nodes in (first ∷ rest.0, rest.1, ap (λ (ns : List Node). first ∷ ns) rest.2)
 
-completed_nodes : (size : Extent) (nodes : List Node) (lines : List (List ℕ)) → 3 ≤ length lines → IsExtent size.rows size.cols
-    → EachNodeFits size nodes → length nodes ≤ most_nodes → lines ≡ front_lines size ++ flat_map node_lines nodes → Completed lines
-completed_nodes size [] lines long is_size each few same = absurd (omega (arith, ap length same))
-completed_nodes size (first ∷ nodes) lines long is_size each few same =
+completed_nodes : (preamble : Preamble) (nodes : List Node) (lines : List (List ℕ)) → 3 ≤ length lines → IsExtent preamble.size.rows preamble.size.cols
+    → EachNodeFits preamble nodes → length nodes ≤ most_nodes → lines ≡ front_lines preamble ++ flat_map node_lines nodes → Completed lines
+completed_nodes preamble [] lines long is_size each few same = absurd (omega (arith, ap length same))
+completed_nodes preamble (first ∷ nodes) lines long is_size each few same =
     let last = last_split first nodes in
-    with_end size last.0 last.1 lines is_size (subst (EachNodeFits size) last.2 each) (omega (arith, few, ap length last.2))
-    (same ∙ ap (λ (ns : List Node). front_lines size ++ flat_map node_lines ns) last.2)
+    with_end preamble last.0 last.1 lines is_size (subst (EachNodeFits preamble) last.2 each) (omega (arith, few, ap length last.2))
+    (same ∙ ap (λ (ns : List Node). front_lines preamble ++ flat_map node_lines ns) last.2)
 
-completed_begun : (size : Extent) (nodes : List Node) (node : Node) (part rest lines : List (List ℕ)) → IsExtent size.rows size.cols
-    → EachNodeFits size nodes → length nodes < most_nodes → NodeFits size node → node_lines node ≡ part ++ rest
-    → lines ≡ (front_lines size ++ flat_map node_lines nodes) ++ part → Completed lines
-completed_begun size nodes node part rest lines is_size each few fits whole same =
-    let front : List (List ℕ) = front_lines size ++ flat_map node_lines nodes in
-    let longer : lines ++ rest ≡ front_lines size ++ flat_map node_lines (nodes ++ node ∷ []) =
+completed_begun : (preamble : Preamble) (nodes : List Node) (node : Node) (part rest lines : List (List ℕ)) → IsExtent preamble.size.rows preamble.size.cols
+    → EachNodeFits preamble nodes → length nodes < most_nodes → NodeFits preamble node → node_lines node ≡ part ++ rest
+    → lines ≡ (front_lines preamble ++ flat_map node_lines nodes) ++ part → Completed lines
+completed_begun preamble nodes node part rest lines is_size each few fits whole same =
+    let front : List (List ℕ) = front_lines preamble ++ flat_map node_lines nodes in
+    let longer : lines ++ rest ≡ front_lines preamble ++ flat_map node_lines (nodes ++ node ∷ []) =
     ap (λ (ls : List (List ℕ)). ls ++ rest) same ∙ append_assoc front part rest ∙ ap (λ (ls : List (List ℕ)). front ++ ls) (sym whole)
-    ∙ append_assoc (front_lines size) (flat_map node_lines nodes) (node_lines node)
-    ∙ ap (λ (ls : List (List ℕ)). front_lines size ++ ls) (sym (flat_map-push nodes node)) in
+    ∙ append_assoc (front_lines preamble) (flat_map node_lines nodes) (node_lines node)
+    ∙ ap (λ (ls : List (List ℕ)). front_lines preamble ++ ls) (sym (flat_map-push nodes node)) in
     let ended : Completed (lines ++ rest) =
-    with_end size nodes node (lines ++ rest) is_size (EachNodeFits-push size nodes node each fits)
+    with_end preamble nodes node (lines ++ rest) is_size (EachNodeFits-push preamble nodes node each fits)
     (omega (arith, few, length-append nodes (node ∷ []))) longer in
     record {
-      size = ended.size;
+      preamble = ended.preamble;
       nodes = ended.nodes;
       winner = ended.winner;
       rest = rest ++ ended.rest;
-      are = subst (AreTreeLinesOf ended.size ended.nodes ended.winner) (append_assoc lines rest ended.rest) ended.are;
+      are = subst (AreTreeLinesOf ended.preamble ended.nodes ended.winner) (append_assoc lines rest ended.rest) ended.are;
       few = ended.few;
     }
 
 completed : (lines : List (List ℕ)) (nodes : List Node) → 3 ≤ length lines → EndedIn lines nodes → Completed lines
 completed lines nodes long (Before_size none short) = absurd (omega (arith, short))
-completed lines nodes long (Among_nodes size is_size each few same) = completed_nodes size nodes lines long is_size each few same
-completed lines nodes long (Inside_node size is_size each few node fits part rest whole some same) =
-    completed_begun size nodes node part rest lines is_size each few fits whole same
-completed lines nodes long (After_end size winner whole few) = record {
-  size = size;
+completed lines nodes long (Among_nodes preamble is_size each few same) = completed_nodes preamble nodes lines long is_size each few same
+completed lines nodes long (Inside_node preamble is_size each few node fits part rest whole some same) =
+    completed_begun preamble nodes node part rest lines is_size each few fits whole same
+completed lines nodes long (After_end preamble winner whole few) = record {
+  preamble = preamble;
   nodes = nodes;
   winner = winner;
   rest = [];
-  are = subst (AreTreeLinesOf size nodes winner) (sym (append-nil lines)) whole;
+  are = subst (AreTreeLinesOf preamble nodes winner) (sym (append-nil lines)) whole;
   few = few;
 }
 
 -- the lines of too many nodes, up to the first line of the last
 abbrev pub many_lines : {input : List ℕ} → IsTooManyNodes input → List (List ℕ)
-many_lines many = front_lines many.size ++ flat_map node_lines many.nodes ++ head_line (head_of many.next) ∷ []
+many_lines many = front_lines many.preamble ++ flat_map node_lines many.nodes ++ head_line (head_of many.next) ∷ []
 
 abbrev all_of : {input : List ℕ} → IsTooManyNodes input → List Node
 all_of many = many.nodes ++ many.next ∷ []
@@ -143,48 +144,48 @@ many_rest : {input : List ℕ} → IsTooManyNodes input → List (List ℕ)
 many_rest many = map entry_line (entries_of many.next.rule) ++ end_line (length (many.nodes ++ many.next ∷ [])) many.next.heading.winner ∷ []
 
 many_are : {input : List ℕ} (many : IsTooManyNodes input)
-    → many_lines many ++ many_rest many ≡ tree_lines many.size (all_of many) many.next.heading.winner
+    → many_lines many ++ many_rest many ≡ tree_lines many.preamble (all_of many) many.next.heading.winner
 unfolding many_rest
 many_are many =
-    let front : List (List ℕ) = front_lines many.size ++ flat_map node_lines many.nodes in
+    let front : List (List ℕ) = front_lines many.preamble ++ flat_map node_lines many.nodes in
     let end : List (List ℕ) = end_line (length (all_of many)) many.next.heading.winner ∷ [] in
-    ap (λ (ls : List (List ℕ)). ls ++ many_rest many) (sym (append_assoc (front_lines many.size) (flat_map node_lines many.nodes) (head_line (head_of many.next) ∷ [])))
+    ap (λ (ls : List (List ℕ)). ls ++ many_rest many) (sym (append_assoc (front_lines many.preamble) (flat_map node_lines many.nodes) (head_line (head_of many.next) ∷ [])))
     ∙ append_assoc front (head_line (head_of many.next) ∷ []) (many_rest many)
     ∙ sym (append_assoc front (node_lines many.next) end)
     ∙ ap (λ (ls : List (List ℕ)). ls ++ end)
-    (append_assoc (front_lines many.size) (flat_map node_lines many.nodes) (node_lines many.next)
-    ∙ ap (λ (ls : List (List ℕ)). front_lines many.size ++ ls) (sym (flat_map-push many.nodes many.next)))
+    (append_assoc (front_lines many.preamble) (flat_map node_lines many.nodes) (node_lines many.next)
+    ∙ ap (λ (ls : List (List ℕ)). front_lines many.preamble ++ ls) (sym (flat_map-push many.nodes many.next)))
 
 many_whole : {input : List ℕ} (many : IsTooManyNodes input)
-    → AreTreeLinesOf many.size (all_of many) many.next.heading.winner (many_lines many ++ many_rest many)
+    → AreTreeLinesOf many.preamble (all_of many) many.next.heading.winner (many_lines many ++ many_rest many)
 many_whole many =
-    subst (AreTreeLinesOf many.size (all_of many) many.next.heading.winner) (sym (many_are many))
-    (whole_are_of many.size many.nodes many.next many.is_size many.each many.next_fits (omega (arith, many.full)))
+    subst (AreTreeLinesOf many.preamble (all_of many) many.next.heading.winner) (sym (many_are many))
+    (whole_are_of many.preamble many.nodes many.next many.is_size many.each many.next_fits (omega (arith, many.full)))
 
 AllLack-many_lines : {input : List ℕ} (many : IsTooManyNodes input) → AllLack (many_lines many)
 AllLack-many_lines many =
     AllLack-front (many_lines many) (many_rest many)
     (AllLack-tree_lines _
-    (record { size = many.size; nodes = all_of many; winner = many.next.heading.winner; are = many_whole many }))
+    (record { preamble = many.preamble; nodes = all_of many; winner = many.next.heading.winner; are = many_whole many }))
 
 no_end_yet : {input : List ℕ} (many : IsTooManyNodes input) (more : List Node) (rest : List (List ℕ)) (count : ℕ) (winner : Colour) → IsNumber count
     → head_line (head_of many.next) ∷ rest ≡ flat_map node_lines more ++ end_line count winner ∷ [] → 1 ≤ length more
 no_end_yet many [] rest count winner small e =
     let first : head_line (head_of many.next) ≡ end_line count winner = cc in
-    absurd (head_not_end many.size (head_of many.next) count winner many.is_size many.next_fits.head small first)
+    absurd (head_not_end many.preamble (head_of many.next) count winner many.is_size many.next_fits.head small first)
 no_end_yet many (node ∷ more) rest count winner small e = omega arith
 
 -- no text that begins so has as few nodes as a text may have
-more_nodes : {input : List ℕ} (many : IsTooManyNodes input) (size : Extent) (all : List Node) (winner : Colour) (rest : List (List ℕ))
-    → AreTreeLinesOf size all winner (many_lines many ++ rest) → length all ≤ most_nodes → ⊥
-more_nodes many size all winner rest are few =
-    let front : List (List ℕ) = front_lines many.size ++ flat_map node_lines many.nodes in
+more_nodes : {input : List ℕ} (many : IsTooManyNodes input) (preamble : Preamble) (all : List Node) (winner : Colour) (rest : List (List ℕ))
+    → AreTreeLinesOf preamble all winner (many_lines many ++ rest) → length all ≤ most_nodes → ⊥
+more_nodes many preamble all winner rest are few =
+    let front : List (List ℕ) = front_lines many.preamble ++ flat_map node_lines many.nodes in
     let head : List ℕ = head_line (head_of many.next) in
     let same : many_lines many ++ rest ≡ front ++ (head ∷ rest) =
-    ap (λ (ls : List (List ℕ)). ls ++ rest) (sym (append_assoc (front_lines many.size) (flat_map node_lines many.nodes) (head ∷ [])))
+    ap (λ (ls : List (List ℕ)). ls ++ rest) (sym (append_assoc (front_lines many.preamble) (flat_map node_lines many.nodes) (head ∷ [])))
     ∙ append_assoc front (head ∷ []) rest in
-    let on = aligned many.size many.nodes front (head ∷ rest) size all winner many.is_size many.each refl
-    (subst (AreTreeLinesOf size all winner) same are) in
+    let on = aligned many.preamble many.nodes front (head ∷ rest) preamble all winner many.is_size many.each refl
+    (subst (AreTreeLinesOf preamble all winner) same are) in
     let some : 1 ≤ length on.on.more = no_end_yet many on.on.more rest (length all) winner are.count on.on.rest_is in
     absurd (omega (arith, few, some, many.full, ap length on.on.nodes_are, length-append many.nodes on.on.more))
 
@@ -199,14 +200,14 @@ too_many many lines more nodes is ended =
     let whole : Completed lines = completed lines nodes (long_many many lines more is) ended in
     let same : lines ++ whole.rest ≡ many_lines many ++ (more ++ whole.rest) =
     ap (λ (ls : List (List ℕ)). ls ++ whole.rest) is ∙ append_assoc (many_lines many) more whole.rest in
-    more_nodes many whole.size whole.nodes whole.winner (more ++ whole.rest)
-    (subst (AreTreeLinesOf whole.size whole.nodes whole.winner) same whole.are) whole.few
+    more_nodes many whole.preamble whole.nodes whole.winner (more ++ whole.rest)
+    (subst (AreTreeLinesOf whole.preamble whole.nodes whole.winner) same whole.are) whole.few
 
 -- the rest of the lines of too many nodes
 goes_to_end : {input : List ℕ} (many : IsTooManyNodes input) (lines more : List (List ℕ)) → many_lines many ≡ lines ++ more
-    → AreTreeLinesOf many.size (all_of many) many.next.heading.winner (lines ++ (more ++ many_rest many))
+    → AreTreeLinesOf many.preamble (all_of many) many.next.heading.winner (lines ++ (more ++ many_rest many))
 goes_to_end many lines more is =
-    subst (AreTreeLinesOf many.size (all_of many) many.next.heading.winner)
+    subst (AreTreeLinesOf many.preamble (all_of many) many.next.heading.winner)
     (ap (λ (ls : List (List ℕ)). ls ++ many_rest many) is ∙ append_assoc lines more (many_rest many))
     (many_whole many)
 
@@ -222,7 +223,7 @@ many_not_wrong_by : {input : List ℕ} (many : IsTooManyNodes input) (k : ℕ) (
 many_not_wrong_by many k is (Second_goes_on more same rest) = too_many many is.lines more is.nodes same is.ended
 many_not_wrong_by many k is (First_goes_on more same rest) =
     wrong_within many is.nodes k
-    (ended_first is.lines (more ++ many_rest many) is.nodes (all_of many) many.size many.next.heading.winner is.ended
+    (ended_first is.lines (more ++ many_rest many) is.nodes (all_of many) many.preamble many.next.heading.winner is.ended
     (goes_to_end many is.lines more same)) is.wrong (omega (arith, is.last, few_ended is.lines is.nodes is.ended))
 
 pub many_not_wrong : (input : List ℕ) (k : ℕ) → IsTooManyNodes input → IsNoNode input k → ⊥
@@ -246,7 +247,7 @@ many_not_fault_at many line is [] same rest =
     is.ended
 many_not_fault_at {input} many line is (next ∷ more) same rest =
     no_next input line is.fault next more (more ++ many_rest many) many.rest rest
-    (record { size = many.size; nodes = all_of many; winner = many.next.heading.winner; are = goes_to_end many is.fault.before (next ∷ more) same })
+    (record { preamble = many.preamble; nodes = all_of many; winner = many.next.heading.winner; are = goes_to_end many is.fault.before (next ∷ more) same })
 
 many_not_fault_by : {input : List ℕ} (many : IsTooManyNodes input) (line : ℕ) (is : IsNoText input line)
     → Agree (many_lines many) is.fault.before many.rest is.fault.rest → ⊥
@@ -266,10 +267,10 @@ valid_not_fault_at : {input : List ℕ} {nodes : List Node} (text : IsTreeText i
 unfolding text_of
 valid_not_fault_at {input} {nodes} text line fault [] same rest =
     fault.not_whole rest (subst AreTreeLines (same ∙ append-nil fault.before)
-    (record { size = text.size; nodes = nodes; winner = text.winner; are = text.are }))
+    (record { preamble = text.preamble; nodes = nodes; winner = text.winner; are = text.are }))
 valid_not_fault_at {input} {nodes} text line fault (next ∷ more) same rest =
     no_next input line fault next more more [] rest
-    (subst AreTreeLines same (record { size = text.size; nodes = nodes; winner = text.winner; are = text.are }))
+    (subst AreTreeLines same (record { preamble = text.preamble; nodes = nodes; winner = text.winner; are = text.are }))
 
 front_whole : {input : List ℕ} {nodes : List Node} (text : IsTreeText input nodes) (line : ℕ)
     (fault : IsFaultyLine AreTreeLines input line) (more : List (List ℕ))
@@ -286,7 +287,7 @@ valid_not_fault_by text line fault (Second_goes_on more same rest) = front_whole
 valid_not_fault_by text line fault (First_goes_on more same rest) = valid_not_fault_at text line fault more same rest
 
 AllLack-text : {input : List ℕ} {nodes : List Node} (text : IsTreeText input nodes) → AllLack text.lines
-AllLack-text {input} {nodes} text = AllLack-tree_lines text.lines (record { size = text.size; nodes = nodes; winner = text.winner; are = text.are })
+AllLack-text {input} {nodes} text = AllLack-tree_lines text.lines (record { preamble = text.preamble; nodes = nodes; winner = text.winner; are = text.are })
 
 pub text_not_fault : (input : List ℕ) (nodes : List Node) (line : ℕ) → IsTreeText input nodes → IsNoText input line → ⊥
 text_not_fault input nodes line text is =
@@ -299,11 +300,11 @@ within_text : {input : List ℕ} {nodes : List Node} (text : IsTreeText input no
     → EndedIn lines some → Agree text.lines lines [] rest → GoOn some nodes
 unfolding text_of
 within_text {input} {nodes} text lines rest some ended (First_goes_on more same left) =
-    ended_first lines more some nodes text.size text.winner ended
-    (subst (AreTreeLinesOf text.size nodes text.winner) same text.are)
+    ended_first lines more some nodes text.preamble text.winner ended
+    (subst (AreTreeLinesOf text.preamble nodes text.winner) same text.are)
 within_text {input} {nodes} text lines rest some ended (Second_goes_on [] same left) =
-    ended_first lines [] some nodes text.size text.winner ended
-    (subst (AreTreeLinesOf text.size nodes text.winner) (sym (append-nil text.lines) ∙ sym same ∙ sym (append-nil lines))
+    ended_first lines [] some nodes text.preamble text.winner ended
+    (subst (AreTreeLinesOf text.preamble nodes text.winner) (sym (append-nil text.lines) ∙ sym same ∙ sym (append-nil lines))
     text.are)
 within_text {input} {nodes} text lines rest some ended (Second_goes_on (next ∷ more) same left) =
     absurd (ended-some next (text_of more ++ rest) (sym (append_assoc next (10 ∷ text_of more) rest) ∙ sym left))
@@ -322,10 +323,10 @@ text_not_many_by : {input : List ℕ} {nodes : List Node} (text : IsTreeText inp
     → (many : IsTooManyNodes input) → Agree (many_lines many) text.lines many.rest [] → ⊥
 unfolding text_of
 text_not_many_by {input} {nodes} text few many (Second_goes_on more same left) =
-    more_nodes many text.size nodes text.winner more (subst (AreTreeLinesOf text.size nodes text.winner) same text.are) few
+    more_nodes many text.preamble nodes text.winner more (subst (AreTreeLinesOf text.preamble nodes text.winner) same text.are) few
 text_not_many_by {input} {nodes} text few many (First_goes_on [] same left) =
-    more_nodes many text.size nodes text.winner []
-    (subst (AreTreeLinesOf text.size nodes text.winner)
+    more_nodes many text.preamble nodes text.winner []
+    (subst (AreTreeLinesOf text.preamble nodes text.winner)
     (sym (append-nil text.lines) ∙ sym same ∙ sym (append-nil (many_lines many))) text.are) few
 text_not_many_by {input} {nodes} text few many (First_goes_on (next ∷ more) same left) =
     absurd (ended-some next (text_of more ++ many.rest) (sym (append_assoc next (10 ∷ text_of more) many.rest) ∙ sym left))

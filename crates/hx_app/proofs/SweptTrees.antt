@@ -8,6 +8,9 @@ use Rattle.hx_board.proofs.EmptyCells.{sweep_size-below, sweep_size-nine}
 use Rattle.hx_tree.specs.declared.nodes.Node.{Node}
 use Rattle.hx_tree.specs.Trees.{IsRoot}
 use Rattle.hx_sweep.specs.Sweeps.{IsSweep}
+use Rattle.hx_text.specs.declared.versions.Version.{Version}
+use Rattle.hx_text.specs.declared.versions.Version.TheVariants.{Two}
+use Rattle.hx_text.specs.Versions.{HasTurned}
 use Rattle.hx_text.specs.TreeTexts.{EachNodeFits, ListsFit}
 use Rattle.hx_text.specs.Places.{most_nodes}
 use Rattle.hx_text.proofs.ValidTrees.{right_nodes_fit, each_lists_fit}
@@ -17,18 +20,25 @@ use Rattle.hx_app.specs.Solving.{IsPositionText, IsSolved, most_empties}
 pub few_nodes : (board : Board) (mover : Colour) (nodes : List Node) → empty_count board ≤ most_empties → IsSweep board mover nodes → length nodes ≤ most_nodes
 few_nodes board mover nodes few sweep = omega (arith, sweep.few, sweep_size-below (empty_count board) 9 few, sweep_size-nine)
 
-sweep_fits : (board : Board) (mover : Colour) (nodes : List Node) → empty_count board ≤ most_empties → IsSweep board mover nodes → EachNodeFits board.size nodes
-sweep_fits board mover nodes few sweep =
-    right_nodes_fit board.size nodes sweep.valid.right (few_nodes board mover nodes few sweep) sweep.size
+-- a list has turned nodes where its version is the second
+abbrev HasVersion : Version → List Node → Type 0
+HasVersion version nodes = (version ≡ Two) ↔ HasTurned nodes
 
-pub sweep_lists_fit : (board : Board) (mover : Colour) (nodes : List Node) → empty_count board ≤ most_empties → IsSweep board mover nodes
-    → All (λ node. ListsFit node.rule) nodes
-sweep_lists_fit board mover nodes few sweep = each_lists_fit board.size nodes (sweep_fits board mover nodes few sweep)
+sweep_fits : (version : Version) (board : Board) (mover : Colour) (nodes : List Node) → empty_count board ≤ most_empties → IsSweep board mover nodes
+    → HasVersion version nodes → EachNodeFits (record { version = version; size = board.size }) nodes
+sweep_fits version board mover nodes few sweep has =
+    right_nodes_fit (record { version = version; size = board.size }) nodes sweep.valid.right (few_nodes board mover nodes few sweep) sweep.size has.1
+
+pub sweep_lists_fit : (version : Version) (board : Board) (mover : Colour) (nodes : List Node) → empty_count board ≤ most_empties → IsSweep board mover nodes
+    → HasVersion version nodes → All (λ node. ListsFit node.rule) nodes
+sweep_lists_fit version board mover nodes few sweep has =
+    each_lists_fit (record { version = version; size = board.size }) nodes (sweep_fits version board mover nodes few sweep has)
 
 pub sweep_solves : (input : List ℕ) (board : Board) (mover : Colour) (solution : Solution) → IsPositionText input board mover
     → empty_count board ≤ most_empties → IsSweep board mover solution.nodes.items → solution.size ≡ board.size
+    → HasVersion solution.version solution.nodes.items
     → ((root : Node) → IsRoot solution.nodes.items root → solution.winner ≡ root.heading.winner) → IsSolved input solution
-sweep_solves input board mover solution text few sweep size winner = record {
+sweep_solves input board mover solution text few sweep size version winner = record {
   board = board;
   mover = mover;
   text = text;
@@ -40,8 +50,9 @@ sweep_solves input board mover solution text few sweep size winner = record {
     position = sweep.position;
     to_move = sweep.to_move;
     few = few_nodes board mover solution.nodes.items few sweep;
-    fits = sweep_fits board mover solution.nodes.items few sweep;
   };
   size = size;
+  version = version;
+  fits = rw size (sweep_fits solution.version board mover solution.nodes.items few sweep version);
   winner = winner sweep.root sweep.last;
 }

@@ -18,7 +18,7 @@ use Rattle.hx_app.specs.declared.commands.Command.{Command}
 use Rattle.hx_app.specs.declared.commands.Command.TheVariants.{Check, Solve}
 use Rattle.hx_app.specs.Commands.{Asks, IsCommand, limit_of}
 use Rattle.hx_app.specs.Judging.{IsYes, IsNoText, IsNoNode, IsTooManyNodes}
-use Rattle.hx_app.specs.Solving.{IsSolved, IsUnknown, IsBadPosition}
+use Rattle.hx_app.specs.Solving.{IsSolved, preamble_of, IsUnknown, IsBadPosition}
 
 -- the line that names a winner
 abbrev pub yes_line : Colour → List ℕ
@@ -38,7 +38,7 @@ nodes_text nodes = flat_map (λ node. text_of (node_lines node)) nodes
 
 -- the text of a solution's tree
 abbrev pub solution_text : Solution → List ℕ
-solution_text solution = written_tree solution.size solution.nodes.items solution.winner
+solution_text solution = written_tree (preamble_of solution) solution.nodes.items solution.winner
 
 -- the tree of a solution is within the limits of a text
 abbrev pub CanBeWritten : Answer → Type 0

@@ -3,30 +3,31 @@ use Rattle.std.specs.Prelude.{◌≡◌, ◌≢◌, ℕ, ◌+◌, ◌<◌, ◌�
 use Rattle.std.specs.declared.option.Option.{Option}
 use Rattle.std.specs.declared.option.Option.TheVariants.{None, Some}
 use Rattle.hx_board.specs.declared.colours.Colour.{Colour}
-use Rattle.hx_board.specs.Cells.{Extent, IsExtent}
+use Rattle.hx_board.specs.Cells.{IsExtent}
 use Rattle.hx_tree.specs.declared.nodes.Heading.{Heading}
 use Rattle.hx_tree.specs.declared.nodes.Node.{Node}
 use Rattle.hx_tree.specs.Rules.{IsRightNode}
 use Rattle.hx_tree.specs.Trees.{AreRight, IsValidTree, IsRoot, IsLeastWrong, headings_of}
 use Rattle.hx_app.specs.declared.answers.Answer.{Answer}
 use Rattle.hx_app.specs.declared.answers.Answer.TheVariants.{Yes, NoText, NoNode, Solved, UnknownSweep, BadPosition, BadWords, ReadFault, OutOfMemory, TooLong}
-use Rattle.hx_text.specs.declared.places.Place.TheVariants.{After}
+use Rattle.hx_text.specs.declared.versions.Preamble.{Preamble}
 use Rattle.hx_text.specs.declared.reader.TreeReader.{TreeReader}
 use Rattle.hx_text.specs.Grammars.{text_of, Begins, IsFaultyLine}
 use Rattle.hx_text.specs.TreeTexts.{AreTreeLines, AreTreeLinesOf, IsTreeText, NodeFits, EachNodeFits, head_of, head_line, node_lines, front_lines}
-use Rattle.hx_text.specs.Places.{most_nodes}
+use Rattle.hx_text.specs.Places.{most_nodes, IsAfter}
 use Rattle.hx_text.specs.Reader.{HasRead, lines_fed}
 
 -- the nodes that ended in these lines, with which the text of a tree begins that has no more nodes than a text may have
 pub data EndedIn (lines : List (List ℕ)) (nodes : List Node) : Type 0 where
   Before_size : nodes ≡ [] → length lines ≤ 1 → EndedIn lines nodes
-  Among_nodes : (size : Extent) → IsExtent size.rows size.cols → EachNodeFits size nodes → length nodes ≤ most_nodes
-      → lines ≡ front_lines size ++ flat_map node_lines nodes → EndedIn lines nodes
+  Among_nodes : (preamble : Preamble) → IsExtent preamble.size.rows preamble.size.cols → EachNodeFits preamble nodes
+      → length nodes ≤ most_nodes → lines ≡ front_lines preamble ++ flat_map node_lines nodes → EndedIn lines nodes
   -- a further node has begun and has not all of its lines
-  Inside_node : (size : Extent) → IsExtent size.rows size.cols → EachNodeFits size nodes → length nodes < most_nodes
-      → (node : Node) → NodeFits size node → (part rest : List (List ℕ)) → node_lines node ≡ part ++ rest → rest ≢ []
-      → lines ≡ (front_lines size ++ flat_map node_lines nodes) ++ part → EndedIn lines nodes
-  After_end : (size : Extent) (winner : Colour) → AreTreeLinesOf size nodes winner lines → length nodes ≤ most_nodes → EndedIn lines nodes
+  Inside_node : (preamble : Preamble) → IsExtent preamble.size.rows preamble.size.cols → EachNodeFits preamble nodes
+      → length nodes < most_nodes → (node : Node) → NodeFits preamble node → (part rest : List (List ℕ)) → node_lines node ≡ part ++ rest → rest ≢ []
+      → lines ≡ (front_lines preamble ++ flat_map node_lines nodes) ++ part → EndedIn lines nodes
+  After_end : (preamble : Preamble) (winner : Colour) → AreTreeLinesOf preamble nodes winner lines → length nodes ≤ most_nodes
+      → EndedIn lines nodes
 
 -- the input is the text of a valid tree with this root
 pub record IsYes (input : List ℕ) (heading : Heading) : Type 0 where
@@ -58,16 +59,16 @@ pub record IsNoNode (input : List ℕ) (k : ℕ) : Type 0 where
 
 -- as many right nodes as a text may have, and then the first line of one more
 pub record IsTooManyNodes (input : List ℕ) : Type 0 where
-  pub size : Extent
-  pub is_size : IsExtent size.rows size.cols
+  pub preamble : Preamble
+  pub is_size : IsExtent preamble.size.rows preamble.size.cols
   pub nodes : List Node
-  pub each : EachNodeFits size nodes
+  pub each : EachNodeFits preamble nodes
   pub right : AreRight nodes
   pub full : length nodes ≡ most_nodes
   pub next : Node
-  pub next_fits : NodeFits size next
+  pub next_fits : NodeFits preamble next
   pub rest : List ℕ
-  pub parts : input ≡ text_of (front_lines size ++ flat_map node_lines nodes ++ head_line (head_of next) ∷ []) ++ rest
+  pub parts : input ≡ text_of (front_lines preamble ++ flat_map node_lines nodes ++ head_line (head_of next) ∷ []) ++ rest
 
 -- what each answer says of the input
 abbrev pub IsJudged : List ℕ → Answer → Type 0
@@ -95,7 +96,7 @@ pub record JudgedUpTo (input : List ℕ) (reader : TreeReader) (headings : List 
 
 -- whether the reader has read the last line of a text
 abbrev pub HasReadAll : TreeReader → Type 0
-HasReadAll reader = reader.place ≡ After
+HasReadAll reader = IsAfter reader.place
 
 -- what judging one more node answers: nothing where it is right and its heading was kept
 abbrev pub AnswersNode : List Heading → Node → List Heading → Option Answer → Type 0

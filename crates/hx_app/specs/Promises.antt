@@ -1,11 +1,13 @@
 -- What a run is good for: who is named wins, and each input gets its answer.
-use Rattle.std.specs.Prelude.{◌≡◌, ◌⊎◌, ℕ, ◌<◌, ◌≤◌, List, length, Option}
+use Rattle.std.specs.Prelude.{◌≡◌, ◌↔◌, ◌⊎◌, ℕ, ◌<◌, ◌≤◌, List, length, Option}
 use Rattle.hx_io.specs.Sinks.{append}
 use Rattle.hx_board.specs.declared.colours.Colour.{Colour}
 use Rattle.hx_board.specs.Positions.{Board}
 use Rattle.hx_board.specs.Counts.{empty_count}
 use Rattle.hx_tree.specs.declared.nodes.Node.{Node}
 use Rattle.hx_tree.specs.Trees.{IsValidTree, IsRoot}
+use Rattle.hx_text.specs.declared.versions.Version.TheVariants.{Two}
+use Rattle.hx_text.specs.Versions.{HasTurned}
 use Rattle.hx_text.specs.TreeTexts.{IsTreeText}
 use Rattle.hx_text.specs.Places.{most_nodes}
 use Rattle.hx_proof.specs.Winners.{OnlyWinner}
@@ -45,7 +47,8 @@ AnswersUnlessStopped answer taken_before taken_now status =
     ((status ≡ status_of answer) × (taken_now ≡ append taken_before (answer_text answer))) ⊎ ((status ≡ 5) ⊎ ((status ≡ 6) ⊎ (status ≡ 7)))
 
 -- The input is the text of a position, the output is the text of a valid tree of that position and mover, and the root's
--- winner, which its last line names, wins and the other does not.
+-- winner, which its last line names, wins and the other does not. The text is of the first version where no node is turned,
+-- and else of the second.
 pub record SaysSolved (input : List ℕ) (taken_before taken_now : Option (List ℕ)) : Type 0 where
   pub board : Board
   pub mover : Colour
@@ -59,6 +62,7 @@ pub record SaysSolved (input : List ℕ) (taken_before taken_now : Option (List 
   pub to_move : root.heading.to_move ≡ mover
   pub tree : List ℕ
   pub is_text : IsTreeText tree nodes
+  pub version : (is_text.preamble.version ≡ Two) ↔ HasTurned nodes
   pub output : taken_now ≡ append taken_before tree
   pub wins : OnlyWinner root.heading
 

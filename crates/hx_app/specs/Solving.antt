@@ -1,10 +1,13 @@
 -- What is said of the text of a position: who wins, by a tree; or that there is no such text, or too many empty cells.
-use Rattle.std.specs.Prelude.{◌≡◌, ℕ, ◌<◌, ◌≤◌, List, length}
+use Rattle.std.specs.Prelude.{◌≡◌, ◌↔◌, ℕ, ◌<◌, ◌≤◌, List, length}
 use Rattle.hx_board.specs.declared.colours.Colour.{Colour}
 use Rattle.hx_board.specs.Positions.{Board, IsBoard}
 use Rattle.hx_board.specs.Counts.{empty_count}
 use Rattle.hx_tree.specs.declared.nodes.Node.{Node}
 use Rattle.hx_tree.specs.Trees.{IsValidTree, IsRoot}
+use Rattle.hx_text.specs.declared.versions.Preamble.{Preamble}
+use Rattle.hx_text.specs.declared.versions.Version.TheVariants.{Two}
+use Rattle.hx_text.specs.Versions.{HasTurned}
 use Rattle.hx_text.specs.Grammars.{IsFaultyLine}
 use Rattle.hx_text.specs.PositionTexts.{ArePositionLines, position_text}
 use Rattle.hx_text.specs.TreeTexts.{EachNodeFits}
@@ -29,9 +32,13 @@ pub record IsTreeOf (board : Board) (mover : Colour) (nodes : List Node) (root :
   pub position : root.heading.position ≡ board
   pub to_move : root.heading.to_move ≡ mover
   pub few : length nodes ≤ most_nodes
-  pub fits : EachNodeFits board.size nodes
 
--- the input is the text of a position with few empty cells, and the solution is a tree of it, with its root's winner
+-- what the lines before the nodes say in the text of a solution's tree
+abbrev pub preamble_of : Solution → Preamble
+preamble_of solution = record { version = solution.version; size = solution.size }
+
+-- the input is the text of a position with few empty cells, and the solution is a tree of it, with its root's winner and the
+-- version of its text, which is the second exactly where some node is turned
 pub record IsSolved (input : List ℕ) (solution : Solution) : Type 0 where
   pub board : Board
   pub mover : Colour
@@ -40,6 +47,8 @@ pub record IsSolved (input : List ℕ) (solution : Solution) : Type 0 where
   pub root : Node
   pub tree : IsTreeOf board mover solution.nodes.items root
   pub size : solution.size ≡ board.size
+  pub version : (solution.version ≡ Two) ↔ HasTurned solution.nodes.items
+  pub fits : EachNodeFits (preamble_of solution) solution.nodes.items
   pub winner : solution.winner ≡ root.heading.winner
 
 -- the input is the text of a position with so many empty cells

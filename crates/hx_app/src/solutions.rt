@@ -10,12 +10,14 @@ ghost use Rattle.hx_app.specs.Answers.{nodes_text, solution_text};
 
 use hx_board::{Colour, Size};
 use hx_io::{Failed, Sink};
-use hx_text::{write_end, write_heading, write_node};
+use hx_text::{Version, write_end, write_heading, write_node};
 use hx_tree::Node;
 
-/// The winner of a position, and the nodes of a tree that proves it, the last of which is of that position.
+/// The winner of a position, the nodes of a tree that proves it, the last of which is of that position, and the version of the
+/// tree's text.
 #[derive(Debug, Drop, PartialEq, Eq)]
 pub struct Solution {
+    pub version: Version,
     pub size: Size,
     pub winner: Colour,
     pub nodes: Vec<Node>,
@@ -30,7 +32,7 @@ pub(crate) fn write_solution<K: Sink>(sink: &mut K, solution: &Solution) -> Resu
         (solution_text solution.now) }
     ensures cause { HasCause (K.faults sink.old) (K.faults sink.new) result }
 {
-    match write_heading(sink, solution.size) {
+    match write_heading(sink, solution.version, solution.size) {
         Ok(()) => {}
         Err(Failed) => return Err(Failed),
     }

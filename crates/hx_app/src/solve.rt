@@ -10,7 +10,7 @@ use crate::answers::Answer;
 use crate::solutions::Solution;
 use hx_board::{Colour, Memory};
 use hx_sweep::sweep;
-use hx_text::read_position;
+use hx_text::{read_position, version_of};
 use hx_tree::Node;
 use std::alloc::Global;
 
@@ -32,6 +32,7 @@ pub(crate) fn solve(alloc: Global, input: &[u8]) -> Answer
     }
     match sweep(alloc, &position, to_move) {
         Ok(nodes) => Answer::Solved(Solution {
+            version: version_of(&nodes),
             size: position.size(),
             winner: root_winner(&nodes),
             nodes,

@@ -15,14 +15,16 @@ use Rattle.hx_tree.specs.declared.nodes.Line.{Line}
 use Rattle.hx_tree.specs.declared.nodes.Line.TheVariants.{Child, Under}
 use Rattle.hx_tree.specs.declared.nodes.Node.{Node}
 use Rattle.hx_tree.specs.declared.nodes.Rule.{Rule}
-use Rattle.hx_tree.specs.declared.nodes.Rule.TheVariants.{Chain, Links, Move, All, Fill}
+use Rattle.hx_tree.specs.declared.nodes.Rule.TheVariants.{Chain, Links, Move, All, Fill, Turned}
 use Rattle.hx_tree.specs.Headings.{IsHeading}
 use Rattle.hx_tree.specs.Steps.{IsInEachThreat, IsOutsideThreat}
 use Rattle.hx_tree.specs.Answers.{cell_of, cells_of, IsRightLine, IsRightAll}
+use Rattle.hx_tree.specs.Turns.{IsTurnedHeading}
 use Rattle.hx_tree.specs.Rules.{IsRightRule, IsRightNode}
 use Rattle.hx_tree.specs.Trees.{headings_of, AreRight, IsValidTree, IsRoot}
 use Rattle.hx_board.proofs.ListLaws.{of_contained, get-push_last}
 use Rattle.hx_tree.proofs.ThreatLaws.{shared_or_outside}
+use Rattle.hx_turn.proofs.TurnedGames.{keeps_winner}
 use Rattle.hx_proof.specs.Winners.{HeadingWins, OnlyWinner, AllWin}
 use Rattle.hx_proof.proofs.LinkSoundness.{right_steps_give_what_holds, right_links_win}
 use Rattle.hx_proof.proofs.ThreatSoundness.{threat_left_whole_wins}
@@ -33,6 +35,14 @@ use Rattle.hx_proof.proofs.UnderSoundness.{wins_under}
 child_wins : (child : Option Heading) (board : Board) (mover winner : Colour) → IfSome child HeadingWins → IsSomeAnd child (IsHeading board mover winner) → Wins winner board mover
 child_wins None board mover winner wins leads = absurd leads
 child_wins (Some child) board mover winner wins leads = rw (← leads.same_position, ← leads.same_mover, ← leads.same_winner) wins
+
+-- who wins the turned position wins the position
+turned_wins : (child : Option Heading) (heading : Heading) → IsBoard heading.position → IfSome child HeadingWins
+    → IsSomeAnd child (IsTurnedHeading heading) → HeadingWins heading
+turned_wins None heading is wins turned = absurd turned
+turned_wins (Some child) heading is wins turned =
+    let turned_won : Wins heading.winner child.position heading.to_move = rw (← turned.same_mover, ← turned.same_winner) wins in
+    (keeps_winner heading.position heading.to_move heading.winner child.position is turned.turned).1 turned_won
 
 -- ---- a right node that answers each move
 
@@ -88,6 +98,7 @@ rule_wins before heading (Move cell child) is wins right =
 rule_wins before heading (All steps threats lines) is wins right = all_wins before heading steps threats lines is wins right
 rule_wins before heading (Fill steps child) is wins right =
     fills_win heading.position is heading.winner steps right.right heading.to_move (child_wins _ _ _ _ (wins child) right.leads)
+rule_wins before heading (Turned child) is wins right = turned_wins _ heading is (wins child) right
 
 pub node_wins : (before : List Heading) (node : Node) → ((k : ℕ) → IfSome (slice_get before k) HeadingWins) → IsRightNode before node → HeadingWins node.heading
 node_wins before node wins right = rule_wins before node.heading node.rule right.board wins right.rule

@@ -5,7 +5,7 @@ use Rattle.hx_tree.specs.declared.nodes.Line.{Line}
 use Rattle.hx_tree.specs.declared.nodes.Line.TheVariants.{Child, Under}
 use Rattle.hx_tree.specs.declared.nodes.Node.{Node}
 use Rattle.hx_tree.specs.declared.nodes.Rule.{Rule}
-use Rattle.hx_tree.specs.declared.nodes.Rule.TheVariants.{Chain, Links, Move, All as Answers, Fill}
+use Rattle.hx_tree.specs.declared.nodes.Rule.TheVariants.{Chain, Links, Move, All as Answers, Fill, Turned}
 
 -- the line answers its cell by a child
 abbrev pub IsChildLine : Line → Type 0
@@ -19,6 +19,7 @@ IsByMoves (Links steps) = ⊥
 IsByMoves (Move cell child) = Unit {0}
 IsByMoves (Answers steps threats lines) = (steps ≡ []) × (threats ≡ []) × All IsChildLine lines
 IsByMoves (Fill steps child) = ⊥
+IsByMoves (Turned child) = ⊥
 
 -- each node is by moves alone
 abbrev pub AreByMoves : List Node → Type 0

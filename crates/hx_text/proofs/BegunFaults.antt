@@ -10,6 +10,7 @@ use Rattle.hx_text.specs.declared.entries.Entry.{Entry}
 use Rattle.hx_text.specs.declared.node_lines.Opening.{Opening}
 use Rattle.hx_text.specs.declared.node_lines.Head.{Head}
 use Rattle.hx_text.specs.declared.begun_nodes.Begun.{Begun}
+use Rattle.hx_text.specs.declared.versions.Preamble.{Preamble}
 use Rattle.hx_text.specs.Words.{IsNumber}
 use Rattle.hx_text.specs.Grammars.{Begins}
 use Rattle.hx_text.specs.Entries.{entry_line, kind_of, EntryFits, EachEntryFits, IsEntryLine, entries_of, opening_of, entries_told, kind_at}
@@ -57,24 +58,24 @@ next_of_rule size done opening rule line xs ys less same fits e =
       same = at.same;
     }
 
-next_of_nodes : (size : Extent) (head : Head) (done : List Entry) (line : List ℕ) (rest : List (List ℕ)) (more : List Node) (count : ℕ)
-    (winner : Colour) → IsExtent size.rows size.cols → HeadFits size head → IsNumber count → length done < entries_told head.opening
-    → EachNodeFits size more
+next_of_nodes : (preamble : Preamble) (head : Head) (done : List Entry) (line : List ℕ) (rest : List (List ℕ)) (more : List Node) (count : ℕ)
+    (winner : Colour) → IsExtent preamble.size.rows preamble.size.cols → HeadFits preamble head → IsNumber count → length done < entries_told head.opening
+    → EachNodeFits preamble more
     → head_line head ∷ (map entry_line done ++ line ∷ rest) ≡ flat_map node_lines more ++ end_line count winner ∷ []
-    → IsNext size head.opening (length done) line
-next_of_nodes size head done line rest [] count winner extent fits_head small less fits e =
+    → IsNext preamble.size head.opening (length done) line
+next_of_nodes preamble head done line rest [] count winner extent fits_head small less fits e =
     let first : head_line head ≡ end_line count winner = cc in
-    absurd (head_not_end size head count winner extent fits_head small first)
-next_of_nodes size head done line rest (node ∷ more) count winner extent fits_head small less fits e =
+    absurd (head_not_end preamble head count winner extent fits_head small first)
+next_of_nodes preamble head done line rest (node ∷ more) count winner extent fits_head small less fits e =
     let first : head_line head ≡ head_line (head_of node) = cc in
     let later : List (List ℕ) = flat_map node_lines more ++ end_line count winner ∷ [] in
     let tails : map entry_line done ++ line ∷ rest ≡ (map entry_line (entries_of node.rule) ++ flat_map node_lines more) ++ end_line count winner ∷ [] = cc in
-    let heads : head ≡ head_of node = head_injective size head (head_of node) extent fits_head fits.0.head first in
-    next_of_rule size done head.opening node.rule line rest later less (ap (λ (h : Head). h.opening) heads) fits.0.entries
+    let heads : head ≡ head_of node = head_injective preamble head (head_of node) extent fits_head fits.0.head first in
+    next_of_rule preamble.size done head.opening node.rule line rest later less (ap (λ (h : Head). h.opening) heads) fits.0.entries
     (tails ∙ append_assoc (map entry_line (entries_of node.rule)) (flat_map node_lines more) (end_line count winner ∷ []))
 
 pub inside_wrong : (begun : Begun) (line : List ℕ) (nodes : List Node) (lines : List (List ℕ))
-    → ((entry : Entry) → IsEntryLine begun.so_far.size (kind_due begun) entry → line ≡ entry_line entry → ⊥)
+    → ((entry : Entry) → IsEntryLine begun.so_far.preamble.size (kind_due begun) entry → line ≡ entry_line entry → ⊥)
     → StandsInside begun nodes lines → Begins AreTreeLines (lines ++ line ∷ []) → ⊥
 inside_wrong begun line nodes lines no_entry inside begins =
     let stands = inside.begun_so in
@@ -83,10 +84,10 @@ inside_wrong begun line nodes lines no_entry inside begins =
     let same : (lines ++ line ∷ []) ++ begins.0 ≡ stands.before ++ later =
     append_assoc lines (line ∷ []) begins.0 ∙ ap (λ (ls : List (List ℕ)). ls ++ line ∷ begins.0) stands.same
     ∙ append_assoc stands.before (head_line begun.head ∷ map entry_line done) (line ∷ begins.0) in
-    let on = aligned begun.so_far.size nodes stands.before later begins.1.size begins.1.nodes begins.1.winner stands.stands.is_size
-    stands.stands.each stands.stands.same (subst (AreTreeLinesOf begins.1.size begins.1.nodes begins.1.winner) same begins.1.are) in
+    let on = aligned begun.so_far.preamble nodes stands.before later begins.1.preamble begins.1.nodes begins.1.winner stands.stands.is_size
+    stands.stands.each stands.stands.same (subst (AreTreeLinesOf begins.1.preamble begins.1.nodes begins.1.winner) same begins.1.are) in
     let less : length done < entries_told begun.head.opening =
     omega (arith, length-entries_for begun.steps.items begun.threats.items begun.lines.items begun.fills.items, stands.in_order.missing, inside.lacks) in
-    let next = next_of_nodes begun.so_far.size begun.head done line begins.0 on.on.more (length begins.1.nodes) begins.1.winner
+    let next = next_of_nodes begun.so_far.preamble begun.head done line begins.0 on.on.more (length begins.1.nodes) begins.1.winner
     stands.stands.is_size stands.head begins.1.are.count less on.on.fits on.on.rest_is in
     no_entry next.entry (next.fits, next.kind ∙ sym (kind_due-at begun stands.in_order)) next.same

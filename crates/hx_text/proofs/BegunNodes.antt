@@ -20,6 +20,7 @@ use Rattle.hx_text.specs.declared.entries.Entry.{Entry}
 use Rattle.hx_text.specs.declared.begun_nodes.Begun.{Begun}
 use Rattle.hx_text.specs.declared.node_lines.Head.{Head}
 use Rattle.hx_text.specs.declared.node_lines.Opening.{Opening}
+use Rattle.hx_text.specs.declared.versions.Preamble.{Preamble}
 use Rattle.hx_text.specs.Words.{IsNumber}
 use Rattle.hx_text.specs.Entries.{entry_line, EachEntryFits, entries_for, entries_of, steps_told, threats_told, answers_told, fills_told, rule_for}
 use Rattle.hx_text.specs.TreeTexts.{AreTreeLines, AreTreeLinesOf, NodeFits, EachNodeFits, HeadFits, head_of, head_line, node_lines, front_lines, end_line}
@@ -30,15 +31,15 @@ use Rattle.hx_text.proofs.Alignment.{aligned}
 use Rattle.hx_text.proofs.BegunSteps.{no_threats_yet, no_answers_before_steps, no_fills_before_steps, no_answers_before_threats, no_fills_before_threats, no_fills_before_answers}
 
 -- the lines are those of these nodes, and then some lines of one node, and not all of them
-pub record EndsInNode (size : Extent) (nodes : List Node) (lines : List (List ℕ)) : Type 0 where
+pub record EndsInNode (preamble : Preamble) (nodes : List Node) (lines : List (List ℕ)) : Type 0 where
   pub node : Node
-  pub fits : NodeFits size node
+  pub fits : NodeFits preamble node
   pub part : List (List ℕ)
   pub rest : List (List ℕ)
   pub begun : part ≢ []
   pub lacks : rest ≢ []
   pub parts : node_lines node ≡ part ++ rest
-  pub same : lines ≡ (front_lines size ++ flat_map node_lines nodes) ++ part
+  pub same : lines ≡ (front_lines preamble ++ flat_map node_lines nodes) ++ part
 
 -- what stands in for an entry that is missing
 any_step : Step
@@ -215,7 +216,7 @@ module _ (begun : Begun) (order : IsInOrder begun) where
       (cases_lt (length begun.steps.items) told_steps)
 
 -- a head and a rule for it whose lists are as long as it tells
-module _ (size : Extent) (head : Head) (steps : List Step) (threats : List ℕ) (lines : List Line) (fills : List FillStep) (fits : HeadFits size head)
+module _ (preamble : Preamble) (head : Head) (steps : List Step) (threats : List ℕ) (lines : List Line) (fills : List FillStep) (fits : HeadFits preamble head)
     (s : length steps ≡ steps_told head.opening) (t : length threats ≡ threats_told head.opening) (l : length lines ≡ answers_told head.opening)
     (f : length fills ≡ fills_told head.opening) where
   node_for : Node
@@ -231,7 +232,7 @@ module _ (size : Extent) (head : Head) (steps : List Step) (threats : List ℕ) 
   unfolding node_for
   entries_of-node_for = entries_of-rule_for head.opening steps threats lines fills s t l f
 
-  node_for-fits : EachEntryFits size (entries_for steps threats lines fills) → NodeFits size node_for
+  node_for-fits : EachEntryFits preamble.size (entries_for steps threats lines fills) → NodeFits preamble node_for
   node_for-fits each = record { head = rw head_of-node_for fits; entries = rw entries_of-node_for each }
 
   node_lines-node_for : node_lines node_for ≡ head_line head ∷ map entry_line (entries_for steps threats lines fills)
@@ -239,12 +240,12 @@ module _ (size : Extent) (head : Head) (steps : List Step) (threats : List ℕ) 
       ∙ ap (λ (es : List Entry). head_line head ∷ map entry_line es) entries_of-node_for
 
 pub inside_begins_node : (begun : Begun) (nodes : List Node) (lines : List (List ℕ)) → StandsInside begun nodes lines
-    → EndsInNode begun.so_far.size nodes lines
+    → EndsInNode begun.so_far.preamble nodes lines
 unfolding stand_ins
 inside_begins_node begun nodes lines inside =
     let stands = inside.begun_so in
     let order = stands.in_order in
-    let size : Extent = begun.so_far.size in
+    let preamble : Preamble = begun.so_far.preamble in
     let s : length (all_steps begun) ≡ steps_told begun.head.opening =
     omega (arith, length-append begun.steps.items (stand_ins begun).steps, length-replicate (steps_told begun.head.opening - length begun.steps.items) any_step, order.steps) in
     let t : length (all_threats begun) ≡ threats_told begun.head.opening =
@@ -253,53 +254,53 @@ inside_begins_node begun nodes lines inside =
     omega (arith, length-append begun.lines.items (stand_ins begun).lines, length-replicate (answers_told begun.head.opening - length begun.lines.items) any_answer, order.answers) in
     let f : length (all_fills begun) ≡ fills_told begun.head.opening =
     omega (arith, length-append begun.fills.items (stand_ins begun).fills, length-replicate (fills_told begun.head.opening - length begun.fills.items) any_fill, order.fills) in
-    let each : EachEntryFits size (entries_for (all_steps begun) (all_threats begun) (all_lines begun) (all_fills begun)) =
-    subst (EachEntryFits size) (sym (whole_entries begun order))
-    (EachEntryFits-append size (entries_in begun) (rest_of begun) stands.each (rest_fits begun size stands.stands.is_size)) in
+    let each : EachEntryFits preamble.size (entries_for (all_steps begun) (all_threats begun) (all_lines begun) (all_fills begun)) =
+    subst (EachEntryFits preamble.size) (sym (whole_entries begun order))
+    (EachEntryFits-append preamble.size (entries_in begun) (rest_of begun) stands.each (rest_fits begun preamble.size stands.stands.is_size)) in
     record {
-      node = node_for size begun.head (all_steps begun) (all_threats begun) (all_lines begun) (all_fills begun) stands.head s t l f;
-      fits = node_for-fits size begun.head (all_steps begun) (all_threats begun) (all_lines begun) (all_fills begun) stands.head s t l f each;
+      node = node_for preamble begun.head (all_steps begun) (all_threats begun) (all_lines begun) (all_fills begun) stands.head s t l f;
+      fits = node_for-fits preamble begun.head (all_steps begun) (all_threats begun) (all_lines begun) (all_fills begun) stands.head s t l f each;
       part = head_line begun.head ∷ map entry_line (entries_in begun);
       rest = map entry_line (rest_of begun);
       begun = λ none. cc;
       lacks = λ none. absurd (omega (arith, ap length none, length-map (rest_of begun) entry_line, rest_missing begun order, inside.lacks));
-      parts = node_lines-node_for size begun.head (all_steps begun) (all_threats begun) (all_lines begun) (all_fills begun) stands.head s t l f
+      parts = node_lines-node_for preamble begun.head (all_steps begun) (all_threats begun) (all_lines begun) (all_fills begun) stands.head s t l f
           ∙ ap (λ (es : List Entry). head_line begun.head ∷ map entry_line es) (whole_entries begun order)
           ∙ ap (λ (ls : List (List ℕ)). head_line begun.head ∷ ls) (map-append entry_line (entries_in begun) (rest_of begun));
       same = stands.same ∙ ap (λ (ls : List (List ℕ)). ls ++ head_line begun.head ∷ map entry_line (entries_in begun)) stands.stands.same;
     }
 
 -- no front of a node's lines is that of whole nodes and a last line
-front_not_whole : (size : Extent) (node : Node) (more : List Node) (count : ℕ) (winner : Colour) (part rest : List (List ℕ))
-    → IsExtent size.rows size.cols → NodeFits size node → EachNodeFits size more → IsNumber count → node_lines node ≡ part ++ rest
+front_not_whole : (preamble : Preamble) (node : Node) (more : List Node) (count : ℕ) (winner : Colour) (part rest : List (List ℕ))
+    → IsExtent preamble.size.rows preamble.size.cols → NodeFits preamble node → EachNodeFits preamble more → IsNumber count → node_lines node ≡ part ++ rest
     → part ≡ flat_map node_lines more ++ end_line count winner ∷ [] → ⊥
-front_not_whole size node [] count winner part rest extent fits each small parts whole =
+front_not_whole preamble node [] count winner part rest extent fits each small parts whole =
     let same : node_lines node ≡ (end_line count winner ∷ []) ++ rest = parts ∙ ap (λ (ls : List (List ℕ)). ls ++ rest) whole in
     let first : head_line (head_of node) ≡ end_line count winner = cc in
-    head_not_end size (head_of node) count winner extent fits.head small first
-front_not_whole size node (next ∷ more) count winner part rest extent fits each small parts whole =
+    head_not_end preamble (head_of node) count winner extent fits.head small first
+front_not_whole preamble node (next ∷ more) count winner part rest extent fits each small parts whole =
     let later : List (List ℕ) = flat_map node_lines more ++ end_line count winner ∷ [] in
     let same : node_lines node ++ [] ≡ node_lines next ++ (later ++ rest) =
     append-nil (node_lines node) ∙ parts ∙ ap (λ (ls : List (List ℕ)). ls ++ rest) whole
     ∙ ap (λ (ls : List (List ℕ)). ls ++ rest) (append_assoc (node_lines next) (flat_map node_lines more) (end_line count winner ∷ []))
     ∙ append_assoc (node_lines next) later rest in
-    let none : [] ≡ later ++ rest = (node_cancel size node next [] (later ++ rest) extent fits each.0 same).1 in
+    let none : [] ≡ later ++ rest = (node_cancel preamble node next [] (later ++ rest) extent fits each.0 same).1 in
     absurd (omega (arith, ap length none, length-append later rest, length-append (flat_map node_lines more) (end_line count winner ∷ [])))
 
 -- the text is not whole inside a node
-pub in_node_not_whole : (size : Extent) (nodes : List Node) (lines : List (List ℕ)) → IsExtent size.rows size.cols
-    → EachNodeFits size nodes → EndsInNode size nodes lines → AreTreeLines lines → ⊥
-in_node_not_whole size nodes lines extent each ends are =
-    let front : List (List ℕ) = front_lines size ++ flat_map node_lines nodes in
-    let on = aligned size nodes front ends.part are.size are.nodes are.winner extent each refl
-    (subst (AreTreeLinesOf are.size are.nodes are.winner) ends.same are.are) in
-    front_not_whole size ends.node on.on.more (length are.nodes) are.winner ends.part ends.rest extent ends.fits on.on.fits are.are.count
+pub in_node_not_whole : (preamble : Preamble) (nodes : List Node) (lines : List (List ℕ)) → IsExtent preamble.size.rows preamble.size.cols
+    → EachNodeFits preamble nodes → EndsInNode preamble nodes lines → AreTreeLines lines → ⊥
+in_node_not_whole preamble nodes lines extent each ends are =
+    let front : List (List ℕ) = front_lines preamble ++ flat_map node_lines nodes in
+    let on = aligned preamble nodes front ends.part are.preamble are.nodes are.winner extent each refl
+    (subst (AreTreeLinesOf are.preamble are.nodes are.winner) ends.same are.are) in
+    front_not_whole preamble ends.node on.on.more (length are.nodes) are.winner ends.part ends.rest extent ends.fits on.on.fits are.are.count
     ends.parts on.on.rest_is
 
 -- each first line that fits is that of some node that fits
-pub node_of_head : (size : Extent) (head : Head) → IsExtent size.rows size.cols → HeadFits size head
-    → (node : Node) × NodeFits size node × (head_of node ≡ head)
-node_of_head size head extent fits =
+pub node_of_head : (preamble : Preamble) (head : Head) → IsExtent preamble.size.rows preamble.size.cols → HeadFits preamble head
+    → (node : Node) × NodeFits preamble node × (head_of node ≡ head)
+node_of_head preamble head extent fits =
     let steps : List Step = replicate (steps_told head.opening) any_step in
     let threats : List ℕ = replicate (threats_told head.opening) 0 in
     let lines : List Line = replicate (answers_told head.opening) any_answer in
@@ -308,10 +309,10 @@ node_of_head size head extent fits =
     let t : length threats ≡ threats_told head.opening = length-replicate {A = ℕ} (threats_told head.opening) 0 in
     let l : length lines ≡ answers_told head.opening = length-replicate (answers_told head.opening) any_answer in
     let f : length fills ≡ fills_told head.opening = length-replicate (fills_told head.opening) any_fill in
-    let each : EachEntryFits size (entries_for steps threats lines fills) =
-    EachEntryFits-entries_for size steps threats lines fills (steps_fit size (steps_told head.opening)) (threats_fit size (threats_told head.opening))
-    (answers_fit size (answers_told head.opening) extent) (fills_fit size (fills_told head.opening) extent) in (
-      node_for size head steps threats lines fills fits s t l f,
-      node_for-fits size head steps threats lines fills fits s t l f each,
-      head_of-node_for size head steps threats lines fills fits s t l f,
+    let each : EachEntryFits preamble.size (entries_for steps threats lines fills) =
+    EachEntryFits-entries_for preamble.size steps threats lines fills (steps_fit preamble.size (steps_told head.opening)) (threats_fit preamble.size (threats_told head.opening))
+    (answers_fit preamble.size (answers_told head.opening) extent) (fills_fit preamble.size (fills_told head.opening) extent) in (
+      node_for preamble head steps threats lines fills fits s t l f,
+      node_for-fits preamble head steps threats lines fills fits s t l f each,
+      head_of-node_for preamble head steps threats lines fills fits s t l f,
     )

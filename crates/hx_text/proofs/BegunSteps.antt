@@ -264,12 +264,12 @@ room_for_due begun order room lacks (Fill_entry fill) kind full =
 
 -- the lines with one entry more
 pub stands_with_entry : (old new : Begun) (entry : Entry) (nodes : List Node) (lines : List (List ℕ)) → IsWithEntry old entry new
-    → StandsInside old nodes lines → IsEntryLine old.so_far.size (kind_due old) entry → StandsBegun new nodes (lines ++ entry_line entry ∷ [])
+    → StandsInside old nodes lines → IsEntryLine old.so_far.preamble.size (kind_due old) entry → StandsBegun new nodes (lines ++ entry_line entry ∷ [])
 stands_with_entry old new entry nodes lines now stands fits =
     let so = stands.begun_so in
     let are : entries_in new ≡ entries_in old ++ entry ∷ [] = entries_now old new so.in_order stands.lacks entry now.added fits.1 in
-    let all : EachEntryFits old.so_far.size (entries_in new) =
-    rw are (EachEntryFits-append old.so_far.size (entries_in old) (entry ∷ []) so.each (fits.0, tt)) in
+    let all : EachEntryFits old.so_far.preamble.size (entries_in new) =
+    rw are (EachEntryFits-append old.so_far.preamble.size (entries_in old) (entry ∷ []) so.each (fits.0, tt)) in
     record {
       before = so.before;
       stands = rw now.same_so_far so.stands;
@@ -298,7 +298,7 @@ abbrev pub node_of : Begun → Node
 node_of begun = node_with begun.head begun.steps.items begun.threats.items begun.lines.items begun.fills.items
 
 pub whole_node : (begun : Begun) (nodes : List Node) (lines : List (List ℕ)) → begun.missing ≡ 0 → (stands : StandsBegun begun nodes lines)
-    → NodeFits begun.so_far.size (node_of begun) × (lines ≡ stands.before ++ node_lines (node_of begun))
+    → NodeFits begun.so_far.preamble (node_of begun) × (lines ≡ stands.before ++ node_lines (node_of begun))
 whole_node begun nodes lines none stands =
     let order = stands.in_order in
     let s : length begun.steps.items ≡ steps_told begun.head.opening =
@@ -320,13 +320,13 @@ whole_node begun nodes lines none stands =
 pub settled_whole : (begun : Begun) (node : Node) (step : Step) → begun.missing ≡ 0 → node ≡ node_of begun → EndsNode begun.so_far node step → SettlesNode begun step
 settled_whole begun node step none is ends = λ nodes lines stands.
     let whole = whole_node begun nodes lines none stands in
-    let P : Node → Type 0 = λ n. NodeFits begun.so_far.size n in
+    let P : Node → Type 0 = λ n. NodeFits begun.so_far.preamble n in
     let Q : List (List ℕ) → Type 0 = Brings step.fed step.place nodes in
     subst Q (sym (whole.1 ∙ ap (λ (n : Node). stands.before ++ node_lines n) (sym is)))
     (ends nodes stands.before stands.stands stands.room (subst P (sym is) whole.0))
 
 -- a first line that tells of some entries takes memory
-pub first_line_takes_memory : (so_far : SoFar) (head : Head) → HeadFits so_far.size head → 0 < entries_told head.opening
+pub first_line_takes_memory : (so_far : SoFar) (head : Head) → HeadFits so_far.preamble head → 0 < entries_told head.opening
     → TakesMemory (Between so_far) (head_line head)
 first_line_takes_memory so_far head fits some =
     let first : IsNextNode (Between so_far) (head_line head) = record { so_far = so_far; is = refl; head = head; fits = fits; same = refl } in
@@ -335,7 +335,7 @@ first_line_takes_memory so_far head fits some =
 -- a node of which no entry came yet
 pub begun_with_head : (begun : Begun) (nodes : List Node) (before : List (List ℕ)) → begun.steps.items ≡ [] → begun.threats.items ≡ [] → begun.lines.items ≡ []
     → begun.fills.items ≡ [] → begun.missing ≡ entries_told begun.head.opening → HasRoomForAll begun → StandsSoFar begun.so_far nodes before → begun.so_far.count < most_nodes
-    → HeadFits begun.so_far.size begun.head → StandsBegun begun nodes (before ++ head_line begun.head ∷ [])
+    → HeadFits begun.so_far.preamble begun.head → StandsBegun begun nodes (before ++ head_line begun.head ∷ [])
 begun_with_head begun nodes before no_steps no_threats no_lines no_fills all lists stands room fits =
     let none : entries_in begun ≡ [] = entries_same no_steps no_threats no_lines no_fills in
     let s : length begun.steps.items ≡ 0 = ap length no_steps in

@@ -10,13 +10,13 @@ use Rattle.hx_inferior.specs.declared.fills.FillStep.{FillStep}
 use Rattle.hx_link.specs.declared.steps.Step.{Step}
 use Rattle.hx_tree.specs.declared.nodes.Line.{Line}
 use Rattle.hx_tree.specs.declared.nodes.Rule.{Rule}
-use Rattle.hx_tree.specs.declared.nodes.Rule.TheVariants.{Chain, Links, Move, All, Fill}
+use Rattle.hx_tree.specs.declared.nodes.Rule.TheVariants.{Chain, Links, Move, All, Fill, Turned}
 use Rattle.hx_text.specs.declared.entries.Entry.{Entry}
 use Rattle.hx_text.specs.declared.entries.Entry.TheVariants.{Step as Step_entry, Threat as Threat_entry, Answer as Answer_entry, Fill as Fill_entry}
 use Rattle.hx_text.specs.declared.entries.EntryKind.{EntryKind}
 use Rattle.hx_text.specs.declared.entries.EntryKind.TheVariants.{Step as Step_kind, Threat as Threat_kind, Answer as Answer_kind, Fill as Fill_kind}
 use Rattle.hx_text.specs.declared.node_lines.Opening.{Opening}
-use Rattle.hx_text.specs.declared.node_lines.Opening.TheVariants.{Chain as Chain_opening, Links as Links_opening, Move as Move_opening, All as All_opening, Fill as Fill_opening}
+use Rattle.hx_text.specs.declared.node_lines.Opening.TheVariants.{Chain as Chain_opening, Links as Links_opening, Move as Move_opening, All as All_opening, Fill as Fill_opening, Turned as Turned_opening}
 use Rattle.hx_text.specs.Entries.{kind_of, EachEntryFits, entries_for, entries_of, opening_of, steps_told, threats_told, answers_told, fills_told, entries_told, kind_at, rule_for}
 
 abbrev pub step_entry : Step → Entry
@@ -193,6 +193,7 @@ kind_of_entry (Links steps) k entry there = kind_in_entries steps [] [] [] k ent
 kind_of_entry (Move cell child) k entry there = cc
 kind_of_entry (All steps threats lines) k entry there = kind_in_entries steps threats lines [] k entry there
 kind_of_entry (Fill fills child) k entry there = kind_in_entries [] [] [] fills k entry there
+kind_of_entry (Turned child) k entry there = cc
 
 pub length-entries_of : (rule : Rule) → length (entries_of rule) ≡ entries_told (opening_of rule)
 length-entries_of Chain = refl
@@ -200,6 +201,7 @@ length-entries_of (Links steps) = length-entries_for steps [] [] []
 length-entries_of (Move cell child) = refl
 length-entries_of (All steps threats lines) = length-entries_for steps threats lines []
 length-entries_of (Fill fills child) = length-entries_for [] [] [] fills
+length-entries_of (Turned child) = refl
 
 -- ---- rules
 
@@ -214,6 +216,7 @@ opening_of-rule_for (All_opening told told_threats told_lines) steps threats lin
     ap (λ (n : ℕ). All_opening n (length threats) (length lines)) s ∙ ap (λ (n : ℕ). All_opening told n (length lines)) t
     ∙ ap (λ (n : ℕ). All_opening told told_threats n) l
 opening_of-rule_for (Fill_opening told child) steps threats lines fills s t l f = ap (λ (n : ℕ). Fill_opening n child) f
+opening_of-rule_for (Turned_opening child) steps threats lines fills s t l f = refl
 
 pub entries_of-rule_for : (opening : Opening) (steps : List Step) (threats : List ℕ) (lines : List Line) (fills : List FillStep)
     → length steps ≡ steps_told opening → length threats ≡ threats_told opening → length lines ≡ answers_told opening
@@ -228,3 +231,5 @@ entries_of-rule_for (All_opening told told_threats told_lines) steps threats lin
     sym (entries_same refl refl refl (nil_of_length fills f))
 entries_of-rule_for (Fill_opening told child) steps threats lines fills s t l f =
     sym (entries_same (nil_of_length steps s) (nil_of_length threats t) (nil_of_length lines l) refl)
+entries_of-rule_for (Turned_opening child) steps threats lines fills s t l f =
+    sym (entries_same (nil_of_length steps s) (nil_of_length threats t) (nil_of_length lines l) (nil_of_length fills f))

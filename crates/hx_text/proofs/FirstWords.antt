@@ -1,5 +1,5 @@
 -- The first word of a line tells what its other words are: those of a step by `base`, `stone` or `cell`, and those of a rule's
--- opening by `links` or `fill`. Where the other words are none of that kind, the line's words are those of no step and of no opening,
+-- opening by `links`, `fill` or `turned`. Where the other words are none of that kind, the line's words are those of no step and of no opening,
 -- since the first words of each kind begin with different letters.
 use Rattle.std.proofs.Common.{◌≡◌, ℕ, zero, suc, ◌+◌, ◌<◌, ◌≤◌, List, [], ◌∷◌, length, get_or, sym, ap, ◌∙◌, arith, add-zero, Option, Some, None, Result, Ok, Err}
 use Rattle.std.proofs.lemmas.Grind.{same_number_lists}
@@ -15,7 +15,9 @@ use Rattle.hx_link.specs.declared.steps.Step.TheVariants.{Base, AndStone, AndCel
 use Rattle.hx_board.specs.declared.cells.TheConstants.{CELLS}
 use Rattle.hx_tree.specs.declared.steps.TheConstants.{MOST_STEPS}
 use Rattle.hx_text.specs.declared.node_lines.Opening.{Opening}
-use Rattle.hx_text.specs.declared.node_lines.Opening.TheVariants.{Links, Fill}
+use Rattle.hx_text.specs.declared.node_lines.Opening.TheVariants.{Links, Fill, Turned}
+use Rattle.hx_text.specs.declared.versions.Version.TheVariants.{Two}
+use Rattle.hx_text.specs.declared.versions.Preamble.{Preamble}
 use Rattle.hx_text.specs.Words.{Reads, IsNumber, words_in}
 use Rattle.hx_text.specs.StepTexts.{vertex_word, step_words, step_line, StepFits, BeginWithManyParts, BeginsLongOr}
 use Rattle.hx_text.specs.TreeTexts.{opening_words, OpeningFits}
@@ -116,32 +118,47 @@ long_or_line line words (Err error) same is = record { words = is.0; many = is.2
 
 -- ---- openings
 
-no_links : (size : Extent) (value : Opening) (words rest : List (List ℕ)) → words ≡ codes "links" ∷ rest
-    → ((steps : ℕ) → steps ≤ MOST_STEPS → rest ≡ decimal steps ∷ [] → ⊥) → OpeningFits size value → words ≡ opening_words value → ⊥
-no_links size (Links steps) words rest first none fits e = none steps fits (rest_same first e)
-no_links size value words rest first none fits e =
+no_links : (preamble : Preamble) (value : Opening) (words rest : List (List ℕ)) → words ≡ codes "links" ∷ rest
+    → ((steps : ℕ) → steps ≤ MOST_STEPS → rest ≡ decimal steps ∷ [] → ⊥) → OpeningFits preamble value → words ≡ opening_words value → ⊥
+no_links preamble (Links steps) words rest first none fits e = none steps fits (rest_same first e)
+no_links preamble value words rest first none fits e =
     let letters : first_letter (codes "links" ∷ rest) ≡ first_letter (opening_words value) = ap first_letter (sym first ∙ e) in
     absurd (omega (arith, letters))
 
-pub links_reads : (size : Extent) (words rest : List (List ℕ)) (found : Option Opening) → words ≡ codes "links" ∷ rest
+pub links_reads : (preamble : Preamble) (words rest : List (List ℕ)) (found : Option Opening) → words ≡ codes "links" ∷ rest
     → IfSome found (λ opening. (steps : ℕ) × (opening ≡ Links steps) × (steps ≤ MOST_STEPS) × (rest ≡ decimal steps ∷ []))
     → IfNone found ((steps : ℕ) → steps ≤ MOST_STEPS → rest ≡ decimal steps ∷ [] → ⊥)
-    → Reads opening_words (OpeningFits size) words found
-links_reads size words rest (Some opening) first is none = rw is.1 (is.2, word_then first is.3)
-links_reads size words rest None first is none = λ value fits e. no_links size value words rest first none fits e
+    → Reads opening_words (OpeningFits preamble) words found
+links_reads preamble words rest (Some opening) first is none = rw is.1 (is.2, word_then first is.3)
+links_reads preamble words rest None first is none = λ value fits e. no_links preamble value words rest first none fits e
 
-no_fills : (size : Extent) (value : Opening) (words rest : List (List ℕ)) → words ≡ codes "fill" ∷ rest
-    → ((fills child : ℕ) → fills ≤ CELLS → IsNumber child → rest ≡ decimal fills ∷ decimal child ∷ [] → ⊥) → OpeningFits size value
+no_fills : (preamble : Preamble) (value : Opening) (words rest : List (List ℕ)) → words ≡ codes "fill" ∷ rest
+    → ((fills child : ℕ) → fills ≤ CELLS → IsNumber child → rest ≡ decimal fills ∷ decimal child ∷ [] → ⊥) → OpeningFits preamble value
     → words ≡ opening_words value → ⊥
-no_fills size (Fill fills child) words rest first none fits e = none fills child fits.0 fits.1 (rest_same first e)
-no_fills size value words rest first none fits e =
+no_fills preamble (Fill fills child) words rest first none fits e = none fills child fits.0 fits.1 (rest_same first e)
+no_fills preamble value words rest first none fits e =
     let letters : first_letter (codes "fill" ∷ rest) ≡ first_letter (opening_words value) = ap first_letter (sym first ∙ e) in
     absurd (omega (arith, letters))
 
-pub fills_reads : (size : Extent) (words rest : List (List ℕ)) (found : Option Opening) → words ≡ codes "fill" ∷ rest
+pub fills_reads : (preamble : Preamble) (words rest : List (List ℕ)) (found : Option Opening) → words ≡ codes "fill" ∷ rest
     → IfSome found (λ opening. (fills child : ℕ) × (opening ≡ Fill fills child) × (fills ≤ CELLS) × IsNumber child
     × (rest ≡ decimal fills ∷ decimal child ∷ []))
     → IfNone found ((fills child : ℕ) → fills ≤ CELLS → IsNumber child → rest ≡ decimal fills ∷ decimal child ∷ [] → ⊥)
-    → Reads opening_words (OpeningFits size) words found
-fills_reads size words rest (Some opening) first is none = rw is.2 ((is.3, is.4), word_then first is.5)
-fills_reads size words rest None first is none = λ value fits e. no_fills size value words rest first none fits e
+    → Reads opening_words (OpeningFits preamble) words found
+fills_reads preamble words rest (Some opening) first is none = rw is.2 ((is.3, is.4), word_then first is.5)
+fills_reads preamble words rest None first is none = λ value fits e. no_fills preamble value words rest first none fits e
+
+no_turned : (preamble : Preamble) (value : Opening) (words rest : List (List ℕ)) → words ≡ codes "turned" ∷ rest
+    → ((child : ℕ) → preamble.version ≡ Two → IsNumber child → rest ≡ decimal child ∷ [] → ⊥) → OpeningFits preamble value
+    → words ≡ opening_words value → ⊥
+no_turned preamble (Turned child) words rest first none fits e = none child fits.0 fits.1 (rest_same first e)
+no_turned preamble value words rest first none fits e =
+    let letters : first_letter (codes "turned" ∷ rest) ≡ first_letter (opening_words value) = ap first_letter (sym first ∙ e) in
+    absurd (omega (arith, letters))
+
+pub turned_reads : (preamble : Preamble) (words rest : List (List ℕ)) (found : Option Opening) → words ≡ codes "turned" ∷ rest
+    → IfSome found (λ opening. (child : ℕ) × (opening ≡ Turned child) × (preamble.version ≡ Two) × IsNumber child × (rest ≡ decimal child ∷ []))
+    → IfNone found ((child : ℕ) → preamble.version ≡ Two → IsNumber child → rest ≡ decimal child ∷ [] → ⊥)
+    → Reads opening_words (OpeningFits preamble) words found
+turned_reads preamble words rest (Some opening) first is none = rw is.1 ((is.2, is.3), word_then first is.4)
+turned_reads preamble words rest None first is none = λ value fits e. no_turned preamble value words rest first none fits e

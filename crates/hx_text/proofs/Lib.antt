@@ -25,6 +25,7 @@ pub mod BegunSteps
 pub mod BegunFaults
 pub mod BegunNodes
 pub mod Completions
+pub mod ReadVersions
 pub mod Cuts
 pub mod TreeLacks
 pub mod Faults

@@ -7,16 +7,41 @@ use Rattle.hx_board.specs.declared.colours.Colour.{Colour}
 use Rattle.hx_board.specs.Cells.{Extent, IsExtent}
 use Rattle.hx_text.specs.Words.{colour_word, words_in, IsNumber}
 use Rattle.hx_text.specs.PositionTexts.{size_line}
-use Rattle.hx_text.specs.TreeTexts.{end_line}
-use Rattle.hx_text.proofs.Spacing.{IsLine, words_in-spaced}
+use Rattle.hx_text.specs.declared.versions.Version.{Version}
+use Rattle.hx_text.specs.declared.versions.Version.TheVariants.{One, Two}
+use Rattle.hx_text.specs.Versions.{version_word}
+use Rattle.hx_text.specs.TreeTexts.{title_line, end_line}
+use Rattle.hx_text.proofs.Spacing.{IsLine, words_in-spaced, spaced_injective}
 use Rattle.hx_text.proofs.HighBytes.{AllHigh, is_high, IsHigh-test, IsHigh-decimal, IsHigh-colour_word, IsLine-high}
 
-abbrev pub title_words : List (List ℕ)
-title_words = codes "hextree" ∷ codes "1" ∷ []
+abbrev first_byte : List ℕ → ℕ
+first_byte [] = 0
+first_byte (byte ∷ bytes) = byte
 
-pub AllHigh-title_words : AllHigh title_words
+abbrev pub title_words : Version → List (List ℕ)
+title_words version = codes "hextree" ∷ version_word version ∷ []
+
+pub AllHigh-title_words : (version : Version) → AllHigh (title_words version)
 unfolding is_high
-AllHigh-title_words = (IsHigh-test (codes "hextree") refl, (IsHigh-test (codes "1") refl, tt))
+AllHigh-title_words One = (IsHigh-test (codes "hextree") refl, (IsHigh-test (codes "1") refl, tt))
+AllHigh-title_words Two = (IsHigh-test (codes "hextree") refl, (IsHigh-test (codes "2") refl, tt))
+
+-- a title tells its version
+pub title_injective : (a b : Version) → title_line a ≡ title_line b → a ≡ b
+title_injective a b e =
+    let words : title_words a ≡ title_words b =
+    spaced_injective (title_words a) (title_words b) (IsLine-high (codes "hextree") (version_word a ∷ []) (AllHigh-title_words a))
+    (IsLine-high (codes "hextree") (version_word b ∷ []) (AllHigh-title_words b)) e in
+    same_version a b (rest_word (codes "hextree") (version_word a) (version_word b) words)
+  where
+    rest_word : (first x y : List ℕ) → first ∷ x ∷ [] ≡ first ∷ y ∷ [] → x ≡ y
+    rest_word first x y same = cc
+
+    same_version : (a b : Version) → version_word a ≡ version_word b → a ≡ b
+    same_version One One same = refl
+    same_version Two Two same = refl
+    same_version One Two same = absurd (omega (arith, ap first_byte same))
+    same_version Two One same = absurd (omega (arith, ap first_byte same))
 
 -- the line of a size
 

@@ -12,12 +12,13 @@ use Rattle.hx_link.specs.declared.steps.Step.{Step}
 use Rattle.hx_tree.specs.declared.nodes.Heading.{Heading}
 use Rattle.hx_tree.specs.declared.nodes.Line.{Line}
 use Rattle.hx_tree.specs.declared.nodes.Rule.{Rule}
-use Rattle.hx_tree.specs.declared.nodes.Rule.TheVariants.{Chain, Links, Move, All, Fill}
+use Rattle.hx_tree.specs.declared.nodes.Rule.TheVariants.{Chain, Links, Move, All, Fill, Turned}
 use Rattle.hx_tree.specs.declared.nodes.Node.{Node}
 use Rattle.hx_text.specs.declared.node_lines.Opening.{Opening}
-use Rattle.hx_text.specs.declared.node_lines.Opening.TheVariants.{Chain as Chain_opening, Links as Links_opening, Move as Move_opening, All as All_opening, Fill as Fill_opening}
+use Rattle.hx_text.specs.declared.node_lines.Opening.TheVariants.{Chain as Chain_opening, Links as Links_opening, Move as Move_opening, All as All_opening, Fill as Fill_opening, Turned as Turned_opening}
 use Rattle.hx_text.specs.declared.node_lines.Head.{Head}
 use Rattle.hx_text.specs.declared.entries.Entry.{Entry}
+use Rattle.hx_text.specs.declared.versions.Preamble.{Preamble}
 use Rattle.hx_text.specs.Words.{mask_word, colour_word, cell_word, IsNumber}
 use Rattle.hx_text.specs.StepTexts.{step_line, threat_line, StepFits}
 use Rattle.hx_text.specs.FillTexts.{fill_line, FillFits}
@@ -34,19 +35,19 @@ use Rattle.hx_text.proofs.EntryInjective.{step_injective, threat_injective, answ
 
 -- ---- first lines
 
-opening_injective : (size : Extent) (a b : Opening) → size.rows ≤ 11 → OpeningFits size a → OpeningFits size b
+opening_injective : (preamble : Preamble) (a b : Opening) → preamble.size.rows ≤ 11 → OpeningFits preamble a → OpeningFits preamble b
     → opening_words a ≡ opening_words b → a ≡ b
-opening_injective size Chain_opening Chain_opening few fits_a fits_b e = refl
-opening_injective size (Links_opening a) (Links_opening b) few fits_a fits_b e =
+opening_injective preamble Chain_opening Chain_opening few fits_a fits_b e = refl
+opening_injective preamble (Links_opening a) (Links_opening b) few fits_a fits_b e =
     let numbers : decimal a ≡ decimal b = cc in
     ap (λ (steps : ℕ). Links_opening steps) (number_injective a b (omega (arith, fits_a)) (omega (arith, fits_b)) numbers)
-opening_injective size (Move_opening a k) (Move_opening b j) few fits_a fits_b e =
+opening_injective preamble (Move_opening a k) (Move_opening b j) few fits_a fits_b e =
     let cells : cell_word a ≡ cell_word b = cc in
     let numbers : decimal k ≡ decimal j = cc in
-    let same_cell : a ≡ b = cell_injective size a b few fits_a.0 fits_b.0 cells in
+    let same_cell : a ≡ b = cell_injective preamble.size a b few fits_a.0 fits_b.0 cells in
     let same_child : k ≡ j = number_injective k j fits_a.1 fits_b.1 numbers in
     cc
-opening_injective size (All_opening s t l) (All_opening p q r) few fits_a fits_b e =
+opening_injective preamble (All_opening s t l) (All_opening p q r) few fits_a fits_b e =
     let steps : decimal s ≡ decimal p = cc in
     let threats : decimal t ≡ decimal q = cc in
     let lines : decimal l ≡ decimal r = cc in
@@ -54,13 +55,16 @@ opening_injective size (All_opening s t l) (All_opening p q r) few fits_a fits_b
     let same_threats : t ≡ q = number_injective t q (omega (arith, fits_a.1)) (omega (arith, fits_b.1)) threats in
     let same_lines : l ≡ r = number_injective l r (omega (arith, fits_a.2)) (omega (arith, fits_b.2)) lines in
     cc
-opening_injective size (Fill_opening f k) (Fill_opening g j) few fits_a fits_b e =
+opening_injective preamble (Fill_opening f k) (Fill_opening g j) few fits_a fits_b e =
     let fills : decimal f ≡ decimal g = cc in
     let numbers : decimal k ≡ decimal j = cc in
     let same_fills : f ≡ g = number_injective f g (omega (arith, fits_a.0)) (omega (arith, fits_b.0)) fills in
     let same_child : k ≡ j = number_injective k j fits_a.1 fits_b.1 numbers in
     cc
-opening_injective size a b few fits_a fits_b e =
+opening_injective preamble (Turned_opening k) (Turned_opening j) few fits_a fits_b e =
+    let numbers : decimal k ≡ decimal j = cc in
+    ap (λ (child : ℕ). Turned_opening child) (number_injective k j fits_a.1 fits_b.1 numbers)
+opening_injective preamble a b few fits_a fits_b e =
     let letters : first_letter (opening_words a) ≡ first_letter (opening_words b) = ap first_letter e in
     absurd (omega (arith, letters))
 
@@ -77,12 +81,12 @@ head_with heading opening = record { heading = heading; opening = opening }
 head_same : (a b : Head) → a.heading ≡ b.heading → a.opening ≡ b.opening → a ≡ b
 head_same a b h o = ap (λ (x : Heading). head_with x a.opening) h ∙ ap (λ (x : Opening). head_with b.heading x) o
 
-pub head_injective : (size : Extent) (a b : Head) → IsExtent size.rows size.cols → HeadFits size a → HeadFits size b
+pub head_injective : (preamble : Preamble) (a b : Head) → IsExtent preamble.size.rows preamble.size.cols → HeadFits preamble a → HeadFits preamble b
     → head_line a ≡ head_line b → a ≡ b
-head_injective size a b extent fits_a fits_b e =
+head_injective preamble a b extent fits_a fits_b e =
     let words : head_words a ≡ head_words b =
-    spaced_injective (head_words a) (head_words b) (IsLine-head_words size a extent.1 fits_a.opening)
-    (IsLine-head_words size b extent.1 fits_b.opening) e in
+    spaced_injective (head_words a) (head_words b) (IsLine-head_words preamble a extent.1 fits_a.opening)
+    (IsLine-head_words preamble b extent.1 fits_b.opening) e in
     let blacks : mask_word a.heading.position.black ≡ mask_word b.heading.position.black = cc in
     let whites : mask_word a.heading.position.white ≡ mask_word b.heading.position.white = cc in
     let movers : colour_word a.heading.to_move ≡ colour_word b.heading.to_move = cc in
@@ -97,13 +101,13 @@ head_injective size a b extent fits_a fits_b e =
     head_same a b
     (heading_same a.heading b.heading board (colour_injective a.heading.to_move b.heading.to_move movers)
     (colour_injective a.heading.winner b.heading.winner winners))
-    (opening_injective size a.opening b.opening extent.1 fits_a.opening fits_b.opening openings)
+    (opening_injective preamble a.opening b.opening extent.1 fits_a.opening fits_b.opening openings)
 
-pub head_not_end : (size : Extent) (head : Head) (count : ℕ) (winner : Colour) → IsExtent size.rows size.cols → HeadFits size head
+pub head_not_end : (preamble : Preamble) (head : Head) (count : ℕ) (winner : Colour) → IsExtent preamble.size.rows preamble.size.cols → HeadFits preamble head
     → IsNumber count → head_line head ≡ end_line count winner → ⊥
-head_not_end size head count winner extent fits small e =
+head_not_end preamble head count winner extent fits small e =
     let words : head_words head ≡ end_words count winner =
-    sym (words_in-head_line size (head_line head) head extent fits refl)
+    sym (words_in-head_line preamble (head_line head) head extent fits refl)
     ∙ words_in-end_line (head_line head) count winner small e in
     cc
 
@@ -198,6 +202,9 @@ rule_cancel size (Fill f k) (Fill g j) xs ys extent fits_a fits_b o e =
     let rest = lists_cancel size [] [] [] [] [] [] f g xs ys extent fits_a fits_b refl refl refl fills e in
     let same_fills : f ≡ g = rest.fills in
     (cc, rest.rest)
+rule_cancel size (Turned k) (Turned j) xs ys extent fits_a fits_b o e =
+    let children : k ≡ j = cc in
+    (cc, e)
 rule_cancel size a b xs ys extent fits_a fits_b o e = cc
 
 -- ---- nodes
@@ -208,11 +215,11 @@ node_of heading rule = record { heading = heading; rule = rule }
 node_same : (a b : Node) → a.heading ≡ b.heading → a.rule ≡ b.rule → a ≡ b
 node_same a b h r = ap (λ (x : Heading). node_of x a.rule) h ∙ ap (λ (x : Rule). node_of b.heading x) r
 
-pub node_cancel : (size : Extent) (a b : Node) (xs ys : List (List ℕ)) → IsExtent size.rows size.cols → NodeFits size a
-    → NodeFits size b → node_lines a ++ xs ≡ node_lines b ++ ys → (a ≡ b) × (xs ≡ ys)
-node_cancel size a b xs ys extent fits_a fits_b e =
+pub node_cancel : (preamble : Preamble) (a b : Node) (xs ys : List (List ℕ)) → IsExtent preamble.size.rows preamble.size.cols → NodeFits preamble a
+    → NodeFits preamble b → node_lines a ++ xs ≡ node_lines b ++ ys → (a ≡ b) × (xs ≡ ys)
+node_cancel preamble a b xs ys extent fits_a fits_b e =
     let firsts : head_line (head_of a) ≡ head_line (head_of b) = cc in
     let tails : map entry_line (entries_of a.rule) ++ xs ≡ map entry_line (entries_of b.rule) ++ ys = cc in
-    let heads : head_of a ≡ head_of b = head_injective size (head_of a) (head_of b) extent fits_a.head fits_b.head firsts in
-    let rules = rule_cancel size a.rule b.rule xs ys extent fits_a.entries fits_b.entries (ap (λ (h : Head). h.opening) heads) tails in
+    let heads : head_of a ≡ head_of b = head_injective preamble (head_of a) (head_of b) extent fits_a.head fits_b.head firsts in
+    let rules = rule_cancel preamble.size a.rule b.rule xs ys extent fits_a.entries fits_b.entries (ap (λ (h : Head). h.opening) heads) tails in
     (node_same a b (ap (λ (h : Head). h.heading) heads) rules.0, rules.1)

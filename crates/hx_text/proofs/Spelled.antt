@@ -31,7 +31,9 @@ use Rattle.hx_text.specs.PositionTexts.{size_line, stones_line, move_line, posit
 use Rattle.hx_text.specs.StepTexts.{vertex_word, step_line, threat_line}
 use Rattle.hx_text.specs.FillTexts.{fill_line}
 use Rattle.hx_text.specs.Entries.{answer_line, entry_line, entries_for, entries_of}
-use Rattle.hx_text.specs.TreeTexts.{opening_words, head_of, head_line, node_lines, front_lines, end_line}
+use Rattle.hx_text.specs.declared.versions.Version.TheVariants.{One, Two}
+use Rattle.hx_text.specs.declared.versions.Preamble.{Preamble}
+use Rattle.hx_text.specs.TreeTexts.{opening_words, head_of, head_line, node_lines, title_line, front_lines, end_line}
 use Rattle.hx_text.specs.Spelling.{each_line, parts_text}
 use Rattle.hx_text.proofs.Masks.{length-hex}
 
@@ -70,10 +72,19 @@ position_spelled old board mover =
     five_lines old (spaced (codes "hexpos" ∷ codes "1" ∷ [])) (size_line board.size) (stones_line Black board.black)
     (stones_line White board.white) (move_line mover)
 
-pub heading_spelled : (old : List ℕ) (size : Extent)
-    → (old ++ codes "hextree 1\n") ++ (size_line size ++ 10 ∷ []) ≡ old ++ text_of (front_lines size)
-unfolding spaced text_of
-heading_spelled old size = simp append_assoc
+pub heading_spelled : (old : List ℕ) (preamble : Preamble)
+    → (old ++ (title_line preamble.version ++ 10 ∷ [])) ++ (size_line preamble.size ++ 10 ∷ []) ≡ old ++ text_of (front_lines preamble)
+unfolding text_of
+heading_spelled old preamble = simp append_assoc
+
+-- a title, by what is put for each version
+pub title_1_spelled : codes "hextree 1\n" ≡ title_line One ++ 10 ∷ []
+unfolding spaced
+title_1_spelled = refl
+
+pub title_2_spelled : codes "hextree 2\n" ≡ title_line Two ++ 10 ∷ []
+unfolding spaced
+title_2_spelled = refl
 
 pub chain_spelled : (old : List ℕ) → old ++ codes "chain" ≡ old ++ spaced (opening_words Chain)
 unfolding spaced

@@ -7,6 +7,7 @@ use Rattle.hx_board.specs.Cells.{Extent, IsExtent}
 use Rattle.hx_tree.specs.declared.nodes.Node.{Node}
 use Rattle.hx_text.specs.declared.entries.Entry.{Entry}
 use Rattle.hx_text.specs.declared.entries.Entry.TheVariants.{Step as Step_entry, Threat as Threat_entry, Answer as Answer_entry, Fill as Fill_entry}
+use Rattle.hx_text.specs.declared.versions.Preamble.{Preamble}
 use Rattle.hx_text.specs.Words.{Lacks, IsNumber}
 use Rattle.hx_text.specs.Grammars.{Begins}
 use Rattle.hx_text.specs.StepTexts.{step_words}
@@ -31,21 +32,21 @@ AllLack-entries : (size : Extent) (entries : List Entry) → size.rows ≤ 11 �
 AllLack-entries size [] few each = tt
 AllLack-entries size (entry ∷ entries) few each = (Lacks-entry_line size entry few each.0, AllLack-entries size entries few each.1)
 
-AllLack-node : (size : Extent) (node : Node) → size.rows ≤ 11 → NodeFits size node → AllLack (node_lines node)
-AllLack-node size node few fits = (
-  Lacks-spaced (head_words (head_of node)) (AllHigh-head_words size (head_of node) few fits.head.opening),
-  AllLack-entries size (entries_of node.rule) few fits.entries,
+AllLack-node : (preamble : Preamble) (node : Node) → preamble.size.rows ≤ 11 → NodeFits preamble node → AllLack (node_lines node)
+AllLack-node preamble node few fits = (
+  Lacks-spaced (head_words (head_of node)) (AllHigh-head_words preamble (head_of node) few fits.head.opening),
+  AllLack-entries preamble.size (entries_of node.rule) few fits.entries,
 )
 
-AllLack-nodes : (size : Extent) (nodes : List Node) → size.rows ≤ 11 → EachNodeFits size nodes → AllLack (flat_map node_lines nodes)
-AllLack-nodes size [] few each = tt
-AllLack-nodes size (node ∷ nodes) few each =
-    AllLack-append (node_lines node) (flat_map node_lines nodes) (AllLack-node size node few each.0) (AllLack-nodes size nodes few each.1)
+AllLack-nodes : (preamble : Preamble) (nodes : List Node) → preamble.size.rows ≤ 11 → EachNodeFits preamble nodes → AllLack (flat_map node_lines nodes)
+AllLack-nodes preamble [] few each = tt
+AllLack-nodes preamble (node ∷ nodes) few each =
+    AllLack-append (node_lines node) (flat_map node_lines nodes) (AllLack-node preamble node few each.0) (AllLack-nodes preamble nodes few each.1)
 
-AllLack-front_lines : (size : Extent) → IsExtent size.rows size.cols → AllLack (front_lines size)
-AllLack-front_lines size extent = (
-  Lacks-spaced title_words AllHigh-title_words,
-  (Lacks-spaced (size_words size.rows size.cols) (AllHigh-size_words size.rows size.cols (omega (arith, extent)) (omega (arith, extent))), tt),
+AllLack-front_lines : (preamble : Preamble) → IsExtent preamble.size.rows preamble.size.cols → AllLack (front_lines preamble)
+AllLack-front_lines preamble extent = (
+  Lacks-spaced (title_words preamble.version) (AllHigh-title_words preamble.version),
+  (Lacks-spaced (size_words preamble.size.rows preamble.size.cols) (AllHigh-size_words preamble.size.rows preamble.size.cols (omega (arith, extent)) (omega (arith, extent))), tt),
 )
 
 Lacks-end_line : (count : ℕ) (winner : Colour) → IsNumber count → Lacks 10 (end_line count winner)
@@ -53,12 +54,12 @@ Lacks-end_line count winner small = Lacks-spaced (end_words count winner) (AllHi
 
 pub AllLack-tree_lines : (lines : List (List ℕ)) → AreTreeLines lines → AllLack lines
 AllLack-tree_lines lines are =
-    let few : are.size.rows ≤ 11 = are.are.is_size.1 in
-    let front : AllLack (front_lines are.size ++ flat_map node_lines are.nodes) =
-    AllLack-append (front_lines are.size) (flat_map node_lines are.nodes) (AllLack-front_lines are.size are.are.is_size)
-    (AllLack-nodes are.size are.nodes few are.are.each) in
-    let whole : AllLack (tree_lines are.size are.nodes are.winner) =
-    AllLack-append (front_lines are.size ++ flat_map node_lines are.nodes) (end_line (length are.nodes) are.winner ∷ []) front
+    let few : are.preamble.size.rows ≤ 11 = are.are.is_size.1 in
+    let front : AllLack (front_lines are.preamble ++ flat_map node_lines are.nodes) =
+    AllLack-append (front_lines are.preamble) (flat_map node_lines are.nodes) (AllLack-front_lines are.preamble are.are.is_size)
+    (AllLack-nodes are.preamble are.nodes few are.are.each) in
+    let whole : AllLack (tree_lines are.preamble are.nodes are.winner) =
+    AllLack-append (front_lines are.preamble ++ flat_map node_lines are.nodes) (end_line (length are.nodes) are.winner ∷ []) front
     (Lacks-end_line (length are.nodes) are.winner are.are.count, tt) in
     subst AllLack (sym are.are.same) whole
 

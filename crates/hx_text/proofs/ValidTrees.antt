@@ -1,7 +1,7 @@
 -- The nodes of a valid tree on boards of one size, of no more nodes than a text may have, are within the limits of a text:
 -- each cell is on the board, a child is an earlier node, what a step or a threat names is an earlier link, as each cell to
 -- answer has one line there are at most 121 lines, and as each fill step fills an empty cell there are at most 121 fill steps.
-use Rattle.std.proofs.Common.{◌≡◌, ℕ, zero, suc, ◌+◌, ◌<◌, ◌≤◌, List, [], ◌∷◌, ◌++◌, length, map, take, get_or, ap, subst, arith, Option, Some, None, inl, inr, length-append}
+use Rattle.std.proofs.Common.{◌≡◌, refl, ℕ, zero, suc, ◌+◌, ◌<◌, ◌≤◌, List, [], ◌∷◌, ◌++◌, length, map, take, get_or, ap, subst, arith, Option, Some, None, inl, inr, length-append}
 use Rattle.std.specs.Prelude.{slice_get, IfSome, IsSomeAnd}
 use Rattle.std.specs.List.{All as EachItem}
 use Rattle.std.proofs.lemmas.List.{length-map}
@@ -29,15 +29,18 @@ use Rattle.hx_tree.specs.declared.nodes.Line.{Line}
 use Rattle.hx_tree.specs.declared.nodes.Line.TheVariants.{Child, Under}
 use Rattle.hx_tree.specs.declared.nodes.Node.{Node}
 use Rattle.hx_tree.specs.declared.nodes.Rule.{Rule}
-use Rattle.hx_tree.specs.declared.nodes.Rule.TheVariants.{Chain, Links, Move, All, Fill}
+use Rattle.hx_tree.specs.declared.nodes.Rule.TheVariants.{Chain, Links, Move, All, Fill, Turned}
 use Rattle.hx_tree.specs.Steps.{IsThreat}
 use Rattle.hx_tree.specs.Answers.{AreInOrder, IsToAnswer, cell_of, cells_of, IsRightLine}
 use Rattle.hx_tree.specs.Rules.{IsRightRule, IsRightNode}
 use Rattle.hx_tree.specs.Trees.{headings_of, AreRight}
 use Rattle.hx_board.specs.declared.cells.TheConstants.{CELLS}
 use Rattle.hx_tree.specs.declared.steps.TheConstants.{MOST_STEPS}
+use Rattle.hx_text.specs.declared.versions.Version.TheVariants.{Two}
+use Rattle.hx_text.specs.declared.versions.Preamble.{Preamble}
 use Rattle.hx_text.specs.StepTexts.{StepFits, AreNumbers}
 use Rattle.hx_text.specs.Entries.{ReasonFits, AnswerFits, EachEntryFits, entries_of, opening_of}
+use Rattle.hx_text.specs.Versions.{IsTurnedNode, HasTurned}
 use Rattle.hx_text.specs.TreeTexts.{OpeningFits, NodeFits, EachNodeFits, ListsFit}
 use Rattle.hx_text.specs.Places.{most_nodes}
 use Rattle.hx_text.proofs.EntryLists.{step_entry, threat_entry, answer_entry, EachEntryFits-entries_for}
@@ -157,20 +160,23 @@ threats_fit size links (place ∷ threats) few each =
 on_this : (size : Extent) (heading : Heading) → heading.position.size ≡ size → (cell : ℕ) → IsEmpty heading.position cell → OnBoard size cell
 on_this size heading same cell empty = rw same at empty.on_board
 
-opening_fits : (size : Extent) (before : List Heading) (heading : Heading) (rule : Rule) → heading.position.size ≡ size → IsBoard heading.position
-    → length before ≤ most_nodes → IsRightRule before heading rule → OpeningFits size (opening_of rule)
-opening_fits size before heading Chain same is few right = tt
-opening_fits size before heading (Links steps) same is few right = right.steps_right.few
-opening_fits size before heading (Move cell child) same is few right =
-    let below : child < length before = place_below _ before child right.leads in (on_this size heading same cell right.empty, omega arith)
-opening_fits size before heading (All steps threats lines) same is few right =
-    let extent : IsExtent size.rows size.cols = rw same at is.0 in
-    let count = few_cells size (cells_of lines) (IsToAnswer heading.position right.links threats) extent (λ cell is. on_this size heading same cell is.empty)
+opening_fits : (preamble : Preamble) (before : List Heading) (heading : Heading) (rule : Rule) → heading.position.size ≡ preamble.size → IsBoard heading.position
+    → length before ≤ most_nodes → ((child : ℕ) → rule ≡ Turned child → preamble.version ≡ Two) → IsRightRule before heading rule
+    → OpeningFits preamble (opening_of rule)
+opening_fits preamble before heading Chain same is few two right = tt
+opening_fits preamble before heading (Links steps) same is few two right = right.steps_right.few
+opening_fits preamble before heading (Move cell child) same is few two right =
+    let below : child < length before = place_below _ before child right.leads in (on_this preamble.size heading same cell right.empty, omega arith)
+opening_fits preamble before heading (All steps threats lines) same is few two right =
+    let extent : IsExtent preamble.size.rows preamble.size.cols = rw same at is.0 in
+    let count = few_cells preamble.size (cells_of lines) (IsToAnswer heading.position right.links threats) extent (λ cell is. on_this preamble.size heading same cell is.empty)
     right.answered.cells in
     (right.steps_right.few, right.answered.threats_right.few, omega (arith, count, length-map lines cell_of))
-opening_fits size before heading (Fill fills child) same is few right =
+opening_fits preamble before heading (Fill fills child) same is few two right =
     let below : child < length before = place_below _ before child right.leads in
     (few_fill_steps heading.position heading.winner fills is right.right, omega arith)
+opening_fits preamble before heading (Turned child) same is few two right =
+    let below : child < length before = place_below _ before child right in (two child refl, omega arith)
 
 rule_fits : (size : Extent) (before : List Heading) (heading : Heading) (rule : Rule) → heading.position.size ≡ size
     → length before ≤ most_nodes → IsRightRule before heading rule → EachEntryFits size (entries_of rule)
@@ -190,22 +196,24 @@ rule_fits size before heading (All steps threats lines) same few right =
     (λ k d less. on_this size heading same (get_or (cells_of lines) k d) (right.answered.cells.only k d less).empty) right.answered.lines_right) tt
 rule_fits size before heading (Fill fills child) same few right =
     EachEntryFits-entries_for size [] [] [] fills tt tt tt (fill_steps_fit size heading.position heading.winner fills same right.right)
+rule_fits size before heading (Turned child) same few right = tt
 
-node_fits : (size : Extent) (before : List Heading) (node : Option Node) → length before ≤ most_nodes → IfSome node (IsRightNode before)
-    → IfSome node (λ n. n.heading.position.size ≡ size) → IfSome node (NodeFits size)
-node_fits size before None few right same = tt
-node_fits size before (Some node) few right same =
+node_fits : (preamble : Preamble) (before : List Heading) (node : Option Node) → length before ≤ most_nodes → IfSome node (IsRightNode before)
+    → IfSome node (λ n. n.heading.position.size ≡ preamble.size)
+    → (IsSomeAnd node IsTurnedNode → preamble.version ≡ Two) → IfSome node (NodeFits preamble)
+node_fits preamble before None few right same two = tt
+node_fits preamble before (Some node) few right same two =
     record {
       head = record {
         heading = record { size_is = same; board = right.board };
-        opening = opening_fits size before node.heading node.rule same right.board few right.rule;
+        opening = opening_fits preamble before node.heading node.rule same right.board few (λ child is. two (child, is)) right.rule;
       };
-      entries = rule_fits size before node.heading node.rule same few right.rule;
+      entries = rule_fits preamble.size before node.heading node.rule same few right.rule;
     }
 
-each_from_places : (size : Extent) (nodes : List Node) → ((k : ℕ) → IfSome (slice_get nodes k) (NodeFits size)) → EachNodeFits size nodes
-each_from_places size [] fits = tt
-each_from_places size (node ∷ nodes) fits = (fits 0, each_from_places size nodes (λ k. fits (suc k)))
+each_from_places : (preamble : Preamble) (nodes : List Node) → ((k : ℕ) → IfSome (slice_get nodes k) (NodeFits preamble)) → EachNodeFits preamble nodes
+each_from_places preamble [] fits = tt
+each_from_places preamble (node ∷ nodes) fits = (fits 0, each_from_places preamble nodes (λ k. fits (suc k)))
 
 few_before : (nodes : List Node) (k : ℕ) → length nodes ≤ most_nodes → length (headings_of (take k nodes)) ≤ most_nodes
 few_before [] zero few = omega arith
@@ -225,22 +233,24 @@ at_places P [] each k = tt
 at_places P (node ∷ nodes) each zero = each 0 node (omega arith)
 at_places P (node ∷ nodes) each (suc k) = at_places P nodes (λ j d less. each (suc j) d (omega arith)) k
 
-pub right_nodes_fit : (size : Extent) (nodes : List Node) → AreRight nodes → length nodes ≤ most_nodes
-    → EachItem (λ node. node.heading.position.size ≡ size) nodes → EachNodeFits size nodes
-right_nodes_fit size nodes right few same =
-    each_from_places size nodes
-    (λ k. node_fits size (headings_of (take k nodes)) (slice_get nodes k) (few_before nodes k few) (right k)
-    (at_places (λ node. node.heading.position.size ≡ size) nodes same k))
+-- turned nodes fit in a text of the second version alone
+pub right_nodes_fit : (preamble : Preamble) (nodes : List Node) → AreRight nodes → length nodes ≤ most_nodes
+    → EachItem (λ node. node.heading.position.size ≡ preamble.size) nodes → (HasTurned nodes → preamble.version ≡ Two) → EachNodeFits preamble nodes
+right_nodes_fit preamble nodes right few same two =
+    each_from_places preamble nodes
+    (λ k. node_fits preamble (headings_of (take k nodes)) (slice_get nodes k) (few_before nodes k few) (right k)
+    (at_places (λ node. node.heading.position.size ≡ preamble.size) nodes same k) (λ turned. two (k, turned)))
 
 -- what fits can be written
-lists_fit : (size : Extent) (rule : Rule) → OpeningFits size (opening_of rule) → ListsFit rule
-lists_fit size Chain fits = tt
-lists_fit size (Links steps) fits = fits
-lists_fit size (Move cell child) fits = tt
-lists_fit size (All steps threats lines) fits = fits
-lists_fit size (Fill fills child) fits = fits.0
+lists_fit : (preamble : Preamble) (rule : Rule) → OpeningFits preamble (opening_of rule) → ListsFit rule
+lists_fit preamble Chain fits = tt
+lists_fit preamble (Links steps) fits = fits
+lists_fit preamble (Move cell child) fits = tt
+lists_fit preamble (All steps threats lines) fits = fits
+lists_fit preamble (Fill fills child) fits = fits.0
+lists_fit preamble (Turned child) fits = tt
 
-pub each_lists_fit : (size : Extent) (nodes : List Node) → EachNodeFits size nodes → EachItem (λ node. ListsFit node.rule) nodes
-each_lists_fit size [] each k d less = absurd (omega arith)
-each_lists_fit size (node ∷ nodes) each zero d less = lists_fit size node.rule each.0.head.opening
-each_lists_fit size (node ∷ nodes) each (suc k) d less = each_lists_fit size nodes each.1 k d (omega arith)
+pub each_lists_fit : (preamble : Preamble) (nodes : List Node) → EachNodeFits preamble nodes → EachItem (λ node. ListsFit node.rule) nodes
+each_lists_fit preamble [] each k d less = absurd (omega arith)
+each_lists_fit preamble (node ∷ nodes) each zero d less = lists_fit preamble node.rule each.0.head.opening
+each_lists_fit preamble (node ∷ nodes) each (suc k) d less = each_lists_fit preamble nodes each.1 k d (omega arith)

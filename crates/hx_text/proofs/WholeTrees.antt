@@ -3,8 +3,9 @@ use Rattle.std.proofs.Common.{◌≡◌, ℕ, List, [], ◌∷◌, ◌++◌, len
 use Rattle.std.proofs.lemmas.List.{append-nil}
 use Rattle.std.specs.Prelude.{flat_map}
 use Rattle.hx_board.specs.declared.colours.Colour.{Colour}
-use Rattle.hx_board.specs.Cells.{Extent, IsExtent}
+use Rattle.hx_board.specs.Cells.{IsExtent}
 use Rattle.hx_tree.specs.declared.nodes.Node.{Node}
+use Rattle.hx_text.specs.declared.versions.Preamble.{Preamble}
 use Rattle.hx_text.specs.Words.{IsNumber}
 use Rattle.hx_text.specs.Grammars.{text_of}
 use Rattle.hx_text.specs.Entries.{entry_line, entries_of}
@@ -21,12 +22,12 @@ no_more (node ∷ more) end last e =
     let none : later ++ last ∷ [] ≡ [] = cc in
     absurd (push-some later last none)
 
-same_nodes : (size first : Extent) (a b : List Node) (v w : Colour) (lines : List (List ℕ)) → AreTreeLinesOf first a v lines
-    → AreTreeLinesOf size b w lines → a ≡ b
-same_nodes size first a b v w lines are_a are_b =
-    let on : Aligned first a (end_line (length a) v ∷ []) size b w =
-    aligned first a (front_lines first ++ flat_map node_lines a) (end_line (length a) v ∷ []) size b w are_a.is_size are_a.each refl
-    (subst (AreTreeLinesOf size b w) are_a.same are_b) in
+same_nodes : (preamble first : Preamble) (a b : List Node) (v w : Colour) (lines : List (List ℕ)) → AreTreeLinesOf first a v lines
+    → AreTreeLinesOf preamble b w lines → a ≡ b
+same_nodes preamble first a b v w lines are_a are_b =
+    let on : Aligned first a (end_line (length a) v ∷ []) preamble b w =
+    aligned first a (front_lines first ++ flat_map node_lines a) (end_line (length a) v ∷ []) preamble b w are_a.is_size are_a.each refl
+    (subst (AreTreeLinesOf preamble b w) are_a.same are_b) in
     let none : on.on.more ≡ [] = no_more on.on.more (end_line (length a) v) (end_line (length b) w) on.on.rest_is in
     sym (on.on.nodes_are ∙ ap (λ (ns : List Node). a ++ ns) none ∙ append-nil a)
 
@@ -35,11 +36,11 @@ pub text_tells_nodes : (bytes : List ℕ) (a b : List Node) → IsTreeText bytes
 text_tells_nodes bytes a b is_a is_b =
     let lines : is_a.lines ≡ is_b.lines =
     text_injective is_a.lines is_b.lines
-    (AllLack-tree_lines is_a.lines (record { size = is_a.size; nodes = a; winner = is_a.winner; are = is_a.are }))
-    (AllLack-tree_lines is_b.lines (record { size = is_b.size; nodes = b; winner = is_b.winner; are = is_b.are }))
+    (AllLack-tree_lines is_a.lines (record { preamble = is_a.preamble; nodes = a; winner = is_a.winner; are = is_a.are }))
+    (AllLack-tree_lines is_b.lines (record { preamble = is_b.preamble; nodes = b; winner = is_b.winner; are = is_b.are }))
     (sym is_a.same ∙ is_b.same) in
-    same_nodes is_b.size is_a.size a b is_a.winner is_b.winner is_b.lines
-    (subst (AreTreeLinesOf is_a.size a is_a.winner) lines is_a.are) is_b.are
+    same_nodes is_b.preamble is_a.preamble a b is_a.winner is_b.winner is_b.lines
+    (subst (AreTreeLinesOf is_a.preamble a is_a.winner) lines is_a.are) is_b.are
 
 text_of-nodes : (nodes : List Node) → text_of (flat_map node_lines nodes) ≡ flat_map (λ node. text_of (node_lines node)) nodes
 unfolding text_of
@@ -48,27 +49,27 @@ text_of-nodes (node ∷ nodes) =
     text_of-append (node_lines node) (flat_map node_lines nodes)
     ∙ ap (λ (t : List ℕ). text_of (node_lines node) ++ t) (text_of-nodes nodes)
 
-written_text : (size : Extent) (nodes : List Node) (winner : Colour)
-    → written_tree size nodes winner ≡ text_of (tree_lines size nodes winner)
-written_text size nodes winner =
-    sym (text_of-append (front_lines size ++ flat_map node_lines nodes) (end_line (length nodes) winner ∷ [])
+written_text : (preamble : Preamble) (nodes : List Node) (winner : Colour)
+    → written_tree preamble nodes winner ≡ text_of (tree_lines preamble nodes winner)
+written_text preamble nodes winner =
+    sym (text_of-append (front_lines preamble ++ flat_map node_lines nodes) (end_line (length nodes) winner ∷ [])
     ∙ ap (λ (t : List ℕ). t ++ text_of (end_line (length nodes) winner ∷ []))
-    (text_of-append (front_lines size) (flat_map node_lines nodes)
-    ∙ ap (λ (t : List ℕ). text_of (front_lines size) ++ t) (text_of-nodes nodes)))
+    (text_of-append (front_lines preamble) (flat_map node_lines nodes)
+    ∙ ap (λ (t : List ℕ). text_of (front_lines preamble) ++ t) (text_of-nodes nodes)))
 
 -- what is written piece by piece is the text of the nodes
-pub written_is_text : (size : Extent) (nodes : List Node) (winner : Colour) → IsExtent size.rows size.cols → EachNodeFits size nodes
-    → IsRootWinner nodes winner → IsNumber (length nodes) → IsTreeText (written_tree size nodes winner) nodes
-written_is_text size nodes winner extent each root few = record {
-  size = size;
+pub written_is_text : (preamble : Preamble) (nodes : List Node) (winner : Colour) → IsExtent preamble.size.rows preamble.size.cols → EachNodeFits preamble nodes
+    → IsRootWinner nodes winner → IsNumber (length nodes) → IsTreeText (written_tree preamble nodes winner) nodes
+written_is_text preamble nodes winner extent each root few = record {
+  preamble = preamble;
   winner = winner;
-  lines = tree_lines size nodes winner;
+  lines = tree_lines preamble nodes winner;
   are = record { is_size = extent; each = each; root = root; count = few; same = refl };
-  same = written_text size nodes winner;
+  same = written_text preamble nodes winner;
 }
 
 -- and it is read as what was written
-pub read_back : (size : Extent) (nodes read : List Node) (winner : Colour) → IsExtent size.rows size.cols → EachNodeFits size nodes
-    → IsRootWinner nodes winner → IsNumber (length nodes) → IsTreeText (written_tree size nodes winner) read → read ≡ nodes
-read_back size nodes read winner extent each root few is =
-    text_tells_nodes (written_tree size nodes winner) read nodes is (written_is_text size nodes winner extent each root few)
+pub read_back : (preamble : Preamble) (nodes read : List Node) (winner : Colour) → IsExtent preamble.size.rows preamble.size.cols → EachNodeFits preamble nodes
+    → IsRootWinner nodes winner → IsNumber (length nodes) → IsTreeText (written_tree preamble nodes winner) read → read ≡ nodes
+read_back preamble nodes read winner extent each root few is =
+    text_tells_nodes (written_tree preamble nodes winner) read nodes is (written_is_text preamble nodes winner extent each root few)

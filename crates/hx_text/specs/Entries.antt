@@ -6,7 +6,7 @@ use Rattle.hx_inferior.specs.declared.fills.FillStep.{FillStep}
 use Rattle.hx_inferior.specs.declared.dominations.Kill.TheVariants.{ByDead, ByPair}
 use Rattle.hx_link.specs.declared.steps.Step.{Step}
 use Rattle.hx_tree.specs.declared.nodes.Rule.{Rule}
-use Rattle.hx_tree.specs.declared.nodes.Rule.TheVariants.{Chain, Links, Move, All, Fill}
+use Rattle.hx_tree.specs.declared.nodes.Rule.TheVariants.{Chain, Links, Move, All, Fill, Turned}
 use Rattle.hx_tree.specs.declared.nodes.Line.{Line}
 use Rattle.hx_tree.specs.declared.nodes.Line.TheVariants.{Child, Under}
 use Rattle.hx_tree.specs.Answers.{cell_of}
@@ -15,7 +15,7 @@ use Rattle.hx_text.specs.declared.entries.Entry.TheVariants.{Step as Step_entry,
 use Rattle.hx_text.specs.declared.entries.EntryKind.{EntryKind}
 use Rattle.hx_text.specs.declared.entries.EntryKind.TheVariants.{Step as Step_kind, Threat as Threat_kind, Answer as Answer_kind, Fill as Fill_kind}
 use Rattle.hx_text.specs.declared.node_lines.Opening.{Opening}
-use Rattle.hx_text.specs.declared.node_lines.Opening.TheVariants.{Chain as Chain_opening, Links as Links_opening, Move as Move_opening, All as All_opening, Fill as Fill_opening}
+use Rattle.hx_text.specs.declared.node_lines.Opening.TheVariants.{Chain as Chain_opening, Links as Links_opening, Move as Move_opening, All as All_opening, Fill as Fill_opening, Turned as Turned_opening}
 use Rattle.hx_text.specs.Words.{spaced, cell_word, IsNumber}
 use Rattle.hx_text.specs.StepTexts.{step_line, threat_line, StepFits}
 use Rattle.hx_text.specs.FillTexts.{fill_line, FillFits}
@@ -71,6 +71,7 @@ entries_of (Links steps) = entries_for steps [] [] []
 entries_of (Move cell child) = []
 entries_of (All steps threats lines) = entries_for steps threats lines []
 entries_of (Fill fills child) = entries_for [] [] [] fills
+entries_of (Turned child) = []
 
 -- what a node's first line tells of its rule
 abbrev pub opening_of : Rule → Opening
@@ -79,6 +80,7 @@ opening_of (Links steps) = Links_opening (length steps)
 opening_of (Move cell child) = Move_opening cell child
 opening_of (All steps threats lines) = All_opening (length steps) (length threats) (length lines)
 opening_of (Fill fills child) = Fill_opening (length fills) child
+opening_of (Turned child) = Turned_opening child
 
 -- how many steps, threats, answers and fill steps a first line tells
 abbrev pub steps_told : Opening → ℕ
@@ -87,6 +89,7 @@ steps_told (Links_opening steps) = steps
 steps_told (Move_opening cell child) = 0
 steps_told (All_opening steps threats lines) = steps
 steps_told (Fill_opening fills child) = 0
+steps_told (Turned_opening child) = 0
 
 abbrev pub threats_told : Opening → ℕ
 threats_told Chain_opening = 0
@@ -94,6 +97,7 @@ threats_told (Links_opening steps) = 0
 threats_told (Move_opening cell child) = 0
 threats_told (All_opening steps threats lines) = threats
 threats_told (Fill_opening fills child) = 0
+threats_told (Turned_opening child) = 0
 
 abbrev pub answers_told : Opening → ℕ
 answers_told Chain_opening = 0
@@ -101,6 +105,7 @@ answers_told (Links_opening steps) = 0
 answers_told (Move_opening cell child) = 0
 answers_told (All_opening steps threats lines) = lines
 answers_told (Fill_opening fills child) = 0
+answers_told (Turned_opening child) = 0
 
 abbrev pub fills_told : Opening → ℕ
 fills_told Chain_opening = 0
@@ -108,6 +113,7 @@ fills_told (Links_opening steps) = 0
 fills_told (Move_opening cell child) = 0
 fills_told (All_opening steps threats lines) = 0
 fills_told (Fill_opening fills child) = fills
+fills_told (Turned_opening child) = 0
 
 -- how many entries it tells
 abbrev pub entries_told : Opening → ℕ
@@ -143,3 +149,4 @@ rule_for (Links_opening told) steps threats lines fills = Links steps
 rule_for (Move_opening cell child) steps threats lines fills = Move cell child
 rule_for (All_opening told told_threats told_lines) steps threats lines fills = All steps threats lines
 rule_for (Fill_opening told child) steps threats lines fills = Fill fills child
+rule_for (Turned_opening child) steps threats lines fills = Turned child

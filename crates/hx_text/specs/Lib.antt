@@ -6,6 +6,7 @@ pub mod Spelling
 pub mod StepTexts
 pub mod FillTexts
 pub mod Entries
+pub mod Versions
 pub mod TreeTexts
 pub mod Places
 pub mod Reader

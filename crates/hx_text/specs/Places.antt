@@ -5,7 +5,7 @@ use Rattle.std.specs.declared.option.Option.TheVariants.{None, Some}
 use Rattle.std.specs.declared.result.Result.{Result}
 use Rattle.std.specs.declared.result.Result.TheVariants.{Ok, Err}
 use Rattle.hx_board.specs.declared.colours.Colour.{Colour}
-use Rattle.hx_board.specs.Cells.{Extent, IsExtent}
+use Rattle.hx_board.specs.Cells.{IsExtent}
 use Rattle.hx_tree.specs.declared.nodes.Node.{Node}
 use Rattle.hx_text.specs.declared.node_lines.Head.{Head}
 use Rattle.hx_text.specs.declared.entries.Entry.{Entry}
@@ -13,6 +13,8 @@ use Rattle.hx_text.specs.declared.entries.Entry.TheVariants.{Step as Step_entry,
 use Rattle.hx_text.specs.declared.entries.EntryKind.{EntryKind}
 use Rattle.hx_text.specs.declared.entries.EntryKind.TheVariants.{Step as Step_kind, Threat as Threat_kind, Answer as Answer_kind, Fill as Fill_kind}
 use Rattle.hx_text.specs.declared.begun_nodes.Begun.{Begun}
+use Rattle.hx_text.specs.declared.versions.Version.{Version}
+use Rattle.hx_text.specs.declared.versions.Preamble.{Preamble}
 use Rattle.hx_text.specs.declared.places.SoFar.{SoFar}
 use Rattle.hx_text.specs.declared.places.Fed.{Fed}
 use Rattle.hx_text.specs.declared.places.Fed.TheVariants.{More, Node as Whole, End}
@@ -40,12 +42,12 @@ IsLastWinner nodes (Some winner) = IsRootWinner nodes winner
 
 -- the lines so far are those of these nodes
 pub record StandsSoFar (so_far : SoFar) (nodes : List Node) (lines : List (List ℕ)) : Type 0 where
-  pub is_size : IsExtent so_far.size.rows so_far.size.cols
-  pub each : EachNodeFits so_far.size nodes
+  pub is_size : IsExtent so_far.preamble.size.rows so_far.preamble.size.cols
+  pub each : EachNodeFits so_far.preamble nodes
   pub winner : IsLastWinner nodes so_far.winner
   pub count : so_far.count ≡ length nodes
   pub room : so_far.count ≤ most_nodes
-  pub same : lines ≡ front_lines so_far.size ++ flat_map node_lines nodes
+  pub same : lines ≡ front_lines so_far.preamble ++ flat_map node_lines nodes
 
 -- the entries of a begun node
 abbrev pub entries_in : Begun → List Entry
@@ -78,10 +80,10 @@ pub record StandsBegun (begun : Begun) (nodes : List Node) (lines : List (List �
   pub before : List (List ℕ)
   pub stands : StandsSoFar begun.so_far nodes before
   pub room : begun.so_far.count < most_nodes
-  pub head : HeadFits begun.so_far.size begun.head
+  pub head : HeadFits begun.so_far.preamble begun.head
   pub in_order : IsInOrder begun
   pub lists : HasRoomForAll begun
-  pub each : EachEntryFits begun.so_far.size (entries_in begun)
+  pub each : EachEntryFits begun.so_far.preamble.size (entries_in begun)
   pub same : lines ≡ before ++ head_line begun.head ∷ map entry_line (entries_in begun)
 
 -- the lines so far are those of these nodes, and then of a node that has not all of its lines
@@ -92,18 +94,31 @@ pub record StandsInside (begun : Begun) (nodes : List Node) (lines : List (List 
 -- the lines so far are those of these nodes, at this place in the text
 abbrev pub Stands : Place → List Node → List (List ℕ) → Type 0
 Stands Title nodes lines = (nodes ≡ []) × (lines ≡ [])
-Stands Size nodes lines = (nodes ≡ []) × (lines ≡ title_line ∷ [])
+Stands (Size version) nodes lines = (nodes ≡ []) × (lines ≡ title_line version ∷ [])
 Stands (Between so_far) nodes lines = StandsSoFar so_far nodes lines
 Stands (Inside begun) nodes lines = StandsInside begun nodes lines
-Stands After nodes lines = (size : Extent) × (winner : Colour) × AreTreeLinesOf size nodes winner lines
-Stands (Failed fault) nodes lines = ⊥
+Stands (After preamble) nodes lines = (winner : Colour) × AreTreeLinesOf preamble nodes winner lines
+Stands (Failed fault version) nodes lines = ⊥
+
+-- the place after the last line
+abbrev pub IsAfter : Place → Type 0
+IsAfter place = (preamble : Preamble) × (place ≡ After preamble)
+
+-- the version of the text at this place, if its first line was read
+abbrev pub version_at : Place → Option Version
+version_at Title = None
+version_at (Size version) = Some version
+version_at (Between so_far) = Some so_far.preamble.version
+version_at (Inside begun) = Some begun.so_far.preamble.version
+version_at (After preamble) = Some preamble.version
+version_at (Failed fault version) = version
 
 -- a right first line of a node of this text
 pub record IsNextNode (place : Place) (line : List ℕ) : Type 0 where
   pub so_far : SoFar
   pub is : place ≡ Between so_far
   pub head : Head
-  pub fits : HeadFits so_far.size head
+  pub fits : HeadFits so_far.preamble head
   pub same : line ≡ head_line head
 
 -- the kind of the entry that is due
@@ -121,9 +136,9 @@ pub data TakesMemory (place : Place) (line : List ℕ) : Type 0 where
 
 -- what a line brought: the place after it, the nodes before it, the lines with it; the end comes with the last line alone
 abbrev pub Brings : Fed → Place → List Node → List (List ℕ) → Type 0
-Brings More new nodes lines = (new ≢ After) × Stands new nodes lines
-Brings (Whole node) new nodes lines = (new ≢ After) × Stands new (nodes ++ node ∷ []) lines
-Brings (End winner) new nodes lines = (new ≡ After) × ((size : Extent) × AreTreeLinesOf size nodes winner lines)
+Brings More new nodes lines = (¬ IsAfter new) × Stands new nodes lines
+Brings (Whole node) new nodes lines = (¬ IsAfter new) × Stands new (nodes ++ node ∷ []) lines
+Brings (End winner) new nodes lines = (preamble : Preamble) × (new ≡ After preamble) × AreTreeLinesOf preamble nodes winner lines
 
 -- what a reader says of one more line: old and new are the places before and after it, lines the lines with it
 abbrev pub Told : Place → List ℕ → Bool → ℕ → List Node → List (List ℕ) → Place → Result Fed TreeFault → Type 0
@@ -152,20 +167,20 @@ Goes old line result = (nodes : List Node) (lines : List (List ℕ)) → Stands 
 abbrev pub GoesOn : Place → List ℕ → Place → Type 0
 GoesOn old line new = (begun : Begun) × (old ≡ Inside begun) × Goes old line (Ok (record { fed = More; place = new }))
 
--- the line is no first line of a node on a board of this size
-abbrev pub IsNoHead : Extent → List ℕ → Type 0
-IsNoHead size line = (head : Head) → HeadFits size head → line ≡ head_line head → ⊥
+-- the line is no first line of a node of such a text
+abbrev pub IsNoHead : Preamble → List ℕ → Type 0
+IsNoHead preamble line = (head : Head) → HeadFits preamble head → line ≡ head_line head → ⊥
 
 -- what comes after a node's first line
 abbrev pub BeginsNode : SoFar → Head → Result Step Stop → Type 0
 BeginsNode so_far head result =
-    (nodes : List Node) (lines : List (List ℕ)) → StandsSoFar so_far nodes lines → so_far.count < most_nodes → HeadFits so_far.size head
+    (nodes : List Node) (lines : List (List ℕ)) → StandsSoFar so_far nodes lines → so_far.count < most_nodes → HeadFits so_far.preamble head
     → Follows (Between so_far) nodes (head_line head) (lines ++ head_line head ∷ []) result
 
 -- what comes after the last line of a node
 abbrev pub EndsNode : SoFar → Node → Step → Type 0
 EndsNode so_far node step =
-    (nodes : List Node) (lines : List (List ℕ)) → StandsSoFar so_far nodes lines → so_far.count < most_nodes → NodeFits so_far.size node
+    (nodes : List Node) (lines : List (List ℕ)) → StandsSoFar so_far nodes lines → so_far.count < most_nodes → NodeFits so_far.preamble node
     → Brings step.fed step.place nodes (lines ++ node_lines node)
 
 -- the entry is added to the list of its kind
@@ -212,7 +227,7 @@ SettlesNode begun step = (nodes : List Node) (lines : List (List ℕ)) → Stand
 -- what comes after an entry
 abbrev pub AddsEntry : Begun → Entry → Result Step Stop → Type 0
 AddsEntry begun entry result =
-    (nodes : List Node) (lines : List (List ℕ)) → StandsInside begun nodes lines → IsEntryLine begun.so_far.size (kind_due begun) entry
+    (nodes : List Node) (lines : List (List ℕ)) → StandsInside begun nodes lines → IsEntryLine begun.so_far.preamble.size (kind_due begun) entry
     → Follows (Inside begun) nodes (entry_line entry) (lines ++ entry_line entry ∷ []) result
 
 -- the fault of the line with this number, which was not taken

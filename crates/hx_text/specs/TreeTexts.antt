@@ -2,20 +2,24 @@
 use Rattle.std.specs.Prelude.{◌≡◌, ℕ, ◌≤◌, List, [], ◌∷◌, ◌++◌, length, map, flat_map, codes}
 use Rattle.std.specs.Fmt.{decimal}
 use Rattle.hx_board.specs.declared.colours.Colour.{Colour}
-use Rattle.hx_board.specs.Cells.{Extent, IsExtent, OnBoard}
+use Rattle.hx_board.specs.Cells.{IsExtent, OnBoard}
 use Rattle.hx_board.specs.Positions.{IsBoard}
 use Rattle.hx_tree.specs.declared.nodes.Heading.{Heading}
 use Rattle.hx_tree.specs.declared.nodes.Rule.{Rule}
-use Rattle.hx_tree.specs.declared.nodes.Rule.TheVariants.{Chain, Links, Move, All, Fill}
+use Rattle.hx_tree.specs.declared.nodes.Rule.TheVariants.{Chain, Links, Move, All, Fill, Turned}
 use Rattle.hx_tree.specs.declared.nodes.Node.{Node}
 use Rattle.hx_tree.specs.Trees.{IsRoot}
 use Rattle.hx_board.specs.declared.cells.TheConstants.{CELLS}
 use Rattle.hx_tree.specs.declared.steps.TheConstants.{MOST_STEPS, MOST_THREATS}
 use Rattle.hx_text.specs.declared.node_lines.Opening.{Opening}
-use Rattle.hx_text.specs.declared.node_lines.Opening.TheVariants.{Chain as Chain_opening, Links as Links_opening, Move as Move_opening, All as All_opening, Fill as Fill_opening}
+use Rattle.hx_text.specs.declared.node_lines.Opening.TheVariants.{Chain as Chain_opening, Links as Links_opening, Move as Move_opening, All as All_opening, Fill as Fill_opening, Turned as Turned_opening}
 use Rattle.hx_text.specs.declared.node_lines.Head.{Head}
+use Rattle.hx_text.specs.declared.versions.Version.{Version}
+use Rattle.hx_text.specs.declared.versions.Version.TheVariants.{Two}
+use Rattle.hx_text.specs.declared.versions.Preamble.{Preamble}
 use Rattle.hx_text.specs.Words.{spaced, mask_word, colour_word, cell_word, IsNumber}
 use Rattle.hx_text.specs.Grammars.{text_of}
+use Rattle.hx_text.specs.Versions.{version_word}
 use Rattle.hx_text.specs.PositionTexts.{size_line}
 use Rattle.hx_text.specs.Entries.{entry_line, entries_of, opening_of, EachEntryFits}
 
@@ -25,6 +29,7 @@ opening_words (Links_opening steps) = codes "links" ∷ decimal steps ∷ []
 opening_words (Move_opening cell child) = codes "move" ∷ cell_word cell ∷ decimal child ∷ []
 opening_words (All_opening steps threats lines) = codes "all" ∷ decimal steps ∷ decimal threats ∷ decimal lines ∷ []
 opening_words (Fill_opening fills child) = codes "fill" ∷ decimal fills ∷ decimal child ∷ []
+opening_words (Turned_opening child) = codes "turned" ∷ decimal child ∷ []
 
 -- the first line of a node
 abbrev pub head_of : Node → Head
@@ -42,40 +47,42 @@ head_line head = spaced (head_words head)
 abbrev pub node_lines : Node → List (List ℕ)
 node_lines node = head_line (head_of node) ∷ map entry_line (entries_of node.rule)
 
-abbrev pub title_line : List ℕ
-title_line = spaced (codes "hextree" ∷ codes "1" ∷ [])
+abbrev pub title_line : Version → List ℕ
+title_line version = spaced (codes "hextree" ∷ version_word version ∷ [])
 
 -- the lines before the nodes
-abbrev pub front_lines : Extent → List (List ℕ)
-front_lines size = title_line ∷ size_line size ∷ []
+abbrev pub front_lines : Preamble → List (List ℕ)
+front_lines preamble = title_line preamble.version ∷ size_line preamble.size ∷ []
 
 abbrev pub end_line : ℕ → Colour → List ℕ
 end_line count winner = spaced (codes "end" ∷ decimal count ∷ colour_word winner ∷ [])
 
-abbrev pub tree_lines : Extent → List Node → Colour → List (List ℕ)
-tree_lines size nodes winner = front_lines size ++ flat_map node_lines nodes ++ end_line (length nodes) winner ∷ []
+abbrev pub tree_lines : Preamble → List Node → Colour → List (List ℕ)
+tree_lines preamble nodes winner = front_lines preamble ++ flat_map node_lines nodes ++ end_line (length nodes) winner ∷ []
 
--- a position of this size
-pub record HeadingFits (size : Extent) (heading : Heading) : Type 0 where
-  pub size_is : heading.position.size ≡ size
+-- a position of the size that the text tells
+pub record HeadingFits (preamble : Preamble) (heading : Heading) : Type 0 where
+  pub size_is : heading.position.size ≡ preamble.size
   pub board : IsBoard heading.position
 
-abbrev pub OpeningFits : Extent → Opening → Type 0
-OpeningFits size Chain_opening = Unit {0}
-OpeningFits size (Links_opening steps) = steps ≤ MOST_STEPS
-OpeningFits size (Move_opening cell child) = OnBoard size cell × IsNumber child
-OpeningFits size (All_opening steps threats lines) = (steps ≤ MOST_STEPS) × (threats ≤ MOST_THREATS) × (lines ≤ CELLS)
-OpeningFits size (Fill_opening fills child) = (fills ≤ CELLS) × IsNumber child
+-- texts of the second version alone have turned nodes
+abbrev pub OpeningFits : Preamble → Opening → Type 0
+OpeningFits preamble Chain_opening = Unit {0}
+OpeningFits preamble (Links_opening steps) = steps ≤ MOST_STEPS
+OpeningFits preamble (Move_opening cell child) = OnBoard preamble.size cell × IsNumber child
+OpeningFits preamble (All_opening steps threats lines) = (steps ≤ MOST_STEPS) × (threats ≤ MOST_THREATS) × (lines ≤ CELLS)
+OpeningFits preamble (Fill_opening fills child) = (fills ≤ CELLS) × IsNumber child
+OpeningFits preamble (Turned_opening child) = (preamble.version ≡ Two) × IsNumber child
 
--- a first line of a node on a board of this size
-pub record HeadFits (size : Extent) (head : Head) : Type 0 where
-  pub heading : HeadingFits size head.heading
-  pub opening : OpeningFits size head.opening
+-- a first line of a node on a board of this size, in a text of this version
+pub record HeadFits (preamble : Preamble) (head : Head) : Type 0 where
+  pub heading : HeadingFits preamble head.heading
+  pub opening : OpeningFits preamble head.opening
 
--- a node on a board of this size, with no more entries than a text may have
-pub record NodeFits (size : Extent) (node : Node) : Type 0 where
-  pub head : HeadFits size (head_of node)
-  pub entries : EachEntryFits size (entries_of node.rule)
+-- a node on a board of this size, which this version has, with no more entries than a text may have
+pub record NodeFits (preamble : Preamble) (node : Node) : Type 0 where
+  pub head : HeadFits preamble (head_of node)
+  pub entries : EachEntryFits preamble.size (entries_of node.rule)
 
 -- the lists of a rule are no longer than a text may have them
 abbrev pub ListsFit : Rule → Type 0
@@ -84,10 +91,11 @@ ListsFit (Links steps) = length steps ≤ MOST_STEPS
 ListsFit (Move cell child) = Unit {0}
 ListsFit (All steps threats lines) = (length steps ≤ MOST_STEPS) × (length threats ≤ MOST_THREATS) × (length lines ≤ CELLS)
 ListsFit (Fill fills child) = length fills ≤ CELLS
+ListsFit (Turned child) = Unit {0}
 
-abbrev pub EachNodeFits : Extent → List Node → Type 0
-EachNodeFits size [] = Unit {0}
-EachNodeFits size (node ∷ nodes) = NodeFits size node × EachNodeFits size nodes
+abbrev pub EachNodeFits : Preamble → List Node → Type 0
+EachNodeFits preamble [] = Unit {0}
+EachNodeFits preamble (node ∷ nodes) = NodeFits preamble node × EachNodeFits preamble nodes
 
 -- the winner in the last node's heading
 pub record IsRootWinner (nodes : List Node) (winner : Colour) : Type 0 where
@@ -96,29 +104,29 @@ pub record IsRootWinner (nodes : List Node) (winner : Colour) : Type 0 where
   pub same : root.heading.winner ≡ winner
 
 -- these lines are those of the nodes, of which there is one at least
-pub record AreTreeLinesOf (size : Extent) (nodes : List Node) (winner : Colour) (lines : List (List ℕ)) : Type 0 where
-  pub is_size : IsExtent size.rows size.cols
-  pub each : EachNodeFits size nodes
+pub record AreTreeLinesOf (preamble : Preamble) (nodes : List Node) (winner : Colour) (lines : List (List ℕ)) : Type 0 where
+  pub is_size : IsExtent preamble.size.rows preamble.size.cols
+  pub each : EachNodeFits preamble nodes
   pub root : IsRootWinner nodes winner
   pub count : IsNumber (length nodes)
-  pub same : lines ≡ tree_lines size nodes winner
+  pub same : lines ≡ tree_lines preamble nodes winner
 
 -- the lines of some tree's text
 pub record AreTreeLines (lines : List (List ℕ)) : Type 0 where
-  pub size : Extent
+  pub preamble : Preamble
   pub nodes : List Node
   pub winner : Colour
-  pub are : AreTreeLinesOf size nodes winner lines
+  pub are : AreTreeLinesOf preamble nodes winner lines
 
--- the bytes are the text of these nodes
+-- the bytes are the text of these nodes, of a version that has them
 pub record IsTreeText (bytes : List ℕ) (nodes : List Node) : Type 0 where
-  pub size : Extent
+  pub preamble : Preamble
   pub winner : Colour
   pub lines : List (List ℕ)
-  pub are : AreTreeLinesOf size nodes winner lines
+  pub are : AreTreeLinesOf preamble nodes winner lines
   pub same : bytes ≡ text_of lines
 
 -- the bytes of a tree that is written piece by piece: the lines before the nodes, each node, the last line
-abbrev pub written_tree : Extent → List Node → Colour → List ℕ
-written_tree size nodes winner =
-    (text_of (front_lines size) ++ flat_map (λ node. text_of (node_lines node)) nodes) ++ text_of (end_line (length nodes) winner ∷ [])
+abbrev pub written_tree : Preamble → List Node → Colour → List ℕ
+written_tree preamble nodes winner =
+    (text_of (front_lines preamble) ++ flat_map (λ node. text_of (node_lines node)) nodes) ++ text_of (end_line (length nodes) winner ∷ [])

@@ -32,9 +32,9 @@ pub struct Begun {
 impl Begun {
     /// The size of the board.
     fn size(&self) -> Size
-        ensures { result ≡ self.now.so_far.size }
+        ensures { result ≡ self.now.so_far.preamble.size }
     {
-        self.so_far.size
+        self.so_far.preamble.size
     }
 
     /// Which kind of entry is due.
@@ -105,6 +105,10 @@ pub(crate) fn begin(alloc: Global, so_far: SoFar, head: Head) -> Result<Step, St
         }
         Opening::Move { cell, child } => {
             let rule = Rule::Move { cell, child };
+            Ok(with_node(so_far, Node { heading, rule }))
+        }
+        Opening::Turned { child } => {
+            let rule = Rule::Turned { child };
             Ok(with_node(so_far, Node { heading, rule }))
         }
         Opening::Links { steps } => {
@@ -259,6 +263,7 @@ fn rule_of(
             steps: FillSteps::new(fills),
             child,
         },
+        Opening::Turned { child } => Rule::Turned { child },
     }
 }
 
@@ -267,7 +272,7 @@ fn with_node(so_far: SoFar, node: Node) -> Step
     ensures { EndsNode so_far node result }
 {
     let next = SoFar {
-        size: so_far.size,
+        preamble: so_far.preamble,
         count: so_far.count.saturating_add(1),
         winner: Some(node.heading.winner),
     };

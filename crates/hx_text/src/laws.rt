@@ -2,9 +2,10 @@
 
 ghost use Rattle.std.specs.Prelude.{◌≡◌, ℕ, List, length};
 ghost use Rattle.hx_board.specs.declared.colours.Colour.{Colour as Player};
-ghost use Rattle.hx_board.specs.Cells.{Extent, IsExtent};
+ghost use Rattle.hx_board.specs.Cells.{IsExtent};
 ghost use Rattle.hx_board.specs.Positions.{Board, IsBoard};
 ghost use Rattle.hx_tree.specs.declared.nodes.Node.{Node as TreeNode};
+ghost use Rattle.hx_text.specs.declared.versions.Preamble.{Preamble as Before_nodes};
 ghost use Rattle.hx_text.specs.Words.{IsNumber};
 ghost use Rattle.hx_text.specs.Grammars.{IsFaultyLine};
 ghost use Rattle.hx_text.specs.PositionTexts.{ArePositionLines, position_text};
@@ -22,15 +23,17 @@ pub fn text_tells_nodes()
         → a ≡ b }
 {}
 
-/// What `write_heading`, `write_node` for each node and `write_end` write is the text of these nodes, and whatever is read
-/// from it is what was written.
+/// What `write_heading`, `write_node` for each node and `write_end` write is the text of these nodes, in each version that has
+/// them, and whatever is read from it is what was written.
 pub fn written_is_text()
-    ensures text { (size : Extent) (nodes : List TreeNode) (winner : Player)
-        → IsExtent size.rows size.cols → EachNodeFits size nodes → IsRootWinner nodes winner → IsNumber (length nodes)
-        → IsTreeText (written_tree size nodes winner) nodes }
-    ensures read_back { (size : Extent) (nodes read : List TreeNode) (winner : Player)
-        → IsExtent size.rows size.cols → EachNodeFits size nodes → IsRootWinner nodes winner → IsNumber (length nodes)
-        → IsTreeText (written_tree size nodes winner) read → read ≡ nodes }
+    ensures text { (preamble : Before_nodes) (nodes : List TreeNode) (winner : Player)
+        → IsExtent preamble.size.rows preamble.size.cols → EachNodeFits preamble nodes
+        → IsRootWinner nodes winner → IsNumber (length nodes)
+        → IsTreeText (written_tree preamble nodes winner) nodes }
+    ensures read_back { (preamble : Before_nodes) (nodes read : List TreeNode) (winner : Player)
+        → IsExtent preamble.size.rows preamble.size.cols → EachNodeFits preamble nodes
+        → IsRootWinner nodes winner → IsNumber (length nodes)
+        → IsTreeText (written_tree preamble nodes winner) read → read ≡ nodes }
 {}
 
 /// Bytes have one faulty line at the most, as the text of a tree and as the text of a position.

@@ -16,6 +16,7 @@ mod spelling;
 mod step_lines;
 mod texts;
 mod values;
+mod versions;
 mod words;
 mod writer;
 
@@ -26,6 +27,7 @@ pub use positions::{TextFault, read_position};
 pub use reader::TreeReader;
 pub use texts::{TEXT_ROOM, Text};
 pub use values::{read_digits, read_number};
+pub use versions::{Version, version_of};
 pub use writer::{write_end, write_heading, write_node, write_position};
 
 #[cfg(test)]

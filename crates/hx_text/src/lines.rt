@@ -7,6 +7,7 @@ ghost use Rattle.hx_text.specs.PositionTexts.{position_title, size_line, stones_
 ghost use Rattle.hx_text.specs.TreeTexts.{title_line, end_line};
 
 use crate::values;
+use crate::versions::Version;
 use crate::words::Words;
 use hx_board::{Colour, Mask, Size};
 
@@ -28,14 +29,15 @@ pub(crate) fn is_position_title(line: &[u8]) -> bool
     }
 }
 
-/// Whether a line is the first one of a tree's text.
+/// The first line of a tree's text, which tells its version.
 #[tactic(auto, unfolding(crate::specs::Words::spaced))]
-pub(crate) fn is_title(line: &[u8]) -> bool
-    ensures { IsTrue result ↔ (line.now ≡ title_line) }
+pub(crate) fn read_title(line: &[u8]) -> Option<Version>
+    ensures { Reads title_line (λ _. Unit {0}) line.now result }
 {
     match line {
-        b"hextree 1" => true,
-        _ => false,
+        b"hextree 1" => Some(Version::One),
+        b"hextree 2" => Some(Version::Two),
+        _ => None,
     }
 }
 

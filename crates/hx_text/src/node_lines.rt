@@ -7,6 +7,7 @@ ghost use Rattle.hx_text.specs.Words.{Reads, IsNumber, cell_word};
 ghost use Rattle.hx_text.specs.Entries.{steps_told, threats_told, answers_told, fills_told};
 ghost use Rattle.hx_text.specs.TreeTexts.{opening_words, OpeningFits, head_line, HeadFits};
 
+use crate::versions::{Preamble, Version};
 use crate::words::Words;
 use hx_board::{CELLS, Cell, Position, Size};
 use hx_tree::{Heading, MOST_STEPS, MOST_THREATS};
@@ -34,6 +35,9 @@ pub enum Opening {
         fills: u32,
         child: u32,
     },
+    Turned {
+        child: u32,
+    },
 }
 
 impl Opening {
@@ -42,8 +46,8 @@ impl Opening {
         ensures { result ≡ steps_told self.now }
     {
         match self {
-            Opening::Chain | Opening::Move { .. } | Opening::Fill { .. } => 0,
             Opening::Links { steps } | Opening::All { steps, .. } => *steps,
+            _ => 0,
         }
     }
 
@@ -52,9 +56,8 @@ impl Opening {
         ensures { result ≡ threats_told self.now }
     {
         match self {
-            Opening::Chain | Opening::Links { .. } | Opening::Move { .. } | Opening::Fill { .. } =>
-                0,
             Opening::All { threats, .. } => *threats,
+            _ => 0,
         }
     }
 
@@ -63,9 +66,8 @@ impl Opening {
         ensures { result ≡ answers_told self.now }
     {
         match self {
-            Opening::Chain | Opening::Links { .. } | Opening::Move { .. } | Opening::Fill { .. } =>
-                0,
             Opening::All { lines, .. } => *lines,
+            _ => 0,
         }
     }
 
@@ -74,9 +76,8 @@ impl Opening {
         ensures { result ≡ fills_told self.now }
     {
         match self {
-            Opening::Chain | Opening::Links { .. } | Opening::Move { .. } | Opening::All { .. } =>
-                0,
             Opening::Fill { fills, .. } => *fills,
+            _ => 0,
         }
     }
 }
@@ -89,9 +90,10 @@ pub struct Head {
 }
 
 /// The line `node BLACK WHITE MOVER WINNER OPENING`.
-pub(crate) fn read_head(size: Size, line: &[u8]) -> Option<Head>
-    ensures { Reads head_line (HeadFits size) line.now result }
+pub(crate) fn read_head(preamble: &Preamble, line: &[u8]) -> Option<Head>
+    ensures { Reads head_line (HeadFits preamble.now) line.now result }
 {
+    let size = preamble.size;
     // The proof takes from here that the size is one of a board.
     let _rows = size.rows();
     let mut words = Words::of(line);
@@ -100,7 +102,7 @@ pub(crate) fn read_head(size: Size, line: &[u8]) -> Option<Head>
     let white = words.mask()?;
     let to_move = words.colour()?;
     let winner = words.colour()?;
-    let opening = read_opening(size, &mut words)?;
+    let opening = read_opening(preamble, &mut words)?;
     let position = Position::from_masks(size, black, white)?;
     let heading = Heading {
         position,
@@ -111,16 +113,17 @@ pub(crate) fn read_head(size: Size, line: &[u8]) -> Option<Head>
 }
 
 /// The words of a rule's opening, which are the last ones of a node's first line.
-fn read_opening(size: Size, words: &mut Words<'_>) -> Option<Opening>
-    ensures { Reads opening_words (OpeningFits size) words.old result }
+fn read_opening(preamble: &Preamble, words: &mut Words<'_>) -> Option<Opening>
+    ensures { Reads opening_words (OpeningFits preamble.now) words.old result }
 {
     let word = words.next()?;
     match word {
         b"chain" => read_chain(words),
         b"links" => read_links(words),
-        b"move" => read_move(size, words),
+        b"move" => read_move(preamble.size, words),
         b"all" => read_all(words),
         b"fill" => read_fills(words),
+        b"turned" => read_turned(preamble.version, words),
         _ => None,
     }
 }
@@ -186,4 +189,18 @@ fn read_fills(words: &mut Words<'_>) -> Option<Opening>
     let child = words.number()?;
     words.end()?;
     Some(Opening::Fill { fills, child })
+}
+
+/// The rest of the opening `turned`: the word `CHILD`. The first version has no such opening.
+fn read_turned(version: Version, words: &mut Words<'_>) -> Option<Opening>
+    ensures some { IfSome result (λ opening. (child : ℕ) × (opening ≡ Opening.Turned child) × (version ≡ Version.Two) × IsNumber child
+        × (words.old ≡ decimal child ∷ [])) }
+    ensures none { IfNone result ((child : ℕ) → version ≡ Version.Two → IsNumber child → words.old ≡ decimal child ∷ [] → ⊥) }
+{
+    if version == Version::One {
+        return None;
+    }
+    let child = words.number()?;
+    words.end()?;
+    Some(Opening::Turned { child })
 }

@@ -2,9 +2,10 @@
 //! judged by, so no earlier line is read again.
 
 ghost use Rattle.std.specs.Prelude.{◌≡◌, ◌↔◌, IsTrue, false};
-ghost use Rattle.hx_text.specs.Places.{Goes, GoesOn, IsNoHead};
+ghost use Rattle.hx_text.specs.Places.{Goes, GoesOn, IsNoHead, version_at};
 
 use crate::begun_nodes::{self, Begun};
+use crate::versions::{Preamble, Version};
 use crate::{lines, node_lines};
 use hx_board::{Colour, Size};
 use hx_tree::Node;
@@ -39,7 +40,7 @@ pub enum Fed {
 /// What the nodes that ended have said so far: how many they are, and the winner of the last.
 #[derive(Clone, Copy, PartialEq, Eq, Debug)]
 pub struct SoFar {
-    pub size: Size,
+    pub preamble: Preamble,
     pub count: u32,
     pub winner: Option<Colour>,
 }
@@ -49,16 +50,35 @@ pub struct SoFar {
 pub enum Place {
     /// At the first line, the title.
     Title,
-    /// At the line of the board's size.
-    Size,
+    /// At the line of the board's size, after the title of a text of this version.
+    Size(Version),
     /// At the first line of a node, or at the last line.
     Between(SoFar),
     /// At a later line of a node.
     Inside(Begun),
     /// After the last line.
-    After,
-    /// After a line that was not taken.
-    Failed(TreeFault),
+    After(Preamble),
+    /// After a line that was not taken. The version is that of the text, if its first line was.
+    Failed {
+        fault: TreeFault,
+        version: Option<Version>,
+    },
+}
+
+impl Place {
+    /// The version of the text, if its first line was read.
+    pub(crate) fn version(&self) -> Option<Version>
+        ensures { result ≡ version_at self.now }
+    {
+        match self {
+            Place::Title => None,
+            Place::Size(version) => Some(*version),
+            Place::Between(so_far) => Some(so_far.preamble.version),
+            Place::Inside(begun) => Some(begun.so_far.preamble.version),
+            Place::After(preamble) => Some(preamble.version),
+            Place::Failed { version, .. } => *version,
+        }
+    }
 }
 
 /// A step to the place after a line, and what the line brought.
@@ -88,11 +108,11 @@ pub(crate) fn advance(alloc: Global, place: Place, line: &[u8]) -> Result<Step, 
 {
     match place {
         Place::Title => at_title(line),
-        Place::Size => at_size(line),
+        Place::Size(version) => at_size(version, line),
         Place::Between(so_far) => between(alloc, so_far, line),
         Place::Inside(begun) => begun_nodes::inside(alloc, begun, line),
-        Place::After => Err(Stop::Wrong),
-        Place::Failed(_) => Err(Stop::Wrong),
+        Place::After(_) => Err(Stop::Wrong),
+        Place::Failed { .. } => Err(Stop::Wrong),
     }
 }
 
@@ -111,24 +131,23 @@ pub(crate) fn goes_on(alloc: Global, place: &mut Place, line: &[u8]) -> bool
 fn at_title(line: &[u8]) -> Result<Step, Stop>
     ensures { Goes Place.Title line.now result }
 {
-    if lines::is_title(line) {
-        Ok(Step {
+    match lines::read_title(line) {
+        Some(version) => Ok(Step {
             fed: Fed::More,
-            place: Place::Size,
-        })
-    } else {
-        Err(Stop::Wrong)
+            place: Place::Size(version),
+        }),
+        None => Err(Stop::Wrong),
     }
 }
 
 /// Takes the line of the size.
-fn at_size(line: &[u8]) -> Result<Step, Stop>
-    ensures { Goes Place.Size line.now result }
+fn at_size(version: Version, line: &[u8]) -> Result<Step, Stop>
+    ensures { Goes (Place.Size version) line.now result }
 {
     match lines::read_size(line) {
         Some(size) => {
             let so_far = SoFar {
-                size,
+                preamble: Preamble { version, size },
                 count: 0,
                 winner: None,
             };
@@ -145,7 +164,7 @@ fn at_size(line: &[u8]) -> Result<Step, Stop>
 fn between(alloc: Global, so_far: SoFar, line: &[u8]) -> Result<Step, Stop>
     ensures { Goes (Place.Between so_far) line.now result }
 {
-    match node_lines::read_head(so_far.size, line) {
+    match node_lines::read_head(&so_far.preamble, line) {
         Some(head) => {
             if so_far.count < MOST_NODES {
                 begun_nodes::begin(alloc, so_far, head)
@@ -159,7 +178,7 @@ fn between(alloc: Global, so_far: SoFar, line: &[u8]) -> Result<Step, Stop>
 
 /// Takes a line that is no first line of a node.
 fn at_end(so_far: SoFar, line: &[u8]) -> Result<Step, Stop>
-    requires { IsNoHead so_far.size line.now }
+    requires { IsNoHead so_far.preamble line.now }
     ensures { Goes (Place.Between so_far) line.now result }
 {
     match lines::read_end(line) {
@@ -167,7 +186,7 @@ fn at_end(so_far: SoFar, line: &[u8]) -> Result<Step, Stop>
             if is_end(so_far, end) {
                 Ok(Step {
                     fed: Fed::End(end.winner),
-                    place: Place::After,
+                    place: Place::After(so_far.preamble),
                 })
             } else {
                 Err(Stop::Wrong)

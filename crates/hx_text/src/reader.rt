@@ -4,10 +4,11 @@
 ghost use Rattle.std.specs.Prelude.{◌≡◌, ◌∷◌, ◌++◌, [], ℕ, List, IfErr, true};
 ghost use Rattle.hx_tree.specs.declared.nodes.Node.{Node as TreeNode};
 ghost use Rattle.hx_text.specs.declared.places.TreeFault.{TreeFault as Fault};
-ghost use Rattle.hx_text.specs.Places.{Stands, Told, fault_of_stop};
-ghost use Rattle.hx_text.specs.Reader.{HasRead, HasFailed, Says, lines_fed, one_more};
+ghost use Rattle.hx_text.specs.Places.{Stands, Told, fault_of_stop, version_at};
+ghost use Rattle.hx_text.specs.Reader.{HasRead, HasFailed, Says, IsVersionIn, version_read, lines_fed, one_more};
 
 use crate::places::{self, Fed, MOST_NODES, Place, Step, Stop, TreeFault};
+use crate::versions::Version;
 use std::alloc::Global;
 use std::mem;
 
@@ -46,6 +47,15 @@ impl TreeReader {
         self.fed
     }
 
+    /// The version of the text, which its first line tells. None exactly until that line was read without a fault.
+    pub fn version(&self) -> Option<Version>
+        ensures same { result ≡ version_read self.now }
+        ensures read { (nodes : List TreeNode) (lines : List (List ℕ)) → HasRead self.now nodes lines
+            → IsVersionIn result lines }
+    {
+        self.place.version()
+    }
+
     /// Takes one more line, without its LF, and whether an LF followed. Memory is wanting only at a line that takes it: a right
     /// first line of a node that tells of entries, or a line of a step that begins as that of an Or of more than eight parts.
     pub fn feed(&mut self, line: &[u8], ended: bool) -> Result<Fed, TreeFault>
@@ -53,6 +63,8 @@ impl TreeReader {
         ensures says { (nodes : List TreeNode) (lines : List (List ℕ)) → HasRead self.old nodes lines
             → Says self.old self.new nodes lines line.now ended result }
         ensures failed { IfErr result (λ fault. HasFailed self.new fault) }
+        // At a fault the version stays what it was.
+        ensures version { IfErr result (λ _. version_read self.new ≡ version_read self.old) }
         // A fault is answered for ever after.
         ensures again { (fault : Fault) → HasFailed self.old fault → result ≡ Err fault }
     {
@@ -61,7 +73,7 @@ impl TreeReader {
         if ended && places::goes_on(self.alloc, &mut self.place, line) {
             return Ok(Fed::More);
         }
-        let place = mem::replace(&mut self.place, Place::After);
+        let place = mem::replace(&mut self.place, Place::Title);
         let Taken { told, place } = take_line(self.alloc, place, line, ended, self.fed);
         self.place = place;
         told
@@ -72,28 +84,29 @@ impl TreeReader {
 fn take_line(alloc: Global, place: Place, line: &[u8], ended: bool, number: u64) -> Taken
     ensures says { (nodes : List TreeNode) (lines : List (List ℕ)) → Stands place nodes lines
         → Told place line.now ended number nodes (lines ++ line.now ∷ []) result.place result.told }
-    ensures failed { IfErr result.told (λ fault. result.place ≡ Place.Failed fault) }
-    ensures again { (fault : Fault) → place ≡ Place.Failed fault → result.told ≡ Err fault }
+    ensures failed { IfErr result.told (λ fault. result.place ≡ Place.Failed fault (version_at place)) }
+    ensures again { (fault : Fault) (version : Option Version) → place ≡ Place.Failed fault version
+        → result.told ≡ Err fault }
 {
-    if let Place::Failed(fault) = place {
+    if let Place::Failed { fault, .. } = place {
         return Taken {
             told: Err(fault),
             place,
         };
     }
     if !ended {
-        return failed(TreeFault::Text { line: number });
+        return failed(TreeFault::Text { line: number }, place.version());
     }
     stepped(alloc, place, line, number)
 }
 
-/// A fault, which is kept.
-fn failed(fault: TreeFault) -> Taken
-    ensures { result ≡ record { told = Err fault; place = Place.Failed fault } }
+/// A fault, which is kept, in a text of this version.
+fn failed(fault: TreeFault, version: Option<Version>) -> Taken
+    ensures { result ≡ record { told = Err fault; place = Place.Failed fault version } }
 {
     Taken {
         told: Err(fault),
-        place: Place::Failed(fault),
+        place: Place::Failed { fault, version },
     }
 }
 
@@ -101,14 +114,15 @@ fn failed(fault: TreeFault) -> Taken
 fn stepped(alloc: Global, place: Place, line: &[u8], number: u64) -> Taken
     ensures says { (nodes : List TreeNode) (lines : List (List ℕ)) → Stands place nodes lines
         → Told place line.now true number nodes (lines ++ line.now ∷ []) result.place result.told }
-    ensures failed { IfErr result.told (λ fault. result.place ≡ Place.Failed fault) }
+    ensures failed { IfErr result.told (λ fault. result.place ≡ Place.Failed fault (version_at place)) }
 {
+    let version = place.version();
     match places::advance(alloc, place, line) {
         Ok(Step { fed, place }) => Taken {
             told: Ok(fed),
             place,
         },
-        Err(stop) => failed(fault_of(stop, number)),
+        Err(stop) => failed(fault_of(stop, number), version),
     }
 }
 

@@ -7,7 +7,7 @@ ghost use Rattle.hx_inferior.specs.declared.fills.FillStep.TheVariants.{Pair};
 ghost use Rattle.hx_inferior.specs.declared.dominations.Kill.TheVariants.{ByDead, ByPair};
 ghost use Rattle.hx_tree.specs.declared.nodes.Line.TheVariants.{Child, Under};
 ghost use Rattle.hx_link.specs.declared.steps.Step.TheVariants.{Base};
-ghost use Rattle.hx_text.specs.declared.node_lines.Opening.TheVariants.{Links, Move, All, Fill};
+ghost use Rattle.hx_text.specs.declared.node_lines.Opening.TheVariants.{Links, Move, All, Fill, Turned};
 ghost use Rattle.hx_text.specs.Words.{mask_word, colour_word, cell_word, spaced};
 ghost use Rattle.hx_text.specs.Grammars.{text_of};
 ghost use Rattle.hx_text.specs.PositionTexts.{size_line, stones_line, move_line, position_text};
@@ -15,9 +15,10 @@ ghost use Rattle.hx_text.specs.StepTexts.{IsShortStep, vertex_word, step_line, t
 ghost use Rattle.hx_text.specs.FillTexts.{fill_line};
 ghost use Rattle.hx_text.specs.Entries.{opening_of, answer_line};
 ghost use Rattle.hx_text.specs.Spelling.{part_text};
-ghost use Rattle.hx_text.specs.TreeTexts.{ListsFit, opening_words, head_of, head_line, front_lines, end_line};
+ghost use Rattle.hx_text.specs.TreeTexts.{ListsFit, opening_words, head_of, head_line, title_line, front_lines, end_line};
 
 use crate::texts::{TEXT_ROOM, Text};
+use crate::versions::Version;
 use hx_board::{Cell, Colour, Mask, Position, Size, Vertex};
 use hx_inferior::{FillStep, Kill};
 use hx_link::Step;
@@ -72,12 +73,24 @@ impl Text {
     }
 
     /// Puts the lines of a tree's text before its nodes: the title and the size of the board.
-    pub(crate) fn put_heading(&mut self, size: Size)
+    pub(crate) fn put_heading(&mut self, version: Version, size: Size)
         requires { length self.old + 21 ≤ TEXT_ROOM }
-        ensures { self.new ≡ self.old ++ text_of (front_lines size) }
+        ensures { self.new ≡ self.old ++ text_of (front_lines (record { version = version; size = size })) }
     {
-        self.put(b"hextree 1\n");
+        self.put_title(version);
         self.put_size(size);
+    }
+
+    /// Puts the title of a tree's text.
+    fn put_title(&mut self, version: Version)
+        requires { length self.old + 10 ≤ TEXT_ROOM }
+        ensures text { self.new ≡ self.old ++ (title_line version ++ 10 ∷ []) }
+        ensures short { length self.new ≤ length self.old + 10 }
+    {
+        match version {
+            Version::One => self.put(b"hextree 1\n"),
+            Version::Two => self.put(b"hextree 2\n"),
+        }
     }
 
     /// Puts the first line of a node.
@@ -308,6 +321,7 @@ impl Text {
                 lines.items().len() as u32,
             ),
             Rule::Fill { steps, child } => self.put_fills(steps.items().len() as u32, *child),
+            Rule::Turned { child } => self.put_turned(*child),
         }
     }
 
@@ -344,6 +358,16 @@ impl Text {
         self.put(b"fill ");
         self.put_number(fills);
         self.put(b" ");
+        self.put_number(child);
+    }
+
+    /// Puts the words of a turned node and of the child that it stands on.
+    fn put_turned(&mut self, child: u32)
+        requires { length self.old + 17 ≤ TEXT_ROOM }
+        ensures text { self.new ≡ self.old ++ spaced (opening_words (Turned child)) }
+        ensures short { length self.new ≤ length self.old + 17 }
+    {
+        self.put(b"turned ");
         self.put_number(child);
     }
 

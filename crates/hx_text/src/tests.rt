@@ -1,6 +1,7 @@
 //! Texts as the formats show them: each is read as what it tells of, and what it tells of is written as the same bytes.
 
 mod trees;
+mod versions;
 
 use crate::{Text, TextFault, read_digits, read_number, read_position, write_position};
 use hx_board::Colour::White;

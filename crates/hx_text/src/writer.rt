@@ -14,6 +14,7 @@ ghost use Rattle.hx_text.specs.Spelling.{Spells, each_line, part_text, parts_tex
 ghost use Rattle.hx_text.specs.TreeTexts.{ListsFit, front_lines, node_lines, end_line};
 
 use crate::texts::{TEXT_ROOM, Text};
+use crate::versions::Version;
 use hx_board::{Colour, Position, Size};
 use hx_inferior::FillStep;
 use hx_io::{Failed, Sink, write_all};
@@ -50,14 +51,15 @@ pub fn write_position<K: Sink>(
     write_all(sink, text.bytes())
 }
 
-/// Writes the two lines of a tree's text that come before its nodes: the title and the size of the board. After
-/// `Failed` the sink has taken no more than a part of them, from their beginning.
-pub fn write_heading<K: Sink>(sink: &mut K, size: Size) -> Result<(), Failed>
-    ensures bytes { TakesAll (K.taken sink.old) (K.taken sink.new) result (text_of (front_lines size)) }
+/// Writes the two lines of a tree's text that come before its nodes: the title, which tells the version, and the size of the
+/// board. After `Failed` the sink has taken no more than a part of them, from their beginning.
+pub fn write_heading<K: Sink>(sink: &mut K, version: Version, size: Size) -> Result<(), Failed>
+    ensures bytes { TakesAll (K.taken sink.old) (K.taken sink.new) result
+        (text_of (front_lines (record { version = version; size = size }))) }
     ensures cause { HasCause (K.faults sink.old) (K.faults sink.new) result }
 {
     let mut text = Text::new();
-    text.put_heading(size);
+    text.put_heading(version, size);
     write_all(sink, text.bytes())
 }
 
@@ -82,7 +84,7 @@ fn write_rule<K: Sink>(sink: &mut K, text: &mut Text, rule: &Rule) -> Result<(),
     ensures cause { HasCause (K.faults sink.old) (K.faults sink.new) result }
 {
     match rule {
-        Rule::Chain | Rule::Move { .. } => Ok(()),
+        Rule::Chain | Rule::Move { .. } | Rule::Turned { .. } => Ok(()),
         Rule::Links { steps } => write_steps(sink, text, steps.items()),
         Rule::All {
             steps,

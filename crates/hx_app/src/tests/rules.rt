@@ -76,8 +76,24 @@ line b2 child 3
 end 5 black
 ";
 
+/// White is to move, and Black has a chain of a1 and a2. Turned, they are b2 and b1.
+const TURNED: &str = "hextree 2
+size 2 2
+node 00000000000000000000000000000801 00000000000000000000000000000000 white black chain
+node 00000000000000000000000000001002 00000000000000000000000000000000 white black turned 0
+end 2 black
+";
+
+/// The tree of the board of one cell, as a text of the second version.
+const EXAMPLE_2: &str = "hextree 2
+size 1 1
+node 00000000000000000000000000000001 00000000000000000000000000000000 white black chain
+node 00000000000000000000000000000000 00000000000000000000000000000000 black black move a1 0
+end 2 black
+";
+
 /// The size, Black's stones and the mover of a root on which White has no stone.
-const ROOTS: [(&str, &str, &str, &str); 6] = [
+const ROOTS: [(&str, &str, &str, &str); 8] = [
     (EXAMPLE, "1 1", "00000000000000000000000000000000", "black"),
     (
         ROW_OF_TWO,
@@ -108,6 +124,13 @@ const ROOTS: [(&str, &str, &str, &str); 6] = [
         "2 2",
         "00000000000000000000000000000002",
         "white",
+    ),
+    (TURNED, "2 2", "00000000000000000000000000001002", "white"),
+    (
+        EXAMPLE_2,
+        "1 1",
+        "00000000000000000000000000000000",
+        "black",
     ),
 ];
 
@@ -175,14 +198,22 @@ const CHANGES_OF_LINE: [(&str, &str, &str); 1] = [(
     "no node 4\n",
 )];
 
+/// The same of the turned node: a text of the first version has none; its mover and the place of its child.
+const CHANGES_OF_TURNED: [(&str, &str, &str); 3] = [
+    ("hextree 2", "hextree 1", "no text 4\n"),
+    ("white black turned", "black black turned", "no node 1\n"),
+    ("turned 0", "turned 1", "no node 1\n"),
+];
+
 #[test]
 fn each_change_of_a_rule_is_found(rt: HostRuntime) -> Result<(), Fail> {
-    let changes: [(&str, &[(&str, &str, &str)]); 5] = [
+    let changes: [(&str, &[(&str, &str, &str)]); 6] = [
         (ROW_OF_TWO, &CHANGES_OF_ROW),
         (TWO_BRIDGES, &CHANGES_OF_BRIDGES),
         (DISJOINT_THREATS, &CHANGES_OF_THREATS),
         (CAPTURED_PAIR, &CHANGES_OF_PAIR),
         (DOMINATED_LINE, &CHANGES_OF_LINE),
+        (TURNED, &CHANGES_OF_TURNED),
     ];
     for (text, changed) in changes {
         assert_found(

@@ -5,7 +5,7 @@ ghost use Rattle.std.specs.Prelude.{IsTrue};
 ghost use Rattle.hx_text.specs.TreeTexts.{ListsFit};
 
 use super::{cell, changed};
-use crate::{Fed, TreeFault, TreeReader, cut, write_end, write_heading, write_node};
+use crate::{Fed, TreeFault, TreeReader, Version, cut, write_end, write_heading, write_node};
 use hx_board::Colour::{Black, White};
 use hx_board::{CELLS, Mask, Position, Size, Vertex};
 use hx_inferior::{FillStep, Kill};
@@ -128,15 +128,16 @@ fn nodes(alloc: Global) -> Result<Vec<Node>, Fail> {
     Ok(nodes)
 }
 
-/// The nodes of a text that is read, and what the reader says last.
+/// The nodes of a text that is read, what the reader says last, and the version that it tells then.
 #[derive(Drop)]
-struct Reading {
-    nodes: Vec<Node>,
-    last: Result<Fed, TreeFault>,
+pub(super) struct Reading {
+    pub nodes: Vec<Node>,
+    pub last: Result<Fed, TreeFault>,
+    pub version: Option<Version>,
 }
 
 /// Feeds a reader with a text.
-fn reading_of(alloc: Global, text: &[u8]) -> Result<Reading, AllocError> {
+pub(super) fn reading_of(alloc: Global, text: &[u8]) -> Result<Reading, AllocError> {
     let mut reader = TreeReader::new(alloc);
     let mut nodes = Vec::new(alloc);
     let mut rest = text;
@@ -144,12 +145,24 @@ fn reading_of(alloc: Global, text: &[u8]) -> Result<Reading, AllocError> {
         match reader.feed(line, true) {
             Ok(Fed::More) => {}
             Ok(Fed::Node(node)) => nodes.push(node)?,
-            last => return Ok(Reading { nodes, last }),
+            last => {
+                let version = reader.version();
+                return Ok(Reading {
+                    nodes,
+                    last,
+                    version,
+                });
+            }
         }
         rest = later;
     }
     let last = reader.feed(rest, false);
-    Ok(Reading { nodes, last })
+    let version = reader.version();
+    Ok(Reading {
+        nodes,
+        last,
+        version,
+    })
 }
 
 #[test]
@@ -158,12 +171,13 @@ fn a_tree_is_read(rt: HostRuntime) -> Result<(), Fail> {
     let reading = reading_of(rt.alloc(), TREE.as_bytes())?;
     assert_eq!(rt; reading.nodes.as_slice(), nodes.as_slice());
     assert_eq!(rt; reading.last, Ok(Fed::End(Black)));
+    assert_eq!(rt; reading.version, Some(Version::One));
     Ok(())
 }
 
 /// What stands in that text, what is put in its first place there, and the line that is wrong then.
 const CHANGES: [(&str, &str, u64); 21] = [
-    ("hextree 1", "hextree 2", 1),
+    ("hextree 1", "hextree 3", 1),
     ("size 3 3", "size 3 03", 2),
     ("chain", "chains", 3),
     ("move b1", "move d1", 4),
@@ -199,11 +213,11 @@ fn each_wrong_line_of_a_tree_is_named(rt: HostRuntime) -> Result<(), Fail> {
 }
 
 /// Whether the lists of a rule are no longer than a text may have them.
-fn lists_fit(rule: &Rule) -> bool
+pub(super) fn lists_fit(rule: &Rule) -> bool
     ensures { IsTrue result → ListsFit rule.now }
 {
     match rule {
-        Rule::Chain | Rule::Move { .. } => true,
+        Rule::Chain | Rule::Move { .. } | Rule::Turned { .. } => true,
         Rule::Links { steps } => steps.items().len() <= MOST_STEPS,
         Rule::All {
             steps,
@@ -222,7 +236,7 @@ fn lists_fit(rule: &Rule) -> bool
 fn a_tree_is_written(rt: HostRuntime) -> Result<(), Fail> {
     let size = Size::new(3, 3).ok_or("size")?;
     let mut sink = MemorySink::new(rt.alloc(), 1024, 7, Vec::new(rt.alloc()))?;
-    assert_eq!(rt; write_heading(&mut sink, size), Ok(()));
+    assert_eq!(rt; write_heading(&mut sink, Version::One, size), Ok(()));
     for node in &nodes(rt.alloc())? {
         assert!(rt; lists_fit(&node.rule));
         assert_eq!(rt; write_node(&mut sink, node), Ok(()));

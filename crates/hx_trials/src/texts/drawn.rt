@@ -8,7 +8,7 @@ use hx_tree::{FillSteps, Heading, Line, Lines, Node, Rule, Steps, Threats};
 use smallvec::SmallVec;
 use std::alloc::Global;
 
-/// So many nodes, whose rules take turns. None where memory is wanting.
+/// So many nodes, whose rules take turns; every sixth is turned. None where memory is wanting.
 pub(crate) fn nodes(alloc: Global, draws: &mut Draws, size: Size, count: u32) -> Option<Vec<Node>> {
     let mut nodes = Vec::new(alloc);
     for place in 0..count {
@@ -18,7 +18,7 @@ pub(crate) fn nodes(alloc: Global, draws: &mut Draws, size: Size, count: u32) ->
             to_move: draws.colour(),
             winner: draws.colour(),
         };
-        let rule = rule(alloc, draws, size, place % 5)?;
+        let rule = rule(alloc, draws, size, place % 6)?;
         nodes.push(Node { heading, rule }).ok()?;
     }
     Some(nodes)
@@ -52,8 +52,11 @@ fn rule(alloc: Global, draws: &mut Draws, size: Size, kind: u32) -> Option<Rule>
             threats: Threats::new(numbers(alloc, draws, 4)?),
             lines: answers(alloc, draws, size)?,
         }),
-        _ => Some(Rule::Fill {
+        4 => Some(Rule::Fill {
             steps: fills(alloc, draws, size)?,
+            child: number(draws),
+        }),
+        _ => Some(Rule::Turned {
             child: number(draws),
         }),
     }

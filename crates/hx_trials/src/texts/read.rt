@@ -23,13 +23,9 @@ pub(crate) fn position_of(alloc: Global, text: &[u8]) -> Option<Result<(Position
     }
 }
 
-/// Takes a title, of this name and the number 1.
-pub(crate) fn title(lines: &mut Taker, name: &[u8]) -> Option<()> {
-    if told(lines, name)? == b"1".as_slice() {
-        Some(())
-    } else {
-        None
-    }
+/// Takes a title of this name, which tells a version.
+pub(crate) fn version(lines: &mut Taker, name: &[u8]) -> Option<u32> {
+    number(told(lines, name)?)
 }
 
 pub(crate) fn size(lines: &mut Taker) -> Option<Size> {
@@ -54,7 +50,9 @@ fn told<'a>(lines: &mut Taker<'a>, name: &[u8]) -> Option<&'a [u8]> {
 
 /// The lines of a position's text.
 fn position(lines: &mut Taker) -> Option<(Position, Colour)> {
-    title(lines, b"hexpos".as_slice())?;
+    if version(lines, b"hexpos".as_slice())? != 1 {
+        return None;
+    }
     let size = size(lines)?;
     let black = mask(size, told(lines, b"black".as_slice())?)?;
     let white = mask(size, told(lines, b"white".as_slice())?)?;

@@ -2,7 +2,7 @@
 
 use super::entries_read::{answer, cell, fill, step, threat};
 use super::lines::{Taker, pieces_of, words_of_lines};
-use super::read::{size, title};
+use super::read::{size, version};
 use super::values::{colour, mask, number, word};
 use hx_board::{Colour, Position, Size};
 use hx_tree::{FillSteps, Heading, Lines, Node, Rule, Steps, Threats};
@@ -39,7 +39,10 @@ pub(crate) fn tree_of(alloc: Global, text: &[u8]) -> Option<Reading> {
 
 /// The lines of a tree's text, whose nodes are put into the list.
 fn tree(alloc: Global, lines: &mut Taker, nodes: &mut Vec<Node>) -> Option<Colour> {
-    title(lines, b"hextree".as_slice())?;
+    let version = version(lines, b"hextree".as_slice())?;
+    if version != 1 && version != 2 {
+        return None;
+    }
     let size = size(lines)?;
     // Each node has a line of its own.
     for _ in 0..lines.all.len() {
@@ -49,6 +52,9 @@ fn tree(alloc: Global, lines: &mut Taker, nodes: &mut Vec<Node>) -> Option<Colou
         }
         let heading = heading(size, words)?;
         let rule = rule(alloc, size, words, lines)?;
+        if matches!(&rule, Rule::Turned { .. }) && version == 1 {
+            return None;
+        }
         nodes.push(Node { heading, rule }).ok()?;
     }
     lines.take()?;
@@ -107,6 +113,9 @@ fn rule(alloc: Global, size: Size, words: &[Vec<u8>], lines: &mut Taker) -> Opti
         let child = number(word(words, 7))?;
         let steps = fills_of(alloc, size, lines, fills)?;
         Some(Rule::Fill { steps, child })
+    } else if kind == b"turned".as_slice() && words.len() == 7 {
+        let child = number(word(words, 6))?;
+        Some(Rule::Turned { child })
     } else {
         None
     }

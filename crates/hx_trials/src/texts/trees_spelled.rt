@@ -17,7 +17,8 @@ pub(crate) fn spelled_tree(
 ) -> Result<String, AllocError> {
     let rows = size.rows();
     let cols = size.cols();
-    let mut text = format!(in alloc; "hextree 1\nsize {rows} {cols}\n")?;
+    let version = spelled_version(nodes);
+    let mut text = format!(in alloc; "hextree {version}\nsize {rows} {cols}\n")?;
     for node in nodes {
         let line = spelled_head(alloc, node)?;
         text.push_str(line.as_str())?;
@@ -29,6 +30,17 @@ pub(crate) fn spelled_tree(
     let end = format!(in alloc; "end {count} {last}\n")?;
     text.push_str(end.as_str())?;
     Ok(text)
+}
+
+/// The number of the version: 2 where some node is turned, and else 1.
+fn spelled_version(nodes: &[Node]) -> u32 {
+    let mut version = 1;
+    for node in nodes {
+        if let Rule::Turned { .. } = &node.rule {
+            version = 2;
+        }
+    }
+    version
 }
 
 /// The first line of a node.
@@ -67,13 +79,14 @@ fn spelled_rule(alloc: Global, rule: &Rule) -> Result<String, AllocError> {
             let steps = steps.items().len();
             format!(in alloc; "fill {steps} {child}")
         }
+        Rule::Turned { child } => format!(in alloc; "turned {child}"),
     }
 }
 
 /// The lines of a node after its first.
 fn spelled_entries(alloc: Global, rule: &Rule) -> Result<String, AllocError> {
     match rule {
-        Rule::Chain | Rule::Move { .. } => Ok(String::new(alloc)),
+        Rule::Chain | Rule::Move { .. } | Rule::Turned { .. } => Ok(String::new(alloc)),
         Rule::Links { steps } => spelled_steps(alloc, steps.items()),
         Rule::All {
             steps,

@@ -11,7 +11,7 @@ use super::trees_spelled::spelled_tree;
 use hx_board::{CELLS, Colour, Size};
 use hx_io::MemorySink;
 use hx_samples::Draws;
-use hx_text::{Fed, TreeFault, TreeReader, write_end, write_heading, write_node};
+use hx_text::{Fed, TreeFault, TreeReader, version_of, write_end, write_heading, write_node};
 use hx_tree::{MOST_STEPS, MOST_THREATS, Node, Rule};
 use std::alloc::Global;
 use std::process::Abort;
@@ -58,7 +58,7 @@ fn lists_fit(rule: &Rule) -> bool
     ensures { IsTrue result → ListsFit rule.now }
 {
     match rule {
-        Rule::Chain | Rule::Move { .. } => true,
+        Rule::Chain | Rule::Move { .. } | Rule::Turned { .. } => true,
         Rule::Links { steps } => steps.items().len() <= MOST_STEPS,
         Rule::All {
             steps,
@@ -82,7 +82,7 @@ fn written(
     winner: Colour,
 ) -> Result<MemorySink, Fail> {
     let mut sink = MemorySink::new(alloc, 65_536, 7, Vec::new(alloc))?;
-    assert_eq!(rt; write_heading(&mut sink, size), Ok(()));
+    assert_eq!(rt; write_heading(&mut sink, version_of(nodes), size), Ok(()));
     for node in nodes {
         assert!(rt; lists_fit(&node.rule));
         assert_eq!(rt; write_node(&mut sink, node), Ok(()));
@@ -101,9 +101,15 @@ fn compare_reading(rt: &impl Abort, alloc: Global, text: &[u8]) -> Result<(), Fa
     Ok(())
 }
 
-/// A tree's text and sixteen damaged ones.
-fn compare_tree(rt: &impl Abort, alloc: Global, draws: &mut Draws, size: Size) -> Result<(), Fail> {
-    let nodes = nodes(alloc, draws, size, 5).ok_or("memory")?;
+/// The text of a tree of so many nodes and sixteen damaged ones.
+fn compare_tree(
+    rt: &impl Abort,
+    alloc: Global,
+    draws: &mut Draws,
+    size: Size,
+    count: u32,
+) -> Result<(), Fail> {
+    let nodes = nodes(alloc, draws, size, count).ok_or("memory")?;
     let winner = nodes.last().ok_or("no node")?.heading.winner;
     let text = spelled_tree(alloc, size, nodes.as_slice(), winner)?;
     let sink = written(rt, alloc, size, nodes.as_slice(), winner)?;
@@ -119,14 +125,15 @@ fn compare_tree(rt: &impl Abort, alloc: Global, draws: &mut Draws, size: Size) -
     Ok(())
 }
 
-/// Trees of a node by each rule, on boards of several sizes.
+/// Trees of a node by each rule, without the turned node and with it, on boards of several sizes.
 #[test]
 fn drawn_trees(rt: HostRuntime) -> Result<(), Fail> {
     let mut draws = Draws::new(2027);
     for rows in 1..=11u8 {
         for cols in [rows, 12 - rows] {
             let size = Size::new(rows, cols).ok_or("size")?;
-            compare_tree(&rt, rt.alloc(), &mut draws, size)?;
+            compare_tree(&rt, rt.alloc(), &mut draws, size, 5)?;
+            compare_tree(&rt, rt.alloc(), &mut draws, size, 6)?;
         }
     }
     Ok(())

@@ -23,7 +23,7 @@ returns-in-Ok-End c = λ input few upto.
     (rw c.deref.ensures.value
     (judged_more input few _ c.feed.new.self _ _ _ upto c.in-Ok-End.ensures.count
     (λ nodes lines read. judged_end c.feed.new.self nodes _ _ (told nodes lines read).1)))
-    (told upto.nodes upto.lines upto.read).1.0
+    ((told upto.nodes upto.lines upto.read).1.0, (told upto.nodes upto.lines upto.read).1.1)
 
 pub returns-in-Err-Text : goal.returns-in-Err-Text
 returns-in-Err-Text c = λ input few upto.

@@ -12,7 +12,7 @@ returns-in-Ok-Some-clause-yes c = λ taken. (
   refl,
   λ nodes lines stands.
       let now = c.takes.ensures.yes taken in
-      let reads : Reads entry_line (IsEntryLine c.args.begun.now.so_far.size (kind_due c.args.begun.now)) c.args.line.now (Some c.in-Ok-Some.entry) =
+      let reads : Reads entry_line (IsEntryLine c.args.begun.now.so_far.preamble.size (kind_due c.args.begun.now)) c.args.line.now (Some c.in-Ok-Some.entry) =
       rw (c.in-Ok-Some.field-0-is, c.size.ensures, c.kind_due.ensures) at c.in-Ok-Some.ensures.reads in (
         (λ e. cc),
         rw reads.1

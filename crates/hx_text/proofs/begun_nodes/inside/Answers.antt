@@ -8,7 +8,7 @@ use Rattle.hx_text.proofs.begun_nodes.inside.Goals as goal
 
 pub returns-in-Ok-None : goal.returns-in-Ok-None
 returns-in-Ok-None c = λ nodes lines stands begins.
-    let reads : Reads entry_line (IsEntryLine c.args.begun.so_far.size (kind_due c.args.begun)) c.args.line.now None =
+    let reads : Reads entry_line (IsEntryLine c.args.begun.so_far.preamble.size (kind_due c.args.begun)) c.args.line.now None =
     rw (c.in-Ok-None.field-0-is, c.size.ensures, c.kind_due.ensures) at c.in-Ok-None.ensures.reads in
     inside_wrong c.args.begun c.args.line.now nodes lines reads stands begins
 

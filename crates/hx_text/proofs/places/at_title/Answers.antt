@@ -1,18 +1,16 @@
-use Rattle.std.proofs.Common.{refl, ap, ◌∙◌, ◌++◌, ◌∷◌, [], List, ℕ}
-use Rattle.std.proofs.lemmas.Bool.{false≢true}
+use Rattle.std.proofs.Common.{ap, ◌∙◌, ◌++◌, ◌∷◌, [], List, ℕ}
 use Rattle.hx_text.proofs.Steps.{title_wrong}
 use Rattle.hx_text.proofs.places.at_title.Goals as goal
 
-pub returns-then-is_title : goal.returns-then-is_title
-returns-then-is_title c =
+pub returns-in-Some : goal.returns-in-Some
+returns-in-Some c =
     λ nodes lines stands. (
       (λ e. cc),
       (
         stands.0,
-        ap (λ (ls : List (List ℕ)). ls ++ c.args.line.now ∷ []) stands.1 ∙ ap (λ (l : List ℕ). l ∷ [])
-            (c.if-is_title.ensures.0 refl),
+        ap (λ (ls : List (List ℕ)). ls ++ c.args.line.now ∷ []) stands.1 ∙ ap (λ (l : List ℕ). l ∷ []) c.in-Some.ensures.1,
       ),
     )
 
-pub returns-else-is_title : goal.returns-else-is_title
-returns-else-is_title c = λ nodes lines stands. title_wrong nodes lines _ stands.1 (λ e. false≢true (c.if-is_title.ensures.1 e))
+pub returns-in-None : goal.returns-in-None
+returns-in-None c = λ nodes lines stands. title_wrong nodes lines _ stands.1 (λ version e. c.in-None.ensures version tt e)
