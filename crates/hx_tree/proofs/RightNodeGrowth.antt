@@ -11,10 +11,11 @@ use Rattle.hx_tree.specs.declared.nodes.Line.{Line}
 use Rattle.hx_tree.specs.declared.nodes.Line.TheVariants.{Child, Under}
 use Rattle.hx_tree.specs.declared.nodes.Node.{Node}
 use Rattle.hx_tree.specs.declared.nodes.Rule.{Rule}
-use Rattle.hx_tree.specs.declared.nodes.Rule.TheVariants.{Chain, Links, Move, All, Fill}
+use Rattle.hx_tree.specs.declared.nodes.Rule.TheVariants.{Chain, Links, Move, All, Fill, Turned}
 use Rattle.hx_tree.specs.Headings.{IsHeading}
 use Rattle.hx_tree.specs.Answers.{IsRightLine}
 use Rattle.hx_tree.specs.Fills.{filled_all}
+use Rattle.hx_tree.specs.Turns.{IsTurnedHeading}
 use Rattle.hx_tree.specs.Rules.{IsRightRule, IsRightNode}
 use Rattle.hx_tree.specs.Trees.{headings_of}
 use Rattle.hx_tree.proofs.TreeGrowth.{headings_of-append}
@@ -61,6 +62,7 @@ module _ (before more : List Heading) (heading : Heading) where
     right = right.right;
     leads = some_and-append (IsHeading (filled_all heading.position heading.winner steps) heading.to_move heading.winner) before more child right.leads;
   }
+  rule-append (Turned child) right = some_and-append (IsTurnedHeading heading) before more child right
 
 pub right_node-append : (before more : List Heading) (node : Node) → IsRightNode before node → IsRightNode (before ++ more) node
 right_node-append before more node right = record { board = right.board; rule = rule-append before more node.heading node.rule right.rule }

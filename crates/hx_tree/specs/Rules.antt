@@ -7,11 +7,12 @@ use Rattle.hx_link.specs.declared.steps.Step.{Step}
 use Rattle.hx_tree.specs.declared.nodes.Heading.{Heading}
 use Rattle.hx_tree.specs.declared.nodes.Node.{Node}
 use Rattle.hx_tree.specs.declared.nodes.Rule.{Rule}
-use Rattle.hx_tree.specs.declared.nodes.Rule.TheVariants.{Chain, Links, Move, All, Fill}
+use Rattle.hx_tree.specs.declared.nodes.Rule.TheVariants.{Chain, Links, Move, All, Fill, Turned}
 use Rattle.hx_tree.specs.Headings.{IsHeading}
 use Rattle.hx_tree.specs.Steps.{AreRightLinks}
 use Rattle.hx_tree.specs.Answers.{IsRightAll}
 use Rattle.hx_tree.specs.Fills.{IsRightFill}
+use Rattle.hx_tree.specs.Turns.{IsRightTurn}
 
 -- the winner moves to an empty cell, and an earlier heading says that it wins the position after that
 pub record IsRightMove (before : List Heading) (heading : Heading) (cell child : ℕ) : Type 0 where
@@ -26,6 +27,7 @@ IsRightRule before heading (Links steps) = AreRightLinks heading steps
 IsRightRule before heading (Move cell child) = IsRightMove before heading cell child
 IsRightRule before heading (All steps threats lines) = IsRightAll before heading steps threats lines
 IsRightRule before heading (Fill steps child) = IsRightFill before heading steps child
+IsRightRule before heading (Turned child) = IsRightTurn before heading child
 
 -- a node is right after these headings: its board has a position on it, and its rule is right
 pub record IsRightNode (before : List Heading) (node : Node) : Type 0 where
@@ -39,3 +41,4 @@ steps_of (Links steps) = steps
 steps_of (Move cell child) = []
 steps_of (All steps threats lines) = steps
 steps_of (Fill steps child) = []
+steps_of (Turned child) = []

@@ -10,6 +10,7 @@ mod nodes;
 mod rules;
 mod steps;
 mod trees;
+mod turns;
 
 pub use entries::Found;
 pub use hx_link::Steps;

@@ -53,6 +53,12 @@ pub enum Rule {
         steps: FillSteps,
         child: u32,
     },
+
+    /// The winner wins the position turned by 180 degrees, with the same player to move, by the child, an earlier node of the
+    /// tree.
+    Turned {
+        child: u32,
+    },
 }
 
 /// Why the winner wins after a move of the opponent.

@@ -9,6 +9,7 @@ use crate::fills::check_fill;
 use crate::headings::leads;
 use crate::nodes::{Heading, Node, Rule};
 use crate::steps::check_links;
+use crate::turns::check_turned;
 use hx_board::{Cell, Memory, chain};
 use std::alloc::Global;
 
@@ -29,6 +30,7 @@ pub fn check_node(alloc: Global, before: &[Heading], node: &Node) -> Result<bool
             lines,
         } => check_all(alloc, before, heading, steps, threats, lines),
         Rule::Fill { steps, child } => Ok(check_fill(before, heading, steps.items(), *child)),
+        Rule::Turned { child } => Ok(check_turned(before, heading, *child)),
     }
 }
 

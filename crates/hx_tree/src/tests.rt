@@ -3,6 +3,7 @@
 mod answers;
 mod inferior;
 mod links;
+mod turns;
 
 use super::*;
 use hx_board::Colour::{Black, White};
