@@ -2,7 +2,7 @@
 //! tests hold it against a plain program.
 
 use super::killed_cells::{after_step, is_dominated, is_empty, with_stone};
-use hx_board::{Cell, Groups, Memory, Position, Size, Vertex};
+use hx_board::{Cell, Colour, Groups, Mask, Memory, Position, Size, Vertex};
 use hx_inferior::FillStep;
 use hx_link::{Kind, Link, Step, result_of};
 use hx_samples::has_chain;
@@ -44,6 +44,7 @@ pub(crate) fn is_right(alloc: Global, before: &[Heading], node: &Node) -> Result
             })
         }
         Rule::Fill { steps, child } => Ok(fills_to(before, heading, steps.items(), *child)),
+        Rule::Turned { child } => Ok(turns_to(before, heading, *child)),
     }
 }
 
@@ -111,6 +112,40 @@ fn fills_to(before: &[Heading], heading: &Heading, steps: &[FillStep], child: u3
         winner: heading.winner,
     };
     !steps.is_empty() && before.get(child as usize) == Some(&wanted)
+}
+
+/// Whether the heading at a place says of the turned position what this one says.
+fn turns_to(before: &[Heading], heading: &Heading, child: u32) -> bool {
+    match turned_about(&heading.position) {
+        None => false,
+        Some(position) => {
+            let wanted = Heading {
+                position,
+                to_move: heading.to_move,
+                winner: heading.winner,
+            };
+            before.get(child as usize) == Some(&wanted)
+        }
+    }
+}
+
+/// The position turned by 180 degrees, row by row.
+pub(crate) fn turned_about(position: &Position) -> Option<Position> {
+    let size = position.size();
+    let mut black = Mask::empty();
+    let mut white = Mask::empty();
+    for row in 0..size.rows() {
+        for col in 0..size.cols() {
+            let from = size.cell(row, col)?;
+            let to = size.cell(size.rows() - 1 - row, size.cols() - 1 - col)?;
+            match position.at(from) {
+                Some(Colour::Black) => black = black.with(to),
+                Some(Colour::White) => white = white.with(to),
+                None => {}
+            }
+        }
+    }
+    Position::from_masks(size, black, white)
 }
 
 /// What a node has to say to the moves of the winner's opponent.

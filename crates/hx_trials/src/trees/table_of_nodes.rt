@@ -5,7 +5,7 @@
 //! The headings before a node say of each position of the board, with each mover, who wins it.
 
 use super::killed_cells::{after_step, with_stone};
-use super::right_nodes::is_right;
+use super::right_nodes::{is_right, turned_about};
 use hx_board::{Cell, Colour, Position, Size};
 use hx_inferior::{FillStep, Kill};
 use hx_samples::{numbered, wins};
@@ -122,6 +122,20 @@ impl<'a> Claim<'a> {
             let right = self.child_of(*cell);
             for child in [right, right ^ 1, right.saturating_add(2)] {
                 let rule = Rule::Move { cell: *cell, child };
+                trial.judges(rt, self.alloc, self.before, &self.node(rule))?;
+            }
+        }
+        Ok(())
+    }
+
+    /// The turned position and the position itself, with each mover.
+    fn try_turns(&self, rt: &impl Abort, trial: &mut Trial) -> Result<(), Fail> {
+        let heading = &self.heading;
+        let turned = turned_about(&heading.position).ok_or("turned")?;
+        for position in [turned, heading.position] {
+            let place = place_of(self.before, &position, heading.to_move);
+            for child in [place, place ^ 1] {
+                let rule = Rule::Turned { child };
                 trial.judges(rt, self.alloc, self.before, &self.node(rule))?;
             }
         }
@@ -257,6 +271,7 @@ fn try_board(rt: &impl Abort, alloc: Global, size: Size, positions: u32) -> Resu
                 cells: cells.as_slice(),
             };
             claim.try_chain_and_moves(rt, &mut trial)?;
+            claim.try_turns(rt, &mut trial)?;
             claim.try_fills(rt, &mut trial)?;
             claim.try_answers(rt, &mut trial)?;
         }
