@@ -3,5 +3,7 @@
 mod closed;
 mod fills;
 mod musts;
+mod plain_sets;
+mod runs_of_sets;
 mod tests;
 mod unders;
