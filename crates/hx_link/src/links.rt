@@ -43,8 +43,8 @@ impl Link {
     }
 }
 
-/// The vertices that may be ends of the player's links: the sides, and the cells of the board without a stone of the
-/// opponent.
+/// The vertices that may be ends of the player's links: the sides, and the cells of the board
+/// without a stone of the opponent.
 pub fn ends_of(position: &Position, colour: Colour) -> VertexSet
     ensures { (vertex : Vertex) → IsSomeVertex vertex
         → (has result (code_of vertex) ≡ true) ↔ IsEnd position.now colour vertex }

@@ -96,21 +96,26 @@ CanRelink rings (place ∷ places) = IsInside rings (FIRST_NODE + place) × CanR
 abbrev pub IsLiveThere : Board → Colour → ℕ → Link → Type 0
 IsLiveThere board player place link = IsLive board player link
 
--- a link that is live before a play, and after it too as far as the play's pass over the links has come
+-- a link that is live before a play, and after it too as far as the play's pass has come
 abbrev pub IsKeptBelow : Board → Board → Colour → ℕ → ℕ → Link → Type 0
-IsKeptBelow before after player bound place link = IsLive before player link × (place < bound → IsLive after player link)
+IsKeptBelow before after player bound place link =
+    IsLive before player link × (place < bound → IsLive after player link)
 
 -- the number is in the list
 abbrev pub IsIn : List ℕ → ℕ → Type 0
 IsIn places place = list_any (nat_eq place) places ≡ true
 
--- these links were live before, and each link below the bound that was live before is live still or one of them
-pub record AreAllDropped (links : List Link) (before after : Board) (player : Colour) (bound : ℕ) (dropped : List ℕ) : Type 0 where
+-- these links were live before, and each one below the bound that was live before is live still or
+-- one of them
+pub record AreAllDropped (links : List Link) (before after : Board) (player : Colour) (bound : ℕ)
+    (dropped : List ℕ) : Type 0 where
   pub were_live : (place : ℕ) → IsIn dropped place → IsLiveAt before player links place
-  pub all : (place : ℕ) (link : Link) → slice_get links place ≡ Some link → place < bound → IsLive before player link → IsLive after player link ⊎ IsIn dropped place
+  pub all : (place : ℕ) (link : Link) → slice_get links place ≡ Some link → place < bound
+      → IsLive before player link → IsLive after player link ⊎ IsIn dropped place
 
 -- what the pass took out is on the log, and can be put back exactly
-pub record IsPassed (links : List Link) (before after : Board) (player : Colour) (bound : ℕ) (old new : Rings) (log log' : List ℕ) : Type 0 where
+pub record IsPassed (links : List Link) (before after : Board) (player : Colour) (bound : ℕ)
+    (old new : Rings) (log log' : List ℕ) : Type 0 where
   pub hold : RingsHold links (IsKeptBelow before after player bound) new
   pub log_ok : LogHolds links (IsKeptBelow before after player bound) log'
   pub dropped : List ℕ

@@ -41,8 +41,9 @@ pub record CanUndo (links : List Link) (rings : Rings) (log : List ℕ) (play : 
   pub cuts : CanCut (length links - play.count) rings
   pub relinks : CanRelink (cut_times (length links - play.count) rings) (reverse (drop play.logged log))
 
--- no link is live after a play that was not live before it, and the log names those that the play dropped
-pub record HasDropped (player : Colour) (links : List Link) (before after : Board) (dropped : List ℕ) : Type 0 where
+-- no link is live after a play that was not live before it, and these are those that it dropped
+pub record HasDropped (player : Colour) (links : List Link) (before after : Board)
+    (dropped : List ℕ) : Type 0 where
   pub fewer : (link : Link) → IsLive after player link → IsLive before player link
   pub all_dropped : AreAllDropped links before after player (length links) dropped
 
@@ -53,11 +54,13 @@ HasHistory player board links rings log (play ∷ plays) =
     HoldsLive player board links rings log
     × (CanUndo links rings log play
     × (HasDropped player (take play.count links) play.position board (drop play.logged log)
-    × HasHistory player play.position (take play.count links) (rings_before rings links log play) (take play.logged log) plays))
+    × HasHistory player play.position (take play.count links) (rings_before rings links log play)
+    (take play.logged log) plays))
 
 -- what the fields of a set keep
-pub record FieldsKeep (player : Colour) (state : State) (plays : List Stage) (groups : Grouped) (liveness : Liveness) (rings : Rings) (fulls : List (List FullLink)) (log : List ℕ) (plays_capacity log_capacity : ℕ)
-    : Type 0 where
+pub record FieldsKeep (player : Colour) (state : State) (plays : List Stage) (groups : Grouped)
+    (liveness : Liveness) (rings : Rings) (fulls : List (List FullLink)) (log : List ℕ)
+    (plays_capacity log_capacity : ℕ) : Type 0 where
   pub keeps : Keeps player state plays
   pub history : HasHistory player state.board state.links rings log (reverse plays)
   pub groups_are : groups ≡ record { board = state.board; player = player }

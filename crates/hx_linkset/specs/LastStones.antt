@@ -11,11 +11,13 @@ abbrev pub board_before : ℕ → Board → List State → Board
 board_before count board [] = board
 board_before count board (state ∷ past) = if length state.links == count then board_before count state.board past else board
 
--- the link at this place was live before the stones that were put since the last link came, and is not live now
+-- the link at this place was live before the stones that were put since the last link came, and is
+-- not live now
 pub record IsDropped (set : Standing) (place : ℕ) : Type 0 where
   pub link : Link
   pub there : slice_get set.present.links place ≡ Some link
-  pub was_live : IsLive (board_before (length set.present.links) set.present.board set.past) set.player link
+  pub was_live : IsLive (board_before (length set.present.links) set.present.board set.past)
+      set.player link
   pub is_dead : IsLive set.present.board set.player link → ⊥
 
 -- the places of these links, each once

@@ -75,7 +75,8 @@ played_all state stones = record state { board = put_all state.board stones }
 
 -- each of these stones leaves a link alone
 abbrev pub LeaveAlone : Colour → List (Colour × ℕ) → Link → Type 0
-LeaveAlone player stones link = All (λ (stone : Colour × ℕ). IsUntouched player stone.0 stone.1 link) stones
+LeaveAlone player stones link =
+    All (λ (stone : Colour × ℕ). IsUntouched player stone.0 stone.1 link) stones
 
 -- the links of one player: as they stand now, and as they stood before each play that stands, the last play first
 pub record Standing : Type 0 where

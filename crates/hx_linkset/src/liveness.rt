@@ -4,7 +4,8 @@
 //! function of the board and the link, and needs no mark: the links that a live link was made from are live with it, since
 //! their carriers are inside its own and their ends are its ends, own stones, or in its carrier.
 //!
-//! Two sets tell it for all links. They are taken once for a position, and a pass over many links has them at hand.
+//! Two sets tell it for all links. They are taken once for a position, so that a pass over many links
+//! has them at hand.
 
 ghost use Rattle.std.specs.Prelude.{◌≡◌, ◌↔◌, IsTrue, false};
 ghost use Rattle.hx_board.specs.declared.colours.Colour.{Colour};

@@ -34,8 +34,8 @@ pub(crate) fn stage_of(position: &Position, links: &[Link], log: &[u16]) -> Stag
     }
 }
 
-/// How a set stood before the last of its plays: those before which there were as many links as there are now. The stages
-/// are those before its plays.
+/// How a set stood before the last of its plays: those before which there were as many links as there
+/// are now. The stages are those before its plays.
 pub(crate) fn before_last(now: &Stage, plays: &[Stage]) -> Stage
     ensures { result ≡ stage_before now.now (reverse plays.now) }
 {

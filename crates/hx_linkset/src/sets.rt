@@ -2,13 +2,14 @@
 //!
 //! Links and steps stand in the order in which they came, and none is taken away before the play that it came after is
 //! taken back. The live ones of each kind and pair of ends are chained, so `add` looks for a cover in one chain alone.
-//! A play, of one stone or of all stones of a turn, is one pass over all links: it takes those that are live no more out of
-//! their chains and writes them on a log. `undo` cuts off what came since, and puts the logged ones back in opposite order,
-//! which makes the chains what they were. The Full links stand once more in a list for each of their ends.
+//! A play, of one stone or of all stones of a turn, is one pass over all links: it takes those that are
+//! live no more out of their chains and writes them on a log. `undo` cuts off what came since, and puts
+//! the logged ones back in opposite order, which makes the chains what they were. The Full links stand
+//! once more in a list for each of their ends.
 //!
-//! Memory is taken by `new` and `add` alone. A board has at most `CELLS` empty cells and each play fills one or more, so no
-//! more plays stand at once; and the log names each link once at most, since only a live link is dropped, so it needs no more
-//! room than there are links.
+//! Memory is taken by `new` and `add` alone. A board has at most `CELLS` empty cells and each play fills
+//! one or more, so no more plays stand at once; and the log names each link once at most, since only a
+//! live link is dropped, so it needs no more room than there are links.
 
 ghost use Rattle.std.specs.Prelude.{◌≡◌, ◌≢◌, ℕ, ◌+◌, ◌<◌, ◌≤◌, [], ◌∷◌, length, slice_get, ◌↔◌, IsTrue, IfOk, OnErr, MatchOption};
 ghost use Rattle.hx_board.specs.declared.vertices.Vertex.{Vertex};
@@ -64,7 +65,7 @@ pub struct LinkSet {
     position: Position,
     colour: Colour,
 
-    /// The groups of the player, and what tells which links are live: both are made anew at each play.
+    /// The groups of the player, and what tells which links are live. Each play makes both anew.
     groups: Groups,
     liveness: Liveness,
     pub(crate) links: Vec<Link>,
@@ -97,7 +98,8 @@ impl Model for LinkSet {
 
     ghost invariant = { λ s. FieldsKeep s.colour
         record { board = s.position; links = s.links.items; steps = s.steps.items } s.plays.items
-        s.groups s.liveness s.chains s.fulls s.log.items (vec_capacity s.plays) (vec_capacity s.log) };
+        s.groups s.liveness s.chains s.fulls s.log.items
+        (vec_capacity s.plays) (vec_capacity s.log) };
 }
 
 impl LinkSet {
@@ -226,8 +228,8 @@ impl LinkSet {
         before_last(&now, self.plays.as_slice()).position
     }
 
-    /// The indices of the links that these stones dropped: those that were live on that position and are not live now, each
-    /// once.
+    /// The indices of the links that these stones dropped: those that were live on that position and
+    /// are not live now, each once.
     pub fn dropped(&self) -> &[u16]
         ensures { AreDropped self.now result.now }
     {
@@ -369,8 +371,9 @@ impl LinkSet {
         self.play_to(&after);
     }
 
-    /// Puts stones of either colour on empty cells, as one play: `undo` takes them back together. Of the live links those
-    /// stay live that each of them leaves alone, and no others. `can_play` tells whether it may be called.
+    /// Puts stones of either colour on empty cells, as one play: `undo` takes them back together. Of the
+    /// live links those stay live that each of them leaves alone, and no others. `can_play` tells
+    /// whether it may be called.
     pub fn play_all(&mut self, stones: &[(Colour, Cell)])
         requires some { stones.now ≢ [] }
         requires can { CanPut self.old.present.board stones.now }
@@ -387,8 +390,8 @@ impl LinkSet {
         self.play_to(&after);
     }
 
-    /// Whether these stones can be put as one play: there is one at least, and each comes to an empty cell, when they are put
-    /// one after the other.
+    /// Whether these stones can be put as one play: there is one at least, and each comes to an empty
+    /// cell, when they are put one after the other.
     pub fn can_play(&self, stones: &[(Colour, Cell)]) -> bool
         ensures { IsTrue result ↔ ((stones.now ≢ []) × CanPut self.now.present.board stones.now) }
     {

@@ -1,4 +1,5 @@
-//! The links of a bridge, as stones are put and taken back, one by one and as the stones of a turn; and that a derivation has no more steps than it needs.
+//! The links of a bridge, as stones are put and taken back, one by one and as the stones of a turn; and
+//! that a derivation has no more steps than it needs.
 
 ghost use Rattle.std.specs.Prelude.{◌≡◌, ℕ, ◌∷◌, IsTrue};
 ghost use Rattle.hx_linkset.specs.States.{IsLiveAt};
