@@ -15,12 +15,12 @@ use Rattle.hx_link.specs.declared.steps.Step.TheVariants.{Base, AndStone, AndCel
 use Rattle.hx_board.specs.declared.cells.TheConstants.{CELLS}
 use Rattle.hx_tree.specs.declared.steps.TheConstants.{MOST_STEPS}
 use Rattle.hx_text.specs.declared.node_lines.Opening.{Opening}
-use Rattle.hx_text.specs.declared.node_lines.Opening.TheVariants.{Links, Fill, Turned}
+use Rattle.hx_text.specs.declared.node_lines.Opening.TheVariants.{Chain, Links, Move, All, Fill, Turned}
 use Rattle.hx_text.specs.declared.versions.Version.TheVariants.{Two}
 use Rattle.hx_text.specs.declared.versions.Preamble.{Preamble}
 use Rattle.hx_text.specs.Words.{Reads, IsNumber, words_in}
 use Rattle.hx_text.specs.StepTexts.{vertex_word, step_words, step_line, StepFits, BeginWithManyParts, BeginsLongOr}
-use Rattle.hx_text.specs.TreeTexts.{opening_words, OpeningFits}
+use Rattle.hx_text.specs.TreeTexts.{opening_words, OpeningFits, UnturnedFits}
 use Rattle.hx_text.proofs.Cursors.{rest_same, word_then}
 use Rattle.hx_text.proofs.Spacing.{line_from_words}
 use Rattle.hx_text.proofs.StepWords.{first_letter, words_in-step_line}
@@ -119,8 +119,8 @@ long_or_line line words (Err error) same is = record { words = is.0; many = is.2
 -- ---- openings
 
 no_links : (preamble : Preamble) (value : Opening) (words rest : List (List ℕ)) → words ≡ codes "links" ∷ rest
-    → ((steps : ℕ) → steps ≤ MOST_STEPS → rest ≡ decimal steps ∷ [] → ⊥) → OpeningFits preamble value → words ≡ opening_words value → ⊥
-no_links preamble (Links steps) words rest first none fits e = none steps fits (rest_same first e)
+    → ((steps : ℕ) → steps ≤ MOST_STEPS → rest ≡ decimal steps ∷ [] → ⊥) → UnturnedFits preamble value → words ≡ opening_words value → ⊥
+no_links preamble (Links steps) words rest first none fits e = none steps fits.0 (rest_same first e)
 no_links preamble value words rest first none fits e =
     let letters : first_letter (codes "links" ∷ rest) ≡ first_letter (opening_words value) = ap first_letter (sym first ∙ e) in
     absurd (omega (arith, letters))
@@ -128,14 +128,14 @@ no_links preamble value words rest first none fits e =
 pub links_reads : (preamble : Preamble) (words rest : List (List ℕ)) (found : Option Opening) → words ≡ codes "links" ∷ rest
     → IfSome found (λ opening. (steps : ℕ) × (opening ≡ Links steps) × (steps ≤ MOST_STEPS) × (rest ≡ decimal steps ∷ []))
     → IfNone found ((steps : ℕ) → steps ≤ MOST_STEPS → rest ≡ decimal steps ∷ [] → ⊥)
-    → Reads opening_words (OpeningFits preamble) words found
-links_reads preamble words rest (Some opening) first is none = rw is.1 (is.2, word_then first is.3)
+    → Reads opening_words (UnturnedFits preamble) words found
+links_reads preamble words rest (Some opening) first is none = rw is.1 ((is.2, tt), word_then first is.3)
 links_reads preamble words rest None first is none = λ value fits e. no_links preamble value words rest first none fits e
 
 no_fills : (preamble : Preamble) (value : Opening) (words rest : List (List ℕ)) → words ≡ codes "fill" ∷ rest
-    → ((fills child : ℕ) → fills ≤ CELLS → IsNumber child → rest ≡ decimal fills ∷ decimal child ∷ [] → ⊥) → OpeningFits preamble value
+    → ((fills child : ℕ) → fills ≤ CELLS → IsNumber child → rest ≡ decimal fills ∷ decimal child ∷ [] → ⊥) → UnturnedFits preamble value
     → words ≡ opening_words value → ⊥
-no_fills preamble (Fill fills child) words rest first none fits e = none fills child fits.0 fits.1 (rest_same first e)
+no_fills preamble (Fill fills child) words rest first none fits e = none fills child fits.0.0 fits.0.1 (rest_same first e)
 no_fills preamble value words rest first none fits e =
     let letters : first_letter (codes "fill" ∷ rest) ≡ first_letter (opening_words value) = ap first_letter (sym first ∙ e) in
     absurd (omega (arith, letters))
@@ -144,21 +144,34 @@ pub fills_reads : (preamble : Preamble) (words rest : List (List ℕ)) (found : 
     → IfSome found (λ opening. (fills child : ℕ) × (opening ≡ Fill fills child) × (fills ≤ CELLS) × IsNumber child
     × (rest ≡ decimal fills ∷ decimal child ∷ []))
     → IfNone found ((fills child : ℕ) → fills ≤ CELLS → IsNumber child → rest ≡ decimal fills ∷ decimal child ∷ [] → ⊥)
-    → Reads opening_words (OpeningFits preamble) words found
-fills_reads preamble words rest (Some opening) first is none = rw is.2 ((is.3, is.4), word_then first is.5)
+    → Reads opening_words (UnturnedFits preamble) words found
+fills_reads preamble words rest (Some opening) first is none = rw is.2 (((is.3, is.4), tt), word_then first is.5)
 fills_reads preamble words rest None first is none = λ value fits e. no_fills preamble value words rest first none fits e
 
-no_turned : (preamble : Preamble) (value : Opening) (words rest : List (List ℕ)) → words ≡ codes "turned" ∷ rest
-    → ((child : ℕ) → preamble.version ≡ Two → IsNumber child → rest ≡ decimal child ∷ [] → ⊥) → OpeningFits preamble value
-    → words ≡ opening_words value → ⊥
-no_turned preamble (Turned child) words rest first none fits e = none child fits.0 fits.1 (rest_same first e)
-no_turned preamble value words rest first none fits e =
-    let letters : first_letter (codes "turned" ∷ rest) ≡ first_letter (opening_words value) = ap first_letter (sym first ∙ e) in
-    absurd (omega (arith, letters))
-
+-- the words of an opening that begin with `turned`, or with no such word
 pub turned_reads : (preamble : Preamble) (words rest : List (List ℕ)) (found : Option Opening) → words ≡ codes "turned" ∷ rest
     → IfSome found (λ opening. (child : ℕ) × (opening ≡ Turned child) × (preamble.version ≡ Two) × IsNumber child × (rest ≡ decimal child ∷ []))
     → IfNone found ((child : ℕ) → preamble.version ≡ Two → IsNumber child → rest ≡ decimal child ∷ [] → ⊥)
     → Reads opening_words (OpeningFits preamble) words found
 turned_reads preamble words rest (Some opening) first is none = rw is.1 ((is.2, is.3), word_then first is.4)
-turned_reads preamble words rest None first is none = λ value fits e. no_turned preamble value words rest first none fits e
+turned_reads preamble words rest None first is none = λ value fits e. no_turned value fits e
+  where
+    no_turned : (value : Opening) → OpeningFits preamble value → words ≡ opening_words value → ⊥
+    no_turned (Turned child) fits e = none child fits.0 fits.1 (rest_same first e)
+    no_turned value fits e =
+        let letters : first_letter (codes "turned" ∷ rest) ≡ first_letter (opening_words value) = ap first_letter (sym first ∙ e) in
+        absurd (omega (arith, letters))
+
+pub unturned_reads : (preamble : Preamble) (words kept : List (List ℕ)) (found : Option Opening)
+    → ((rest : List (List ℕ)) → words ≡ codes "turned" ∷ rest → ⊥) → kept ≡ words
+    → Reads opening_words (UnturnedFits preamble) kept found → Reads opening_words (OpeningFits preamble) words found
+unturned_reads preamble words kept (Some opening) other same reads = (reads.0.0, sym same ∙ reads.1)
+unturned_reads preamble words kept None other same reads = λ value fits e. none value fits e
+  where
+    none : (value : Opening) → OpeningFits preamble value → words ≡ opening_words value → ⊥
+    none Chain fits e = reads Chain (fits, tt) (same ∙ e)
+    none (Links steps) fits e = reads (Links steps) (fits, tt) (same ∙ e)
+    none (Move cell child) fits e = reads (Move cell child) (fits, tt) (same ∙ e)
+    none (All steps threats lines) fits e = reads (All steps threats lines) (fits, tt) (same ∙ e)
+    none (Fill fills child) fits e = reads (Fill fills child) (fits, tt) (same ∙ e)
+    none (Turned child) fits e = other (decimal child ∷ []) e

@@ -23,7 +23,7 @@ use Rattle.hx_tree.specs.declared.nodes.Line.{Line}
 use Rattle.hx_tree.specs.declared.nodes.Line.TheVariants.{Child, Under}
 use Rattle.hx_tree.specs.declared.nodes.Node.{Node}
 use Rattle.hx_text.specs.declared.node_lines.Opening.{Opening}
-use Rattle.hx_text.specs.declared.node_lines.Opening.TheVariants.{Chain, Links, Move, All, Fill}
+use Rattle.hx_text.specs.declared.node_lines.Opening.TheVariants.{Chain, Links, Move, All, Fill, Turned}
 use Rattle.hx_text.specs.declared.node_lines.Head.{Head}
 use Rattle.hx_text.specs.Words.{hex, hex_digit, spaced, colour_word, mask_word, cell_word}
 use Rattle.hx_text.specs.Grammars.{text_of}
@@ -77,14 +77,18 @@ pub heading_spelled : (old : List ℕ) (preamble : Preamble)
 unfolding text_of
 heading_spelled old preamble = simp append_assoc
 
--- a title, by what is put for each version
-pub title_1_spelled : codes "hextree 1\n" ≡ title_line One ++ 10 ∷ []
+-- the title of each version
+pub title_1_spelled : (old : List ℕ) → old ++ codes "hextree 1\n" ≡ old ++ (title_line One ++ 10 ∷ [])
 unfolding spaced
-title_1_spelled = refl
+title_1_spelled old = refl
 
-pub title_2_spelled : codes "hextree 2\n" ≡ title_line Two ++ 10 ∷ []
+pub title_2_spelled : (old : List ℕ) → old ++ codes "hextree 2\n" ≡ old ++ (title_line Two ++ 10 ∷ [])
 unfolding spaced
-title_2_spelled = refl
+title_2_spelled old = refl
+
+pub turned_spelled : (old : List ℕ) (child : ℕ) → (old ++ codes "turned ") ++ decimal child ≡ old ++ spaced (opening_words (Turned child))
+unfolding spaced
+turned_spelled old child = append_assoc old (codes "turned ") (decimal child)
 
 pub chain_spelled : (old : List ℕ) → old ++ codes "chain" ≡ old ++ spaced (opening_words Chain)
 unfolding spaced
@@ -234,6 +238,8 @@ line_spelled old black white mover winner (All steps threats lines) =
     in_parts old (codes "node ") black white mover winner (spaced (opening_words (All steps threats lines))) (32 ∷ []) (10 ∷ [])
 line_spelled old black white mover winner (Fill fills child) =
     in_parts old (codes "node ") black white mover winner (spaced (opening_words (Fill fills child))) (32 ∷ []) (10 ∷ [])
+line_spelled old black white mover winner (Turned child) =
+    in_parts old (codes "node ") black white mover winner (spaced (opening_words (Turned child))) (32 ∷ []) (10 ∷ [])
 
 pub head_spelled : (old : List ℕ) (head : Head)
     → ((((old ++ codes "node ")

@@ -104,6 +104,10 @@ Stands (Failed fault version) nodes lines = ⊥
 abbrev pub IsAfter : Place → Type 0
 IsAfter place = (preamble : Preamble) × (place ≡ After preamble)
 
+-- the place after this fault
+abbrev pub IsFailed : Place → TreeFault → Type 0
+IsFailed place fault = (version : Option Version) × (place ≡ Failed fault version)
+
 -- the version of the text at this place, if its first line was read
 abbrev pub version_at : Place → Option Version
 version_at Title = None

@@ -6,11 +6,10 @@ use Rattle.std.specs.declared.result.Result.{Result}
 use Rattle.hx_tree.specs.declared.nodes.Node.{Node}
 use Rattle.hx_text.specs.declared.versions.Version.{Version}
 use Rattle.hx_text.specs.declared.places.Fed.{Fed}
-use Rattle.hx_text.specs.declared.places.Place.TheVariants.{Failed}
 use Rattle.hx_text.specs.declared.places.TreeFault.{TreeFault}
 use Rattle.hx_text.specs.declared.reader.TreeReader.{TreeReader}
 use Rattle.hx_text.specs.TreeTexts.{title_line}
-use Rattle.hx_text.specs.Places.{Stands, Told, version_at}
+use Rattle.hx_text.specs.Places.{Stands, Told, IsFailed, version_at}
 
 -- the lines that the reader was fed with are those of the nodes that it handed out
 abbrev pub HasRead : TreeReader → List Node → List (List ℕ) → Type 0
@@ -18,7 +17,7 @@ HasRead reader nodes lines = Stands reader.place nodes lines
 
 -- the reader answers this fault from now on
 abbrev pub HasFailed : TreeReader → TreeFault → Type 0
-HasFailed reader fault = (version : Option Version) × (reader.place ≡ Failed fault version)
+HasFailed reader fault = IsFailed reader.place fault
 
 -- the version of the text, if its first line was read
 abbrev pub version_read : TreeReader → Option Version

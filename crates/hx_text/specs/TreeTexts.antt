@@ -130,3 +130,17 @@ pub record IsTreeText (bytes : List ℕ) (nodes : List Node) : Type 0 where
 abbrev pub written_tree : Preamble → List Node → Colour → List ℕ
 written_tree preamble nodes winner =
     (text_of (front_lines preamble) ++ flat_map (λ node. text_of (node_lines node)) nodes) ++ text_of (end_line (length nodes) winner ∷ [])
+
+-- ---- words for the functions inside the crate alone
+
+-- the opening of a rule that each version has
+abbrev pub IsUnturned : Opening → Type 0
+IsUnturned Chain_opening = Unit {0}
+IsUnturned (Links_opening steps) = Unit {0}
+IsUnturned (Move_opening cell child) = Unit {0}
+IsUnturned (All_opening steps threats lines) = Unit {0}
+IsUnturned (Fill_opening fills child) = Unit {0}
+IsUnturned (Turned_opening child) = ⊥
+
+abbrev pub UnturnedFits : Preamble → Opening → Type 0
+UnturnedFits preamble opening = OpeningFits preamble opening × IsUnturned opening

@@ -5,7 +5,7 @@ ghost use Rattle.std.specs.Fmt.{decimal};
 ghost use Rattle.hx_board.specs.Cells.{OnBoard};
 ghost use Rattle.hx_text.specs.Words.{Reads, IsNumber, cell_word};
 ghost use Rattle.hx_text.specs.Entries.{steps_told, threats_told, answers_told, fills_told};
-ghost use Rattle.hx_text.specs.TreeTexts.{opening_words, OpeningFits, head_line, HeadFits};
+ghost use Rattle.hx_text.specs.TreeTexts.{opening_words, OpeningFits, UnturnedFits, head_line, HeadFits};
 
 use crate::versions::{Preamble, Version};
 use crate::words::Words;
@@ -116,6 +116,16 @@ pub(crate) fn read_head(preamble: &Preamble, line: &[u8]) -> Option<Head>
 fn read_opening(preamble: &Preamble, words: &mut Words<'_>) -> Option<Opening>
     ensures { Reads opening_words (OpeningFits preamble.now) words.old result }
 {
+    if words.keyword(b"turned").is_some() {
+        return read_turned(preamble.version, words);
+    }
+    read_unturned(preamble, words)
+}
+
+/// The words of the opening of a rule that each version has.
+fn read_unturned(preamble: &Preamble, words: &mut Words<'_>) -> Option<Opening>
+    ensures { Reads opening_words (UnturnedFits preamble.now) words.old result }
+{
     let word = words.next()?;
     match word {
         b"chain" => read_chain(words),
@@ -123,7 +133,6 @@ fn read_opening(preamble: &Preamble, words: &mut Words<'_>) -> Option<Opening>
         b"move" => read_move(preamble.size, words),
         b"all" => read_all(words),
         b"fill" => read_fills(words),
-        b"turned" => read_turned(preamble.version, words),
         _ => None,
     }
 }

@@ -181,12 +181,17 @@ fn at_end(so_far: SoFar, line: &[u8]) -> Result<Step, Stop>
     requires { IsNoHead so_far.preamble line.now }
     ensures { Goes (Place.Between so_far) line.now result }
 {
+    let SoFar {
+        preamble,
+        count,
+        winner,
+    } = so_far;
     match lines::read_end(line) {
         Some(end) => {
-            if is_end(so_far, end) {
+            if is_end(count, winner, end) {
                 Ok(Step {
                     fed: Fed::End(end.winner),
-                    place: Place::After(so_far.preamble),
+                    place: Place::After(preamble),
                 })
             } else {
                 Err(Stop::Wrong)
@@ -197,11 +202,11 @@ fn at_end(so_far: SoFar, line: &[u8]) -> Result<Step, Stop>
 }
 
 /// Whether these are the number of nodes and the winner of the last.
-fn is_end(so_far: SoFar, end: lines::End) -> bool
-    ensures { IsTrue result ↔ ((end.count ≡ so_far.count) × (so_far.winner ≡ Some end.winner)) }
+fn is_end(count: u32, winner: Option<Colour>, end: lines::End) -> bool
+    ensures { IsTrue result ↔ ((end.count ≡ count) × (winner ≡ Some end.winner)) }
 {
-    match so_far.winner {
-        Some(last) => end.count == so_far.count && last == end.winner,
+    match winner {
+        Some(last) => end.count == count && last == end.winner,
         None => false,
     }
 }

@@ -4,7 +4,7 @@
 ghost use Rattle.std.specs.Prelude.{◌≡◌, ◌∷◌, ◌++◌, [], ℕ, List, IfErr, true};
 ghost use Rattle.hx_tree.specs.declared.nodes.Node.{Node as TreeNode};
 ghost use Rattle.hx_text.specs.declared.places.TreeFault.{TreeFault as Fault};
-ghost use Rattle.hx_text.specs.Places.{Stands, Told, fault_of_stop, version_at};
+ghost use Rattle.hx_text.specs.Places.{Stands, Told, IsFailed, fault_of_stop, version_at};
 ghost use Rattle.hx_text.specs.Reader.{HasRead, HasFailed, Says, IsVersionIn, version_read, lines_fed, one_more};
 
 use crate::places::{self, Fed, MOST_NODES, Place, Step, Stop, TreeFault};
@@ -85,8 +85,7 @@ fn take_line(alloc: Global, place: Place, line: &[u8], ended: bool, number: u64)
     ensures says { (nodes : List TreeNode) (lines : List (List ℕ)) → Stands place nodes lines
         → Told place line.now ended number nodes (lines ++ line.now ∷ []) result.place result.told }
     ensures failed { IfErr result.told (λ fault. result.place ≡ Place.Failed fault (version_at place)) }
-    ensures again { (fault : Fault) (version : Option Version) → place ≡ Place.Failed fault version
-        → result.told ≡ Err fault }
+    ensures again { (fault : Fault) → IsFailed place fault → result.told ≡ Err fault }
 {
     if let Place::Failed { fault, .. } = place {
         return Taken {

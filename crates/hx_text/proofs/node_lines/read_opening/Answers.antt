@@ -1,10 +1,15 @@
-use Rattle.std.proofs.Common.{◌≡◌, ap, ◌∙◌, ◌∷◌, List, ℕ, arith}
-use Rattle.std.specs.Prelude.{codes}
-use Rattle.hx_text.proofs.FirstWords.{bytes_are, links_reads}
+use Rattle.std.proofs.Common.{sym, ◌∙◌}
+use Rattle.hx_text.proofs.Cursors.{word_taken, word_missing, words_kept}
+use Rattle.hx_text.proofs.FirstWords.{turned_reads, unturned_reads}
 use Rattle.hx_text.proofs.node_lines.read_opening.Goals as goal
 
-pub returns-in-links : goal.returns-in-links
-returns-in-links c =
-    let word : c.in_ok-word.word.now ≡ codes "links" =
-    bytes_are _ (codes "links") (omega arith, (omega arith, (omega arith, (omega arith, (omega arith, omega arith))))) in
-    links_reads c.args.preamble.now _ _ _ (c.in_ok-word.ensures ∙ ap (λ (w : List ℕ). w ∷ c.next.new.self) word) c.read_links.ensures.some c.read_links.ensures.none
+pub returns-then-is_some : goal.returns-then-is_some
+returns-then-is_some c =
+    turned_reads c.args.preamble.now _ _ _ (word_taken _ c.keyword.ensures.takes (sym c.if-is_some.true ∙ c.is_some.ensures))
+    c.read_turned.ensures.some c.read_turned.ensures.none
+
+pub returns : goal.returns
+returns c =
+    let missing = sym c.if-is_some.false ∙ c.is_some.ensures in
+    unturned_reads c.args.preamble.now _ _ _ (word_missing _ _ c.keyword.ensures.takes missing)
+    (words_kept _ c.keyword.ensures.same missing) c.read_unturned.ensures
