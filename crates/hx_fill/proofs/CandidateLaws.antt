@@ -1,5 +1,5 @@
 -- The sets of what each cell can be better than, as a worse cell is written down with each cell that can be better than it.
-use Rattle.std.proofs.Common.{◌≡◌, ◌≢◌, ℕ, ◌<◌, true, false, List, length, get_or, slice_index, refl, sym, ap, ◌∙◌, subst, ⊎_elim, ◌⊎◌, arith}
+use Rattle.std.proofs.Common.{◌≡◌, ◌≢◌, ℕ, ◌<◌, true, false, List, length, slice_index, sym, ◌∙◌, subst, ⊎_elim}
 use Rattle.std.proofs.Math.ListN.{set}
 use Rattle.std.proofs.lemmas.Bool.{false≢true}
 use Rattle.std.proofs.lemmas.Bool.Decides.{eqb_tells}
@@ -7,8 +7,8 @@ use Rattle.std.proofs.lemmas.List.{get_or-set_same, get_or-set_other, length-set
 use Rattle.hx_board.specs.declared.colours.Colour.{Colour}
 use Rattle.hx_board.specs.Sets.{has, insert, remove, intersection, IsSubset}
 use Rattle.hx_board.specs.Cells.{OnBoard}
-use Rattle.hx_board.specs.Positions.{Board, IsEmpty}
-use Rattle.hx_board.proofs.SetLaws.{has-empty, has-insert_same, has-insert_other, has-intersection_both, has-remove_before, removed_cases}
+use Rattle.hx_board.specs.Positions.{Board}
+use Rattle.hx_board.proofs.SetLaws.{has-insert_same, has-insert_other, has-intersection_both, removed_cases}
 use Rattle.hx_inferior.specs.Inferior.{IsDominated}
 use Rattle.hx_fill.specs.Unders.{AreKillers, HoldDominated}
 

@@ -19,7 +19,6 @@ use Rattle.hx_board.proofs.SetLaws.{has-union_left, has-union_right, and_both, b
 use Rattle.hx_board.proofs.StoneLaws.{size-put, stones-put, empty-put}
 use Rattle.hx_board.proofs.KeptStones.{joined_stays}
 use Rattle.hx_board.proofs.Joins.{joined-sym}
-use Rattle.hx_inferior.specs.declared.dominations.Kill.{Kill}
 use Rattle.hx_inferior.specs.declared.dominations.Kill.TheVariants.{ByDead, ByPair}
 use Rattle.hx_inferior.specs.Inferior.{IsOpenNeighbour, IsDead, IsPair, IsDominated}
 use Rattle.hx_fill.specs.declared.makers.Makers.{Makers}

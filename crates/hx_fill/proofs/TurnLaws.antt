@@ -1,6 +1,6 @@
 -- The turn of a cell. It gives a line to each cell that it dominates and that has none and is no better cell, so afterwards it dominates
 -- no other one of these; and cells without a line only become fewer. What had its turn before comes before what still waits.
-use Rattle.std.proofs.Common.{◌≡◌, ◌≢◌, ℕ, ◌+◌, ◌<◌, ◌≤◌, true, false, List, length, refl, sym, ap, ◌∙◌, subst, Some, ◌⊎◌, inl, inr, ⊎_elim, arith}
+use Rattle.std.proofs.Common.{◌≡◌, ◌≢◌, ℕ, ◌+◌, ◌<◌, ◌≤◌, true, false, List, length, refl, sym, ◌∙◌, subst, Some, ◌⊎◌, inl, inr, ⊎_elim, arith}
 use Rattle.std.specs.Prelude.{slice_get, slice_index}
 use Rattle.std.specs.declared.option.Option.{Option}
 use Rattle.std.proofs.lemmas.Bool.{false≢true, cases_lt}
@@ -8,14 +8,14 @@ use Rattle.std.proofs.lemmas.Bool.Decides.{eqb_tells}
 use Rattle.hx_board.specs.declared.colours.Colour.{Colour}
 use Rattle.hx_board.specs.Sets.{has, insert, remove, intersection, difference, IsSubset}
 use Rattle.hx_board.specs.Cells.{OnBoard, IsLeastOn}
-use Rattle.hx_board.specs.Positions.{Board, IsEmpty}
+use Rattle.hx_board.specs.Positions.{Board}
 use Rattle.hx_board.proofs.SetLaws.{has-empty, has-remove_before, has-insert_cases, has-insert_same, has-insert_other, has-intersection_left, has-intersection_both, has-difference_left, has-difference_right, has-difference_both, removed, removed_cases, has-remove_other, by_member, is_false, same_set}
 use Rattle.hx_board.proofs.DifferenceLaws.{difference-lt}
 use Rattle.hx_board.proofs.ListLaws.{get-lt, same_some}
 use Rattle.hx_inferior.specs.declared.dominations.Kill.{Kill}
 use Rattle.hx_inferior.specs.Inferior.{IsDominated}
 use Rattle.hx_fill.specs.declared.choices.Better.{Better}
-use Rattle.hx_fill.specs.Unders.{IsDominatedByNone, ComesBefore, Listed, Unlisted, better_for, IsGiven, AreKilled, AreWithKiller, HoldDominated, HasBetter, IsNamed, IsSifted, NoneWaits, IsNext, TakesTurn}
+use Rattle.hx_fill.specs.Unders.{ComesBefore, Listed, Unlisted, better_for, IsGiven, AreKilled, AreWithKiller, HoldDominated, HasBetter, IsNamed, IsSifted, NoneWaits, IsNext, TakesTurn}
 
 -- ---- the cells that one cell kills
 
@@ -207,14 +207,16 @@ module _ (board : Board) (mover : Colour) (cells : ℕ) (order : List ℕ) (choi
       before : has betters n ≡ true → (has waiting_now n ≡ false) × IsNamed cells after without_now n
       before old =
           let was = so_far.named n old in
-          let name = was.1 in
-          (still_done n was.0, record {
-            worse = name.worse;
-            kill = name.kill;
-            among = name.among;
-            lined = is_false _ (λ o. false≢true (sym name.lined ∙ was_open name.worse o));
-            is = kills.same name.worse (lined_not_killed name.worse name.lined) ∙ name.is;
-          })
+          let name = was.1 in (
+            still_done n was.0,
+            record {
+              worse = name.worse;
+              kill = name.kill;
+              among = name.among;
+              lined = is_false _ (λ o. false≢true (sym name.lined ∙ was_open name.worse o));
+              is = kills.same name.worse (lined_not_killed name.worse name.lined) ∙ name.is;
+            },
+          )
 
       now : (n ≡ b) × ((cell : ℕ) × (has killed cell ≡ true)) → (has waiting_now n ≡ false) × IsNamed cells after without_now n
       now new =
@@ -222,13 +224,16 @@ module _ (board : Board) (mover : Colour) (cells : ℕ) (order : List ℕ) (choi
           let k : has killed cell ≡ true = new.1.1 in
           let given = kills.given cell k in
           let P : ℕ → Type 0 = λ x. (has waiting_now x ≡ false) × IsNamed cells after without_now x in
-          subst P (sym new.0) (removed (difference waiting killed) b, record {
-            worse = cell;
-            kill = given.kill;
-            among = so_far.inside cell (killed_open cell k);
-            lined = killed_lined cell k;
-            is = given.is;
-          })
+          subst P (sym new.0) (
+            removed (difference waiting killed) b,
+            record {
+              worse = cell;
+              kill = given.kill;
+              among = so_far.inside cell (killed_open cell k);
+              lined = killed_lined cell k;
+              is = given.is;
+            },
+          )
 
   pub sifted_next : IsSifted board mover cells order after without_now waiting_now betters_next
   sifted_next = record {

@@ -1,5 +1,5 @@
 -- Lines for dominated cells, one for each cell that got a better one. They are pushed cell by cell, so they come in cell order.
-use Rattle.std.proofs.Common.{◌≡◌, ◌≢◌, ℕ, ◌+◌, ◌<◌, ◌≤◌, true, false, zero, suc, List, [], ◌∷◌, ◌++◌, map, length, length-append, get_or, refl, sym, ap, ◌∙◌, subst, Some, None, ◌⊎◌, inl, inr, ⊎_elim, arith}
+use Rattle.std.proofs.Common.{◌≡◌, ◌≢◌, ℕ, ◌+◌, ◌<◌, ◌≤◌, true, false, zero, suc, List, [], ◌∷◌, ◌++◌, map, length, length-append, get_or, refl, sym, ap, ◌∙◌, subst, Some, None, ⊎_elim, arith}
 use Rattle.std.specs.Prelude.{Contains}
 use Rattle.std.specs.declared.option.Option.{Option}
 use Rattle.std.specs.List.Sorted.{IsStrictlyIncreasing}
@@ -18,7 +18,7 @@ use Rattle.hx_tree.specs.declared.nodes.Line.{Line}
 use Rattle.hx_tree.specs.declared.nodes.Line.TheVariants.{Child, Under}
 use Rattle.hx_tree.specs.Answers.{cell_of, cells_of}
 use Rattle.hx_fill.specs.declared.choices.Better.{Better}
-use Rattle.hx_fill.specs.Unders.{IsUnderLine, HasLine, IsBetterIn, IsDominatedByNone, AreUnder, ComesBefore, AreByOrder, better_for, HasBetter, IsNamed, IsSifted, AreGiven, AddsLine, IsLineFor, AreLinesFor}
+use Rattle.hx_fill.specs.Unders.{IsUnderLine, HasLine, IsBetterIn, AreUnder, ComesBefore, AreByOrder, better_for, HasBetter, IsSifted, AreGiven, AddsLine, IsLineFor, AreLinesFor}
 
 -- ---- lists that rise
 

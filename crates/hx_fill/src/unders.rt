@@ -80,13 +80,7 @@ impl Sieve {
     }
 
     /// The turns of the cells of the order.
-    fn go_by_order(
-        &mut self,
-        turn: &Turn,
-        size: Size,
-        candidates: &[Mask; CELLS],
-        order: &[Cell],
-    )
+    fn go_by_order(&mut self, turn: &Turn, size: Size, candidates: &[Mask; CELLS], order: &[Cell])
         requires size { turn.now.position.size ≡ size }
         requires cells { AreEmpties turn.now.position self.old.cells }
         requires candidates { HoldDominated turn.now.position turn.now.mover self.old.cells 0
@@ -113,9 +107,9 @@ impl Sieve {
         ensures cells { self.new.cells ≡ self.old.cells }
         ensures sifted { (order : List ℕ) → NoneWaits order (length order) self.old.waiting
             → IsSifted turn.now.position turn.now.mover self.old.cells order
-                self.old.choices self.old.without_line self.old.waiting self.old.betters
+            self.old.choices self.old.without_line self.old.waiting self.old.betters
             → IsSifted turn.now.position turn.now.mover self.new.cells order
-                self.new.choices self.new.without_line self.new.waiting self.new.betters }
+            self.new.choices self.new.without_line self.new.waiting self.new.betters }
         ensures none_waits { (n : ℕ) → has self.new.waiting n ≡ false }
     {
         while let Some(cell) = self.waiting.least(size) {
@@ -140,10 +134,10 @@ impl Sieve {
         ensures goes_on { (order : List ℕ) (place : ℕ) → slice_get order place ≡ Some cell
             → NoneWaits order place self.old.waiting
             → IsSifted turn.now.position turn.now.mover self.old.cells order
-                self.old.choices self.old.without_line self.old.waiting self.old.betters
+            self.old.choices self.old.without_line self.old.waiting self.old.betters
             → IsSifted turn.now.position turn.now.mover self.old.cells order
-                self.new.choices self.new.without_line self.new.waiting self.new.betters
-                × NoneWaits order (place + 1) self.new.waiting }
+            self.new.choices self.new.without_line self.new.waiting self.new.betters
+            × NoneWaits order (place + 1) self.new.waiting }
     {
         if !self.waiting.has(cell) {
             return;
@@ -152,13 +146,7 @@ impl Sieve {
     }
 
     /// The turn of a cell.
-    fn take_turn(
-        &mut self,
-        turn: &Turn,
-        size: Size,
-        candidates: &[Mask; CELLS],
-        better: Cell,
-    )
+    fn take_turn(&mut self, turn: &Turn, size: Size, candidates: &[Mask; CELLS], better: Cell)
         requires size { turn.now.position.size ≡ size }
         requires cells { AreEmpties turn.now.position self.old.without_line }
         requires candidates { HoldDominated turn.now.position turn.now.mover
@@ -232,7 +220,7 @@ fn kill_one(choices: &mut Choices, turn: &Turn, better: Cell, worse: Cell, kille
     ensures { (cells left : ℕ) (before : List (Option Given)) → has cells worse ≡ true
         → AreKilled turn.now.position turn.now.mover better cells left before choices.old killed
         → AreKilled turn.now.position turn.now.mover better cells (remove left worse) before
-            choices.new result }
+        choices.new result }
 {
     match turn.kill_by(better, worse) {
         None => killed,

@@ -1,4 +1,4 @@
-use Rattle.std.proofs.Common.{◌≡◌, ◌∙◌, List}
+use Rattle.std.proofs.Common.{◌≡◌, ◌∙◌}
 use Rattle.std.proofs.lemmas.Result.{IfOk-weaker}
 use Rattle.hx_board.specs.Sets.{difference}
 use Rattle.hx_fill.specs.Unders.{AreUnder, AreByOrder, AreLinesFor}

@@ -22,11 +22,12 @@ loop-cell-preserved c =
         waiting_inside = waits_without_line _ _ _ _ _ _ _ _ _ _ _ takes sets.waiting_inside;
       };
       sifted = λ order none start.
-          let before = c.loop-cell.invariant.sifted order none start in
-          (none_waits-fewer order (length order) c.loop-cell.self.waiting c.take_turn.new.self.waiting (fewer_wait _ _ _ _ _ _ _ _ _ _ _ takes) before.0,
-          rw c.take_turn.ensures.cells (sifted_goes_on c.args.turn.now.position c.args.turn.now.mover c.loop-cell.self.cells order c.loop-cell.self.choices c.loop-cell.self.without_line
-          c.loop-cell.self.waiting c.loop-cell.self.betters before.1 c.in-Some.cell c.in-Some.ensures.member
-          (next_least c.args.turn.now.position order c.loop-cell.self.waiting c.in-Some.cell before.0 on_board least) _ _ _ _ takes));
+          let before = c.loop-cell.invariant.sifted order none start in (
+            none_waits-fewer order (length order) c.loop-cell.self.waiting c.take_turn.new.self.waiting (fewer_wait _ _ _ _ _ _ _ _ _ _ _ takes) before.0,
+            rw c.take_turn.ensures.cells (sifted_goes_on c.args.turn.now.position c.args.turn.now.mover c.loop-cell.self.cells order c.loop-cell.self.choices c.loop-cell.self.without_line
+                c.loop-cell.self.waiting c.loop-cell.self.betters before.1 c.in-Some.cell c.in-Some.ensures.member
+                (next_least c.args.turn.now.position order c.loop-cell.self.waiting c.in-Some.cell before.0 on_board least) _ _ _ _ takes),
+          );
     }
 
 pub returns-clause-sifted : goal.returns-clause-sifted
