@@ -2,3 +2,4 @@ pub mod Machine
 pub mod Histories
 pub mod Counted
 pub mod Seats
+pub mod Hints

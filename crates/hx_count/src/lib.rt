@@ -13,7 +13,7 @@ mod views;
 
 pub use counts::Counts;
 pub use events::CountEvent;
-pub use hints::Hints;
+pub use hints::{Hints, kept};
 pub use laws::{hold_adds_one, release_takes_back};
 pub use seats::{CountSeat, Spent};
 pub use totals::Totals;

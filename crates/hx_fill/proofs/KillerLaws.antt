@@ -10,24 +10,21 @@ use Rattle.hx_board.specs.declared.vertices.Vertex.{Vertex}
 use Rattle.hx_board.specs.declared.vertices.Vertex.TheVariants.{Of}
 use Rattle.hx_board.specs.Finds.{Finds}
 use Rattle.hx_board.specs.Colours.{other_of}
-use Rattle.hx_board.specs.Sets.{has, union, intersection}
+use Rattle.hx_board.specs.Sets.{has, union}
 use Rattle.hx_board.specs.Positions.{Board, IsEmpty, put}
 use Rattle.hx_board.specs.Graph.{Joined}
 use Rattle.hx_board.specs.VertexSets.{code_of, IsSetOf}
 use Rattle.hx_board.proofs.ColourLaws.{other-differs}
-use Rattle.hx_board.proofs.SetLaws.{has-union_left, has-union_right, has-intersection_left, has-intersection_both, and_both, by_member}
+use Rattle.hx_board.proofs.SetLaws.{has-union_left, has-union_right, and_both, by_member}
 use Rattle.hx_board.proofs.StoneLaws.{size-put, stones-put, empty-put}
 use Rattle.hx_board.proofs.KeptStones.{joined_stays}
 use Rattle.hx_board.proofs.Joins.{joined-sym}
-use Rattle.hx_inferior.specs.declared.dominations.Kill.{Kill}
 use Rattle.hx_inferior.specs.declared.dominations.Kill.TheVariants.{ByDead, ByPair}
 use Rattle.hx_inferior.specs.Inferior.{IsOpenNeighbour, IsDead, IsPair, IsDominated}
 use Rattle.hx_fill.specs.declared.makers.Makers.{Makers}
-use Rattle.hx_fill.specs.declared.turns.Better.{Better}
-use Rattle.hx_fill.specs.declared.turns.Worse.{Worse}
 use Rattle.hx_fill.specs.Makers.{IsMaker, AreMakers}
 use Rattle.hx_fill.specs.Views.{HoldsReached}
-use Rattle.hx_fill.specs.Unders.{IsWorse, IsBetter}
+use Rattle.hx_fill.specs.Unders.{AreKillers}
 use Rattle.hx_fill.proofs.JoinedAfter.{joined_before, joined_still, joined_over_stone}
 use Rattle.hx_fill.proofs.OpenAfter.{open-vertex, open_before, open_after, open_elsewhere}
 
@@ -150,18 +147,7 @@ module _ (board : Board) (mover : Colour) (worse : ℕ) where
           among = (makers_are.cells partner).1 ((empties_are partner).1 maker.empty, maker)
 
 -- outside of the two sets no cell is better
-pub better-possible : (board : Board) (mover : Colour) (worse : Worse) → IsWorse board mover worse → (better : ℕ) (kill : Kill) → IsDominated board mover better worse.cell kill
-    → has (union worse.by_dead worse.by_pair) better ≡ true
-better-possible board mover worse is better ByDead dominated = has-union_left worse.by_dead worse.by_pair better (is.by_dead better dominated)
-better-possible board mover worse is better (ByPair partner) dominated = has-union_right worse.by_dead worse.by_pair better (is.by_pair better partner dominated)
-
--- so they need not be looked at
-pub better-among : (board : Board) (mover : Colour) (worse : Worse) → IsWorse board mover worse → (cells possible : ℕ)
-    → possible ≡ intersection cells (union worse.by_dead worse.by_pair) → (found : Option Better)
-    → Finds found (IsBetter board mover worse.cell possible) → Finds found (IsBetter board mover worse.cell cells)
-better-among board mover worse is_worse cells possible same None none = λ better is. none better (record {
-  among = rw same (has-intersection_both cells (union worse.by_dead worse.by_pair) better.cell is.among (better-possible board mover worse is_worse better.cell better.kill is.dominates));
-  dominates = is.dominates;
-})
-better-among board mover worse is_worse cells possible same (Some better) is =
-    record { among = has-intersection_left cells (union worse.by_dead worse.by_pair) better.cell (rw same at is.among); dominates = is.dominates }
+pub killers-both : (board : Board) (mover : Colour) (worse by_dead by_pair : ℕ) → ((better : ℕ) → IsDominated board mover better worse ByDead → has by_dead better ≡ true)
+    → ((better partner : ℕ) → IsDominated board mover better worse (ByPair partner) → has by_pair better ≡ true) → AreKillers board mover worse (union by_dead by_pair)
+killers-both board mover worse by_dead by_pair dead pair better ByDead dominated = has-union_left by_dead by_pair better (dead better dominated)
+killers-both board mover worse by_dead by_pair dead pair better (ByPair partner) dominated = has-union_right by_dead by_pair better (pair better partner dominated)

@@ -9,4 +9,6 @@ pub mod ThreatLaws
 pub mod ViewLaws
 pub mod ReachLaws
 pub mod KillerLaws
+pub mod CandidateLaws
+pub mod TurnLaws
 pub mod UnderLaws

@@ -1,22 +1,24 @@
--- Lines for dominated cells, as the cells are gone through in their order. A cell gets no line after it was named as a better one, and
--- what no cell without a line dominates stays so, since there are only fewer of these.
-use Rattle.std.proofs.Common.{◌≡◌, ◌≢◌, ℕ, ◌+◌, ◌<◌, ◌≤◌, Bool, true, false, List, [], ◌∷◌, ◌++◌, length, length-append, get_or, refl, sym, ◌∙◌, subst, ◌⊎◌, inl, inr, ⊎_elim, arith}
+-- Lines for dominated cells, one for each cell that got a better one. They are pushed cell by cell, so they come in cell order.
+use Rattle.std.proofs.Common.{◌≡◌, ◌≢◌, ℕ, ◌+◌, ◌<◌, ◌≤◌, true, false, zero, suc, List, [], ◌∷◌, ◌++◌, map, length, length-append, get_or, refl, sym, ap, ◌∙◌, subst, Some, None, ⊎_elim, arith}
 use Rattle.std.specs.Prelude.{Contains}
+use Rattle.std.specs.declared.option.Option.{Option}
 use Rattle.std.specs.List.Sorted.{IsStrictlyIncreasing}
-use Rattle.std.proofs.lemmas.Bool.{false≢true, false_from_ne_true, cases_lt}
-use Rattle.std.proofs.lemmas.List.{get_or_append_left, get_or_push, map-append}
-use Rattle.std.proofs.lemmas.List.Elements.{All-nil, All-push, Contains-push, Contains-push_cases, Contains-append_left, Contains-get_or}
+use Rattle.std.proofs.lemmas.Bool.{false≢true, cases_lt}
+use Rattle.std.proofs.lemmas.List.{get_or_append_left, get_or_push, map-append, length-map}
+use Rattle.std.proofs.lemmas.List.Elements.{All-nil, All-push, All-map, All-weaker, All-contains, Contains-push, Contains-push_cases, Contains-append_left, Contains-get_or}
 use Rattle.hx_board.specs.declared.colours.Colour.{Colour}
-use Rattle.hx_board.specs.Sets.{has, insert, remove}
+use Rattle.hx_board.specs.Sets.{has, remove, difference}
 use Rattle.hx_board.specs.Cells.{Extent, OnBoard, IsLeastOn}
 use Rattle.hx_board.specs.Positions.{Board}
-use Rattle.hx_board.proofs.SetLaws.{has-empty, has-remove_before, has-insert_cases, has-insert_same, has-insert_other, removed, removed_cases, removed_still, has-remove_other}
+use Rattle.hx_board.proofs.SetLaws.{has-empty, has-remove_before, has-difference_left, has-difference_right, has-difference_both, removed, removed_cases, by_member, is_false}
+use Rattle.hx_board.proofs.ListLaws.{same_some}
 use Rattle.hx_inferior.specs.declared.dominations.Kill.{Kill}
+use Rattle.hx_inferior.specs.Inferior.{IsDominated}
 use Rattle.hx_tree.specs.declared.nodes.Line.{Line}
-use Rattle.hx_tree.specs.declared.nodes.Line.TheVariants.{Under}
+use Rattle.hx_tree.specs.declared.nodes.Line.TheVariants.{Child, Under}
 use Rattle.hx_tree.specs.Answers.{cell_of, cells_of}
-use Rattle.hx_fill.specs.declared.turns.Better.{Better}
-use Rattle.hx_fill.specs.Unders.{IsUnderLine, HasLine, IsBetterIn, IsDominatedByNone, AreUnder, IsBetter, AddsLine, Sifts, Keeps, Adds, IsSifted}
+use Rattle.hx_fill.specs.declared.choices.Better.{Better}
+use Rattle.hx_fill.specs.Unders.{IsUnderLine, HasLine, IsBetterIn, AreUnder, ComesBefore, AreByOrder, better_for, HasBetter, IsSifted, AreGiven, AddsLine, IsLineFor, AreLinesFor}
 
 -- ---- lists that rise
 
@@ -36,151 +38,176 @@ increasing-push xs x rises below k low = ⊎_elim inner last (cases_lt (k + 1) (
         let end : length xs ≡ k + 1 = omega arith in
         rw (get_or_append_left xs (x ∷ []) 0 k here, get_or_push xs x 0 (k + 1) end) (below (get_or xs k 0) (Contains-get_or xs k 0 here))
 
-not_true : (b : Bool) → (b ≡ true → ⊥) → b ≡ false
-not_true b not = false_from_ne_true b not
+-- an element of a mapped list is that of some element
+mapped_from : (lines : List Line) (n : ℕ) → HasLine lines n → (line : Line) × (Contains lines line) × (cell_of line ≡ n)
+mapped_from lines n found = (get_or lines found.0 default_line, Contains-get_or lines found.0 default_line low, sym (get_or-mapped lines found.0 low) ∙ found.2)
+  where
+    default_line : Line
+    default_line = Child n 0
 
--- ---- one line more
+    low : found.0 < length lines
+    low = rw length-map at found.1
 
-module _ (lines : List Line) (cell : ℕ) (better : ℕ) (kill : Kill) where
-  cells-push : cells_of (lines ++ Under cell better kill ∷ []) ≡ cells_of lines ++ cell ∷ []
-  cells-push = map-append cell_of lines (Under cell better kill ∷ [])
+    get_or-mapped : (xs : List Line) (k : ℕ) → k < length xs → get_or (map cell_of xs) k n ≡ cell_of (get_or xs k default_line)
+    get_or-mapped [] k less = refl
+    get_or-mapped (x ∷ xs) zero less = refl
+    get_or-mapped (x ∷ xs) (suc k) less = get_or-mapped xs k (omega arith)
 
-  line_cases : (n : ℕ) → HasLine (lines ++ Under cell better kill ∷ []) n → HasLine lines n ⊎ (cell ≡ n)
-  line_cases n has_line = Contains-push_cases (cells_of lines) cell n (rw cells-push at has_line)
+-- ---- the lines, one after the other
 
-  line_before : (n : ℕ) → HasLine lines n → HasLine (lines ++ Under cell better kill ∷ []) n
-  line_before n has_line = rw cells-push (Contains-append_left (cells_of lines) (cell ∷ []) n has_line)
+module _ (choices : List (Option Better)) (lined : ℕ) where
+  pub lines_none : AreLinesFor choices lined lined []
+  lines_none = record {
+    each = All-nil (IsLineFor choices lined);
+    in_order = λ k low. absurd (omega arith);
+    before = λ done has_line. absurd (omega (arith, has_line.1));
+    all = λ cell here out. absurd (false≢true (sym out ∙ here));
+    left_inside = λ n h. h;
+  }
 
-  line_new : HasLine (lines ++ Under cell better kill ∷ []) cell
-  line_new = rw cells-push (Contains-push (cells_of lines) cell)
+  module _ (left cell : ℕ) (lines : List Line) (so_far : AreLinesFor choices lined left lines) (here : has left cell ≡ true)
+      (least : (n : ℕ) → has left n ≡ true → n ≢ cell → cell < n) where
+    not_removed : (n : ℕ) → has (remove left cell) n ≡ true → n ≢ cell
+    not_removed n h same = false≢true (sym (removed left cell) ∙ (let P : ℕ → Type 0 = λ x. has (remove left cell) x ≡ true in subst P same h))
 
-  better_before : (n : ℕ) → IsBetterIn lines n → IsBetterIn (lines ++ Under cell better kill ∷ []) n
-  better_before n is = record { worse = is.worse; kill = is.kill; line = Contains-append_left lines (Under cell better kill ∷ []) (Under is.worse n is.kill) is.line }
-
-  better_new : IsBetterIn (lines ++ Under cell better kill ∷ []) better
-  better_new = record { worse = cell; kill = kill; line = Contains-push lines (Under cell better kill) }
-
-  same_better : (worse n : ℕ) (how : Kill) → Under cell better kill ≡ Under worse n how → better ≡ n
-  same_better worse n how e = cc
-
-  better_cases : (n : ℕ) → IsBetterIn (lines ++ Under cell better kill ∷ []) n → IsBetterIn lines n ⊎ (better ≡ n)
-  better_cases n is = ⊎_elim (λ old. inl (record { worse = is.worse; kill = is.kill; line = old })) (λ same. inr (same_better is.worse n is.kill same))
-      (Contains-push_cases lines (Under cell better kill) (Under is.worse n is.kill) is.line)
-
-pub none_better : (board : Board) (mover : Colour) (cell cells : ℕ) → ((better : Better) → IsBetter board mover cell cells better → ⊥)
-    → IsDominatedByNone board mover cell (λ better. has cells better ≡ true)
-none_better board mover cell cells none better among kill dominated = none (record { cell = better; kill = kill }) (record { among = among; dominates = dominated })
-
-module _ (board : Board) (mover : Colour) where
-  pub sifts_by_line : (cell : ℕ) (better : Better) (lines more : List Line) (open_cells open_next betters betters_next : ℕ)
-      → IsBetter board mover cell (remove open_cells cell) better → has betters cell ≡ false
-      → AddsLine cell better lines open_cells betters more open_next betters_next → Sifts board mover cell lines open_cells betters more open_next betters_next
-  sifts_by_line cell better lines more open_cells open_next betters betters_next is not adds = Adds better is not adds
-
-  module _ (cells : ℕ) where
-    pub sifted_begins : IsSifted board mover cells cells [] cells 0
-    sifted_begins = record {
-      right = All-nil (IsUnderLine board mover);
-      in_order = λ k low. absurd (omega arith);
-      before = λ done has_line. absurd (omega (arith, has_line.1));
-      lined = λ cell. ((λ has_line. absurd (omega (arith, has_line.1))), (λ both. absurd (false≢true (sym both.1 ∙ both.0))));
-      open_inside = λ n h. h;
-      left_inside = λ n h. h;
-      betters_inside = λ n h. absurd (false≢true (sym (has-empty n) ∙ h));
-      betters_are = λ cell. ((λ h. absurd (false≢true (sym (has-empty cell) ∙ h))), (λ is. let at = is.line in absurd (omega (arith, at.1))));
-      settled = λ cell out here. absurd (false≢true (sym out ∙ here));
-    }
-
-    module _ (left cell : ℕ) (lines : List Line) (open_cells betters : ℕ) (so_far : IsSifted board mover cells left lines open_cells betters)
-        (here : has left cell ≡ true) (least : (n : ℕ) → has left n ≡ true → n ≢ cell → cell < n) where
-      sifted_keeps : (has betters cell ≡ false → IsDominatedByNone board mover cell (λ better. has (remove open_cells cell) better ≡ true))
-          → IsSifted board mover cells (remove left cell) lines open_cells betters
-      sifted_keeps none = record {
-        right = so_far.right;
-        in_order = so_far.in_order;
-        before = λ done has_line n h. so_far.before done has_line n (has-remove_before left cell n h);
-        lined = so_far.lined;
-        open_inside = so_far.open_inside;
-        left_inside = λ n h. so_far.left_inside n (has-remove_before left cell n h);
-        betters_inside = so_far.betters_inside;
-        betters_are = so_far.betters_are;
-        settled = λ n out in_open no_better. ⊎_elim
-            (λ (same : n ≡ cell). let P : ℕ → Type 0 = λ x. has betters x ≡ false → IsDominatedByNone board mover x (λ better. has open_cells better ≡ true) in
-            subst P (sym same) settled_here no_better)
-            (λ still. so_far.settled n still in_open no_better) (removed_cases left cell n out);
-      }
-        where
-          settled_here : has betters cell ≡ false → IsDominatedByNone board mover cell (λ better. has open_cells better ≡ true)
-          settled_here no_better better in_open kill dominated = none no_better better (has-remove_other open_cells cell better dominated.differ in_open) kill dominated
-
-      sifted_adds : (better : Better) → IsBetter board mover cell (remove open_cells cell) better → has betters cell ≡ false
-          → IsSifted board mover cells (remove left cell) (lines ++ Under cell better.cell better.kill ∷ []) (remove open_cells cell) (insert betters better.cell)
-      sifted_adds better is not_better = record {
-        right = All-push (IsUnderLine board mover) lines (Under cell better.cell better.kill) so_far.right is.dominates;
-        in_order = rw (cells-push lines cell better.cell better.kill) (increasing-push (cells_of lines) cell so_far.in_order (λ done has_line. so_far.before done has_line cell here));
-        before = λ done has_line n h. ⊎_elim (λ old. so_far.before done old n (has-remove_before left cell n h))
-            (λ (same : cell ≡ done). let P : ℕ → Type 0 = λ x. x < n in subst P same (least n (has-remove_before left cell n h) (not_removed n h))) (line_cases lines cell better.cell better.kill done has_line);
-        lined = λ n. (
-          (λ has_line. ⊎_elim
-              (λ old. let was = (so_far.lined n).0 old in (was.0, removed_still open_cells cell n was.1))
-              (λ (same : cell ≡ n). let P : ℕ → Type 0 = λ x. (has cells x ≡ true) × (has (remove open_cells cell) x ≡ false) in
-              subst P same (so_far.open_inside cell open_here, removed open_cells cell)) (line_cases lines cell better.cell better.kill n has_line)),
-          (λ both. ⊎_elim
-              (λ (same : n ≡ cell). let P : ℕ → Type 0 = λ x. HasLine (lines ++ Under cell better.cell better.kill ∷ []) x in subst P (sym same) (line_new lines cell better.cell better.kill))
-              (λ still. line_before lines cell better.cell better.kill n ((so_far.lined n).1 (both.0, still))) (removed_cases open_cells cell n both.1)),
-        );
-        open_inside = λ n h. so_far.open_inside n (has-remove_before open_cells cell n h);
-        left_inside = λ n h. has-remove_other open_cells cell n (not_removed n h) (so_far.left_inside n (has-remove_before left cell n h));
-        betters_inside = λ n h. ⊎_elim
-            (λ (same : n ≡ better.cell). let P : ℕ → Type 0 = λ x. has (remove open_cells cell) x ≡ true in subst P (sym same) is.among)
-            (λ old. has-remove_other open_cells cell n (not_cell n old) (so_far.betters_inside n old)) (has-insert_cases betters better.cell n h);
-        betters_are = λ n. (
-          (λ h. ⊎_elim
-              (λ (same : n ≡ better.cell). let P : ℕ → Type 0 = λ x. IsBetterIn (lines ++ Under cell better.cell better.kill ∷ []) x in subst P (sym same) (better_new lines cell better.cell better.kill))
-              (λ old. better_before lines cell better.cell better.kill n ((so_far.betters_are n).0 old)) (has-insert_cases betters better.cell n h)),
-          (λ named. ⊎_elim (λ old. has-insert_other betters better.cell n ((so_far.betters_are n).1 old))
-              (λ (same : better.cell ≡ n). let P : ℕ → Type 0 = λ x. has (insert betters better.cell) x ≡ true in subst P same (has-insert_same betters better.cell))
-              (better_cases lines cell better.cell better.kill n named)),
-        );
-        settled = λ n out in_open no_better other other_open. ⊎_elim
-            (λ (same : n ≡ cell). absurd (false≢true (sym (removed open_cells cell) ∙ (let P : ℕ → Type 0 = λ x. has (remove open_cells cell) x ≡ true in subst P same in_open))))
-            (λ still. so_far.settled n still (has-remove_before open_cells cell n in_open)
-            (not_true (has betters n) (λ h. false≢true (sym no_better ∙ has-insert_other betters better.cell n h)))
-            other (has-remove_before open_cells cell other other_open)) (removed_cases left cell n out);
-      }
-        where
-          open_here : has open_cells cell ≡ true
-          open_here = so_far.left_inside cell here
-
-          not_removed : (n : ℕ) → has (remove left cell) n ≡ true → n ≢ cell
-          not_removed n h same = false≢true (sym (removed left cell) ∙ (let P : ℕ → Type 0 = λ x. has (remove left cell) x ≡ true in subst P same h))
-
-          not_cell : (n : ℕ) → has betters n ≡ true → n ≢ cell
-          not_cell n h same = false≢true (sym not_better ∙ (let P : ℕ → Type 0 = λ x. has betters x ≡ true in subst P same h))
-
-      pub sifted_goes_on : (more : List Line) (open_next betters_next : ℕ) → Sifts board mover cell lines open_cells betters more open_next betters_next
-          → IsSifted board mover cells (remove left cell) more open_next betters_next
-      sifted_goes_on more open_next betters_next (Keeps same_lines same_open same_betters none) = rw (same_lines, same_open, same_betters) (sifted_keeps none)
-      sifted_goes_on more open_next betters_next (Adds better is not adds) = rw (adds.line, adds.without, adds.with_better) (sifted_adds better is not)
-
-    pub sifted_ends : (left : ℕ) (lines : List Line) (open_cells betters : ℕ) → IsSifted board mover cells left lines open_cells betters → ((n : ℕ) → has cells n ≡ true → has left n ≡ false)
-        → AreUnder board mover cells lines
-    sifted_ends left lines open_cells betters sifted none = record {
-      right = sifted.right;
-      in_order = sifted.in_order;
-      among = λ cell has_line. ((sifted.lined cell).0 has_line).0;
-      betters = λ cell named. let in_open = sifted.betters_inside cell ((sifted.betters_are cell).1 named) in
-          (sifted.open_inside cell in_open, λ has_line. false≢true (sym ((sifted.lined cell).0 has_line).1 ∙ in_open));
-      no_other = λ cell in_cells no_line no_better other both. sifted.settled cell (none cell in_cells) (open_without cell in_cells no_line)
-          (not_true (has betters cell) (λ h. no_better ((sifted.betters_are cell).0 h))) other (open_without other both.0 both.1);
+    pub lines_more : (better : ℕ) (kill : Kill) → better_for choices cell ≡ Some (record { cell = better; kill = kill })
+        → AreLinesFor choices lined (remove left cell) (lines ++ Under cell better kill ∷ [])
+    lines_more better kill is = record {
+      each = All-push (IsLineFor choices lined) lines line so_far.each (so_far.left_inside cell here, is);
+      in_order = rw pushed (increasing-push (cells_of lines) cell so_far.in_order (λ done has_line. so_far.before done has_line cell here));
+      before = λ done has_line n h. ⊎_elim (λ old. so_far.before done old n (has-remove_before left cell n h))
+          (λ (same : cell ≡ done). let P : ℕ → Type 0 = λ x. x < n in subst P same (least n (has-remove_before left cell n h) (not_removed n h)))
+          (Contains-push_cases (cells_of lines) cell done (rw pushed at has_line));
+      all = λ n in_lined out. ⊎_elim
+          (λ (same : n ≡ cell). let P : ℕ → Type 0 = λ x. HasLine (lines ++ line ∷ []) x in subst P (sym same) (rw pushed (Contains-push (cells_of lines) cell)))
+          (λ still. rw pushed (Contains-append_left (cells_of lines) (cell ∷ []) n (so_far.all n in_lined still))) (removed_cases left cell n out);
+      left_inside = λ n h. so_far.left_inside n (has-remove_before left cell n h);
     }
       where
-        open_without : (cell : ℕ) → has cells cell ≡ true → ¬ HasLine lines cell → has open_cells cell ≡ true
-        open_without cell in_cells no_line = by_test (has open_cells cell) refl
-          where
-            by_test : (b : Bool) → has open_cells cell ≡ b → has open_cells cell ≡ true
-            by_test true e = e
-            by_test false e = absurd (no_line ((sifted.lined cell).1 (in_cells, e)))
+        line : Line
+        line = Under cell better kill
+
+        pushed : cells_of (lines ++ line ∷ []) ≡ cells_of lines ++ cell ∷ []
+        pushed = map-append cell_of lines (line ∷ [])
+
+  pub lines_all : (left : ℕ) (lines : List Line) → ((n : ℕ) → has lined n ≡ true → has left n ≡ false) → AreLinesFor choices lined left lines → AreLinesFor choices lined 0 lines
+  lines_all left lines none so_far = record {
+    each = so_far.each;
+    in_order = so_far.in_order;
+    before = λ done has_line n h. absurd (false≢true (sym (has-empty n) ∙ h));
+    all = λ cell here _. so_far.all cell here (none cell here);
+    left_inside = λ n h. absurd (false≢true (sym (has-empty n) ∙ h));
+  }
+
+  line_lined : (line : Line) → IsLineFor choices lined line → has lined (cell_of line) ≡ true
+  line_lined (Child cell child) is = absurd is
+  line_lined (Under cell better kill) is = is.0
+
+  pub has_line-lined : (lines : List Line) → AreLinesFor choices lined 0 lines → (cell : ℕ) → HasLine lines cell → has lined cell ≡ true
+  has_line-lined lines are cell has_line =
+      let P : ℕ → Type 0 = λ n. has lined n ≡ true in
+      All-contains P (cells_of lines) cell
+      (All-map P cell_of lines (All-weaker (IsLineFor choices lined) (λ (line : Line). has lined (cell_of line) ≡ true) line_lined lines are.each)) has_line
+
+same_line : (choices : List (Option Better)) (cell better other : ℕ) (kill how : Kill) → better_for choices cell ≡ Some (record { cell = better; kill = kill })
+    → better_for choices cell ≡ Some (record { cell = other; kill = how }) → (better ≡ other) × (kill ≡ how)
+same_line choices cell better other kill how one two =
+    let x : Better = record { cell = better; kill = kill } in
+    let y : Better = record { cell = other; kill = how } in
+    let same : x ≡ y = same_some x y (sym one ∙ two) in
+    (ap (λ (b : Better). b.cell) same, ap (λ (b : Better). b.kill) same)
+
+-- a cell that got no better one has no line to add
+pub adds_none : (choices : List (Option Better)) (cell : ℕ) (lines : List Line) → better_for choices cell ≡ None → AddsLine choices cell lines lines
+adds_none choices cell lines none better is = cc
+
+pub adds_one : (choices : List (Option Better)) (cell : ℕ) (better : Better) → better_for choices cell ≡ Some better → (lines more : List Line)
+    → more ≡ lines ++ Under cell better.cell better.kill ∷ [] → AddsLine choices cell lines more
+adds_one choices cell better is lines more pushed other is_other =
+    let P : Better → Type 0 = λ b. more ≡ lines ++ Under cell b.cell b.kill ∷ [] in subst P (same_some better other (sym is ∙ is_other)) pushed
+
+-- ---- the end
+
+module _ (board : Board) (mover : Colour) (cells : ℕ) (order : List ℕ) (choices : List (Option Better)) (without_line waiting betters : ℕ) (lines : List Line)
+    (sifted : IsSifted board mover cells order choices without_line waiting betters) (none_waits : (n : ℕ) → has waiting n ≡ false)
+    (are : AreLinesFor choices (difference cells without_line) 0 lines) where
+  abbrev with_line : ℕ
+  with_line = difference cells without_line
+
+  open_without : (cell : ℕ) → has cells cell ≡ true → ¬ HasLine lines cell → has without_line cell ≡ true
+  open_without cell here no_line = by_member without_line cell (λ h. h)
+      (λ out. absurd (no_line (are.all cell (has-difference_both cells without_line cell here out) (has-empty cell))))
+
+  no_line : (cell : ℕ) → has without_line cell ≡ true → ¬ HasLine lines cell
+  no_line cell h has_line = false≢true (sym (has-difference_right cells without_line cell (has_line-lined choices with_line lines are cell has_line)) ∙ h)
+
+  -- the better cell of a line
+  line_better : (worse better : ℕ) (kill : Kill) → IsLineFor choices with_line (Under worse better kill) → (h : HasBetter board mover order choices without_line betters worse)
+      × ((h.better ≡ better) × (h.given.kill ≡ kill))
+  line_better worse better kill is =
+      let h = sifted.lined worse (has-difference_left cells without_line worse is.0) (has-difference_right cells without_line worse is.0) in
+      let given = h.given in
+      (h, same_line choices worse h.better better given.kill kill given.is is.1)
+
+  line_right : (line : Line) → IsLineFor choices with_line line → IsUnderLine board mover line
+  line_right (Child cell child) is = absurd is
+  line_right (Under cell better kill) is =
+      let w = line_better cell better kill is in
+      let given = w.0.given in
+      let P : ℕ → Type 0 = λ x. IsDominated board mover x cell given.kill in
+      let Q : Kill → Type 0 = λ k. IsDominated board mover better cell k in
+      subst Q w.1.1 (subst P w.1.0 given.dominates)
+
+  contained : (line : Line) → Contains lines line → IsLineFor choices with_line line
+  contained line at = All-contains (IsLineFor choices with_line) lines line are.each at
+
+  -- a better cell of a cell with a line is one in a line
+  named_in_line : (better worse : ℕ) (kill : Kill) (line : Line) → better_for choices worse ≡ Some (record { cell = better; kill = kill })
+      → Contains lines line → IsLineFor choices with_line line → cell_of line ≡ worse → IsBetterIn lines better
+  named_in_line better worse kill (Child cell child) named at is same = absurd is
+  named_in_line better worse kill (Under cell other how) named at is same =
+      let there : better_for choices cell ≡ Some (record { cell = better; kill = kill }) = (let P : ℕ → Type 0 = λ x. better_for choices x ≡ Some (record { cell = better; kill = kill }) in
+      subst P (sym same) named) in
+      let e = same_line choices cell other better how kill is.1 there in
+      record { worse = cell; kill = how; line = (let P : ℕ → Type 0 = λ x. Contains lines (Under cell x how) in subst P e.0 at) }
+
+  better_named : (better : ℕ) → has betters better ≡ true → IsBetterIn lines better
+  better_named better h =
+      let name = (sifted.named better h).1 in
+      let from = mapped_from lines name.worse (are.all name.worse (has-difference_both cells without_line name.worse name.among name.lined) (has-empty name.worse)) in
+      named_in_line better name.worse name.kill from.0 name.is from.1 (contained from.0 from.1) from.2
+
+  pub sifted-under : AreUnder board mover cells lines
+  sifted-under = record {
+    right = All-weaker (IsLineFor choices with_line) (IsUnderLine board mover) line_right lines are.each;
+    in_order = are.in_order;
+    among = λ cell has_line. has-difference_left cells without_line cell (has_line-lined choices with_line lines are cell has_line);
+    betters = λ cell named.
+        let w = line_better named.worse cell named.kill (contained (Under named.worse cell named.kill) named.line) in
+        let P : ℕ → Type 0 = λ x. has betters x ≡ true in
+        let h : has without_line cell ≡ true = sifted.betters_inside cell (subst P w.1.0 w.0.among) in
+        (sifted.inside cell h, no_line cell h);
+    no_other = λ cell here lacks_line no_better other both. sifted.settled cell (open_without cell here lacks_line)
+        (is_false _ (λ h. no_better (better_named cell h))) other (open_without other both.0 both.1, none_waits other);
+  }
+
+  pub sifted-by_order : AreByOrder board mover cells order lines
+  sifted-by_order = record {
+    first = λ worse better kill at other all.
+        let w = line_better worse better kill (contained (Under worse better kill) at) in
+        let P : ℕ → Type 0 = λ x. ComesBefore order other x in
+        w.0.first other (open_without other all.0 all.1, subst P (sym w.1.0) all.2);
+    later = λ cell here lacks_line other all. sifted.later cell (open_without cell here lacks_line) other
+        (open_without other all.0 all.1, none_waits other, all.2);
+  }
+
+-- each cell with a line got a better one
+pub sifted-given : (board : Board) (mover : Colour) (cells : ℕ) (order : List ℕ) (choices : List (Option Better)) (without_line waiting betters : ℕ)
+    → IsSifted board mover cells order choices without_line waiting betters → AreGiven choices (difference cells without_line)
+sifted-given board mover cells order choices without_line waiting betters sifted cell h =
+    let has_better = sifted.lined cell (has-difference_left cells without_line cell h) (has-difference_right cells without_line cell h) in
+    let given = has_better.given in
+    (record { cell = has_better.better; kill = given.kill }, given.is)
 
 pub least_below : (size : Extent) (left cell : ℕ) → IsLeastOn size left cell → (n : ℕ) → OnBoard size n → has left n ≡ true → n ≢ cell → cell < n
 least_below size left cell least n on h differ = ⊎_elim (λ low. absurd (false≢true (sym (least.first n low on) ∙ h))) (λ high. omega arith) (cases_lt n cell)

@@ -2,6 +2,8 @@
 //! better than.
 #![tactic(auto)]
 
+mod candidates;
+mod choices;
 mod fills;
 mod makers;
 mod mustplay;

@@ -94,7 +94,7 @@ fn compare(rt: &impl Abort, alloc: Global, position: &Position, mover: Colour) -
         "{mover:?}, {position:?}"
     );
     let set = new_set(alloc, position, mover.other())?;
-    let found = must(&set).map_err(|_| "memory")?;
+    let found = must(&set, &[]).map_err(|_| "memory")?;
     let mut cells = found.cells;
     for line in found.under.items() {
         cells = cells.without(line.cell());
@@ -187,15 +187,16 @@ fn plans(size: Size) -> Result<[Plan; 15], Fail> {
 }
 
 /// Two links between the sides share b1 and a2, of which either is better than the other: once White has a2, b1 is a pair with
-/// b2, and once he has b1, a2 is a pair with a1.
+/// b2, and once he has b1, a2 is a pair with a1. The one that comes first in the order needs no line.
 #[test]
 fn threats_that_overlap(rt: HostRuntime) -> Result<(), Fail> {
     let size = Size::new(2, 2).ok_or("size")?;
     let set = planned(&rt, rt.alloc(), size, &plans(size)?)?;
+    let a1 = size.cell(0, 0).ok_or("a1")?;
     let b1 = size.cell(0, 1).ok_or("b1")?;
     let a2 = size.cell(1, 0).ok_or("a2")?;
     let b2 = size.cell(1, 1).ok_or("b2")?;
-    let found = must(&set).map_err(|_| "memory")?;
+    let found = must(&set, &[b2, a2, b1]).map_err(|_| "memory")?;
     assert_eq!(rt; found.threats.items(), [8, 14].as_slice());
     assert_eq!(rt; found.cells, Mask::of(B1 | A2));
     let by_a2 = Line::Under {
@@ -204,6 +205,13 @@ fn threats_that_overlap(rt: HostRuntime) -> Result<(), Fail> {
         kill: Kill::ByPair(b2),
     };
     assert_eq!(rt; found.under.items(), [by_a2].as_slice());
+    let in_cell_order = must(&set, &[]).map_err(|_| "memory")?;
+    let by_b1 = Line::Under {
+        cell: a2,
+        better: b1,
+        kill: Kill::ByPair(a1),
+    };
+    assert_eq!(rt; in_cell_order.under.items(), [by_b1].as_slice());
     Ok(())
 }
 
@@ -229,7 +237,7 @@ fn a_small_link_comes_first(rt: HostRuntime) -> Result<(), Fail> {
         Plan::Cell(9, 2),
     ];
     let set = planned(&rt, rt.alloc(), size, &plans)?;
-    let found = must(&set).map_err(|_| "memory")?;
+    let found = must(&set, &[]).map_err(|_| "memory")?;
     assert_eq!(rt; found.threats.items(), [10].as_slice());
     assert_eq!(rt; found.cells, Mask::of(A1));
     Ok(())

@@ -12,38 +12,13 @@ ghost use Rattle.hx_board.specs.Positions.{IsEmpty};
 ghost use Rattle.hx_board.specs.VertexSets.{IsSetOf};
 ghost use Rattle.hx_inferior.specs.declared.dominations.Kill.TheVariants.{ByDead, ByPair};
 ghost use Rattle.hx_inferior.specs.Inferior.{IsDominated, IsOpenNeighbour};
-ghost use Rattle.hx_fill.specs.Unders.{AreOthers, IsWorse, IsBetter};
+ghost use Rattle.hx_fill.specs.Unders.{AreKillers};
 
 use crate::makers::{makers_of, partner_of};
 use crate::reaches::{reached_around, reached_around_each};
 use crate::views::View;
 use hx_board::{Cell, Colour, Groups, Mask, Position, Vertex, VertexSet};
 use hx_inferior::{Kill, open_around};
-
-/// A better cell, and how the move to it kills the worse one.
-#[derive(Clone, Copy, PartialEq, Eq, Debug)]
-pub(crate) struct Better {
-    pub(crate) cell: Cell,
-    pub(crate) kill: Kill,
-}
-
-/// An empty cell that another one may be better than, and what is known of it before the move.
-#[derive(Clone, Copy, PartialEq, Eq, Debug)]
-pub(crate) struct Worse {
-    pub(crate) cell: Cell,
-
-    /// Its open neighbours for the mover.
-    pub(crate) own: VertexSet,
-
-    /// Its open neighbours for the opponent.
-    pub(crate) others: VertexSet,
-
-    /// Where the mover takes any other cell, it is not dead for the opponent.
-    pub(crate) by_dead: Mask,
-
-    /// Where the mover takes any other cell, it is not part of a pair of the mover.
-    pub(crate) by_pair: Mask,
-}
 
 /// A position and the player to move, with what is joined for each player.
 #[derive(Drop)]
@@ -109,101 +84,63 @@ impl Turn {
         }
     }
 
-    /// What is known of an empty cell before the move.
-    fn worse(&self, cell: Cell) -> Worse
-        requires { IsEmpty self.now.position cell }
-        ensures worse { IsWorse self.now.position self.now.mover result }
-        ensures cell { result.cell ≡ cell }
+    /// The cells that can be better than a cell. Most cells touch nothing that the cell's fate hangs on, and need not be tried.
+    pub(crate) fn killers(&self, worse: Cell) -> Mask
+        requires { IsEmpty self.now.position worse }
+        ensures { AreKillers self.now.position self.now.mover worse result }
     {
-        let own = open_around(&self.position, self.mover, cell);
-        let others = open_around(&self.position, self.mover.other(), cell);
-        let by_dead = self.killers_by_dead(cell, others);
-        let by_pair = self.killers_by_pair(cell, own);
-        Worse {
-            cell,
-            own,
-            others,
-            by_dead,
-            by_pair,
-        }
+        let own = open_around(&self.position, self.mover, worse);
+        let others = open_around(&self.position, self.mover.other(), worse);
+        let by_dead = self.killers_by_dead(worse, others);
+        let by_pair = self.killers_by_pair(worse, own);
+        by_dead.union(by_pair)
     }
 
     /// Whether the move to the better cell makes the worse one dead for the opponent.
-    fn is_dead_after(&self, better: Cell, worse: &Worse) -> bool
+    fn is_dead_after(&self, better: Cell, worse: Cell) -> bool
         requires better { IsEmpty self.now.position better }
-        requires worse { IsWorse self.now.position self.now.mover worse.now }
-        requires differ { better ≢ worse.now.cell }
+        requires worse { IsEmpty self.now.position worse }
+        requires differ { better ≢ worse }
         ensures { IsTrue result
-            ↔ IsDominated self.now.position self.now.mover better worse.now.cell ByDead }
+            ↔ IsDominated self.now.position self.now.mover better worse ByDead }
     {
         let _size = self.position.size();
         let other = self.mover.other();
         let others = View::after(&self.position, other, &self.others, self.mover, better);
-        let around = worse.others.without(Vertex::Of(better));
-        let makers = makers_of(&others, worse.cell, around, Mask::empty());
+        let open = open_around(&self.position, other, worse);
+        let around = open.without(Vertex::Of(better));
+        let makers = makers_of(&others, worse, around, Mask::empty());
         makers.is_dead
     }
 
     /// A cell that is a pair with the worse one after the move to the better one.
-    fn partner_after(&self, better: Cell, worse: &Worse) -> Option<Cell>
+    fn partner_after(&self, better: Cell, worse: Cell) -> Option<Cell>
         requires better { IsEmpty self.now.position better }
-        requires worse { IsWorse self.now.position self.now.mover worse.now }
-        requires differ { better ≢ worse.now.cell }
+        requires worse { IsEmpty self.now.position worse }
+        requires differ { better ≢ worse }
         ensures { Finds result (λ partner.
-            IsDominated self.now.position self.now.mover better worse.now.cell (ByPair partner)) }
+            IsDominated self.now.position self.now.mover better worse (ByPair partner)) }
     {
         let own = View::after(&self.position, self.mover, &self.own, self.mover, better);
-        let makers = makers_of(&own, worse.cell, worse.own, self.position.empties());
-        partner_of(&own, worse.cell, makers.cells)
+        let around = open_around(&self.position, self.mover, worse);
+        let makers = makers_of(&own, worse, around, self.position.empties());
+        partner_of(&own, worse, makers.cells)
     }
 
     /// How the move to the better cell kills the worse one.
-    fn kill_by(&self, better: Cell, worse: &Worse) -> Option<Kill>
+    pub(crate) fn kill_by(&self, better: Cell, worse: Cell) -> Option<Kill>
         requires better { IsEmpty self.now.position better }
-        requires worse { IsWorse self.now.position self.now.mover worse.now }
-        requires differ { better ≢ worse.now.cell }
+        requires worse { IsEmpty self.now.position worse }
+        requires differ { better ≢ worse }
         ensures { Finds result
-            (IsDominated self.now.position self.now.mover better worse.now.cell) }
+            (IsDominated self.now.position self.now.mover better worse) }
     {
-        let can_be_dead = worse.by_dead.has(better);
-        if can_be_dead && self.is_dead_after(better, worse) {
+        if self.is_dead_after(better, worse) {
             return Some(Kill::ByDead);
-        }
-        let can_be_paired = worse.by_pair.has(better);
-        if !can_be_paired {
-            return None;
         }
         match self.partner_after(better, worse) {
             Some(partner) => Some(Kill::ByPair(partner)),
             None => None,
         }
-    }
-
-    /// The first of some cells that is better than a cell.
-    fn better_among(&self, worse: &Worse, cells: Mask) -> Option<Better>
-        requires worse { IsWorse self.now.position self.now.mover worse.now }
-        requires cells { AreOthers self.now.position worse.now.cell cells }
-        ensures { Finds result (IsBetter self.now.position self.now.mover worse.now.cell cells) }
-    {
-        let size = self.position.size();
-        let mut left = cells;
-        while let Some(cell) = left.least(size) {
-            left = left.without(cell);
-            if let Some(kill) = self.kill_by(cell, worse) {
-                return Some(Better { cell, kill });
-            }
-        }
-        None
-    }
-
-    /// The first of some cells that is better than a cell.
-    pub(crate) fn better_than(&self, worse: Cell, cells: Mask) -> Option<Better>
-        requires worse { IsEmpty self.now.position worse }
-        requires cells { AreOthers self.now.position worse cells }
-        ensures { Finds result (IsBetter self.now.position self.now.mover worse cells) }
-    {
-        let known = self.worse(worse);
-        let possible = cells.meet(known.by_dead.union(known.by_pair));
-        self.better_among(&known, possible)
     }
 }

@@ -1,91 +1,259 @@
 //! Lines for moves that need no answer of their own, since another move is better.
 //!
-//! The cells are gone through in their order. A cell gets a line where one that has none is better than it, unless it stands as the
-//! better one in a line already. So no better cell ever gets a line itself.
+//! The cells have their turns in a given order, which is that in which a search tries them: so it keeps the moves that it
+//! likes best. At its turn a cell that has no line gives one to each cell that it dominates, unless that cell has one or is the
+//! better one of a line. So no better cell ever gets a line itself.
 
-ghost use Rattle.std.specs.Prelude.{◌≡◌, true, IfOk, OnOk};
-ghost use Rattle.hx_board.specs.Sets.{has};
-ghost use Rattle.hx_fill.specs.Unders.{AreEmpties, AreUnder, AddsLine, Sifts};
+ghost use Rattle.std.specs.Prelude.{◌≡◌, ◌≢◌, ℕ, ◌+◌, ◌++◌, ◌∷◌, [], List, length, slice_get, true, false, IfOk, OnOk};
+ghost use Rattle.std.specs.declared.option.Option.{Option};
+ghost use Rattle.std.specs.declared.option.Option.TheVariants.{Some};
+ghost use Rattle.hx_board.specs.Sets.{has, remove, difference, IsSubset};
+ghost use Rattle.hx_board.specs.Cells.{OnBoard};
+ghost use Rattle.hx_board.specs.Positions.{IsEmpty};
+ghost use Rattle.hx_tree.specs.declared.nodes.Line.TheVariants.{Under};
+ghost use Rattle.hx_fill.specs.declared.choices.Better.{Better as Given};
+ghost use Rattle.hx_fill.specs.Unders.{AreEmpties, AreUnder, AreByOrder, AreSetsOf, HoldDominated, AreKilled, AreWithKiller, IsSifted, NoneWaits, TakesTurn, AreGiven, AddsLine, AreLinesFor};
 
-use crate::turns::{Better, Turn};
-use hx_board::{Cell, Colour, Mask, Memory, Position};
+use crate::candidates::candidates_of;
+use crate::choices::{Better, Choices};
+use crate::turns::Turn;
+use hx_board::{CELLS, Cell, Colour, Mask, Memory, Position, Size};
 use hx_tree::{Line, Lines};
 use std::alloc::Global;
 
-/// The lines so far, and the cells that they are about.
+/// Which cells get a line, as the turns go on.
 #[derive(Drop)]
 struct Sieve {
-    lines: Vec<Line>,
+    /// The cells that it is about.
+    cells: Mask,
+
+    /// For each cell with a line the better one.
+    choices: Choices,
 
     /// The cells without a line.
     without_line: Mask,
+
+    /// Those of them that had no turn yet.
+    waiting: Mask,
 
     /// The better cells of the lines.
     betters: Mask,
 }
 
-/// Lines for the cells, among some empty ones, than which another one of these is better for the mover.
+/// Lines for the cells, among some empty ones, than which another one of these is better for the mover. They have their turns
+/// in the order, and then, in cell order, those that the order leaves out.
 pub(crate) fn under_lines(
     alloc: Global,
     position: &Position,
     mover: Colour,
     cells: Mask,
+    order: &[Cell],
 ) -> Result<Lines, Memory>
     requires { AreEmpties position.now cells }
-    ensures { IfOk result (λ lines. AreUnder position.now mover cells lines) }
+    ensures under { IfOk result (λ lines. AreUnder position.now mover cells lines) }
+    ensures order { IfOk result (λ lines. AreByOrder position.now mover cells order.now lines) }
 {
     let turn = Turn::of(position, mover);
     let size = position.size();
-    let mut sieve = Sieve {
-        lines: Vec::new(alloc),
-        without_line: cells,
-        betters: Mask::empty(),
-    };
-    let mut left = cells;
-    while let Some(cell) = left.least(size) {
-        sieve.sift(&turn, cell)?;
-        left = left.without(cell);
-    }
-    let Sieve { lines, .. } = sieve;
-    Ok(Lines::new(lines))
+    let candidates = candidates_of(&turn, size, cells);
+    let mut sieve = Sieve::of(cells);
+    sieve.go_by_order(&turn, size, &candidates, order);
+    sieve.go_on(&turn, size, &candidates);
+    sieve.lines(alloc, size)
 }
 
 impl Sieve {
-    /// Looks at a cell without a line.
-    fn sift(&mut self, turn: &Turn, cell: Cell) -> Result<(), Memory>
-        requires empty { AreEmpties turn.now.position self.old.without_line }
-        requires no_line { has self.old.without_line cell ≡ true }
-        ensures { OnOk result (Sifts turn.now.position turn.now.mover cell
-            self.old.lines.items self.old.without_line self.old.betters
-            self.new.lines.items self.new.without_line self.new.betters) }
+    /// Before the first turn.
+    fn of(cells: Mask) -> Sieve
+        ensures cells { result.cells ≡ cells }
+        ensures without_line { result.without_line ≡ cells }
+        ensures waiting { result.waiting ≡ cells }
+        ensures betters { result.betters ≡ 0 }
     {
-        let is_better = self.betters.has(cell);
-        if is_better {
-            return Ok(());
-        }
-        let rest = self.without_line.without(cell);
-        match turn.better_than(cell, rest) {
-            None => Ok(()),
-            Some(better) => self.add(cell, &better),
+        Sieve {
+            cells,
+            choices: Choices::none(),
+            without_line: cells,
+            waiting: cells,
+            betters: Mask::empty(),
         }
     }
 
-    /// Adds a line.
-    fn add(&mut self, cell: Cell, better: &Better) -> Result<(), Memory>
-        ensures { OnOk result (AddsLine cell better.now
-            self.old.lines.items self.old.without_line self.old.betters
-            self.new.lines.items self.new.without_line self.new.betters) }
+    /// The turns of the cells of the order.
+    fn go_by_order(&mut self, turn: &Turn, size: Size, candidates: &[Mask; CELLS], order: &[Cell])
+        requires size { turn.now.position.size ≡ size }
+        requires cells { AreEmpties turn.now.position self.old.cells }
+        requires candidates { HoldDominated turn.now.position turn.now.mover self.old.cells 0
+            candidates.now }
+        requires sifted { IsSifted turn.now.position turn.now.mover self.old.cells order.now
+            self.old.choices self.old.without_line self.old.waiting self.old.betters }
+        ensures cells { self.new.cells ≡ self.old.cells }
+        ensures sifted { IsSifted turn.now.position turn.now.mover self.new.cells order.now
+            self.new.choices self.new.without_line self.new.waiting self.new.betters }
+        ensures none_waits { NoneWaits order.now (length order.now) self.new.waiting }
     {
-        if self.lines.reserve(1).is_err() {
-            return Err(Memory);
+        for cell in order {
+            self.take_turn_if_waiting(turn, size, candidates, *cell);
         }
-        self.lines.push_reserved(Line::Under {
-            cell,
-            better: better.cell,
-            kill: better.kill,
-        });
-        self.without_line = self.without_line.without(cell);
-        self.betters = self.betters.with(better.cell);
-        Ok(())
     }
+
+    /// The turns of the other cells, in cell order.
+    fn go_on(&mut self, turn: &Turn, size: Size, candidates: &[Mask; CELLS])
+        requires size { turn.now.position.size ≡ size }
+        requires cells { AreEmpties turn.now.position self.old.cells }
+        requires candidates { HoldDominated turn.now.position turn.now.mover self.old.cells 0
+            candidates.now }
+        requires inside { AreSetsOf self.old.cells self.old.without_line self.old.waiting }
+        ensures cells { self.new.cells ≡ self.old.cells }
+        ensures sifted { (order : List ℕ) → NoneWaits order (length order) self.old.waiting
+            → IsSifted turn.now.position turn.now.mover self.old.cells order
+            self.old.choices self.old.without_line self.old.waiting self.old.betters
+            → IsSifted turn.now.position turn.now.mover self.new.cells order
+            self.new.choices self.new.without_line self.new.waiting self.new.betters }
+        ensures none_waits { (n : ℕ) → has self.new.waiting n ≡ false }
+    {
+        while let Some(cell) = self.waiting.least(size) {
+            self.take_turn(turn, size, candidates, cell);
+        }
+    }
+
+    /// The turn of a cell at its place in the order, where it has a turn.
+    fn take_turn_if_waiting(
+        &mut self,
+        turn: &Turn,
+        size: Size,
+        candidates: &[Mask; CELLS],
+        cell: Cell,
+    )
+        requires size { turn.now.position.size ≡ size }
+        requires cells { AreEmpties turn.now.position self.old.without_line }
+        requires candidates { HoldDominated turn.now.position turn.now.mover
+            self.old.without_line 0 candidates.now }
+        requires inside { IsSubset self.old.waiting self.old.without_line }
+        ensures cells { self.new.cells ≡ self.old.cells }
+        ensures goes_on { (order : List ℕ) (place : ℕ) → slice_get order place ≡ Some cell
+            → NoneWaits order place self.old.waiting
+            → IsSifted turn.now.position turn.now.mover self.old.cells order
+            self.old.choices self.old.without_line self.old.waiting self.old.betters
+            → IsSifted turn.now.position turn.now.mover self.old.cells order
+            self.new.choices self.new.without_line self.new.waiting self.new.betters
+            × NoneWaits order (place + 1) self.new.waiting }
+    {
+        if !self.waiting.has(cell) {
+            return;
+        }
+        self.take_turn(turn, size, candidates, cell);
+    }
+
+    /// The turn of a cell.
+    fn take_turn(&mut self, turn: &Turn, size: Size, candidates: &[Mask; CELLS], better: Cell)
+        requires size { turn.now.position.size ≡ size }
+        requires cells { AreEmpties turn.now.position self.old.without_line }
+        requires candidates { HoldDominated turn.now.position turn.now.mover
+            self.old.without_line 0 candidates.now }
+        requires better { has self.old.without_line better ≡ true }
+        ensures cells { self.new.cells ≡ self.old.cells }
+        ensures takes { TakesTurn turn.now.position turn.now.mover better
+            self.old.choices self.old.without_line self.old.waiting self.old.betters
+            self.new.choices self.new.without_line self.new.waiting self.new.betters }
+    {
+        let index = better.index() as usize;
+        let free = self.without_line.minus(self.betters).without(better);
+        let possible = free.meet(candidates[index]);
+        let killed = kill_all(&mut self.choices, turn, size, better, possible);
+        self.without_line = self.without_line.minus(killed);
+        self.waiting = self.waiting.minus(killed).without(better);
+        self.betters = with_killer(self.betters, better, killed);
+    }
+
+    /// The lines, in cell order.
+    fn lines(&self, alloc: Global, size: Size) -> Result<Lines, Memory>
+        requires on_board { (n : ℕ) → has self.now.cells n ≡ true → OnBoard size n }
+        requires given { AreGiven self.now.choices
+            (difference self.now.cells self.now.without_line) }
+        ensures { IfOk result (λ lines. AreLinesFor self.now.choices
+            (difference self.now.cells self.now.without_line) 0 lines) }
+    {
+        let mut lines = Vec::new(alloc);
+        let mut left = self.cells.minus(self.without_line);
+        while let Some(cell) = left.least(size) {
+            left = left.without(cell);
+            self.add_line(&mut lines, cell)?;
+        }
+        Ok(Lines::new(lines))
+    }
+
+    /// Adds the line for a cell, where it got a better one.
+    fn add_line(&self, lines: &mut Vec<Line>, cell: Cell) -> Result<(), Memory>
+        ensures { OnOk result (AddsLine self.now.choices cell lines.old.items lines.new.items) }
+    {
+        match self.choices.get(cell) {
+            None => Ok(()),
+            Some(better) => push(lines, cell, &better),
+        }
+    }
+}
+
+/// Gives each of some cells that the better one dominates that one, and tells which cells these are.
+fn kill_all(choices: &mut Choices, turn: &Turn, size: Size, better: Cell, cells: Mask) -> Mask
+    requires size { turn.now.position.size ≡ size }
+    requires cells { AreEmpties turn.now.position cells }
+    requires better { IsEmpty turn.now.position better }
+    requires differ { has cells better ≡ false }
+    ensures { AreKilled turn.now.position turn.now.mover better cells 0
+        choices.old choices.new result }
+{
+    let mut killed = Mask::empty();
+    let mut left = cells;
+    while let Some(worse) = left.least(size) {
+        left = left.without(worse);
+        killed = kill_one(choices, turn, better, worse, killed);
+    }
+    killed
+}
+
+/// Gives a cell the better one where that dominates it. The cell is added to those that were killed before.
+fn kill_one(choices: &mut Choices, turn: &Turn, better: Cell, worse: Cell, killed: Mask) -> Mask
+    requires better { IsEmpty turn.now.position better }
+    requires worse { IsEmpty turn.now.position worse }
+    requires differ { better ≢ worse }
+    ensures { (cells left : ℕ) (before : List (Option Given)) → has cells worse ≡ true
+        → AreKilled turn.now.position turn.now.mover better cells left before choices.old killed
+        → AreKilled turn.now.position turn.now.mover better cells (remove left worse) before
+        choices.new result }
+{
+    match turn.kill_by(better, worse) {
+        None => killed,
+        Some(kill) => {
+            choices.put(worse, Better { cell: better, kill });
+            killed.with(worse)
+        }
+    }
+}
+
+/// The better cells, with a further one if it killed some cell.
+fn with_killer(betters: Mask, better: Cell, killed: Mask) -> Mask
+    ensures { AreWithKiller betters better killed result }
+{
+    if killed.is_empty() {
+        betters
+    } else {
+        betters.with(better)
+    }
+}
+
+/// Adds the line for a cell.
+fn push(lines: &mut Vec<Line>, cell: Cell, better: &Better) -> Result<(), Memory>
+    ensures { OnOk result (lines.new.items
+        ≡ lines.old.items ++ Under cell better.now.cell better.now.kill ∷ []) }
+{
+    if lines.reserve(1).is_err() {
+        return Err(Memory);
+    }
+    lines.push_reserved(Line::Under {
+        cell,
+        better: better.cell,
+        kill: better.kill,
+    });
+    Ok(())
 }

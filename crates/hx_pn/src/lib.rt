@@ -5,7 +5,7 @@ mod descents;
 mod proof_numbers;
 
 pub use descents::thresholds;
-pub use proof_numbers::{INF, Numbers, combine, focus, worse};
+pub use proof_numbers::{INF, Numbers, UNSEEN, combine, focus, worse};
 
 #[cfg(test)]
 mod tests;

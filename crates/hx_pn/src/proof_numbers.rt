@@ -3,7 +3,7 @@
 //! Proof numbers are Allis's. They stand here as Nagai writes them for his depth-first search, df-pn: seen from the player
 //! who is to move, phi is what he must prove to win and delta what the opponent must, so that one rule serves both players.
 
-ghost use Rattle.std.specs.Prelude.{◌≡◌, ◌≤◌, length};
+ghost use Rattle.std.specs.Prelude.{◌≡◌, ◌≤◌, ◌↔◌, IsTrue, length};
 ghost use Rattle.std.specs.List.{All};
 ghost use Rattle.hx_pn.specs.Numbers.{IsNumbers, phi_of, delta_of, focus_of, worse_of};
 
@@ -15,6 +15,22 @@ pub const INF: u32 = 2_147_483_647;
 pub struct Numbers {
     pub phi: u32,
     pub delta: u32,
+}
+
+/// The numbers that stand for a position that nobody looked at yet: for each player as much is to be proved as there can be in
+/// a position whose winner is not known.
+pub const UNSEEN: Numbers = Numbers {
+    phi: INF - 1,
+    delta: INF - 1,
+};
+
+impl Numbers {
+    /// Whether these are the numbers of a position that nobody looked at yet.
+    pub fn is_unseen(self) -> bool
+        ensures { IsTrue result ↔ (self ≡ UNSEEN) }
+    {
+        self == UNSEEN
+    }
 }
 
 /// The numbers of a node with these children, each seen from its own mover: phi is the least delta of a child, and delta

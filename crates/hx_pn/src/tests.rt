@@ -29,3 +29,14 @@ fn some_children_are_looked_at(rt: HostRuntime) -> Result<(), Fail> {
     assert_eq!(rt; (held.phi, held.delta), (3, 7));
     Ok(())
 }
+
+#[test]
+fn a_position_that_nobody_looked_at(rt: HostRuntime) -> Result<(), Fail> {
+    assert!(rt; UNSEEN.is_unseen());
+    let looked_at = Numbers {
+        phi: INF - 1,
+        delta: INF - 2,
+    };
+    assert!(rt; !looked_at.is_unseen());
+    Ok(())
+}

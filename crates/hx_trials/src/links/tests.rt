@@ -6,8 +6,8 @@ ghost use Rattle.hx_fill.specs.Fills.{AreDeadOrPairs};
 use super::closed::{is_closed, live_links};
 use super::fills::{filled, filled_for, has_nothing_to_fill};
 use super::musts::{shared_by, shared_by_all};
-use super::unders::are_under;
-use hx_board::{Colour, Mask, Position, Size, Vertex};
+use super::unders::{are_by_order, are_under};
+use hx_board::{Cell, Colour, Mask, Position, Size, Vertex};
 use hx_fill::{Filled, fill_in, must, steps_for};
 use hx_link::{Parts, Step};
 use hx_linkset::{Added, LinkSet};
@@ -75,9 +75,9 @@ fn compare_closing(rt: &impl Abort, alloc: Global, set: &mut LinkSet) -> Result<
     Ok(())
 }
 
-/// What must be answered, and which of it a better move answers.
-fn compare_must(rt: &impl Abort, set: &LinkSet) -> Result<(), Fail> {
-    let found = must(set).map_err(|_| "memory")?;
+/// What must be answered, and which of it a better move answers, with the better moves in an order.
+fn compare_must(rt: &impl Abort, set: &LinkSet, order: &[Cell]) -> Result<(), Fail> {
+    let found = must(set, order).map_err(|_| "memory")?;
     let position = set.position();
     let shared = shared_by_all(set);
     assert_eq!(rt; found.cells, shared, "{position:?}");
@@ -89,7 +89,22 @@ fn compare_must(rt: &impl Abort, set: &LinkSet) -> Result<(), Fail> {
         are_under(position, mover, shared, lines),
         "{mover:?}, {position:?}"
     );
+    assert!(rt;
+        are_by_order(position, mover, shared, order, lines),
+        "{mover:?}, {position:?}, {order:?}"
+    );
     Ok(())
+}
+
+/// The cells of a board, the last one first.
+fn backwards(alloc: Global, size: Size) -> Result<Vec<Cell>, Fail> {
+    let mut cells = Vec::new(alloc);
+    for place in 0..121u8 {
+        if let Some(cell) = size.cell(10 - place / 11, 10 - place % 11) {
+            cells.push(cell).map_err(|_| "memory")?;
+        }
+    }
+    Ok(cells)
 }
 
 /// What must be answered where the player has no link yet, and where all links are there.
@@ -100,9 +115,11 @@ fn compare_links(
     player: Colour,
 ) -> Result<(), Fail> {
     let mut set = new_set(alloc, position, player)?;
-    compare_must(rt, &set)?;
+    let order = backwards(alloc, position.size())?;
+    compare_must(rt, &set, order.as_slice())?;
     compare_closing(rt, alloc, &mut set)?;
-    compare_must(rt, &set)
+    compare_must(rt, &set, order.as_slice())?;
+    compare_must(rt, &set, &[])
 }
 
 /// Every fifth position of two rows and columns, for both players.
@@ -190,7 +207,7 @@ fn compare_each(
         let step = step_of(alloc, *plan)?;
         let added = set.add(step).map_err(|_| "memory")?;
         assert_eq!(rt; added, Added::New(place));
-        compare_must(rt, set)?;
+        compare_must(rt, set, &[])?;
     }
     Ok(())
 }
@@ -206,5 +223,5 @@ fn threats_that_overlap(rt: HostRuntime) -> Result<(), Fail> {
     let a2 = size.cell(1, 0).ok_or("a2")?;
     assert_eq!(rt; shared_by_all(&set), Mask::empty().with(b1).with(a2));
     compare_closing(&rt, rt.alloc(), &mut set)?;
-    compare_must(&rt, &set)
+    compare_must(&rt, &set, &[])
 }

@@ -1,4 +1,5 @@
-//! Lines for moves than which another one is better: each pair of cells is judged by itself, in each way.
+//! Lines for moves than which another one is better: each pair of cells is judged by itself, in each way, and the order of the better
+//! ones is looked up for each pair.
 
 use hx_board::{CELLS, Cell, Colour, Mask, Position};
 use hx_inferior::{Kill, dominates};
@@ -59,6 +60,71 @@ pub(crate) fn are_under(position: &Position, mover: Colour, cells: Mask, lines: 
         if let Some(worse) = position.size().cell(place / 11, place % 11)
             && rest.minus(betters).has(worse)
             && is_under(position, mover, rest, worse)
+        {
+            return false;
+        }
+    }
+    true
+}
+
+/// Whether one cell has its turn before another one: cells that the order leaves out come last, in cell order.
+fn comes_before(order: &[Cell], one: Cell, other: Cell) -> bool {
+    for cell in order {
+        if *cell == other {
+            return false;
+        }
+        if *cell == one {
+            return true;
+        }
+    }
+    one.index() < other.index()
+}
+
+/// Whether a cell is dominated by one of these that comes before another cell.
+fn is_under_before(
+    position: &Position,
+    mover: Colour,
+    cells: Mask,
+    worse: Cell,
+    order: &[Cell],
+    later: Cell,
+) -> bool {
+    for place in 0..CELLS as u8 {
+        if let Some(better) = position.size().cell(place / 11, place % 11)
+            && cells.has(better)
+            && comes_before(order, better, later)
+            && is_better(position, mover, better, worse)
+        {
+            return true;
+        }
+    }
+    false
+}
+
+/// Whether no cell without a line that comes before the better cell of a line dominates the line's cell, and none dominates one
+/// without a line that comes after it.
+pub(crate) fn are_by_order(
+    position: &Position,
+    mover: Colour,
+    cells: Mask,
+    order: &[Cell],
+    lines: &[Line],
+) -> bool {
+    let mut rest = cells;
+    for line in lines {
+        rest = rest.without(line.cell());
+    }
+    for line in lines {
+        if let Line::Under { cell, better, .. } = line
+            && is_under_before(position, mover, rest, *cell, order, *better)
+        {
+            return false;
+        }
+    }
+    for place in 0..CELLS as u8 {
+        if let Some(cell) = position.size().cell(place / 11, place % 11)
+            && rest.has(cell)
+            && is_under_before(position, mover, rest, cell, order, cell)
         {
             return false;
         }

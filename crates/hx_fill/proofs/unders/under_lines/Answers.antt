@@ -1,26 +1,34 @@
-use Rattle.std.proofs.Common.{◌≡◌, ◌≢◌, ℕ, ◌<◌, true}
-use Rattle.hx_board.specs.Sets.{has}
-use Rattle.hx_board.proofs.SetLaws.{remove-lt}
-use Rattle.hx_fill.proofs.UnderLaws.{sifted_begins, sifted_goes_on, sifted_ends, least_below}
+use Rattle.std.proofs.Common.{◌≡◌, ◌∙◌}
+use Rattle.std.proofs.lemmas.Result.{IfOk-weaker}
+use Rattle.hx_board.specs.Sets.{difference}
+use Rattle.hx_fill.specs.Unders.{AreUnder, AreByOrder, AreLinesFor}
+use Rattle.hx_fill.proofs.TurnLaws.{sifted_begins}
+use Rattle.hx_fill.proofs.UnderLaws.{sifted-under, sifted-by_order, sifted-given}
 use Rattle.hx_fill.proofs.unders.under_lines.Goals as goal
 
-pub loop-cell-init : goal.loop-cell-init
-loop-cell-init c = rw (c.new.ensures.items, c.empty.ensures) (sifted_begins c.of-turn.result.position c.of-turn.result.mover c.args.cells)
+pub go_by_order-requires-clause-sifted : goal.go_by_order-requires-clause-sifted
+go_by_order-requires-clause-sifted c =
+    rw (c.of-sieve.ensures.cells, c.of-sieve.ensures.without_line, c.of-sieve.ensures.waiting, c.of-sieve.ensures.betters)
+    (sifted_begins c.of-turn.result.position c.of-turn.result.mover c.args.cells c.args.order.now c.of-sieve.result.choices)
 
-pub loop-cell-smaller : goal.loop-cell-smaller
-loop-cell-smaller c = rw c.without-left.ensures.set (remove-lt c.loop-cell.left c.in-Some.cell c.in-Some.ensures.member)
+pub lines-requires-clause-given : goal.lines-requires-clause-given
+lines-requires-clause-given c =
+    sifted-given _ _ _ _ _ _ _ _ (c.go_on.ensures.sifted c.args.order.now c.go_by_order.ensures.none_waits c.go_by_order.ensures.sifted)
 
-pub loop-cell-preserved : goal.loop-cell-preserved
-loop-cell-preserved c =
-    let so_far = c.loop-cell.invariant in
-    let least = rw c.size-size.ensures.value at c.in-Some.ensures in
-    let above : (n : ℕ) → has c.loop-cell.left n ≡ true → n ≢ c.in-Some.cell → c.in-Some.cell < n = λ n h differ.
-    least_below _ c.loop-cell.left c.in-Some.cell least n (c.requires n (so_far.open_inside n (so_far.left_inside n h))).on_board h differ in
-    rw c.without-left.ensures.set
-    (sifted_goes_on c.of-turn.result.position c.of-turn.result.mover c.args.cells c.loop-cell.left c.in-Some.cell _ _ _ so_far c.in-Some.ensures.member above _ _ _ c.in_ok-sift.ensures)
+pub returns-clause-under : goal.returns-clause-under
+returns-clause-under c =
+    let cells_are : c.go_on.new.self.cells ≡ c.args.cells = c.go_on.ensures.cells ∙ c.go_by_order.ensures.cells ∙ c.of-sieve.ensures.cells in
+    let sifted = c.go_on.ensures.sifted c.args.order.now c.go_by_order.ensures.none_waits c.go_by_order.ensures.sifted in
+    let under = IfOk-weaker c.lines.result (AreLinesFor c.go_on.new.self.choices (difference c.go_on.new.self.cells c.go_on.new.self.without_line) 0)
+    (AreUnder c.of-turn.result.position c.of-turn.result.mover c.go_on.new.self.cells)
+    (λ lines are. sifted-under _ _ _ _ _ _ _ _ lines sifted c.go_on.ensures.none_waits are) c.lines.ensures in
+    rw (c.of-turn.ensures.position, c.of-turn.ensures.mover, cells_are) at under
 
-pub returns : goal.returns
-returns c =
-    let sifted = rw (c.of-turn.ensures.position, c.of-turn.ensures.mover) at c.loop-cell.invariant in
-    rw c.new-2.ensures
-    (sifted_ends c.args.position.now c.args.mover c.args.cells c.loop-cell.left _ _ _ sifted (λ n h. c.in_default.ensures n (rw c.size-size.ensures.value (c.requires n h).on_board)))
+pub returns-clause-order : goal.returns-clause-order
+returns-clause-order c =
+    let cells_are : c.go_on.new.self.cells ≡ c.args.cells = c.go_on.ensures.cells ∙ c.go_by_order.ensures.cells ∙ c.of-sieve.ensures.cells in
+    let sifted = c.go_on.ensures.sifted c.args.order.now c.go_by_order.ensures.none_waits c.go_by_order.ensures.sifted in
+    let by_order = IfOk-weaker c.lines.result (AreLinesFor c.go_on.new.self.choices (difference c.go_on.new.self.cells c.go_on.new.self.without_line) 0)
+    (AreByOrder c.of-turn.result.position c.of-turn.result.mover c.go_on.new.self.cells c.args.order.now)
+    (λ lines are. sifted-by_order _ _ _ _ _ _ _ _ lines sifted c.go_on.ensures.none_waits are) c.lines.ensures in
+    rw (c.of-turn.ensures.position, c.of-turn.ensures.mover, cells_are) at by_order

@@ -6,20 +6,20 @@ use Rattle.hx_fill.proofs.turns.Turn.partner_after.Goals as goal
 
 pub makers_of-makers-requires-clause-around : goal.makers_of-makers-requires-clause-around
 makers_of-makers-requires-clause-around c =
-    rw c.after-own.ensures (open-own_after c.args.self.now.position c.args.self.now.mover c.args.better c.args.worse.now.cell c.args.worse.now.own c.requires.worse.own)
+    rw c.after-own.ensures (open-own_after c.args.self.now.position c.args.self.now.mover c.args.better c.args.worse c.open_around-around.result c.open_around-around.ensures)
 
 pub makers_of-makers-requires-clause-empty : goal.makers_of-makers-requires-clause-empty
 makers_of-makers-requires-clause-empty c =
-    rw c.after-own.ensures ((empty-put c.args.self.now.position c.args.self.now.mover c.args.better c.args.worse.now.cell).1 (c.requires.worse.empty, λ e. c.requires.differ (sym e)))
+    rw c.after-own.ensures ((empty-put c.args.self.now.position c.args.self.now.mover c.args.better c.args.worse).1 (c.requires.worse, λ e. c.requires.differ (sym e)))
 
 pub partner_of-requires-clause-empty : goal.partner_of-requires-clause-empty
 partner_of-requires-clause-empty c =
-    rw c.after-own.ensures ((empty-put c.args.self.now.position c.args.self.now.mover c.args.better c.args.worse.now.cell).1 (c.requires.worse.empty, λ e. c.requires.differ (sym e)))
+    rw c.after-own.ensures ((empty-put c.args.self.now.position c.args.self.now.mover c.args.better c.args.worse).1 (c.requires.worse, λ e. c.requires.differ (sym e)))
 
 pub returns : goal.returns
 returns c =
     let makers = rw c.after-own.ensures at c.makers_of-makers.ensures in
     let partner = rw c.after-own.ensures at c.partner_of.ensures in
-    partner-dominates c.args.self.now.position c.args.self.now.mover c.args.better c.args.worse.now.cell c.makers_of-makers.result.cells c.partner_of.result c.requires.better c.requires.worse.empty c.requires.differ
-    (no_pair-by_makers _ _ c.args.worse.now.cell c.empties.result c.makers_of-makers.result makers
+    partner-dominates c.args.self.now.position c.args.self.now.mover c.args.better c.args.worse c.makers_of-makers.result.cells c.partner_of.result c.requires.better c.requires.worse c.requires.differ
+    (no_pair-by_makers _ _ c.args.worse c.empties.result c.makers_of-makers.result makers
     (λ n empty. (c.empties.ensures n).1 ((empty-put c.args.self.now.position c.args.self.now.mover c.args.better n).0 empty).0)) partner
