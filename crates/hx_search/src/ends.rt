@@ -12,32 +12,51 @@ pub(crate) struct Ends {
     reaches: [VertexSet; VERTICES],
     stones: Mask,
 
+    /// The stones of the groups that have no side.
+    inner: Mask,
+
     /// The sides, the empty cells, and the stones that stand for their groups.
     useful: VertexSet,
 }
 
 impl Ends {
+    /// The ends of no position.
+    pub(crate) fn none() -> Ends {
+        Ends {
+            reaches: [VertexSet::empty(); VERTICES],
+            stones: Mask::empty(),
+            inner: Mask::empty(),
+            useful: VertexSet::empty(),
+        }
+    }
+
     pub(crate) fn of(position: &Position, colour: Colour) -> Ends {
-        let reaches = reaches_of(position, colour);
-        let stones = position.stones(colour);
         let mut ends = Ends {
-            reaches,
-            stones,
-            useful: VertexSet::of_cells(position.empties())
-                .with(Vertex::First)
-                .with(Vertex::Last),
+            reaches: reaches_of(position, colour),
+            stones: position.stones(colour),
+            ..Ends::none()
         };
-        let mut rest = stones;
+        let by_sides = ends.reach(&Vertex::First).union(ends.reach(&Vertex::Last));
+        ends.inner = ends.stones.minus(by_sides.cells());
+        let standing = ends.first_stones(position);
+        ends.useful = VertexSet::of_cells(position.empties().union(standing))
+            .with(Vertex::First)
+            .with(Vertex::Last);
+        ends
+    }
+
+    /// The first stone of each group that has no side.
+    fn first_stones(&self, position: &Position) -> Mask {
+        let mut first = Mask::empty();
+        let mut rest = self.inner;
         for _ in 0..121u8 {
-            let Some(cell) = rest.least(position.size()) else {
+            let Some(stone) = rest.least(position.size()) else {
                 break;
             };
-            rest = rest.without(cell);
-            if ends.stands_for(position, &cell) == Vertex::Of(cell) {
-                ends.useful = ends.useful.with(Vertex::Of(cell));
-            }
+            first = first.with(stone);
+            rest = rest.minus(self.reach(&Vertex::Of(stone)).cells());
         }
-        ends
+        first
     }
 
     /// What a vertex is joined with.
@@ -60,14 +79,14 @@ impl Ends {
         self.useful.cells().meet(self.stones)
     }
 
+    /// The stones of the groups that have no side.
+    pub(crate) fn inner(&self) -> Mask {
+        self.inner
+    }
+
     /// Whether a cell has a stone of the player's.
     pub(crate) fn is_stone(&self, cell: &Cell) -> bool {
         self.stones.has(*cell)
-    }
-
-    /// The stones of the group of a stone.
-    pub(crate) fn group(&self, stone: &Cell) -> Mask {
-        self.reach(&Vertex::Of(*stone)).cells().meet(self.stones)
     }
 
     /// The vertex that stands for the group of a stone.

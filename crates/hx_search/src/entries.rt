@@ -41,6 +41,12 @@ impl Entries {
         })
     }
 
+    /// Takes all out, and keeps their memory.
+    pub(crate) fn clear(&mut self) {
+        self.all.clear();
+        self.last = [None; VERTICES];
+    }
+
     pub(crate) fn count(&self) -> usize {
         self.all.len()
     }

@@ -1,11 +1,11 @@
 //! The Ands of Full links that are worth a link.
 
-use crate::candidates::{Candidate, Candidates};
+use crate::candidates::{Candidate, Candidates, Rule};
 use crate::covers::is_covered;
 use crate::ends::Ends;
 use crate::entries::{Entries, Entry};
 use hx_board::{Cell, Mask, Memory, Vertex, VertexSet};
-use hx_link::{Kind, Link, Step};
+use hx_link::{Kind, Link};
 use hx_linkset::LinkSet;
 
 /// What a Full link rules out for those that it meets at one of its ends.
@@ -48,27 +48,26 @@ fn push_and(
 ) -> Result<(), Memory> {
     let (left, right) = (one.link, other.link);
     let both = one.carrier.union(other.carrier);
-    let (kind, carrier, step) = match at {
+    let (kind, carrier, rule) = match at {
         Vertex::Of(cell) if !ends.is_stone(cell) => {
-            (Kind::Semi, both.with(*cell), Step::AndCell { left, right })
+            (Kind::Semi, both.with(*cell), Rule::AndCell { left, right })
         }
         _ => {
             let empties = VertexSet::of_cells(set.position().empties());
             if empties.has(one.to) && empties.has(other.to) {
                 return Ok(());
             }
-            (Kind::Full, both, Step::AndStone { left, right })
+            (Kind::Full, both, Rule::AndStone { left, right })
         }
     };
     if is_covered(set, kind, &one.to, &other.to, carrier) {
         return Ok(());
     }
     candidates.push(Candidate {
-        kind,
+        carrier,
         a: one.to,
         b: other.to,
-        carrier,
-        step,
+        rule,
     })
 }
 

@@ -1,55 +1,20 @@
-//! What a closure by useful links works with, and what is new when it begins.
+//! What is new when a closure by useful links begins.
 //!
 //! Where a set was brought to its end before and only stones came since, the stones tell what is new: ends that lost a Full
 //! link may have another Or; what an own stone joins has Bases; a stone that stood for its group hands its links over to the
 //! vertex that stands for it now; and over a new stone that stands for its group Ands become Full. Nothing else is tried.
 
-use crate::candidates::Candidates;
-use crate::covers::Caps;
 use crate::ends::Ends;
-use crate::entries::Entries;
-use crate::useful_ands::{push_ands, push_ands_over};
+use crate::pairs::Pairs;
+use crate::useful_ands::push_ands_over;
 use crate::useful_bases::{push_base, push_bases};
-use crate::useful_ors::{push_ors, push_ors_between};
-use hx_board::{Mask, Memory, Position, VERTICES, Vertex, VertexSet};
-use hx_link::{Kind, Link};
+use crate::useful_ors::push_ors_between;
+use crate::workspaces::Workspace;
+use hx_board::{Mask, Memory, Position, Vertex, VertexSet};
+use hx_link::Kind;
 use hx_linkset::LinkSet;
 
-/// What a closure works with.
-#[derive(Drop)]
-pub(crate) struct Work {
-    ends: Ends,
-    entries: Entries,
-    pub(crate) candidates: Candidates,
-    pub(crate) caps: Caps,
-}
-
-impl Work {
-    pub(crate) fn of(set: &LinkSet) -> Result<Work, Memory> {
-        let alloc = set.allocator();
-        Ok(Work {
-            ends: Ends::of(set.position(), set.colour()),
-            entries: Entries::new(alloc)?,
-            candidates: Candidates::new(alloc)?,
-            caps: Caps::of(set.position()),
-        })
-    }
-
-    /// Adds what a new link makes possible.
-    pub(crate) fn look_at(&mut self, set: &LinkSet, index: u32, link: &Link) -> Result<(), Memory> {
-        match link.kind {
-            Kind::Full => push_ands(
-                set,
-                &self.ends,
-                &mut self.entries,
-                &mut self.candidates,
-                index,
-                link,
-            ),
-            Kind::Semi => push_ors(set, &mut self.candidates, index, link),
-        }
-    }
-
+impl Workspace {
     /// Adds what is possible at first.
     pub(crate) fn begin(&mut self, set: &LinkSet) -> Result<(), Memory> {
         let before = set.before_last_stones();
@@ -74,11 +39,12 @@ impl Work {
     /// Adds what the last stones make possible, where the links that were live before them made nothing more possible.
     fn begin_after(&mut self, set: &LinkSet, before: &Position) -> Result<(), Memory> {
         self.enter_all(set, before)?;
-        self.hand_over(set, before)?;
-        let fresh = set
-            .position()
-            .stones(set.colour())
-            .minus(before.stones(set.colour()));
+        let colour = set.colour();
+        let fresh = set.position().stones(colour).minus(before.stones(colour));
+        if fresh.is_empty() {
+            return Ok(());
+        }
+        self.hand_over(set, before, fresh)?;
         let near = self.near(set.position(), fresh);
         push_bases(set, &self.ends, &mut self.candidates, near)
     }
@@ -103,7 +69,13 @@ impl Work {
             if link.carrier.inside(empties) {
                 self.entries.add_link(&self.ends, index, &link)?;
             } else if seen.add(&link.a, &link.b) {
-                push_ors_between(set, &mut self.candidates, &link.a, &link.b)?;
+                push_ors_between(
+                    set,
+                    &mut self.candidates,
+                    &mut self.or_lists,
+                    &link.a,
+                    &link.b,
+                )?;
             }
         }
         Ok(())
@@ -111,10 +83,8 @@ impl Work {
 
     /// Gives the links of a stone that stands for its group no more to the vertex that now does, and makes those over a new
     /// stone that stands for its group.
-    fn hand_over(&mut self, set: &LinkSet, before: &Position) -> Result<(), Memory> {
+    fn hand_over(&mut self, set: &LinkSet, before: &Position, fresh: Mask) -> Result<(), Memory> {
         let position = set.position();
-        let stones = position.stones(set.colour());
-        let fresh = stones.minus(before.stones(set.colour()));
         let former = Ends::of(before, set.colour()).standing();
         let mut rest = fresh.union(former);
         for _ in 0..121u8 {
@@ -145,26 +115,5 @@ impl Work {
             near = near.union(self.ends.reach(&Vertex::Of(stone)).cells());
         }
         near
-    }
-}
-
-/// Pairs of vertices.
-#[derive(Clone, Copy)]
-struct Pairs {
-    others: [VertexSet; VERTICES],
-}
-
-impl Pairs {
-    fn none() -> Pairs {
-        Pairs {
-            others: [VertexSet::empty(); VERTICES],
-        }
-    }
-
-    /// Adds a pair, and says whether it is new.
-    fn add(&mut self, a: &Vertex, b: &Vertex) -> bool {
-        let others = self.others[a.code() as usize];
-        self.others[a.code() as usize] = others.with(*b);
-        !others.has(*b)
     }
 }
