@@ -4,13 +4,13 @@
 //! link may have another Or; what an own stone joins has Bases; a stone that stood for its group hands its links over to the
 //! vertex that stands for it now; and over a new stone that stands for its group Ands become Full. Nothing else is tried.
 
-use crate::ends::Ends;
+use crate::ends::standing_stones;
 use crate::pairs::Pairs;
 use crate::useful_ands::push_ands_over;
 use crate::useful_bases::{push_base, push_bases};
 use crate::useful_ors::push_ors_between;
 use crate::workspaces::Workspace;
-use hx_board::{Mask, Memory, Position, Vertex, VertexSet};
+use hx_board::{Groups, Mask, Memory, Position, Vertex, VertexSet};
 use hx_link::Kind;
 use hx_linkset::LinkSet;
 
@@ -38,7 +38,7 @@ impl Workspace {
 
     /// Adds what the last stones make possible, where the links that were live before them made nothing more possible.
     fn begin_after(&mut self, set: &LinkSet, before: &Position) -> Result<(), Memory> {
-        self.enter_all(set, before)?;
+        self.join_anew(set)?;
         let colour = set.colour();
         let fresh = set.position().stones(colour).minus(before.stones(colour));
         if fresh.is_empty() {
@@ -49,26 +49,18 @@ impl Workspace {
         push_bases(set, &self.ends, &mut self.candidates, near)
     }
 
-    /// Enters the Full links that are live, and tries new Ors of the ends of those that were live before the last stones.
-    fn enter_all(&mut self, set: &LinkSet, before: &Position) -> Result<(), Memory> {
+    /// Tries Ors of the ends of the Full links that the last stones dropped.
+    fn join_anew(&mut self, set: &LinkSet) -> Result<(), Memory> {
         let mut seen = Pairs::none();
-        let empties = set.position().empties();
-        let empties_before = before.empties();
         let others = VertexSet::of_cells(set.position().stones(set.colour().other()));
-        for index in 0..set.count() {
-            let Some(link) = set.held(index) else {
+        for index in set.dropped() {
+            let Some(link) = set.held(u32::from(*index)) else {
                 break;
             };
-            if link.kind == Kind::Semi
-                || !link.carrier.inside(empties_before)
-                || others.has(link.a)
-                || others.has(link.b)
-            {
+            if link.kind == Kind::Semi || others.has(link.a) || others.has(link.b) {
                 continue;
             }
-            if link.carrier.inside(empties) {
-                self.entries.add_link(&self.ends, index, &link)?;
-            } else if seen.add(&link.a, &link.b) {
+            if seen.add(&link.a, &link.b) {
                 push_ors_between(
                     set,
                     &mut self.candidates,
@@ -85,7 +77,8 @@ impl Workspace {
     /// stone that stands for its group.
     fn hand_over(&mut self, set: &LinkSet, before: &Position, fresh: Mask) -> Result<(), Memory> {
         let position = set.position();
-        let former = Ends::of(before, set.colour()).standing();
+        let groups = Groups::of(before, set.colour());
+        let former = standing_stones(before, &groups, before.stones(set.colour()));
         let mut rest = fresh.union(former);
         for _ in 0..121u8 {
             let Some(stone) = rest.least(position.size()) else {
@@ -97,7 +90,7 @@ impl Workspace {
             if stands_for != at {
                 push_base(set, &mut self.candidates, &at, &stands_for)?;
             } else if fresh.has(stone) {
-                push_ands_over(set, &self.ends, &self.entries, &mut self.candidates, &stone)?;
+                push_ands_over(set, &self.ends, &mut self.candidates, &stone)?;
             }
         }
         Ok(())

@@ -10,7 +10,6 @@ mod closures;
 mod covers;
 mod decisions;
 mod ends;
-mod entries;
 mod ors;
 mod pairs;
 mod parts;

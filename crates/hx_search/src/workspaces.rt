@@ -3,7 +3,6 @@
 use crate::candidates::Candidates;
 use crate::covers::Caps;
 use crate::ends::Ends;
-use crate::entries::Entries;
 use crate::useful_ands::push_ands;
 use crate::useful_ors::{OrLists, push_ors};
 use hx_board::Memory;
@@ -16,7 +15,6 @@ use std::alloc::Global;
 #[derive(Drop)]
 pub struct Workspace {
     pub(crate) ends: Ends,
-    pub(crate) entries: Entries,
     pub(crate) or_lists: OrLists,
     pub(crate) candidates: Candidates,
     pub(crate) caps: Caps,
@@ -26,7 +24,6 @@ impl Workspace {
     pub fn new(alloc: Global) -> Result<Workspace, Memory> {
         Ok(Workspace {
             ends: Ends::none(),
-            entries: Entries::new(alloc)?,
             or_lists: OrLists::new(alloc)?,
             candidates: Candidates::new(alloc)?,
             caps: Caps::none(),
@@ -35,23 +32,15 @@ impl Workspace {
 
     /// Makes it ready for a set.
     pub(crate) fn set_up(&mut self, set: &LinkSet) {
-        self.ends = Ends::of(set.position(), set.colour());
+        self.ends = Ends::of(set);
         self.caps = Caps::of(set.position());
-        self.entries.clear();
         self.candidates.clear();
     }
 
     /// Adds what a new link makes possible.
     pub(crate) fn look_at(&mut self, set: &LinkSet, index: u32, link: &Link) -> Result<(), Memory> {
         match link.kind {
-            Kind::Full => push_ands(
-                set,
-                &self.ends,
-                &mut self.entries,
-                &mut self.candidates,
-                index,
-                link,
-            ),
+            Kind::Full => push_ands(set, &self.ends, &mut self.candidates, index, link),
             Kind::Semi => push_ors(
                 set,
                 &mut self.candidates,
