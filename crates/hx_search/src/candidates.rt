@@ -17,7 +17,7 @@ use std::alloc::Global;
 pub(crate) const MOST_CELLS: usize = CELLS;
 
 /// By what rule a candidate comes, and of which links.
-#[derive(Clone, Copy, PartialEq, Eq, Debug)]
+#[derive(Clone, Copy)]
 pub(crate) enum Rule {
     Base,
     AndStone { left: u32, right: u32 },
@@ -28,25 +28,15 @@ pub(crate) enum Rule {
 }
 
 /// A link, and the rule that gives it. Its ends are in either order.
-#[derive(Clone, Copy, PartialEq, Eq, Debug)]
+#[derive(Clone, Copy)]
 pub(crate) struct Candidate {
-    pub(crate) carrier: Mask,
-    pub(crate) a: Vertex,
-    pub(crate) b: Vertex,
-    pub(crate) rule: Rule,
+    carrier: Mask,
+    a: Vertex,
+    b: Vertex,
+    rule: Rule,
 }
 
 impl Candidate {
-    /// The two vertices are joined.
-    pub(crate) fn base(a: &Vertex, b: &Vertex) -> Candidate {
-        Candidate {
-            carrier: Mask::empty(),
-            a: *a,
-            b: *b,
-            rule: Rule::Base,
-        }
-    }
-
     fn kind(&self) -> Kind {
         match self.rule {
             Rule::AndCell { .. } => Kind::Semi,
@@ -113,15 +103,31 @@ impl Candidates {
         }
     }
 
-    pub(crate) fn push(&mut self, candidate: Candidate) -> Result<(), Memory> {
-        let cells = candidate.carrier.count() as usize;
+    /// Adds the link of these ends and this carrier, which a rule gives.
+    pub(crate) fn push(
+        &mut self,
+        rule: Rule,
+        a: &Vertex,
+        b: &Vertex,
+        carrier: Mask,
+    ) -> Result<(), Memory> {
+        let cells = carrier.count() as usize;
         if self.largest < cells {
             self.largest = cells;
         }
-        match self.buckets.get_mut(cells) {
-            Some(bucket) => bucket.push(candidate).map_err(|_| Memory),
-            None => Ok(()),
+        if self.buckets.len() <= cells {
+            return Ok(());
         }
+        let candidate = Candidate {
+            carrier,
+            a: *a,
+            b: *b,
+            rule,
+        };
+        if self.buckets[cells].push(candidate).is_err() {
+            return Err(Memory);
+        }
+        Ok(())
     }
 
     /// Adds the Or of these parts.
@@ -132,19 +138,10 @@ impl Candidates {
         carrier: Mask,
         parts: &[u32],
     ) -> Result<(), Memory> {
-        let (Ok(from), Ok(count)) = (
-            u32::try_from(self.parts.len()),
-            u32::try_from(parts.len()),
-        ) else {
-            return Err(Memory);
-        };
+        let from = u32::try_from(self.parts.len()).map_err(|_| Memory)?;
+        let count = u32::try_from(parts.len()).map_err(|_| Memory)?;
         self.parts.extend_from_slice(parts).map_err(|_| Memory)?;
-        self.push(Candidate {
-            carrier,
-            a: *a,
-            b: *b,
-            rule: Rule::Or { from, count },
-        })
+        self.push(Rule::Or { from, count }, a, b, carrier)
     }
 
     /// Takes one out that has so many cells.

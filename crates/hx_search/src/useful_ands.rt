@@ -1,6 +1,6 @@
 //! The Ands of Full links that are worth a link.
 
-use crate::candidates::{Candidate, Candidates, Rule};
+use crate::candidates::{Candidates, Rule};
 use crate::covers::is_covered;
 use crate::ends::Ends;
 use crate::entries::{Entries, Entry};
@@ -63,12 +63,7 @@ fn push_and(
     if is_covered(set, kind, &one.to, &other.to, carrier) {
         return Ok(());
     }
-    candidates.push(Candidate {
-        carrier,
-        a: one.to,
-        b: other.to,
-        rule,
-    })
+    candidates.push(rule, &one.to, &other.to, carrier)
 }
 
 /// Adds the Ands over an end of a link with the links that came before a place at the same vertex.

@@ -6,7 +6,7 @@
 
 ghost use Rattle.hx_board.specs.Cells.{OnBoard};
 
-use crate::candidates::{Candidate, Candidates};
+use crate::candidates::{Candidates, Rule};
 use crate::covers::is_covered;
 use crate::ends::Ends;
 use hx_board::{Cell, Mask, Memory, Position, Vertex, neighbour_set};
@@ -40,7 +40,7 @@ pub(crate) fn push_base(
     if is_covered(set, Kind::Full, a, b, Mask::empty()) {
         return Ok(());
     }
-    candidates.push(Candidate::base(a, b))
+    candidates.push(Rule::Base, a, b, Mask::empty())
 }
 
 /// Adds the Bases of a vertex with these cells.

@@ -52,13 +52,7 @@ impl Workspace {
                 index,
                 link,
             ),
-            Kind::Semi => push_ors(
-                set,
-                &mut self.candidates,
-                &mut self.or_lists,
-                index,
-                link,
-            ),
+            Kind::Semi => push_ors(set, &mut self.candidates, &mut self.or_lists, index, link),
         }
     }
 }
