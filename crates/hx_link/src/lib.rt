@@ -14,7 +14,7 @@ mod results;
 mod step_lists;
 mod steps;
 
-pub use links::{Kind, Link, is_end};
+pub use links::{Kind, Link, ends_of};
 pub use parts::{MOST_PARTS, Parts};
 pub use results::result_of;
 pub use step_lists::Steps;

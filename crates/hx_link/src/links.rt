@@ -3,14 +3,16 @@
 //! Hayward, van Rijswijck, Arneson and Henderson call a Full link a virtual connection and a Semi link a virtual
 //! semi-connection; the carrier is their word.
 
-ghost use Rattle.std.specs.Prelude.{◌≡◌, ◌<◌, ◌↔◌, IsTrue};
+ghost use Rattle.std.specs.Prelude.{◌≡◌, ℕ, ◌<◌, ◌↔◌, IsTrue, true, false};
+ghost use Rattle.hx_board.specs.declared.vertices.Vertex.{Vertex};
 ghost use Rattle.hx_board.specs.Finds.{Finds};
-ghost use Rattle.hx_board.specs.VertexSets.{code_of};
+ghost use Rattle.hx_board.specs.Sets.{has};
+ghost use Rattle.hx_board.specs.VertexSets.{code_of, IsSomeVertex};
 ghost use Rattle.hx_link.specs.declared.links.Link.{Link};
-ghost use Rattle.hx_link.specs.Steps.{IsEnd, IsOutside, IsLink, HasEnds, IsChainLink};
+ghost use Rattle.hx_link.specs.Steps.{IsEnd, IsLink, HasEnds, IsChainLink};
 ghost use Rattle.hx_link.specs.Named.{IsMade};
 
-use hx_board::{Colour, Mask, Position, Vertex};
+use hx_board::{Colour, Mask, Position, Vertex, VertexSet};
 
 /// Who may move first for a link to hold.
 #[derive(Clone, Copy, PartialEq, Eq, Debug)]
@@ -41,22 +43,25 @@ impl Link {
     }
 }
 
-/// Whether a vertex may be an end of the player's links: a side, or a cell of the board without a stone of the opponent.
-pub fn is_end(position: &Position, colour: Colour, vertex: &Vertex) -> bool
-    ensures { IsTrue result ↔ IsEnd position.now colour vertex.now }
+/// The vertices that may be ends of the player's links: the sides, and the cells of the board
+/// without a stone of the opponent.
+pub fn ends_of(position: &Position, colour: Colour) -> VertexSet
+    ensures { (vertex : Vertex) → IsSomeVertex vertex
+        → (has result (code_of vertex) ≡ true) ↔ IsEnd position.now colour vertex }
 {
-    match vertex {
-        Vertex::Of(cell) => { position.size().all().has(*cell) && position.is_open(colour, vertex) }
-        Vertex::First | Vertex::Last => true,
-    }
+    let cells = position.size().all().minus(position.stones(colour.other()));
+    VertexSet::of_cells(cells)
+        .with(Vertex::First)
+        .with(Vertex::Last)
 }
 
-/// Whether a vertex is no empty cell of the carrier.
-fn is_outside(position: &Position, carrier: Mask, vertex: &Vertex) -> bool
-    ensures { IsTrue result ↔ IsOutside position.now carrier vertex.now }
+/// Whether a vertex is no cell of a set.
+#[inline(always)]
+fn is_outside(cells: Mask, vertex: &Vertex) -> bool
+    ensures { IsTrue result ↔ ((cell : ℕ) → vertex.now ≡ Vertex.Of cell → has cells cell ≡ false) }
 {
     match vertex {
-        Vertex::Of(cell) => !(position.empties().has(*cell) && carrier.has(*cell)),
+        Vertex::Of(cell) => !cells.has(*cell),
         Vertex::First | Vertex::Last => true,
     }
 }
@@ -65,10 +70,12 @@ fn is_outside(position: &Position, carrier: Mask, vertex: &Vertex) -> bool
 fn is_link(position: &Position, colour: Colour, link: &Link) -> bool
     ensures { IsTrue result ↔ IsLink position.now colour link.now }
 {
-    let a_end = is_end(position, colour, &link.a);
-    let b_end = is_end(position, colour, &link.b);
-    let a_outside = is_outside(position, link.carrier, &link.a);
-    let b_outside = is_outside(position, link.carrier, &link.b);
+    let ends = ends_of(position, colour);
+    let inner = position.empties().meet(link.carrier);
+    let a_end = ends.has(link.a);
+    let b_end = ends.has(link.b);
+    let a_outside = is_outside(inner, &link.a);
+    let b_outside = is_outside(inner, &link.b);
     link.a.code() < link.b.code() && a_end && b_end && a_outside && b_outside
 }
 

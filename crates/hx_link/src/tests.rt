@@ -63,8 +63,9 @@ fn ends_and_sides(rt: HostRuntime) -> Result<(), Fail> {
     let size = Size::new(2, 2).ok_or("size")?;
     let position = Position::from_masks(size, Mask::of(1), Mask::empty()).ok_or("position")?;
     let mut found = [false; 4];
+    let ends = ends_of(&position, White);
     for (place, vertex) in [a1, c1, first, last].iter().enumerate() {
-        found[place] = is_end(&position, White, vertex);
+        found[place] = ends.has(*vertex);
     }
     assert_eq!(rt; found, [false, false, true, true]);
     let link = Link {

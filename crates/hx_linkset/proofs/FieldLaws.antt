@@ -1,24 +1,32 @@
 -- What the fields of a set keep, they keep from call to call; and what contracts see of them is what the calls promise.
-use Rattle.std.proofs.Common.{◌≡◌, ℕ, get_or, ◌<◌, ◌≤◌, List, [], ◌∷◌, ◌++◌, length, reverse, sym, ap, ◌∙◌, inl, inr, Some, arith}
+use Rattle.std.proofs.Common.{◌≡◌, ℕ, get_or, ◌<◌, ◌≤◌, List, [], ◌∷◌, ◌++◌, length, drop, reverse, sym, ap, ◌∙◌, inl, inr, Some, suc, arith}
 use Rattle.std.specs.Prelude.{slice_get}
 use Rattle.hx_board.specs.declared.colours.Colour.{Colour}
-use Rattle.hx_board.specs.Positions.{Board, IsBoard, IsEmpty, put}
+use Rattle.hx_board.specs.Positions.{Board, IsBoard}
+use Rattle.hx_board.specs.Counts.{empty_count}
 use Rattle.hx_board.specs.Graph.{Grouped}
 use Rattle.hx_link.specs.declared.links.Link.{Link}
 use Rattle.hx_link.specs.declared.steps.Step.{Step}
-use Rattle.hx_linkset.specs.declared.plays.Play.{Play}
+use Rattle.hx_linkset.specs.declared.fulls.FullLink.{FullLink}
+use Rattle.hx_linkset.specs.declared.liveness.Liveness.{Liveness}
+use Rattle.hx_linkset.specs.declared.plays.Stage.{Stage}
 use Rattle.hx_linkset.specs.declared.sets.TheConstants.{MOST_LINKS}
-use Rattle.hx_linkset.specs.States.{State, IsLive, IsRight, GivesFromLive, added, played}
-use Rattle.hx_linkset.specs.Plays.{past_of, Stands, standing}
+use Rattle.hx_linkset.specs.States.{State, IsLive, IsRight, GivesFromLive, added}
+use Rattle.hx_linkset.specs.Plays.{HasMore, past_of, Stands, stage_before, standing}
+use Rattle.hx_linkset.specs.LastStones.{board_before, AreDropped}
 use Rattle.hx_linkset.specs.Rings.{Rings, grown}
 use Rattle.hx_linkset.specs.Held.{AreHeads, head_of, head_at, IsLinked, RingsHold, IsPassed, IsLiveThere}
 use Rattle.hx_linkset.specs.History.{HoldsLive, HasHistory, FieldsKeep}
+use Rattle.hx_linkset.specs.Telling.{Tells}
+use Rattle.hx_linkset.specs.Fulls.{AreFullLists}
 use Rattle.hx_linkset.proofs.GivenLaws.{from_live-live}
 use Rattle.hx_linkset.proofs.HeadLaws.{live-small}
 use Rattle.hx_linkset.proofs.StandingLaws.{reverse-push, keeps-right, keeps-none, room-play, keeps-played, standing-played, keeps-added, standing-added}
+use Rattle.hx_linkset.proofs.StonesLaws.{more-right, more-fewer_live, more-fewer_empty}
 use Rattle.hx_linkset.proofs.LogLaws.{log-none}
 use Rattle.hx_linkset.proofs.PassLaws.{head_at-low}
 use Rattle.hx_linkset.proofs.HistoryLaws.{LastFits, holds-now, history-played, history-added}
+use Rattle.hx_linkset.proofs.LastStoneLaws.{since, board-first, dropped-are}
 
 -- ---- no link yet
 
@@ -58,19 +66,22 @@ module _ (rings : Rings) (heads : AreHeads rings) (Has : ℕ → Link → Type 0
     previous_long = heads.previous.long;
   }
 
-pub fields-none : (player : Colour) (board : Board) (links : List Link) (steps : List Step) (plays : List Play) (groups : Grouped) (rings : Rings) (log : List ℕ) (plays_capacity log_capacity : ℕ)
-    → links ≡ [] → steps ≡ [] → plays ≡ [] → log ≡ [] → groups ≡ record { board = board; player = player } → IsBoard board → AreHeads rings → 121 ≤ plays_capacity → MOST_LINKS ≤ log_capacity
-    → FieldsKeep player (record { board = board; links = links; steps = steps }) plays groups rings log plays_capacity log_capacity
-fields-none player board links steps plays groups rings log plays_capacity log_capacity no_links no_steps no_plays no_log groups_are is_board heads room log_room =
+pub fields-none : (player : Colour) (board : Board) (links : List Link) (steps : List Step) (plays : List Stage) (groups : Grouped) (liveness : Liveness) (rings : Rings) (fulls : List (List FullLink)) (log : List ℕ) (plays_capacity log_capacity : ℕ)
+    → links ≡ [] → steps ≡ [] → plays ≡ [] → log ≡ [] → groups ≡ record { board = board; player = player } → Tells liveness board player → IsBoard board → AreHeads rings → AreFullLists [] fulls → 121 ≤ plays_capacity → MOST_LINKS ≤ log_capacity
+    → FieldsKeep player (record { board = board; links = links; steps = steps }) plays groups liveness rings fulls log plays_capacity log_capacity
+fields-none player board links steps plays groups liveness rings fulls log plays_capacity log_capacity no_links no_steps no_plays no_log groups_are tells is_board heads no_fulls room log_room =
     rw (no_links, no_steps, no_plays, no_log) record {
-      keeps = keeps-none player board plays_capacity is_board room;
+      keeps = keeps-none player board is_board;
       history = record { hold = rings-none rings heads (IsLiveThere board player); log_ok = log-none [] (IsLiveThere board player) };
       groups_are = groups_are;
+      tells = tells;
+      fulls_are = no_fulls;
+      plays_room = room;
       log_room = log_room;
     }
 
-module _ (player : Colour) (board : Board) (links : List Link) (steps : List Step) (plays : List Play) (groups : Grouped) (rings : Rings) (log : List ℕ) (plays_capacity log_capacity : ℕ)
-    (k : FieldsKeep player (record { board = board; links = links; steps = steps }) plays groups rings log plays_capacity log_capacity) where
+module _ (player : Colour) (board : Board) (links : List Link) (steps : List Step) (plays : List Stage) (groups : Grouped) (liveness : Liveness) (rings : Rings) (fulls : List (List FullLink)) (log : List ℕ) (plays_capacity log_capacity : ℕ)
+    (k : FieldsKeep player (record { board = board; links = links; steps = steps }) plays groups liveness rings fulls log plays_capacity log_capacity) where
   abbrev old : State
   old = record { board = board; links = links; steps = steps }
 
@@ -78,45 +89,76 @@ module _ (player : Colour) (board : Board) (links : List Link) (steps : List Ste
   now = holds-now player board links rings log (reverse plays) k.history
 
   pub right : IsRight player old
-  right = keeps-right player old plays plays_capacity k.keeps
+  right = keeps-right player old plays k.keeps
+
+  -- ---- before the last plays
+
+  abbrev first : Stage
+  first = stage_before (record { position = board; count = length links; logged = length log }) (reverse plays)
+
+  pub first-fits : first.logged ≤ length log
+  first-fits = (since player board links steps plays rings log k.keeps.stands k.history).0
+
+  pub first-board : first.position ≡ board_before (length links) board (past_of old (reverse plays))
+  first-board = board-first player board links steps plays rings log k.keeps.stands k.history
+
+  pub first-dropped : AreDropped (standing player old plays) (drop first.logged log)
+  first-dropped = dropped-are player board links steps plays rings log k.keeps.stands k.history
 
   -- ---- a play
 
-  module _ (colour : Colour) (cell : ℕ) (e : IsEmpty board cell) where
+  module _ (after : Board) (more : HasMore board after) where
+    abbrev new : State
+    new = record { board = after; links = links; steps = steps }
+
+    right_after : IsRight player new
+    right_after = more-right board after more player links steps right
+
+    filled : suc (empty_count after) ≤ empty_count board
+    filled = more-fewer_empty board after more right.is_board
+
     pub fields-room : length plays < plays_capacity
-    fields-room = room-play player old plays plays_capacity colour cell 0 e k.keeps
+    fields-room = omega (arith, room-play player old plays after 0 right_after filled k.keeps, k.plays_room)
 
-    module _ (count logged : ℕ) (is_count : count ≡ length links) (is_logged : logged ≡ length log) (rings' : Rings) (log' : List ℕ) (passed : IsPassed links board player colour cell (length links) rings rings' log log')
-        (after : Board) (groups' : Grouped) (plays' : List Play) (plays_capacity' log_capacity' : ℕ) (is_after : after ≡ put board colour cell) (is_groups : groups' ≡ record { board = after; player = player })
-        (is_plays : plays' ≡ plays ++ record { cell = cell; count = count; logged = logged } ∷ []) (is_capacity : plays_capacity' ≡ plays_capacity) (is_log_capacity : log_capacity' ≡ log_capacity) where
-      abbrev new : State
-      new = record { board = after; links = links; steps = steps }
+    module _ (rings' : Rings) (log' : List ℕ) (passed : IsPassed links board after player (length links) rings rings' log log')
+        (groups' : Grouped) (liveness' : Liveness) (plays' : List Stage) (plays_capacity' log_capacity' : ℕ) (is_groups : groups' ≡ record { board = after; player = player }) (tells : Tells liveness' after player)
+        (is_plays : plays' ≡ plays ++ record { position = board; count = length links; logged = length log } ∷ []) (is_capacity : plays_capacity' ≡ plays_capacity) (is_log_capacity : log_capacity' ≡ log_capacity) where
+      history_is : HasHistory player after links rings' log' (reverse (plays ++ record { position = board; count = length links; logged = length log } ∷ []))
+      history_is = rw reverse-push (history-played links board after player rings rings' log log' passed (more-fewer_live board after more player) (reverse plays) k.history)
 
-      plays_are : plays' ≡ plays ++ record { cell = cell; count = length links; logged = length log } ∷ []
-      plays_are = is_plays ∙ ap (λ (p : Play). plays ++ p ∷ []) (same_play count (length links) logged (length log) is_count is_logged)
-        where
-          same_play : (c c' l l' : ℕ) → c ≡ c' → l ≡ l' → (let p : Play = record { cell = cell; count = c; logged = l } in p) ≡ record { cell = cell; count = c'; logged = l' }
-          same_play c c' l l' f g = cc
-
-      history_is : HasHistory player (put board colour cell) links rings' log' (reverse (plays ++ record { cell = cell; count = length links; logged = length log } ∷ []))
-      history_is = rw reverse-push (history-played links board player colour cell rings rings' log log' passed (reverse plays) e k.history)
-
-      pub fields-played : FieldsKeep player new plays' groups' rings' log' plays_capacity' log_capacity'
+      pub fields-played : FieldsKeep player new plays' groups' liveness' rings' fulls log' plays_capacity' log_capacity'
       fields-played = record {
-        keeps = rw (is_after, plays_are, is_capacity) (keeps-played player old plays plays_capacity colour cell (length log) e k.keeps);
-        history = rw (is_after, plays_are) history_is;
+        keeps = rw is_plays (keeps-played player old plays after (length log) right_after filled k.keeps);
+        history = rw is_plays history_is;
         groups_are = is_groups;
+        tells = tells;
+        fulls_are = k.fulls_are;
+        plays_room = rw is_capacity k.plays_room;
         log_room = rw is_log_capacity k.log_room;
       }
 
-      pub seen-played : standing player new plays' ≡ record { player = player; present = played old colour cell; past = old ∷ past_of old (reverse plays) }
-      seen-played = rw (is_after, plays_are) (standing-played player old plays plays_capacity colour cell (length log) e k.keeps)
+      pub seen-played : standing player new plays' ≡ record { player = player; present = new; past = old ∷ past_of old (reverse plays) }
+      seen-played = rw is_plays (standing-played player old plays after (length log) right_after filled k.keeps)
+
+  -- ---- the lists of Full links alone made anew
+
+  pub fields-same : (links' : List Link) (steps' : List Step) (rings' : Rings) (fulls' : List (List FullLink)) → links' ≡ links → steps' ≡ steps → rings' ≡ rings → AreFullLists links fulls'
+      → FieldsKeep player (record { board = board; links = links'; steps = steps' }) plays groups liveness rings' fulls' log plays_capacity log_capacity
+  fields-same links' steps' rings' fulls' same_links same_steps same_rings are_fulls = record {
+    keeps = rw (same_links, same_steps) k.keeps;
+    history = rw (same_links, same_rings) k.history;
+    groups_are = k.groups_are;
+    tells = k.tells;
+    fulls_are = rw same_links are_fulls;
+    plays_room = k.plays_room;
+    log_room = k.log_room;
+  }
 
   -- ---- a link more
 
-  last_fits : (ps : List Play) → Stands player old ps → LastFits links ps
+  last_fits : (ps : List Stage) → Stands player old ps → LastFits links ps
   last_fits [] s = tt
-  last_fits (p ∷ ps) s = s.1.1.0
+  last_fits (p ∷ ps) s = s.1.0
 
   module _ (link : Link) (step : Step) (g : GivesFromLive board player links step link) where
     live : IsLive board player link
@@ -126,13 +168,17 @@ module _ (player : Colour) (board : Board) (links : List Link) (steps : List Ste
     added-small = live-small board right.is_board player link live
 
     module _ (links' : List Link) (steps' : List Step) (rings' : Rings) (is_links : links' ≡ links ++ link ∷ []) (is_steps : steps' ≡ steps ++ step ∷ []) where
-      pub fields-added : length links < MOST_LINKS → rings' ≡ grown rings (head_of link) → FieldsKeep player (record { board = board; links = links'; steps = steps' }) plays groups rings' log plays_capacity log_capacity
-      fields-added less is_rings = record {
-        keeps = rw (is_links, is_steps) (keeps-added player old plays plays_capacity link step g k.keeps less);
+      pub fields-added : length links < MOST_LINKS → rings' ≡ grown rings (head_of link) → (fulls' : List (List FullLink)) → AreFullLists (links ++ link ∷ []) fulls'
+          → FieldsKeep player (record { board = board; links = links'; steps = steps' }) plays groups liveness rings' fulls' log plays_capacity log_capacity
+      fields-added less is_rings fulls' are_fulls = record {
+        keeps = rw (is_links, is_steps) (keeps-added player old plays link step g k.keeps less);
         history = rw (is_links, is_rings) (history-added links board player rings log now link live added-small (reverse plays) (last_fits (reverse plays) k.keeps.stands) k.history);
         groups_are = k.groups_are;
+        tells = k.tells;
+        fulls_are = rw is_links are_fulls;
+        plays_room = k.plays_room;
         log_room = k.log_room;
       }
 
       pub seen-added : standing player (record { board = board; links = links'; steps = steps' }) plays ≡ record { player = player; present = added old link step; past = past_of old (reverse plays) }
-      seen-added = rw (is_links, is_steps) (standing-added player old plays plays_capacity link step g k.keeps)
+      seen-added = rw (is_links, is_steps) (standing-added player old plays link step g k.keeps)

@@ -18,7 +18,7 @@ code-small (Of cell) small = omega arith
 code-small First small = omega arith
 code-small Last small = omega arith
 
-code-same : (a b : Vertex) → IsSomeVertex a → IsSomeVertex b → code_of a ≡ code_of b → a ≡ b
+pub code-same : (a b : Vertex) → IsSomeVertex a → IsSomeVertex b → code_of a ≡ code_of b → a ≡ b
 code-same (Of cell) (Of other) h k e = ap Of e
 code-same (Of cell) First h k e = absurd (omega arith)
 code-same (Of cell) Last h k e = absurd (omega arith)

@@ -5,19 +5,18 @@
 use Rattle.std.proofs.lemmas.List.{take_all, take-append-le, reverse-reverse, length-set, get_or_push}
 use Rattle.std.proofs.Common.{◌≡◌, ℕ, suc, get_or, set, length-append, ◌-◌, ◌+◌, ◌<◌, ◌≤◌, List, [], ◌∷◌, ◌++◌, length, take, drop, reverse, refl, sym, ap, ◌∙◌, subst, inl, inr, ⊎_elim, arith}
 use Rattle.hx_board.specs.declared.colours.Colour.{Colour}
-use Rattle.hx_board.specs.Positions.{Board, IsEmpty, put, lifted}
-use Rattle.hx_board.proofs.PositionLaws.{lifted-put}
+use Rattle.hx_board.specs.Positions.{Board}
 use Rattle.hx_link.specs.declared.links.Link.{Link}
-use Rattle.hx_linkset.specs.declared.plays.Play.{Play}
+use Rattle.hx_linkset.specs.declared.plays.Stage.{Stage}
 use Rattle.hx_linkset.specs.States.{IsLive}
 use Rattle.hx_linkset.specs.Rings.{Rings, cut, grown, IsInside}
 use Rattle.hx_linkset.specs.Held.{head_of, IsKeptBelow, IsPassed, IsLiveThere}
-use Rattle.hx_linkset.specs.History.{cut_times, rings_before, HoldsLive, CanCut, CanUndo, HasHistory}
+use Rattle.hx_linkset.specs.History.{cut_times, rings_before, HoldsLive, CanCut, CanUndo, HasDropped, HasHistory}
 use Rattle.hx_board.proofs.ListLaws.{get-lt}
-use Rattle.hx_linkset.proofs.KeptLaws.{live-played, live-before, untouched-live}
 use Rattle.hx_linkset.proofs.RingLaws.{cut-grown}
 use Rattle.hx_linkset.proofs.LogLaws.{log-less, log-more}
 use Rattle.hx_linkset.proofs.PassLaws.{rings-same, linked-small, hold-grown}
+use Rattle.hx_linkset.proofs.DroppedLaws.{dropped-reverse}
 
 drop-front : (xs ys : List ℕ) → drop (length xs) (xs ++ ys) ≡ ys
 drop-front [] ys = refl
@@ -27,36 +26,42 @@ take-front : (xs ys : List ℕ) → take (length xs) (xs ++ ys) ≡ xs
 take-front [] ys = refl
 take-front (x ∷ xs) ys = ap (λ (zs : List ℕ). x ∷ zs) (take-front xs ys)
 
-pub holds-now : (player : Colour) (board : Board) (links : List Link) (rings : Rings) (log : List ℕ) (plays : List Play) → HasHistory player board links rings log plays → HoldsLive player board links rings log
+pub holds-now : (player : Colour) (board : Board) (links : List Link) (rings : Rings) (log : List ℕ) (plays : List Stage) → HasHistory player board links rings log plays → HoldsLive player board links rings log
 holds-now player board links rings log [] h = h
 holds-now player board links rings log (p ∷ ps) h = h.0
 
-module _ (links : List Link) (board : Board) (player colour : Colour) (cell : ℕ) (old new : Rings) (log log' : List ℕ) (p : IsPassed links board player colour cell (length links) old new log log') where
+module _ (links : List Link) (before after : Board) (player : Colour) (old new : Rings) (log log' : List ℕ) (p : IsPassed links before after player (length links) old new log log') (fewer : (link : Link) → IsLive after player link → IsLive before player link) where
   -- what the pass leaves is what is live after the play
-  passed-live : HoldsLive player (put board colour cell) links new log'
+  passed-live : HoldsLive player after links new log'
   passed-live = record {
     hold = record {
       rings_ok = rings-same _ _ _ _ _
-          (λ v k. ⊎_elim inl (λ w. inr (w.0, (w.1.0, (w.1.1.0, (w.1.1.1.0, live-played board player colour cell w.1.0 w.1.1.1.1.0 (w.1.1.1.1.1 (get-lt links w.0 w.1.0 w.1.1.1.0))))))) k)
+          (λ v k. ⊎_elim inl (λ w. inr (w.0, (w.1.0, (w.1.1.0, (w.1.1.1.0, w.1.1.1.1.1 (get-lt links w.0 w.1.0 w.1.1.1.0)))))) k)
           (λ v k. ⊎_elim inl (λ w. inr (w.0, (w.1.0, (w.1.1.0, (w.1.1.1.0, kept w.0 w.1.0 w.1.1.1.1))))) k)
           p.hold.rings_ok;
       next_long = p.hold.next_long;
       previous_long = p.hold.previous_long;
     };
-    log_ok = log-less links (IsKeptBelow board player colour cell (length links)) (IsLiveThere (put board colour cell) player) kept log' p.log_ok;
+    log_ok = log-less links (IsKeptBelow before after player (length links)) (IsLiveThere after player) kept log' p.log_ok;
   }
     where
-      kept : (place : ℕ) (link : Link) → IsLive (put board colour cell) player link → IsKeptBelow board player colour cell (length links) place link
-      kept place link live = (live-before board player colour cell link live, λ lt. untouched-live board player colour cell link live)
+      kept : (place : ℕ) (link : Link) → IsLive after player link → IsKeptBelow before after player (length links) place link
+      kept place link live = (fewer link live, λ lt. live)
+
+  since-is : drop (length log) log' ≡ reverse p.dropped
+  since-is = ap (λ (xs : List ℕ). drop (length log) xs) p.logged ∙ drop-front log (reverse p.dropped)
 
   dropped-is : reverse (drop (length log) log') ≡ p.dropped
-  dropped-is = ap (λ (xs : List ℕ). reverse (drop (length log) xs)) p.logged ∙ (ap (reverse {A = ℕ}) (drop-front log (reverse p.dropped)) ∙ reverse-reverse p.dropped)
+  dropped-is = ap (reverse {A = ℕ}) since-is ∙ reverse-reverse p.dropped
 
   none_new : length links - length links ≡ 0
   none_new = omega arith
 
-  abbrev play : Play
-  play = record { cell = cell; count = length links; logged = length log }
+  all_links : take (length links) links ≡ links
+  all_links = take_all (length links) links (let le : length links ≤ length links = omega arith in le)
+
+  abbrev play : Stage
+  play = record { position = before; count = length links; logged = length log }
 
   can_undo : CanUndo links new log' play
   can_undo = record {
@@ -65,8 +70,14 @@ module _ (links : List Link) (board : Board) (player colour : Colour) (cell : �
     relinks = rw (none_new, dropped-is) p.can;
   }
 
-  pub history-played : (plays : List Play) → IsEmpty board cell → HasHistory player board links old log plays → HasHistory player (put board colour cell) links new log' (play ∷ plays)
-  history-played plays e h = (passed-live, (can_undo, before))
+  has_dropped : HasDropped player (take (length links) links) before after (drop (length log) log')
+  has_dropped = record {
+    fewer = fewer;
+    all_dropped = rw (all_links, since-is) (dropped-reverse links before after player (length links) p.dropped p.all_dropped);
+  }
+
+  pub history-played : (plays : List Stage) → HasHistory player before links old log plays → HasHistory player after links new log' (play ∷ plays)
+  history-played plays h = (passed-live, (can_undo, (has_dropped, earlier)))
     where
       rings_are : rings_before new links log' play ≡ old
       rings_are = rw (none_new, dropped-is) p.back
@@ -74,11 +85,11 @@ module _ (links : List Link) (board : Board) (player colour : Colour) (cell : �
       log_is : take (length log) log' ≡ log
       log_is = ap (λ (xs : List ℕ). take (length log) xs) p.logged ∙ take-front log (reverse p.dropped)
 
-      before : HasHistory player (lifted (put board colour cell) cell) (take (length links) links) (rings_before new links log' play) (take (length log) log') plays
-      before = rw (lifted-put board colour cell e, take_all (length links) links (let le : length links ≤ length links = omega arith in le), rings_are, log_is) h
+      earlier : HasHistory player before (take (length links) links) (rings_before new links log' play) (take (length log) log') plays
+      earlier = rw (all_links, rings_are, log_is) h
 
 -- before the last play there were no more links than there are
-abbrev pub LastFits : List Link → List Play → Type 0
+abbrev pub LastFits : List Link → List Stage → Type 0
 LastFits links [] = Unit {0}
 LastFits links (play ∷ plays) = play.count ≤ length links
 
@@ -132,7 +143,7 @@ module _ (links : List Link) (board : Board) (player : Colour) (rings : Rings) (
     log_ok = log-more links (IsLiveThere board player) log link now.log_ok;
   }
 
-  pub history-added : (plays : List Play) → LastFits links plays → HasHistory player board links rings log plays → HasHistory player board more (grown rings head) log plays
+  pub history-added : (plays : List Stage) → LastFits links plays → HasHistory player board links rings log plays → HasHistory player board more (grown rings head) log plays
   history-added [] fits h = more-live
   history-added (p ∷ ps) fits h =
       let one : length more - p.count ≡ suc (length links - p.count) = omega (arith, length-append links (link ∷ []), fits) in
@@ -145,4 +156,4 @@ module _ (links : List Link) (board : Board) (player : Colour) (rings : Rings) (
         cuts = subst N (sym one) (new-inside, subst C (sym again) h.1.0.cuts);
         relinks = rw cuts h.1.0.relinks;
       } in
-      (more-live, (can, rw (cuts, front) h.1.1))
+      (more-live, (can, (rw front h.1.1.0, rw (cuts, front) h.1.1.1)))

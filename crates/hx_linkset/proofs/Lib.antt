@@ -2,6 +2,7 @@ pub mod LiveLaws
 pub mod GivenLaws
 pub mod KeptLaws
 pub mod RightLaws
+pub mod StonesLaws
 pub mod StandingLaws
 pub mod RingLaws
 pub mod HeadLaws
@@ -9,6 +10,7 @@ pub mod OrderLaws
 pub mod RisingLists
 pub mod LogLaws
 pub mod PassLaws
+pub mod DroppedLaws
 pub mod HistoryLaws
 pub mod WalkLaws
 pub mod CoverLaws
@@ -21,3 +23,5 @@ pub mod KeptStepLaws
 pub mod NextLaws
 pub mod ChainListLaws
 pub mod LastStoneLaws
+pub mod FullListLaws
+pub mod FullLaws

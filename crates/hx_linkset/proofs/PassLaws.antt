@@ -1,21 +1,22 @@
--- A stone's pass over the rings.
+-- The pass of a play over the rings.
 use Rattle.std.proofs.lemmas.List.{get_or_push, get_or-set_same, get_or-set_other, length-set, take_more, take_all, length-take, drop-append-le, reverse-append, drop_all}
 use Rattle.std.proofs.lemmas.Grind.{reverse_onto, common_steps}
 use Rattle.std.proofs.lemmas.Bool.{false≢true, cases_eq}
 use Rattle.std.proofs.lemmas.Bool.Decides.{nat_tests}
-use Rattle.std.proofs.Common.{◌≡◌, ◌≢◌, ℕ, ◌+◌, ◌-◌, ◌<◌, ◌≤◌, Bool, true, false, List, [], ◌∷◌, ◌++◌, length, reverse, take, drop, set, get_or, refl, sym, ap, ◌∙◌, subst, inl, inr, Some, Option, ◌⊎◌, ⊎_elim, arith, append_assoc, if◌then◌else◌, append-nil, zero, suc, length-append}
+use Rattle.std.proofs.Common.{◌≡◌, ◌≢◌, ℕ, ◌+◌, ◌-◌, ◌<◌, ◌≤◌, Bool, true, false, List, [], ◌∷◌, ◌++◌, length, reverse, take, drop, set, get_or, refl, sym, ap, ◌∙◌, subst, inl, inr, Some, Option, ◌⊎◌, ⊎_elim, arith, append_assoc, if◌then◌else◌, append-nil, zero, suc, length-append, eqb-true, eq-eqb}
 use Rattle.std.specs.Prelude.{slice_get, nat_lt}
 use Rattle.hx_board.specs.declared.colours.Colour.{Colour}
 use Rattle.hx_board.specs.Positions.{Board}
 use Rattle.hx_link.specs.declared.links.Link.{Link}
-use Rattle.hx_linkset.specs.States.{IsLive, IsUntouched}
+use Rattle.hx_board.proofs.SetLaws.{or_cases, or_left, or_right}
+use Rattle.hx_linkset.specs.States.{IsLive}
 use Rattle.hx_linkset.specs.Rings.{AreRings, Rings, unlinked, relinked, grown, IsInside}
-use Rattle.hx_linkset.specs.Held.{head_of, head_or, head_at, IsLinked, RingsHold, relinked_all, CanRelink, IsKeptBelow, IsPassed, LogHolds, IsLiveThere}
+use Rattle.hx_linkset.specs.Held.{head_of, head_or, head_at, IsLinked, RingsHold, relinked_all, CanRelink, IsKeptBelow, AreAllDropped, IsPassed, LogHolds, IsLiveThere}
 use Rattle.hx_linkset.proofs.RingLaws.{IsBetween, rings-grown, rings-unlinked, after_other, before_other, relinked-unlinked, inside-unlinked}
 use Rattle.hx_board.proofs.ListLaws.{get-lt, same_some, get-push, get-push_before, get-push_last}
 use Rattle.hx_linkset.proofs.LogLaws.{log-less, log-push, log-room_more}
 
-reverse-first : (x : ℕ) (xs : List ℕ) → reverse (x ∷ xs) ≡ reverse xs ++ x ∷ []
+pub reverse-first : (x : ℕ) (xs : List ℕ) → reverse (x ∷ xs) ≡ reverse xs ++ x ∷ []
 reverse-first x xs = reverse_onto xs x []
 
 choice : (b : Bool) (x y : ℕ) → b ≡ false → (if b then x else y) ≡ y
@@ -99,12 +100,15 @@ module _ (links : List Link) (Has : ℕ → Link → Type 0) where
           previous_long = length-set rings.previous n p ∙ hold.previous_long;
         }
 
-module _ (links : List Link) (board : Board) (player colour : Colour) (cell : ℕ) (bound : ℕ) (link : Link) (there : slice_get links bound ≡ Some link) where
+module _ (links : List Link) (before after : Board) (player : Colour) (bound : ℕ) (link : Link) (there : slice_get links bound ≡ Some link) where
   abbrev Now : ℕ → Link → Type 0
-  Now = IsKeptBelow board player colour cell bound
+  Now = IsKeptBelow before after player bound
 
   abbrev Next : ℕ → Link → Type 0
-  Next = IsKeptBelow board player colour cell (bound + 1)
+  Next = IsKeptBelow before after player (bound + 1)
+
+  abbrev Dropped : ℕ → List ℕ → Type 0
+  Dropped = AreAllDropped links before after player
 
   less : (place : ℕ) (l : Link) → Next place l → Now place l
   less place l h = (h.0, λ lt. h.1 (omega arith))
@@ -113,28 +117,58 @@ module _ (links : List Link) (board : Board) (player colour : Colour) (cell : �
   was v (inl lt) = inl lt
   was v (inr w) = inr (w.0, (w.1.0, (w.1.1.0, (w.1.1.1.0, (w.1.1.1.1.0, λ lt. w.1.1.1.1.1 (omega arith))))))
 
-  stays_if : (v : ℕ) → ((l : Link) → v ≡ 30258 + bound → l ≡ link → IsLive board player l → IsUntouched player colour cell l) → IsLinked links Now v → IsLinked links Next v
+  -- the link at the bound is this one
+  at_bound : (place : ℕ) (l : Link) → place ≡ bound → slice_get links place ≡ Some l → l ≡ link
+  at_bound place l e at = same_some l link (sym at ∙ (ap (λ n. slice_get links n) e ∙ there))
+
+  stays_if : (v : ℕ) → ((l : Link) → v ≡ 30258 + bound → l ≡ link → IsLive before player l → IsLive after player l) → IsLinked links Now v → IsLinked links Next v
   stays_if v kept (inl lt) = inl lt
   stays_if v kept (inr w) = inr (w.0, (w.1.0, (w.1.1.0, (w.1.1.1.0, (w.1.1.1.1.0, λ lt. by_case lt (cases_eq w.0 bound))))))
     where
-      by_case : w.0 < bound + 1 → (w.0 ≡ bound) ⊎ (w.0 ≡ bound → ⊥) → IsUntouched player colour cell w.1.0
-      by_case lt (inl e) = kept w.1.0 (w.1.1.0 ∙ ap (λ n. 30258 + n) e) (same_some w.1.0 link (sym w.1.1.1.0 ∙ (ap (λ n. slice_get links n) e ∙ there))) w.1.1.1.1.0
+      by_case : w.0 < bound + 1 → (w.0 ≡ bound) ⊎ (w.0 ≡ bound → ⊥) → IsLive after player w.1.0
+      by_case lt (inl e) = kept w.1.0 (w.1.1.0 ∙ ap (λ n. 30258 + n) e) (at_bound w.0 w.1.0 e w.1.1.1.0) w.1.1.1.1.0
       by_case lt (inr ne) = w.1.1.1.1.1 (omega arith)
 
-  out : (IsUntouched player colour cell link → ⊥) → (v : ℕ) → IsLinked links Next v → v ≢ 30258 + bound
-  out touched v (inl lt) e = absurd (omega arith)
-  out touched v (inr w) e =
+  out : (IsLive after player link → ⊥) → (v : ℕ) → IsLinked links Next v → v ≢ 30258 + bound
+  out dead v (inl lt) e = absurd (omega arith)
+  out dead v (inr w) e =
       let here : w.0 ≡ bound = omega (arith, w.1.1.0, e) in
-      let same : w.1.0 ≡ link = same_some w.1.0 link (sym w.1.1.1.0 ∙ (ap (λ n. slice_get links n) here ∙ there)) in
-      let P : Link → Type 0 = λ l. IsUntouched player colour cell l in
-      touched (subst P same (w.1.1.1.1.1 (omega (arith, here))))
+      let P : Link → Type 0 = λ l. IsLive after player l in
+      dead (subst P (at_bound w.0 w.1.0 here w.1.1.1.0) (w.1.1.1.1.1 (omega (arith, here))))
 
-  module _ (old new : Rings) (log log' : List ℕ) (p : IsPassed links board player colour cell bound old new log log') where
-    -- a link that is not live or not touched stays as it is
-    pub passed-kept : (IsLive board player link → IsUntouched player colour cell link) → IsPassed links board player colour cell (bound + 1) old new log log'
+  live_still : (IsLive before player link → IsLive after player link) → (l : Link) → l ≡ link → IsLive before player l → IsLive after player l
+  live_still kept l same live =
+      let P : Link → Type 0 = λ x. IsLive before player x in
+      let Q : Link → Type 0 = λ x. IsLive after player x in
+      subst Q (sym same) (kept (subst P same live))
+
+  dropped-same : (dropped : List ℕ) → (IsLive before player link → IsLive after player link) → Dropped bound dropped → Dropped (bound + 1) dropped
+  dropped-same dropped kept d = record {
+    were_live = d.were_live;
+    all = λ place l at lt live. ⊎_elim
+        (λ e. inl (live_still kept l (at_bound place l e at) live))
+        (λ ne. d.all place l at (omega arith) live)
+        (cases_eq place bound);
+  }
+
+  dropped-more : (dropped : List ℕ) → IsLive before player link → Dropped bound dropped → Dropped (bound + 1) (bound ∷ dropped)
+  dropped-more dropped live d = record {
+    were_live = λ place k. ⊎_elim
+        (λ e. (link, (ap (λ n. slice_get links n) (eqb-true place bound e) ∙ there, live)))
+        (λ rest. d.were_live place rest)
+        (or_cases _ _ k);
+    all = λ place l at lt was_live. ⊎_elim
+        (λ e. inr (or_left _ _ (eq-eqb place bound e)))
+        (λ ne. ⊎_elim (λ still. inl still) (λ k. inr (or_right _ _ k)) (d.all place l at (omega arith) was_live))
+        (cases_eq place bound);
+  }
+
+  module _ (old new : Rings) (log log' : List ℕ) (p : IsPassed links before after player bound old new log log') where
+    -- a link that is not live before, or is live after, stays as it is
+    pub passed-kept : (IsLive before player link → IsLive after player link) → IsPassed links before after player (bound + 1) old new log log'
     passed-kept kept = record {
       hold = record {
-        rings_ok = rings-same _ _ _ _ _ (λ v. stays_if v (λ l e same live. (let P : Link → Type 0 = λ x. IsLive board player x in let Q : Link → Type 0 = λ x. IsUntouched player colour cell x in subst Q (sym same) (kept (subst P same live))))) was p.hold.rings_ok;
+        rings_ok = rings-same _ _ _ _ _ (λ v. stays_if v (λ l e same live. live_still kept l same live)) was p.hold.rings_ok;
         next_long = p.hold.next_long;
         previous_long = p.hold.previous_long;
       };
@@ -143,20 +177,21 @@ module _ (links : List Link) (board : Board) (player colour : Colour) (cell : �
       logged = p.logged;
       can = p.can;
       back = p.back;
+      all_dropped = dropped-same p.dropped kept p.all_dropped;
     }
 
-    module _ (live : IsLive board player link) (small : head_of link < 30258) where
+    module _ (live : IsLive before player link) (small : head_of link < 30258) where
       pub passed-room : length log' < length links
       passed-room = log-room_more links Now log' p.log_ok bound link there (live, λ lt. absurd (omega arith))
 
       pub passed-inside : IsInside new (30258 + bound)
       passed-inside = node-inside links Now new p.hold bound link there (live, λ lt. absurd (omega arith)) small
 
-      -- a live link that is touched is taken out and logged
-      pub passed-dropped : (IsUntouched player colour cell link → ⊥) → IsPassed links board player colour cell (bound + 1) old (unlinked new (30258 + bound)) log (log' ++ bound ∷ [])
-      passed-dropped touched = record {
-        hold = hold-unlinked links Now new p.hold bound link there (live, λ lt. absurd (omega arith)) small Next (out touched) was (λ v ne. stays_if v (λ l e same live'. absurd (ne e)));
-        log_ok = log-push links Now Next less log' p.log_ok bound link there (live, λ lt. absurd (omega arith)) (λ next. touched (next.1 (omega arith)));
+      -- a link that is live before and not after is taken out and logged
+      pub passed-dropped : (IsLive after player link → ⊥) → IsPassed links before after player (bound + 1) old (unlinked new (30258 + bound)) log (log' ++ bound ∷ [])
+      passed-dropped dead = record {
+        hold = hold-unlinked links Now new p.hold bound link there (live, λ lt. absurd (omega arith)) small Next (out dead) was (λ v ne. stays_if v (λ l e same live'. absurd (ne e)));
+        log_ok = log-push links Now Next less log' p.log_ok bound link there (live, λ lt. absurd (omega arith)) (λ next. dead (next.1 (omega arith)));
         dropped = bound ∷ p.dropped;
         logged = ap (λ (xs : List ℕ). xs ++ bound ∷ []) p.logged ∙ (append_assoc log (reverse p.dropped) (bound ∷ []) ∙ ap (λ (xs : List ℕ). log ++ xs) (sym (reverse-first bound p.dropped)));
         can = (
@@ -165,10 +200,11 @@ module _ (links : List Link) (board : Board) (player colour : Colour) (cell : �
               subst P (sym (relinked-unlinked new (30258 + bound) (node-between links Now new p.hold bound link there (live, λ lt. absurd (omega arith)) small))) p.can,
         );
         back = ap (λ (r : Rings). relinked_all r p.dropped) (relinked-unlinked new (30258 + bound) (node-between links Now new p.hold bound link there (live, λ lt. absurd (omega arith)) small)) ∙ p.back;
+        all_dropped = dropped-more p.dropped live p.all_dropped;
       }
 
-pub passed-none : (links : List Link) (board : Board) (player colour : Colour) (cell : ℕ) (rings : Rings) (log : List ℕ) → RingsHold links (IsLiveThere board player) rings → LogHolds links (IsLiveThere board player) log → IsPassed links board player colour cell 0 rings rings log log
-passed-none links board player colour cell rings log h logged = record {
+pub passed-none : (links : List Link) (before after : Board) (player : Colour) (rings : Rings) (log : List ℕ) → RingsHold links (IsLiveThere before player) rings → LogHolds links (IsLiveThere before player) log → IsPassed links before after player 0 rings rings log log
+passed-none links before after player rings log h logged = record {
   hold = record {
     rings_ok = rings-same _ _ _ _ _
         (λ v k. ⊎_elim inl (λ w. inr (w.0, (w.1.0, (w.1.1.0, (w.1.1.1.0, (w.1.1.1.1, λ lt. absurd (omega arith))))))) k)
@@ -176,15 +212,16 @@ passed-none links board player colour cell rings log h logged = record {
     next_long = h.next_long;
     previous_long = h.previous_long;
   };
-  log_ok = log-less links (IsLiveThere board player) (IsKeptBelow board player colour cell 0) (λ place l k. k.0) log logged;
+  log_ok = log-less links (IsLiveThere before player) (IsKeptBelow before after player 0) (λ place l k. k.0) log logged;
   dropped = [];
   logged = sym (append-nil log);
   can = tt;
   back = refl;
+  all_dropped = record { were_live = λ place k. absurd (false≢true k); all = λ place l at lt live. absurd (omega arith) };
 }
 
-pub passed-all : (links : List Link) (board : Board) (player colour : Colour) (cell bound : ℕ) (old new : Rings) (log log' : List ℕ) → bound ≡ length links → IsPassed links board player colour cell bound old new log log' → IsPassed links board player colour cell (length links) old new log log'
-passed-all links board player colour cell bound old new log log' e p = let P : ℕ → Type 0 = λ n. IsPassed links board player colour cell n old new log log' in subst P e p
+pub passed-all : (links : List Link) (before after : Board) (player : Colour) (bound : ℕ) (old new : Rings) (log log' : List ℕ) → bound ≡ length links → IsPassed links before after player bound old new log log' → IsPassed links before after player (length links) old new log log'
+passed-all links before after player bound old new log log' e p = let P : ℕ → Type 0 = λ n. IsPassed links before after player n old new log log' in subst P e p
 
 -- the last of the log is the first to be put back
 pub last-back : (log : List ℕ) (n last : ℕ) → n ≤ last → last + 1 ≡ length log → reverse (drop n log) ≡ get_or log last 0 ∷ reverse (drop n (take last log))

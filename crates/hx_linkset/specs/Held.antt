@@ -14,7 +14,7 @@ use Rattle.hx_link.specs.declared.links.Kind.{Kind}
 use Rattle.hx_link.specs.declared.links.Kind.TheVariants.{Full, Semi}
 use Rattle.hx_link.specs.declared.links.Link.{Link}
 use Rattle.hx_linkset.specs.declared.chains.TheConstants.{KIND_HEADS, FIRST_NODE}
-use Rattle.hx_linkset.specs.States.{IsLive, IsUntouched}
+use Rattle.hx_linkset.specs.States.{IsLive, IsLiveAt}
 use Rattle.hx_linkset.specs.Rings.{AreRings, Rings, relinked, IsInside}
 
 -- each place of a list has its own number
@@ -96,15 +96,30 @@ CanRelink rings (place ∷ places) = IsInside rings (FIRST_NODE + place) × CanR
 abbrev pub IsLiveThere : Board → Colour → ℕ → Link → Type 0
 IsLiveThere board player place link = IsLive board player link
 
--- a live link that a stone leaves alone, as far as the stone's pass over the links has come
-abbrev pub IsKeptBelow : Board → Colour → Colour → ℕ → ℕ → ℕ → Link → Type 0
-IsKeptBelow board player colour cell bound place link = IsLive board player link × (place < bound → IsUntouched player colour cell link)
+-- a link that is live before a play, and after it too as far as the play's pass has come
+abbrev pub IsKeptBelow : Board → Board → Colour → ℕ → ℕ → Link → Type 0
+IsKeptBelow before after player bound place link =
+    IsLive before player link × (place < bound → IsLive after player link)
+
+-- the number is in the list
+abbrev pub IsIn : List ℕ → ℕ → Type 0
+IsIn places place = list_any (nat_eq place) places ≡ true
+
+-- these links were live before, and each one below the bound that was live before is live still or
+-- one of them
+pub record AreAllDropped (links : List Link) (before after : Board) (player : Colour) (bound : ℕ)
+    (dropped : List ℕ) : Type 0 where
+  pub were_live : (place : ℕ) → IsIn dropped place → IsLiveAt before player links place
+  pub all : (place : ℕ) (link : Link) → slice_get links place ≡ Some link → place < bound
+      → IsLive before player link → IsLive after player link ⊎ IsIn dropped place
 
 -- what the pass took out is on the log, and can be put back exactly
-pub record IsPassed (links : List Link) (board : Board) (player colour : Colour) (cell bound : ℕ) (old new : Rings) (log log' : List ℕ) : Type 0 where
-  pub hold : RingsHold links (IsKeptBelow board player colour cell bound) new
-  pub log_ok : LogHolds links (IsKeptBelow board player colour cell bound) log'
+pub record IsPassed (links : List Link) (before after : Board) (player : Colour) (bound : ℕ)
+    (old new : Rings) (log log' : List ℕ) : Type 0 where
+  pub hold : RingsHold links (IsKeptBelow before after player bound) new
+  pub log_ok : LogHolds links (IsKeptBelow before after player bound) log'
   pub dropped : List ℕ
   pub logged : log' ≡ log ++ reverse dropped
   pub can : CanRelink new dropped
   pub back : relinked_all new dropped ≡ old
+  pub all_dropped : AreAllDropped links before after player bound dropped

@@ -9,3 +9,5 @@ pub mod Marks
 pub mod Derivations
 pub mod LiveOf
 pub mod LastStones
+pub mod Telling
+pub mod Fulls

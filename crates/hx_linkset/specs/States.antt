@@ -1,5 +1,5 @@
 -- Links of one player in a list, on a board that changes stone by stone.
-use Rattle.std.specs.Prelude.{◌≡◌, ◌≢◌, ℕ, true, false, List, [], ◌∷◌, ◌++◌, length, take, slice_get, ◌⊎◌}
+use Rattle.std.specs.Prelude.{◌≡◌, ◌≢◌, ℕ, true, false, List, [], ◌∷◌, ◌++◌, length, take, slice_get, All, ◌⊎◌}
 use Rattle.std.specs.declared.option.Option.TheVariants.{Some}
 use Rattle.hx_board.specs.declared.colours.Colour.{Colour}
 use Rattle.hx_board.specs.declared.vertices.Vertex.TheVariants.{Of}
@@ -58,6 +58,25 @@ added state link step = record { board = state.board; links = state.links ++ lin
 -- the state with one stone more
 abbrev pub played : State → Colour → ℕ → State
 played state colour cell = record state { board = put state.board colour cell }
+
+-- each of these stones comes to an empty cell, when they are put one after the other
+abbrev pub CanPut : Board → List (Colour × ℕ) → Type 0
+CanPut board [] = Unit {0}
+CanPut board (stone ∷ stones) = IsEmpty board stone.1 × CanPut (put board stone.0 stone.1) stones
+
+-- the board with these stones more
+abbrev pub put_all : Board → List (Colour × ℕ) → Board
+put_all board [] = board
+put_all board (stone ∷ stones) = put_all (put board stone.0 stone.1) stones
+
+-- the state with these stones more
+abbrev pub played_all : State → List (Colour × ℕ) → State
+played_all state stones = record state { board = put_all state.board stones }
+
+-- each of these stones leaves a link alone
+abbrev pub LeaveAlone : Colour → List (Colour × ℕ) → Link → Type 0
+LeaveAlone player stones link =
+    All (λ (stone : Colour × ℕ). IsUntouched player stone.0 stone.1 link) stones
 
 -- the links of one player: as they stand now, and as they stood before each play that stands, the last play first
 pub record Standing : Type 0 where

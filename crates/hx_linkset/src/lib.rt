@@ -6,6 +6,7 @@
 
 mod chains;
 mod derivations;
+mod fulls;
 mod liveness;
 mod marks;
 mod pairs;
@@ -15,6 +16,7 @@ mod renaming;
 mod sets;
 
 pub use derivations::Derived;
+pub use fulls::{FullIter, FullLink};
 pub use pairs::PairIter;
 pub use sets::{Added, LinkSet, MOST_LINKS};
 

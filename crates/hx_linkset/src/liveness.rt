@@ -3,51 +3,55 @@
 //! A link is live exactly where its carrier is empty on the board and neither end is a stone of the opponent. So live is a
 //! function of the board and the link, and needs no mark: the links that a live link was made from are live with it, since
 //! their carriers are inside its own and their ends are its ends, own stones, or in its carrier.
+//!
+//! Two sets tell it for all links. They are taken once for a position, so that a pass over many links
+//! has them at hand.
 
 ghost use Rattle.std.specs.Prelude.{◌≡◌, ◌↔◌, IsTrue, false};
-ghost use Rattle.hx_linkset.specs.States.{IsLive, IsUntouched};
+ghost use Rattle.hx_board.specs.declared.colours.Colour.{Colour};
+ghost use Rattle.hx_board.specs.Positions.{Board};
+ghost use Rattle.hx_linkset.specs.States.{IsLive};
+ghost use Rattle.hx_linkset.specs.Telling.{Tells};
 
-use hx_board::{Cell, Colour, Position, Vertex};
-use hx_link::{Link, is_end};
+use hx_board::{Colour, Mask, Position, VertexSet};
+use hx_link::{Link, ends_of};
 
-/// Whether a link is live on a position.
-pub(crate) fn is_live(position: &Position, player: Colour, link: &Link) -> bool
-    ensures { IsTrue result ↔ IsLive position.now player link.now }
-{
-    let is_empty = link.carrier.inside(position.empties());
-    let a_end = is_end(position, player, &link.a);
-    let b_end = is_end(position, player, &link.b);
-    is_empty && a_end && b_end
+/// The empty cells of a position, and the vertices that may be ends of a player's links.
+#[derive(Clone, Copy, PartialEq, Eq, Debug)]
+pub(crate) struct Liveness {
+    pub(crate) empties: Mask,
+    pub(crate) ends: VertexSet,
 }
 
-/// Whether a vertex is this cell.
-fn is_at(vertex: &Vertex, cell: Cell) -> bool
-    ensures { IsTrue result ↔ (vertex.now ≡ Vertex.Of cell) }
+/// What tells which links of a player are live on a position.
+pub(crate) fn liveness_of(position: &Position, player: Colour) -> Liveness
+    ensures { Tells result position.now player }
 {
-    *vertex == Vertex::Of(cell)
+    Liveness {
+        empties: position.empties(),
+        ends: ends_of(position, player),
+    }
 }
 
-/// Whether a stone leaves a link alone.
-fn is_untouched(player: Colour, colour: Colour, cell: Cell, link: &Link) -> bool
-    ensures { IsTrue result ↔ IsUntouched player colour cell link.now }
+/// Whether a link is live on each position of which this tells it.
+#[inline(always)]
+pub(crate) fn is_live(liveness: &Liveness, link: &Link) -> bool
+    ensures { (board : Board) (player : Colour) → Tells liveness.now board player
+        → IsTrue result ↔ IsLive board player link.now }
 {
-    let outside = !link.carrier.has(cell);
-    let others = colour == player.other();
-    let at_end = is_at(&link.a, cell) || is_at(&link.b, cell);
-    outside && !(others && at_end)
+    let (_a, _b) = (link.a.code(), link.b.code());
+    link.carrier.inside(liveness.empties) && liveness.ends.has(link.a) && liveness.ends.has(link.b)
 }
 
-/// Whether a stone drops a link, which is live before it and not after it.
-pub(crate) fn is_dropped(
-    position: &Position,
-    player: Colour,
-    colour: Colour,
-    cell: Cell,
-    link: &Link,
-) -> bool
-    ensures dropped { IsTrue result → IsLive position.now player link.now × (IsUntouched player colour cell link.now → ⊥) }
-    ensures kept { result ≡ false → IsLive position.now player link.now → IsUntouched player colour cell link.now }
+/// Whether a link is live before a play and not after it.
+#[inline(always)]
+pub(crate) fn is_dropped(before: &Liveness, after: &Liveness, link: &Link) -> bool
+    ensures dropped { (old new : Board) (player : Colour)
+        → Tells before.now old player → Tells after.now new player
+        → IsTrue result → IsLive old player link.now × (IsLive new player link.now → ⊥) }
+    ensures kept { (old new : Board) (player : Colour)
+        → Tells before.now old player → Tells after.now new player
+        → result ≡ false → IsLive old player link.now → IsLive new player link.now }
 {
-    let untouched = is_untouched(player, colour, cell, link);
-    !untouched && is_live(position, player, link)
+    !is_live(after, link) && is_live(before, link)
 }

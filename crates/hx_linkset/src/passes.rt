@@ -1,36 +1,40 @@
-//! A stone's pass over the links, and its taking back.
+//! The pass of a play over the links, and its taking back.
 
 ghost use Rattle.std.specs.Prelude.{◌≡◌, ◌+◌, ◌-◌, ◌<◌, ◌≤◌, length, reverse, take, drop, vec_len, vec_capacity};
 ghost use Rattle.hx_linkset.specs.Rings.{IsInside};
 ghost use Rattle.hx_linkset.specs.Held.{RingsHold, LogHolds, IsPassed, IsLiveThere, CanRelink, relinked_all};
 ghost use Rattle.hx_linkset.specs.History.{CanCut, cut_times};
+ghost use Rattle.hx_linkset.specs.Fulls.{AreFullLists};
 
 use crate::chains::{Chains, FIRST_NODE};
-use crate::liveness::is_dropped;
+use crate::fulls::FullLists;
+use crate::liveness::{is_dropped, liveness_of};
 use crate::sets::MOST_LINKS;
-use hx_board::{Cell, Colour, Position};
+use hx_board::{Colour, Position};
 use hx_link::Link;
 
-/// Takes each link out that a stone drops, and logs it. The stone is put afterwards.
-pub(crate) fn drop_touched(
+/// Takes each link out that is live before a play and not after it, and logs it.
+pub(crate) fn drop_dead(
     chains: &mut Chains,
     log: &mut Vec<u16>,
     links: &[Link],
-    position: &Position,
+    before: &Position,
+    after: &Position,
     player: Colour,
-    colour: Colour,
-    cell: Cell,
 )
-    requires hold { RingsHold links.now (IsLiveThere position.now player) chains.old }
-    requires log_ok { LogHolds links.now (IsLiveThere position.now player) log.old.items }
+    requires hold { RingsHold links.now (IsLiveThere before.now player) chains.old }
+    requires log_ok { LogHolds links.now (IsLiveThere before.now player) log.old.items }
     requires few { length links.now ≤ MOST_LINKS }
     requires room { MOST_LINKS ≤ vec_capacity log.old }
-    ensures passed { IsPassed links.now position.now player colour cell (length links.now) chains.old chains.new log.old.items log.new.items }
+    ensures passed { IsPassed links.now before.now after.now player (length links.now)
+        chains.old chains.new log.old.items log.new.items }
     ensures room { vec_capacity log.new ≡ vec_capacity log.old }
 {
-    let _size = position.size();
+    let _size = before.size();
+    let live = liveness_of(before, player);
+    let kept = liveness_of(after, player);
     for (place, link) in links.iter().enumerate() {
-        let drops = is_dropped(position, player, colour, cell, link);
+        let drops = is_dropped(&live, &kept, link);
         if !drops {
             continue;
         }
@@ -69,5 +73,18 @@ pub(crate) fn put_back(chains: &mut Chains, log: &mut Vec<u16>, kept: usize)
         let place = log[last];
         log.truncate(last);
         chains.relink(FIRST_NODE + place);
+    }
+}
+
+/// Cuts the last links off the lists of Full links, until so many are left.
+pub(crate) fn cut_fulls(fulls: &mut FullLists, links: &[Link], kept: usize)
+    requires fits { kept ≤ length links.now }
+    requires lists { AreFullLists links.now fulls.old }
+    ensures { AreFullLists (take kept links.now) fulls.new }
+{
+    let mut left = links.len();
+    while kept < left {
+        left -= 1;
+        fulls.cut(&links[left]);
     }
 }

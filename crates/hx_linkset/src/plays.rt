@@ -1,17 +1,16 @@
-//! The stones that stand, each with how much there was before it.
+//! How a set stood before the plays that stand, and the position after a play.
 
-ghost use Rattle.std.specs.Prelude.{◌≡◌, length, reverse};
-ghost use Rattle.hx_board.specs.declared.colours.Colour.{Colour};
-ghost use Rattle.hx_linkset.specs.States.{State};
-ghost use Rattle.hx_linkset.specs.Plays.{Stands, StandOn, past_of};
-ghost use Rattle.hx_linkset.specs.LastStones.{board_before};
+ghost use Rattle.std.specs.Prelude.{◌≡◌, ◌↔◌, ◌≤◌, IsTrue, length, reverse, drop};
+ghost use Rattle.hx_linkset.specs.States.{CanPut, put_all};
+ghost use Rattle.hx_linkset.specs.Plays.{stage_before};
 
-use hx_board::{Cell, Position};
+use hx_board::{Cell, Colour, Position};
+use hx_link::Link;
 
-/// A stone that was put and not taken back.
+/// How a set stood at some time: the position, and how long the lists were.
 #[derive(Clone, Copy, PartialEq, Eq, Debug)]
-pub(crate) struct Play {
-    pub(crate) cell: Cell,
+pub(crate) struct Stage {
+    pub(crate) position: Position,
 
     /// How many links there were.
     pub(crate) count: usize,
@@ -20,21 +19,69 @@ pub(crate) struct Play {
     pub(crate) logged: usize,
 }
 
-/// The position before the last of the plays: those before which there were so many links.
-pub(crate) fn before_last(position: &Position, plays: &[Play], count: usize) -> Position
-    requires { StandOn position.now count (reverse plays.now) }
-    ensures { (state : State) → state.board ≡ position.now → length state.links ≡ count → (player : Colour)
-        → Stands player state (reverse plays.now) → result ≡ board_before count position.now (past_of state (reverse plays.now)) }
+/// How a set stands that has this position, these links and this log.
+pub(crate) fn stage_of(position: &Position, links: &[Link], log: &[u16]) -> Stage
+    ensures { result ≡ record {
+      position = position.now;
+      count = length links.now;
+      logged = length log.now;
+    } }
+{
+    Stage {
+        position: *position,
+        count: links.len(),
+        logged: log.len(),
+    }
+}
+
+/// How a set stood before the last of its plays: those before which there were as many links as there
+/// are now. The stages are those before its plays.
+pub(crate) fn before_last(now: &Stage, plays: &[Stage]) -> Stage
+    ensures { result ≡ stage_before now.now (reverse plays.now) }
 {
     match plays.split_last() {
-        None => *position,
+        None => *now,
         Some((play, earlier)) => {
-            if play.count != count {
-                return *position;
+            if play.count == now.count {
+                before_last(play, earlier)
+            } else {
+                *now
             }
-            let mut before = *position;
-            before.lift(play.cell);
-            before_last(&before, earlier, count)
         }
     }
+}
+
+/// What a log has from a place on.
+pub(crate) fn logged_from(log: &[u16], first: usize) -> &[u16]
+    requires { first ≤ length log.now }
+    ensures { result.now ≡ drop first log.now }
+{
+    &log[first..]
+}
+
+/// The position with these stones more.
+pub(crate) fn with_all(position: &Position, stones: &[(Colour, Cell)]) -> Position
+    requires { CanPut position.now stones.now }
+    ensures { result ≡ put_all position.now stones.now }
+{
+    let mut after = *position;
+    for stone in stones {
+        after.play(stone.0, stone.1);
+    }
+    after
+}
+
+/// Whether each of these stones comes to an empty cell, when they are put one after the other.
+pub(crate) fn can_put(position: &Position, stones: &[(Colour, Cell)]) -> bool
+    ensures { IsTrue result ↔ CanPut position.now stones.now }
+{
+    let mut so_far = *position;
+    for stone in stones {
+        let is_empty = so_far.empties().has(stone.1);
+        if !is_empty {
+            return false;
+        }
+        so_far.play(stone.0, stone.1);
+    }
+    true
 }

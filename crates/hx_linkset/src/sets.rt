@@ -2,32 +2,38 @@
 //!
 //! Links and steps stand in the order in which they came, and none is taken away before the play that it came after is
 //! taken back. The live ones of each kind and pair of ends are chained, so `add` looks for a cover in one chain alone.
-//! `play` is one pass over all links: it takes those that its stone touches out of their chains and writes them on a log.
-//! `undo` cuts off what came since, and puts the logged ones back in opposite order, which makes the chains what they were.
+//! A play, of one stone or of all stones of a turn, is one pass over all links: it takes those that are
+//! live no more out of their chains and writes them on a log. `undo` cuts off what came since, and puts
+//! the logged ones back in opposite order, which makes the chains what they were. The Full links stand
+//! once more in a list for each of their ends.
 //!
-//! Memory is taken by `new` and `add` alone. A board has at most `CELLS` empty cells, so no more plays stand at once; and the
-//! log names each link once at most, since only a live link is dropped, so it needs no more room than there are links.
+//! Memory is taken by `new` and `add` alone. A board has at most `CELLS` empty cells and each play fills
+//! one or more, so no more plays stand at once; and the log names each link once at most, since only a
+//! live link is dropped, so it needs no more room than there are links.
 
-ghost use Rattle.std.specs.Prelude.{◌≡◌, ◌≢◌, ℕ, ◌+◌, ◌<◌, ◌≤◌, [], ◌∷◌, length, slice_get, ◌↔◌, IfOk, OnErr, MatchOption};
+ghost use Rattle.std.specs.Prelude.{◌≡◌, ◌≢◌, ℕ, ◌+◌, ◌<◌, ◌≤◌, [], ◌∷◌, length, slice_get, ◌↔◌, IsTrue, IfOk, OnErr, MatchOption};
 ghost use Rattle.hx_board.specs.declared.vertices.Vertex.{Vertex};
 ghost use Rattle.hx_board.specs.Finds.{Finds};
 ghost use Rattle.hx_board.specs.Positions.{IsEmpty};
 ghost use Rattle.hx_link.specs.declared.links.Kind.{Kind};
 ghost use Rattle.hx_link.specs.declared.links.Link.{Link};
-ghost use Rattle.hx_linkset.specs.States.{IsLive, IsLiveAt, IsRight, IsUntouched, played};
+ghost use Rattle.hx_linkset.specs.States.{IsLive, IsLiveAt, IsRight, IsUntouched, played, CanPut, played_all, LeaveAlone};
 ghost use Rattle.hx_linkset.specs.Answers.{Gives, Covers, IsAdded};
 ghost use Rattle.hx_linkset.specs.Held.{IsHeadBetween};
 ghost use Rattle.hx_linkset.specs.LiveOf.{IsLiveOf, IsFirstFrom, ChainLists};
 ghost use Rattle.hx_linkset.specs.LivePairs.{AreLivePairs};
-ghost use Rattle.hx_linkset.specs.LastStones.{board_before};
+ghost use Rattle.hx_linkset.specs.LastStones.{board_before, AreDropped};
+ghost use Rattle.hx_linkset.specs.Fulls.{AreFullAt};
+ghost use Rattle.hx_linkset.specs.Plays.{HasMore};
 ghost use Rattle.hx_linkset.specs.Derivations.{StandsIn, IsDerived};
 
 use crate::chains::{Chains, FIRST_NODE, head_for};
 use crate::derivations::{Derived, derivation_of};
-use crate::liveness::is_live;
+use crate::fulls::{FullIter, FullLists};
+use crate::liveness::{Liveness, is_live, liveness_of};
 use crate::pairs::{PairIter, in_order};
-use crate::passes::{cut_down, drop_touched, put_back};
-use crate::plays::{Play, before_last};
+use crate::passes::{cut_down, cut_fulls, drop_dead, put_back};
+use crate::plays::{Stage, before_last, can_put, logged_from, stage_of, with_all};
 use hx_board::{CELLS, Cell, Colour, Groups, Mask, Memory, Position, Vertex};
 use hx_link::{Kind, Link, Step, result_of};
 use std::alloc::Global;
@@ -58,16 +64,24 @@ pub enum Added {
 pub struct LinkSet {
     position: Position,
     colour: Colour,
+
+    /// The groups of the player, and what tells which links are live. Each play makes both anew.
     groups: Groups,
+    liveness: Liveness,
     pub(crate) links: Vec<Link>,
     pub(crate) steps: Vec<Step>,
 
     /// The live links of each kind and pair of ends, in rising order.
     chains: Chains,
 
+    /// The Full links at each vertex, live or not.
+    fulls: FullLists,
+
     /// The links that the plays dropped, in the order in which they were dropped.
     log: Vec<u16>,
-    plays: Vec<Play>,
+
+    /// How the set stood before each play that stands.
+    plays: Vec<Stage>,
 }
 
 impl Model for LinkSet {
@@ -84,7 +98,8 @@ impl Model for LinkSet {
 
     ghost invariant = { λ s. FieldsKeep s.colour
         record { board = s.position; links = s.links.items; steps = s.steps.items } s.plays.items
-        s.groups s.chains s.log.items (vec_capacity s.plays) (vec_capacity s.log) };
+        s.groups s.liveness s.chains s.fulls s.log.items
+        (vec_capacity s.plays) (vec_capacity s.log) };
 }
 
 impl LinkSet {
@@ -105,14 +120,19 @@ impl LinkSet {
         let Ok(chains) = Chains::new(alloc) else {
             return Err(Memory);
         };
+        let Ok(fulls) = FullLists::new(alloc) else {
+            return Err(Memory);
+        };
         let _size = position.size();
         Ok(LinkSet {
             position: *position,
             colour,
             groups: Groups::of(position, colour),
+            liveness: liveness_of(position, colour),
             links: Vec::new(alloc),
             steps: Vec::new(alloc),
             chains,
+            fulls,
             log,
             plays,
         })
@@ -130,6 +150,20 @@ impl LinkSet {
         ensures { result ≡ self.now.player }
     {
         self.colour
+    }
+
+    /// The groups of the player on the position.
+    pub fn groups(&self) -> &Groups
+        ensures { result.now ≡ record { board = self.now.present.board; player = self.now.player } }
+    {
+        &self.groups
+    }
+
+    /// How many plays stand. The stones of a turn that were put as one play count as one.
+    pub fn plays(&self) -> u32
+        ensures { result ≡ length self.now.past }
+    {
+        self.plays.len() as u32
     }
 
     /// How many links are held, live or not.
@@ -158,7 +192,7 @@ impl LinkSet {
         match self.links.as_slice().get(index as usize) {
             None => None,
             Some(link) => {
-                let live = is_live(&self.position, self.colour, link);
+                let live = is_live(&self.liveness, link);
                 if live { Some(*link) } else { None }
             }
         }
@@ -190,7 +224,27 @@ impl LinkSet {
         ensures { result
             ≡ board_before (length self.now.present.links) self.now.present.board self.now.past }
     {
-        before_last(&self.position, self.plays.as_slice(), self.links.len())
+        let now = stage_of(&self.position, self.links.as_slice(), self.log.as_slice());
+        before_last(&now, self.plays.as_slice()).position
+    }
+
+    /// The indices of the links that these stones dropped: those that were live on that position and
+    /// are not live now, each once.
+    pub fn dropped(&self) -> &[u16]
+        ensures { AreDropped self.now result.now }
+    {
+        let now = stage_of(&self.position, self.links.as_slice(), self.log.as_slice());
+        let first = before_last(&now, self.plays.as_slice());
+        logged_from(self.log.as_slice(), first.logged)
+    }
+
+    /// The live Full links that end at a vertex, each once and in rising order of their indices.
+    #[inline(always)]
+    pub fn full_at(&self, vertex: Vertex) -> FullIter<'_>
+        ensures { AreFullAt self.now vertex result }
+    {
+        let list = self.fulls.at(&vertex);
+        FullIter::new(list, &vertex, self.liveness.empties, self.liveness.ends)
     }
 
     /// The indices of the live links of these ends, in either order, each once and in rising order.
@@ -289,7 +343,11 @@ impl LinkSet {
             return Err(Memory);
         }
         let head = head_for(link.kind, &link.a, &link.b);
+        if self.fulls.add(count as u32, &link).is_err() {
+            return Err(Memory);
+        }
         if self.chains.grow(head).is_err() {
+            self.fulls.cut(&link);
             return Err(Memory);
         }
         self.links.push_reserved(link);
@@ -309,27 +367,38 @@ impl LinkSet {
             ↔ (IsLive self.old.present.board self.old.player link
             × IsUntouched self.old.player colour cell link) }
     {
-        let count = self.links.len();
-        let logged = self.log.len();
-        drop_touched(
-            &mut self.chains,
-            &mut self.log,
-            self.links.as_slice(),
-            &self.position,
-            self.colour,
-            colour,
-            cell,
-        );
-        self.plays.push_reserved(Play {
-            cell,
-            count,
-            logged,
-        });
-        self.position.play(colour, cell);
-        self.groups = Groups::of(&self.position, self.colour);
+        let after = self.position.with(colour, cell);
+        self.play_to(&after);
     }
 
-    /// Takes back the last stone that stands: the set is as it was before that stone.
+    /// Puts stones of either colour on empty cells, as one play: `undo` takes them back together. Of the
+    /// live links those stay live that each of them leaves alone, and no others. `can_play` tells
+    /// whether it may be called.
+    pub fn play_all(&mut self, stones: &[(Colour, Cell)])
+        requires some { stones.now ≢ [] }
+        requires can { CanPut self.old.present.board stones.now }
+        ensures set { self.new ≡ record {
+          player = self.old.player;
+          present = played_all self.old.present stones.now;
+          past = self.old.present ∷ self.old.past;
+        } }
+        ensures live { (link : Link) → IsLive self.new.present.board self.new.player link
+            ↔ (IsLive self.old.present.board self.old.player link
+            × LeaveAlone self.old.player stones.now link) }
+    {
+        let after = with_all(&self.position, stones);
+        self.play_to(&after);
+    }
+
+    /// Whether these stones can be put as one play: there is one at least, and each comes to an empty
+    /// cell, when they are put one after the other.
+    pub fn can_play(&self, stones: &[(Colour, Cell)]) -> bool
+        ensures { IsTrue result ↔ ((stones.now ≢ []) × CanPut self.now.present.board stones.now) }
+    {
+        !stones.is_empty() && can_put(&self.position, stones)
+    }
+
+    /// Takes back the last play that stands: the set is as it was before that play.
     pub fn undo(&mut self)
         requires { self.old.past ≢ [] }
         ensures player { self.new.player ≡ self.old.player }
@@ -339,11 +408,37 @@ impl LinkSet {
             let held = self.links.len();
             cut_down(&mut self.chains, held as u16, play.count as u16);
             put_back(&mut self.chains, &mut self.log, play.logged);
+            cut_fulls(&mut self.fulls, self.links.as_slice(), play.count);
             self.links.truncate(play.count);
             self.steps.truncate(play.count);
-            self.position.lift(play.cell);
+            self.position = play.position;
             self.groups = Groups::of(&self.position, self.colour);
+            self.liveness = liveness_of(&self.position, self.colour);
         }
+    }
+
+    /// Goes on to a position with some stones more, as one play.
+    fn play_to(&mut self, after: &Position)
+        requires { HasMore self.old.present.board after.now }
+        ensures { self.new ≡ record {
+          player = self.old.player;
+          present = record self.old.present { board = after.now };
+          past = self.old.present ∷ self.old.past;
+        } }
+    {
+        let now = stage_of(&self.position, self.links.as_slice(), self.log.as_slice());
+        drop_dead(
+            &mut self.chains,
+            &mut self.log,
+            self.links.as_slice(),
+            &self.position,
+            after,
+            self.colour,
+        );
+        self.plays.push_reserved(now);
+        self.position = *after;
+        self.groups = Groups::of(after, self.colour);
+        self.liveness = liveness_of(after, self.colour);
     }
 
     /// The link that a step gives from live links. It is live.
@@ -360,7 +455,7 @@ impl LinkSet {
         ) else {
             return None;
         };
-        let live = is_live(&self.position, self.colour, &link);
+        let live = is_live(&self.liveness, &link);
         if live { Some(link) } else { None }
     }
 

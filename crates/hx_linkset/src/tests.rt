@@ -1,4 +1,5 @@
-//! The links of a bridge, as stones are put and taken back; and that a derivation has no more steps than it needs.
+//! The links of a bridge, as stones are put and taken back, one by one and as the stones of a turn; and
+//! that a derivation has no more steps than it needs.
 
 ghost use Rattle.std.specs.Prelude.{◌≡◌, ℕ, ◌∷◌, IsTrue};
 ghost use Rattle.hx_linkset.specs.States.{IsLiveAt};
@@ -80,6 +81,15 @@ fn play(rt: &impl Abort, set: &mut LinkSet, colour: Colour, cell: Cell)
     set.play(colour, cell);
 }
 
+/// Puts stones as one play, which is to be possible.
+fn play_all(rt: &impl Abort, set: &mut LinkSet, stones: &[(Colour, Cell)])
+    ensures { set.new.past ≡ set.old.present ∷ set.old.past }
+{
+    let can_play = set.can_play(stones);
+    assert!(rt; can_play);
+    set.play_all(stones);
+}
+
 /// The indices of the live links.
 fn live_indices(alloc: Global, set: &LinkSet) -> Result<Vec<u32>, AllocError> {
     let mut indices = Vec::new(alloc);
@@ -102,6 +112,38 @@ fn a_stone_drops_links_and_gives_them_back(rt: HostRuntime) -> Result<(), Fail> 
     set.undo();
     let all = live_indices(rt.alloc(), &set)?;
     assert_eq!(rt; all.as_slice(), [0, 1, 2, 3, 4, 5, 6].as_slice());
+    Ok(())
+}
+
+/// The indices of the live Full links at a vertex.
+fn full_indices(alloc: Global, set: &LinkSet, vertex: Vertex) -> Result<Vec<u32>, AllocError> {
+    let mut indices = Vec::new(alloc);
+    for full in set.full_at(vertex) {
+        indices.push(full.index)?;
+    }
+    Ok(indices)
+}
+
+#[test]
+fn the_stones_of_a_turn_are_one_play(rt: HostRuntime) -> Result<(), Fail> {
+    let (a1, b1, a2) = (cell(0, 0)?, cell(0, 1)?, Vertex::Of(cell(1, 0)?));
+    let mut set = bridge(rt.alloc())?;
+    assert!(rt; !set.can_play(&[(White, a1), (Black, a1)]));
+    play_all(&rt, &mut set, &[(White, a1), (Black, b1)]);
+    let left = live_indices(rt.alloc(), &set)?;
+    assert_eq!(rt; left.as_slice(), [3, 4].as_slice());
+    assert_eq!(rt; set.dropped(), [0, 1, 2, 5, 6].as_slice());
+    assert_eq!(rt;
+        (set.plays(), set.before_last_stones().empty_count()),
+        (1, 4)
+    );
+    let full = full_indices(rt.alloc(), &set, a2)?;
+    assert_eq!(rt; full.as_slice(), [4].as_slice());
+    set.undo();
+    let full = full_indices(rt.alloc(), &set, a2)?;
+    assert_eq!(rt; full.as_slice(), [1, 4, 6].as_slice());
+    assert_eq!(rt; (set.plays(), set.dropped().len()), (0, 0));
+    assert!(rt; set.groups().joined(First, Last) == false);
     Ok(())
 }
 

@@ -4,7 +4,7 @@ use Rattle.hx_linkset.proofs.StandingLaws.{keeps-right}
 use Rattle.hx_linkset.proofs.sets.LinkSet.derivation.Goals as goal
 
 pub derivation_of-requires-clause-right : goal.derivation_of-requires-clause-right
-derivation_of-requires-clause-right c = rw (c.as_slice.ensures.value, c.as_slice-2.ensures.value) (keeps-right _ _ _ _ c.self.invariant.keeps)
+derivation_of-requires-clause-right c = rw (c.as_slice.ensures.value, c.as_slice-2.ensures.value) (keeps-right _ _ _ c.self.invariant.keeps)
 
 pub derivation_of-requires-clause-live : goal.derivation_of-requires-clause-live
 derivation_of-requires-clause-live c = λ place named.

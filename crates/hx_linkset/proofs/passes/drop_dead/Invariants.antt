@@ -1,9 +1,9 @@
 use Rattle.std.proofs.Common.{◌≡◌, vec_capacity}
 use Rattle.hx_linkset.specs.Held.{IsPassed}
-use Rattle.hx_linkset.proofs.passes.drop_touched.Given as goal
+use Rattle.hx_linkset.proofs.passes.drop_dead.Given as goal
 
 abbrev pub invariant-loop-place : goal.invariant-loop-place
 invariant-loop-place l = record {
-  passed : IsPassed l.links l.position l.fn.player l.fn.colour l.fn.cell l.place l.initial.chains l.chains l.initial.log.items l.log.items;
+  passed : IsPassed l.links l.before l.after l.fn.player l.place l.initial.chains l.chains l.initial.log.items l.log.items;
   room : vec_capacity l.log ≡ vec_capacity l.initial.log;
 }
