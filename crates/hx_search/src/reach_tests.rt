@@ -237,10 +237,7 @@ fn six_by_six(rt: HostRuntime) -> Result<(), Fail> {
 
 #[test]
 fn seven_by_seven(rt: HostRuntime) -> Result<(), Fail> {
-    let expected = Tally {
-        calls: 0,
-        ..NONE
-    };
+    let expected = Tally { calls: 0, ..NONE };
     assert_eq!(rt; tally_of(rt.alloc(), 7, 7, 14, 4)?, expected);
     Ok(())
 }

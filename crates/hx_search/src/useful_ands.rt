@@ -25,7 +25,9 @@ impl Partners {
             Vertex::First | Vertex::Last => link.carrier,
         };
         let empties = VertexSet::of_cells(empties);
-        let mut out = ends.reach(&link.to).union(VertexSet::of_cells(link.carrier));
+        let mut out = ends
+            .reach(&link.to)
+            .union(VertexSet::of_cells(link.carrier));
         if is_own && empties.has(link.to) {
             out = out.union(empties);
         }

@@ -41,13 +41,7 @@ impl Workspace {
     pub(crate) fn look_at(&mut self, set: &LinkSet, index: u32, link: &Link) -> Result<(), Memory> {
         match link.kind {
             Kind::Full => push_ands(set, &self.ends, &mut self.candidates, index, link),
-            Kind::Semi => push_ors(
-                set,
-                &mut self.candidates,
-                &mut self.or_lists,
-                index,
-                link,
-            ),
+            Kind::Semi => push_ors(set, &mut self.candidates, &mut self.or_lists, index, link),
         }
     }
 }
