@@ -2,41 +2,51 @@
 //!
 //! What a step gives is never smaller than its parts. So where a link is added only when it is taken out of here, all that
 //! could cover it has been added before, and the set holds no link that a later one makes idle.
+//!
+//! Most candidates are covered when their turn comes. So one is small and copied about, and its step, which may need memory, is
+//! made only for those that are wanted.
 
 use crate::covers::{Caps, is_wanted};
 use hx_board::{CELLS, Mask, Memory, Vertex};
-use hx_link::{Kind, Step};
+use hx_link::{Kind, Parts, Step};
 use hx_linkset::LinkSet;
+use smallvec::SmallVec;
 use std::alloc::Global;
 
 /// The most cells of a carrier.
 pub(crate) const MOST_CELLS: usize = CELLS;
 
-/// A step, and the link that it gives. Its ends are in either order.
-#[derive(Drop)]
+/// By what rule a candidate comes, and of which links.
+#[derive(Clone, Copy)]
+pub(crate) enum Rule {
+    Base,
+    AndStone { left: u32, right: u32 },
+    AndCell { left: u32, right: u32 },
+
+    /// So many parts, from a place on in the list of all parts.
+    Or { from: u32, count: u32 },
+}
+
+/// A link, and the rule that gives it. Its ends are in either order.
+#[derive(Clone, Copy)]
 pub(crate) struct Candidate {
-    pub(crate) kind: Kind,
-    pub(crate) a: Vertex,
-    pub(crate) b: Vertex,
-    pub(crate) carrier: Mask,
-    pub(crate) step: Step,
+    carrier: Mask,
+    a: Vertex,
+    b: Vertex,
+    rule: Rule,
 }
 
 impl Candidate {
-    /// The two vertices are joined.
-    pub(crate) fn base(a: &Vertex, b: &Vertex) -> Candidate {
-        Candidate {
-            kind: Kind::Full,
-            a: *a,
-            b: *b,
-            carrier: Mask::empty(),
-            step: Step::Base { a: *a, b: *b },
+    fn kind(&self) -> Kind {
+        match self.rule {
+            Rule::AndCell { .. } => Kind::Semi,
+            Rule::Base | Rule::AndStone { .. } | Rule::Or { .. } => Kind::Full,
         }
     }
 
     /// Whether no live link covers it, and there is room for it among those of its ends.
     pub(crate) fn is_wanted(&self, set: &LinkSet, caps: &Caps) -> bool {
-        is_wanted(set, caps, self.kind, &self.a, &self.b, self.carrier)
+        is_wanted(set, caps, self.kind(), &self.a, &self.b, self.carrier)
     }
 }
 
@@ -44,6 +54,12 @@ impl Candidate {
 #[derive(Drop)]
 pub(crate) struct Candidates {
     buckets: Vec<Vec<Candidate>>,
+
+    /// The most cells of a candidate that came.
+    largest: usize,
+
+    /// The parts of all Ors, one Or after the other.
+    parts: Vec<u32>,
 }
 
 impl Candidates {
@@ -56,7 +72,27 @@ impl Candidates {
                 return Err(Memory);
             }
         }
-        Ok(Candidates { buckets })
+        Ok(Candidates {
+            buckets,
+            largest: 0,
+            parts: Vec::new(alloc),
+        })
+    }
+
+    /// Takes all out, and keeps their memory.
+    pub(crate) fn clear(&mut self) {
+        for cells in 0..=self.largest {
+            if let Some(bucket) = self.buckets.get_mut(cells) {
+                bucket.clear();
+            }
+        }
+        self.largest = 0;
+        self.parts.clear();
+    }
+
+    /// The most cells of a candidate that came.
+    pub(crate) fn largest(&self) -> usize {
+        self.largest
     }
 
     /// How many have so many cells.
@@ -67,16 +103,71 @@ impl Candidates {
         }
     }
 
-    pub(crate) fn push(&mut self, candidate: Candidate) -> Result<(), Memory> {
-        let cells = candidate.carrier.count() as usize;
-        match self.buckets.get_mut(cells) {
-            Some(bucket) => bucket.push(candidate).map_err(|_| Memory),
-            None => Ok(()),
+    /// Adds the link of these ends and this carrier, which a rule gives.
+    pub(crate) fn push(
+        &mut self,
+        rule: Rule,
+        a: &Vertex,
+        b: &Vertex,
+        carrier: Mask,
+    ) -> Result<(), Memory> {
+        let cells = carrier.count() as usize;
+        if self.largest < cells {
+            self.largest = cells;
         }
+        if self.buckets.len() <= cells {
+            return Ok(());
+        }
+        let candidate = Candidate {
+            carrier,
+            a: *a,
+            b: *b,
+            rule,
+        };
+        if self.buckets[cells].push(candidate).is_err() {
+            return Err(Memory);
+        }
+        Ok(())
+    }
+
+    /// Adds the Or of these parts.
+    pub(crate) fn push_or(
+        &mut self,
+        a: &Vertex,
+        b: &Vertex,
+        carrier: Mask,
+        parts: &[u32],
+    ) -> Result<(), Memory> {
+        let from = u32::try_from(self.parts.len()).map_err(|_| Memory)?;
+        let count = u32::try_from(parts.len()).map_err(|_| Memory)?;
+        self.parts.extend_from_slice(parts).map_err(|_| Memory)?;
+        self.push(Rule::Or { from, count }, a, b, carrier)
     }
 
     /// Takes one out that has so many cells.
     pub(crate) fn pop(&mut self, cells: usize) -> Option<Candidate> {
         self.buckets.get_mut(cells)?.pop()
+    }
+
+    /// The step that gives a candidate.
+    pub(crate) fn step(&self, alloc: Global, candidate: &Candidate) -> Result<Step, Memory> {
+        match candidate.rule {
+            Rule::Base => Ok(Step::Base {
+                a: candidate.a,
+                b: candidate.b,
+            }),
+            Rule::AndStone { left, right } => Ok(Step::AndStone { left, right }),
+            Rule::AndCell { left, right } => Ok(Step::AndCell { left, right }),
+            Rule::Or { from, count } => {
+                let end = (from as usize).saturating_add(count as usize);
+                let parts = self.parts.get(from as usize..end).unwrap_or(&[]);
+                match SmallVec::from_slice(alloc, parts) {
+                    Ok(items) => Ok(Step::Or {
+                        parts: Parts::new(items),
+                    }),
+                    Err(_) => Err(Memory),
+                }
+            }
+        }
     }
 }

@@ -11,6 +11,7 @@ use crate::bases::settle_bases;
 use crate::ors::{Passed, join_all};
 use crate::reaches::{Until, add_useful};
 use crate::tries::Tried;
+use crate::workspaces::Workspace;
 use hx_board::Memory;
 use hx_linkset::{LinkSet, MOST_LINKS};
 
@@ -53,7 +54,7 @@ fn add_all(set: &mut LinkSet) -> Result<Tried, Memory>
     ensures grown { IsGrown set.old set.new }
     ensures tried { IfOk result (IsTried set.new (IsClosed set.new)) }
 {
-    match add_useful(set, Until::Through) {
+    match begin_with_useful(set) {
         Ok(()) => {}
         Err(Memory) => return Err(Memory),
     }
@@ -78,5 +79,15 @@ fn add_all(set: &mut LinkSet) -> Result<Tried, Memory>
             Ok(Passed::Full) => return Ok(Tried::Stopped),
             Err(Memory) => return Err(Memory),
         }
+    }
+}
+
+/// Adds useful links, in a workspace that is let go before the others come.
+fn begin_with_useful(set: &mut LinkSet) -> Result<(), Memory>
+    ensures { IsGrown set.old set.new }
+{
+    match Workspace::new(set.allocator()) {
+        Ok(mut workspace) => add_useful(set, &mut workspace, Until::Through),
+        Err(Memory) => Err(Memory),
     }
 }

@@ -12,6 +12,11 @@ pub(crate) struct Caps {
 }
 
 impl Caps {
+    /// No link.
+    pub(crate) fn none() -> Caps {
+        Caps { full: 0, semi: 0 }
+    }
+
     /// Small boards are searched to the end with many links. On large ones a set has no room for as many, and with fewer of
     /// each pair of ends it holds links of more pairs.
     pub(crate) fn of(position: &Position) -> Caps {

@@ -4,7 +4,10 @@
 //! connection. One vertex stands for a group: a side, where the group has one, and else its first stone in cell order. Links
 //! are made between empty cells, sides and these stones alone.
 
-use hx_board::{Cell, Colour, Groups, Mask, Position, VERTICES, Vertex, VertexSet};
+ghost use Rattle.std.specs.Prelude.{◌≡◌};
+
+use hx_board::{Cell, Groups, Mask, Position, VERTICES, Vertex, VertexSet};
+use hx_linkset::LinkSet;
 
 /// What each vertex is joined with, and the vertices that links are made of.
 #[derive(Clone, Copy)]
@@ -12,32 +15,36 @@ pub(crate) struct Ends {
     reaches: [VertexSet; VERTICES],
     stones: Mask,
 
+    /// The stones of the groups that have no side.
+    inner: Mask,
+
     /// The sides, the empty cells, and the stones that stand for their groups.
     useful: VertexSet,
 }
 
 impl Ends {
-    pub(crate) fn of(position: &Position, colour: Colour) -> Ends {
-        let reaches = reaches_of(position, colour);
-        let stones = position.stones(colour);
-        let mut ends = Ends {
-            reaches,
+    /// The ends of no position.
+    pub(crate) fn none() -> Ends {
+        Ends {
+            reaches: [VertexSet::empty(); VERTICES],
+            stones: Mask::empty(),
+            inner: Mask::empty(),
+            useful: VertexSet::empty(),
+        }
+    }
+
+    pub(crate) fn of(set: &LinkSet) -> Ends {
+        let position = set.position();
+        let stones = position.stones(set.colour());
+        let standing = standing_stones(position, set.groups(), stones);
+        Ends {
+            reaches: reaches_of(set.groups(), position),
             stones,
-            useful: VertexSet::of_cells(position.empties())
+            inner: stones.minus(joined_with_sides(set.groups())),
+            useful: VertexSet::of_cells(position.empties().union(standing))
                 .with(Vertex::First)
                 .with(Vertex::Last),
-        };
-        let mut rest = stones;
-        for _ in 0..121u8 {
-            let Some(cell) = rest.least(position.size()) else {
-                break;
-            };
-            rest = rest.without(cell);
-            if ends.stands_for(position, &cell) == Vertex::Of(cell) {
-                ends.useful = ends.useful.with(Vertex::Of(cell));
-            }
         }
-        ends
     }
 
     /// What a vertex is joined with.
@@ -50,9 +57,9 @@ impl Ends {
         self.reach(a).has(*b)
     }
 
-    /// Whether links are made of a vertex.
-    pub(crate) fn is_useful(&self, vertex: &Vertex) -> bool {
-        self.useful.has(*vertex)
+    /// The vertices that links are made of.
+    pub(crate) fn useful(&self) -> VertexSet {
+        self.useful
     }
 
     /// The stones that stand for their groups.
@@ -60,14 +67,14 @@ impl Ends {
         self.useful.cells().meet(self.stones)
     }
 
+    /// The stones of the groups that have no side.
+    pub(crate) fn inner(&self) -> Mask {
+        self.inner
+    }
+
     /// Whether a cell has a stone of the player's.
     pub(crate) fn is_stone(&self, cell: &Cell) -> bool {
         self.stones.has(*cell)
-    }
-
-    /// The stones of the group of a stone.
-    pub(crate) fn group(&self, stone: &Cell) -> Mask {
-        self.reach(&Vertex::Of(*stone)).cells().meet(self.stones)
     }
 
     /// The vertex that stands for the group of a stone.
@@ -86,9 +93,33 @@ impl Ends {
     }
 }
 
+/// The stones that stand for their groups: of each group that has no side the first one.
+pub(crate) fn standing_stones(position: &Position, groups: &Groups, stones: Mask) -> Mask
+    requires { groups.now.board ≡ position.now }
+{
+    let mut standing = Mask::empty();
+    let mut rest = stones.minus(joined_with_sides(groups));
+    for _ in 0..121u8 {
+        let Some(stone) = rest.least(position.size()) else {
+            break;
+        };
+        standing = standing.with(stone);
+        rest = rest.minus(groups.joined_with(Vertex::Of(stone)).cells());
+    }
+    standing
+}
+
+/// The cells that are joined with a side.
+fn joined_with_sides(groups: &Groups) -> Mask {
+    let first = groups.joined_with(Vertex::First);
+    let last = groups.joined_with(Vertex::Last);
+    first.union(last).cells()
+}
+
 /// What each vertex of the board is joined with.
-fn reaches_of(position: &Position, colour: Colour) -> [VertexSet; VERTICES] {
-    let groups = Groups::of(position, colour);
+fn reaches_of(groups: &Groups, position: &Position) -> [VertexSet; VERTICES]
+    requires { groups.now.board ≡ position.now }
+{
     let size = position.size();
     let mut reaches = [VertexSet::empty(); VERTICES];
     for code in 0..VERTICES as u8 {

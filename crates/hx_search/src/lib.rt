@@ -4,24 +4,26 @@
 
 mod ands;
 mod bases;
+mod beginnings;
 mod candidates;
 mod closures;
 mod covers;
 mod decisions;
 mod ends;
-mod entries;
 mod ors;
+mod pairs;
 mod parts;
 mod reaches;
 mod tries;
 mod useful_ands;
 mod useful_bases;
 mod useful_ors;
-mod work;
+mod workspaces;
 
 pub use closures::{Closure, close};
 pub use decisions::{Reached, decided};
-pub use reaches::reach;
+pub use reaches::{reach, reach_with};
+pub use workspaces::Workspace;
 
 #[cfg(test)]
 mod reach_tests;

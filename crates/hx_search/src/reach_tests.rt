@@ -1,4 +1,5 @@
-//! `reach` on sets that stones are put on, beside `reach` on new sets of the same positions and beside `close`.
+//! `reach_with` on sets that stones are put on, in one workspace for many games, beside `reach` on new sets of the same
+//! positions and beside `close`.
 //!
 //! No clause says which links `reach` adds. That it leaves none out which it looks for shows in two ways: it answers the
 //! same on both sets, and the numbers of links over a whole table are what they were. Each part of it, as the Bases near new
@@ -6,7 +7,7 @@
 
 use super::*;
 use hx_board::Colour::{Black, White};
-use hx_board::{Colour, Position, Size};
+use hx_board::{Cell, Colour, Position, Size};
 use hx_link::Kind;
 use hx_linkset::LinkSet;
 use hx_samples::Draws;
@@ -67,8 +68,14 @@ fn kind_of(set: &LinkSet, reached: Reached) -> Option<Kind> {
 
 impl Tally {
     /// Counts one call more, and says whether the position is decided.
-    fn count(&mut self, alloc: Global, set: &mut LinkSet, to_move: Colour) -> Result<bool, Fail> {
-        let reached = reach(set, to_move).ok().ok_or("memory")?;
+    fn count(
+        &mut self,
+        alloc: Global,
+        workspace: &mut Workspace,
+        set: &mut LinkSet,
+        to_move: Colour,
+    ) -> Result<bool, Fail> {
+        let reached = reach_with(workspace, set, to_move).ok().ok_or("memory")?;
         let kind = kind_of(set, reached);
         let mut new = LinkSet::new(alloc, set.position(), set.colour())
             .ok()
@@ -94,6 +101,7 @@ impl Tally {
     fn count_game(
         &mut self,
         alloc: Global,
+        workspace: &mut Workspace,
         start: &Position,
         player: Colour,
         seed: u32,
@@ -108,25 +116,61 @@ impl Tally {
             } else {
                 player.other()
             };
-            if self.count(alloc, &mut set, to_move)? {
+            if self.count(alloc, workspace, &mut set, to_move)? {
                 break;
             }
-            put_stone(&mut set, &mut draws, turn);
-            for _ in 0..draws.below(3) {
-                let colour = draws.colour();
-                put_stone(&mut set, &mut draws, colour);
-            }
+            let stones = draw_stones(alloc, &set, &mut draws, turn)?;
+            put_stones(&mut set, stones.as_slice(), round % 2 == 0);
             turn = turn.other();
         }
         Ok(())
     }
 }
 
+/// A stone of a colour on some empty cell, and up to two more of either colour.
+fn draw_stones(
+    alloc: Global,
+    set: &LinkSet,
+    draws: &mut Draws,
+    colour: Colour,
+) -> Result<Vec<(Colour, Cell)>, Fail> {
+    let mut position = *set.position();
+    let mut stones = Vec::new(alloc);
+    put_stone(&mut position, &mut stones, draws, colour)?;
+    for _ in 0..draws.below(3) {
+        let colour = draws.colour();
+        put_stone(&mut position, &mut stones, draws, colour)?;
+    }
+    Ok(stones)
+}
+
 /// Puts a stone on some empty cell, where there is one.
-fn put_stone(set: &mut LinkSet, draws: &mut Draws, colour: Colour) {
-    let position = *set.position();
+fn put_stone(
+    position: &mut Position,
+    stones: &mut Vec<(Colour, Cell)>,
+    draws: &mut Draws,
+    colour: Colour,
+) -> Result<(), Fail> {
     if let Some(cell) = draws.cell(position.size(), position.empties()) {
-        set.play(colour, cell);
+        position.play(colour, cell);
+        stones.push((colour, cell))?;
+    }
+    Ok(())
+}
+
+/// Puts stones as one play, or each as a play of its own.
+fn put_stones(set: &mut LinkSet, stones: &[(Colour, Cell)], as_one: bool) {
+    if as_one {
+        if set.can_play(stones) {
+            set.play_all(stones);
+        }
+        return;
+    }
+    for stone in stones {
+        let one = [*stone];
+        if set.can_play(&one) {
+            set.play_all(&one);
+        }
     }
 }
 
@@ -135,11 +179,12 @@ fn tally_of(alloc: Global, rows: u8, cols: u8, stones: u32, games: u32) -> Resul
     let size = Size::new(rows, cols).ok_or("size")?;
     let mut draws = Draws::new(u64::from(stones));
     let mut tally = NONE;
+    let mut workspace = Workspace::new(alloc).ok().ok_or("memory")?;
     for seed in 0..games {
         let empty = size.all().count().saturating_sub(stones);
         let start = draws.position(size, empty);
         let player = if seed % 2 == 0 { Black } else { White };
-        tally.count_game(alloc, &start, player, seed)?;
+        tally.count_game(alloc, &mut workspace, &start, player, seed)?;
     }
     Ok(tally)
 }
@@ -187,6 +232,13 @@ fn six_by_six(rt: HostRuntime) -> Result<(), Fail> {
         ..NONE
     };
     assert_eq!(rt; tally_of(rt.alloc(), 6, 6, 8, 12)?, expected);
+    Ok(())
+}
+
+#[test]
+fn seven_by_seven(rt: HostRuntime) -> Result<(), Fail> {
+    let expected = Tally { calls: 0, ..NONE };
+    assert_eq!(rt; tally_of(rt.alloc(), 7, 7, 14, 4)?, expected);
     Ok(())
 }
 

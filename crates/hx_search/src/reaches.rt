@@ -12,7 +12,7 @@ ghost use Rattle.hx_search.specs.Progress.{IsTaken};
 
 use crate::candidates::MOST_CELLS;
 use crate::decisions::{Reached, decided};
-use crate::work::Work;
+use crate::workspaces::Workspace;
 use hx_board::{Colour, Memory};
 use hx_link::{Kind, Link};
 use hx_linkset::{Added, LinkSet};
@@ -31,19 +31,23 @@ enum Taken {
 }
 
 /// Takes candidates with so many cells until one of them is added.
-fn take(set: &mut LinkSet, work: &mut Work, cells: usize) -> Result<Taken, Memory>
+fn take(set: &mut LinkSet, workspace: &mut Workspace, cells: usize) -> Result<Taken, Memory>
     ensures grown { IsGrown set.old set.new }
     ensures longer { IfOk result (IsTaken set.old set.new) }
 {
-    for _ in 0..work.candidates.count(cells) {
-        let Some(candidate) = work.candidates.pop(cells) else {
+    for _ in 0..workspace.candidates.count(cells) {
+        let Some(candidate) = workspace.candidates.pop(cells) else {
             return Ok(Taken::NoMore);
         };
-        let is_wanted = candidate.is_wanted(set, &work.caps);
+        let is_wanted = candidate.is_wanted(set, &workspace.caps);
         if !is_wanted {
             continue;
         }
-        match set.add(candidate.step) {
+        let step = match workspace.candidates.step(set.allocator(), &candidate) {
+            Ok(step) => step,
+            Err(Memory) => return Err(Memory),
+        };
+        match set.add(step) {
             Ok(Added::New(index)) => return Ok(Taken::New(index)),
             Ok(Added::Covered(_)) => {}
             Ok(Added::Refused) => {}
@@ -85,11 +89,16 @@ fn ends_run(link: &Link, colour: Colour, until: Until) -> bool {
 }
 
 /// Adds the candidates with so many cells, and all with no more that these make possible.
-fn take_all(set: &mut LinkSet, work: &mut Work, cells: usize, until: Until) -> Result<Run, Memory>
+fn take_all(
+    set: &mut LinkSet,
+    workspace: &mut Workspace,
+    cells: usize,
+    until: Until,
+) -> Result<Run, Memory>
     ensures { IsGrown set.old set.new }
 {
     loop {
-        match take(set, work, cells) {
+        match take(set, workspace, cells) {
             Ok(Taken::New(index)) => {
                 let Some(link) = set.link(index) else {
                     return Ok(Run::Through);
@@ -98,7 +107,7 @@ fn take_all(set: &mut LinkSet, work: &mut Work, cells: usize, until: Until) -> R
                 if is_last {
                     return Ok(Run::Ended);
                 }
-                if work.look_at(set, index, &link).is_err() {
+                if workspace.look_at(set, index, &link).is_err() {
                     return Err(Memory);
                 }
             }
@@ -110,11 +119,15 @@ fn take_all(set: &mut LinkSet, work: &mut Work, cells: usize, until: Until) -> R
 }
 
 /// Adds candidates, the smallest first.
-fn grow(set: &mut LinkSet, work: &mut Work, until: Until) -> Result<(), Memory>
+fn grow(set: &mut LinkSet, workspace: &mut Workspace, until: Until) -> Result<(), Memory>
     ensures { IsGrown set.old set.new }
 {
     for cells in 0..=MOST_CELLS {
-        match take_all(set, work, cells, until) {
+        // what a candidate makes possible may be larger than all that came before
+        if workspace.candidates.largest() < cells {
+            return Ok(());
+        }
+        match take_all(set, workspace, cells, until) {
             Ok(Run::Through) => {}
             Ok(Run::Ended) => return Ok(()),
             Err(Memory) => return Err(Memory),
@@ -124,17 +137,18 @@ fn grow(set: &mut LinkSet, work: &mut Work, until: Until) -> Result<(), Memory>
 }
 
 /// Adds useful links, the smallest first.
-pub(crate) fn add_useful(set: &mut LinkSet, until: Until) -> Result<(), Memory>
+pub(crate) fn add_useful(
+    set: &mut LinkSet,
+    workspace: &mut Workspace,
+    until: Until,
+) -> Result<(), Memory>
     ensures { IsGrown set.old set.new }
 {
-    let mut work = match Work::of(set) {
-        Ok(work) => work,
-        Err(Memory) => return Err(Memory),
-    };
-    if work.begin(set).is_err() {
+    workspace.set_up(set);
+    if workspace.begin(set).is_err() {
         return Err(Memory);
     }
-    grow(set, &mut work, until)
+    grow(set, workspace, until)
 }
 
 /// Adds useful links until one decides the position, or none is left that this call looks for, or there is no room. Whatever
@@ -143,13 +157,38 @@ pub(crate) fn add_useful(set: &mut LinkSet, until: Until) -> Result<(), Memory>
 /// that decides the position for the set's player, where `to_move` is to move.
 ///
 /// A set that a call has left Open may be played on and reached again: what is new then is what the stones since then
-/// change. A set that is decided, and stays so, needs no more links.
+/// change. A set that is decided, and stays so, needs no more links, and gets none.
 pub fn reach(set: &mut LinkSet, to_move: Colour) -> Result<Reached, Memory>
     ensures grown { IsGrown set.old set.new }
     ensures reached { IfOk result (IsReached set.new to_move) }
     ensures right { IsRight set.new.player set.new.present }
 {
-    let added = add_useful(set, Until::Decided(to_move));
+    match Workspace::new(set.allocator()) {
+        Ok(mut workspace) => reach_with(&mut workspace, set, to_move),
+        Err(Memory) => {
+            set.keeps();
+            Err(Memory)
+        }
+    }
+}
+
+/// As `reach`, in a workspace of the caller's. What it held before makes no difference.
+pub fn reach_with(
+    workspace: &mut Workspace,
+    set: &mut LinkSet,
+    to_move: Colour,
+) -> Result<Reached, Memory>
+    ensures grown { IsGrown set.old set.new }
+    ensures reached { IfOk result (IsReached set.new to_move) }
+    ensures right { IsRight set.new.player set.new.present }
+{
+    set.keeps();
+    let reached = decided(set, to_move);
+    match reached {
+        Reached::Decided(_) => return Ok(reached),
+        Reached::Open => {}
+    }
+    let added = add_useful(set, workspace, Until::Decided(to_move));
     set.keeps();
     match added {
         Ok(()) => Ok(decided(set, to_move)),

@@ -1,148 +1,129 @@
 //! The Ands of Full links that are worth a link.
 
-use crate::candidates::{Candidate, Candidates};
+use crate::candidates::{Candidates, Rule};
 use crate::covers::is_covered;
 use crate::ends::Ends;
-use crate::entries::{Entries, Entry};
 use hx_board::{Cell, Mask, Memory, Vertex, VertexSet};
-use hx_link::{Kind, Link, Step};
-use hx_linkset::LinkSet;
+use hx_link::{Kind, Link};
+use hx_linkset::{FullLink, LinkSet};
 
-/// What a Full link rules out for those that it meets at one of its ends.
+/// The Full links with which one makes a useful And over one of its ends.
 #[derive(Clone, Copy)]
-struct Ruled {
-    /// Its cells and its far end, of which the other carrier has none.
-    cells: Mask,
+struct Partners {
+    /// The cells that their carriers lack: those of its carrier, and its far end.
+    taken: Mask,
 
-    /// Where the other link does not lead: to what the far end is joined with already, and into the carrier.
-    ends: VertexSet,
+    /// Where they lead: to useful vertices outside its carrier, with which the far end is not joined yet.
+    to: VertexSet,
 }
 
-impl Ruled {
-    fn by(ends: &Ends, link: &Entry) -> Ruled {
-        let cells = match link.to {
+impl Partners {
+    /// The partners of a link over an own vertex, or over an empty cell. Over an own vertex two empty cells get no link.
+    fn of(ends: &Ends, empties: Mask, is_own: bool, link: &FullLink) -> Partners {
+        let taken = match link.to {
             Vertex::Of(cell) => link.carrier.with(cell),
             Vertex::First | Vertex::Last => link.carrier,
         };
-        Ruled {
-            cells,
-            ends: ends
-                .reach(&link.to)
-                .union(VertexSet::of_cells(link.carrier)),
+        let empties = VertexSet::of_cells(empties);
+        let mut out = ends
+            .reach(&link.to)
+            .union(VertexSet::of_cells(link.carrier));
+        if is_own && empties.has(link.to) {
+            out = out.union(empties);
+        }
+        Partners {
+            taken,
+            to: ends.useful().minus(out),
         }
     }
 
-    fn out(&self, other: &Entry) -> bool {
-        other.carrier.meets(self.cells) || self.ends.has(other.to)
+    #[inline(always)]
+    fn have(&self, other: &FullLink) -> bool {
+        self.to.has(other.to) && !other.carrier.meets(self.taken)
     }
 }
 
-/// Adds the And of two Full links over the end that they share.
+/// Adds the And of two Full links over the end that they share, which is an own vertex or this empty cell.
 fn push_and(
     set: &LinkSet,
-    ends: &Ends,
     candidates: &mut Candidates,
-    at: &Vertex,
-    one: &Entry,
-    other: &Entry,
+    over: Option<Cell>,
+    one: &FullLink,
+    other: &FullLink,
 ) -> Result<(), Memory> {
-    let (left, right) = (one.link, other.link);
+    let (left, right) = (one.index, other.index);
     let both = one.carrier.union(other.carrier);
-    let (kind, carrier, step) = match at {
-        Vertex::Of(cell) if !ends.is_stone(cell) => {
-            (Kind::Semi, both.with(*cell), Step::AndCell { left, right })
-        }
-        _ => {
-            let empties = VertexSet::of_cells(set.position().empties());
-            if empties.has(one.to) && empties.has(other.to) {
-                return Ok(());
-            }
-            (Kind::Full, both, Step::AndStone { left, right })
-        }
+    let (kind, carrier, rule) = match over {
+        Some(cell) => (Kind::Semi, both.with(cell), Rule::AndCell { left, right }),
+        None => (Kind::Full, both, Rule::AndStone { left, right }),
     };
     if is_covered(set, kind, &one.to, &other.to, carrier) {
         return Ok(());
     }
-    candidates.push(Candidate {
-        kind,
-        a: one.to,
-        b: other.to,
-        carrier,
-        step,
-    })
+    candidates.push(rule, &one.to, &other.to, carrier)
 }
 
-/// Adds the Ands over an end of a link with the links that came before a place at the same vertex.
+/// The empty cell that a vertex is. None where it is an own vertex.
+fn empty_cell(ends: &Ends, vertex: &Vertex) -> Option<Cell> {
+    match vertex {
+        Vertex::Of(cell) if !ends.is_stone(cell) => Some(*cell),
+        Vertex::Of(_) | Vertex::First | Vertex::Last => None,
+    }
+}
+
+/// Adds the Ands over an end of a link with the links that came before it there.
 fn push_ands_at(
     set: &LinkSet,
     ends: &Ends,
-    entries: &Entries,
     candidates: &mut Candidates,
     at: &Vertex,
-    link: &Entry,
-    last: Option<u32>,
+    link: &FullLink,
 ) -> Result<(), Memory> {
-    if !ends.is_useful(&link.to) {
+    if !ends.useful().has(link.to) {
         return Ok(());
     }
-    let ruled = Ruled::by(ends, link);
-    let mut next = last;
-    for _ in 0..entries.count() {
-        let Some(place) = next else {
+    let over = empty_cell(ends, at);
+    let partners = Partners::of(ends, set.position().empties(), over.is_none(), link);
+    for other in set.full_at(*at) {
+        if link.index <= other.index {
             break;
-        };
-        let Some(other) = entries.get(place) else {
-            break;
-        };
-        next = other.earlier;
-        if !ruled.out(&other) {
-            push_and(set, ends, candidates, at, link, &other)?;
+        }
+        if partners.have(&other) {
+            push_and(set, candidates, over, link, &other)?;
         }
     }
     Ok(())
 }
 
-/// Adds the Ands of a Full link with those at its ends, and then the link to these.
+/// Adds the Ands of a Full link with those that came before it at its ends.
 pub(crate) fn push_ands(
     set: &LinkSet,
     ends: &Ends,
-    entries: &mut Entries,
     candidates: &mut Candidates,
     index: u32,
     link: &Link,
 ) -> Result<(), Memory> {
     for (at, to) in [(link.a, link.b), (link.b, link.a)] {
-        let earlier = entries.last_at(&at);
-        let entry = Entry {
-            link: index,
-            carrier: link.carrier,
+        let seen = FullLink {
+            index,
             to,
-            earlier,
+            carrier: link.carrier,
         };
-        push_ands_at(set, ends, entries, candidates, &at, &entry, earlier)?;
+        push_ands_at(set, ends, candidates, &at, &seen)?;
     }
-    entries.add_link(ends, index, link)
+    Ok(())
 }
 
 /// Adds the Ands over a stone of any two Full links that end there.
 pub(crate) fn push_ands_over(
     set: &LinkSet,
     ends: &Ends,
-    entries: &Entries,
     candidates: &mut Candidates,
     stone: &Cell,
 ) -> Result<(), Memory> {
     let at = Vertex::Of(*stone);
-    let mut next = entries.last_at(&at);
-    for _ in 0..entries.count() {
-        let Some(place) = next else {
-            break;
-        };
-        let Some(link) = entries.get(place) else {
-            break;
-        };
-        push_ands_at(set, ends, entries, candidates, &at, &link, link.earlier)?;
-        next = link.earlier;
+    for link in set.full_at(at) {
+        push_ands_at(set, ends, candidates, &at, &link)?;
     }
     Ok(())
 }

@@ -1,72 +1,33 @@
 //! The Bases that are worth a link.
 //!
-//! Two empty cells that only a bare side joins have none: links over a side between cells along it are many, and of no use,
-//! since each of these cells has a link to the side.
+//! Two empty cells have one where they touch, or where a group of stones that has no side joins them. Those that only a side
+//! joins, or a group that has one, have none: links between cells along a side are many, and of no use, since each of these
+//! cells has a link to the side.
 
 ghost use Rattle.hx_board.specs.Cells.{OnBoard};
 
-use crate::candidates::{Candidate, Candidates};
+use crate::candidates::{Candidates, Rule};
 use crate::covers::is_covered;
 use crate::ends::Ends;
-use hx_board::{CELLS, Cell, Mask, Memory, Position, Vertex, neighbours};
+use hx_board::{Cell, Mask, Memory, Position, Vertex, neighbour_set};
 use hx_link::Kind;
 use hx_linkset::LinkSet;
 
-/// What each cell of some touches.
-#[derive(Clone, Copy)]
-struct Beside {
-    /// The cells that it touches.
-    cells: [Mask; CELLS],
-
-    /// The stones of the groups of which it touches a stone.
-    groups: [Mask; CELLS],
-}
-
-impl Beside {
-    fn of(position: &Position, ends: &Ends, cells: Mask) -> Beside {
-        let mut beside = Beside {
-            cells: [Mask::empty(); CELLS],
-            groups: [Mask::empty(); CELLS],
+/// The cells that touch a cell, and those that a group without a side joins with it.
+fn beside(position: &Position, ends: &Ends, cell: Cell) -> Mask
+    requires { OnBoard position.now.size cell }
+{
+    let mut beside = neighbour_set(position.size(), cell);
+    let mut rest = beside.meet(ends.inner());
+    for _ in 0..6u8 {
+        let Some(stone) = rest.least(position.size()) else {
+            break;
         };
-        let mut rest = cells;
-        for _ in 0..121u8 {
-            let Some(cell) = rest.least(position.size()) else {
-                break;
-            };
-            rest = rest.without(cell);
-            beside.look_around(position, ends, &cell);
-        }
-        beside
+        let joined = ends.reach(&Vertex::Of(stone)).cells();
+        beside = beside.union(joined);
+        rest = rest.minus(joined);
     }
-
-    fn look_around(&mut self, position: &Position, ends: &Ends, cell: &Cell)
-        requires { OnBoard position.now.size cell.now }
-    {
-        let place = cell.index() as usize;
-        for near in neighbours(position.size(), *cell).iter() {
-            self.cells[place] = self.cells[place].with(*near);
-            if ends.is_stone(near) {
-                self.groups[place] = self.groups[place].union(ends.group(near));
-            }
-        }
-    }
-
-    /// The cells of a set that touch a cell, or touch a stone of a group of which it touches a stone.
-    fn near(&self, position: &Position, cell: &Cell, cells: Mask) -> Mask {
-        let groups = self.groups[cell.index() as usize];
-        let mut near = self.cells[cell.index() as usize].meet(cells);
-        let mut rest = cells.minus(near);
-        for _ in 0..121u8 {
-            let Some(other) = rest.least(position.size()) else {
-                break;
-            };
-            rest = rest.without(other);
-            if self.cells[other.index() as usize].meets(groups) {
-                near = near.with(other);
-            }
-        }
-        near
-    }
+    beside
 }
 
 /// Adds the Base of two vertices, where there is no link without a cell yet.
@@ -79,7 +40,7 @@ pub(crate) fn push_base(
     if is_covered(set, Kind::Full, a, b, Mask::empty()) {
         return Ok(());
     }
-    candidates.push(Candidate::base(a, b))
+    candidates.push(Rule::Base, a, b, Mask::empty())
 }
 
 /// Adds the Bases of a vertex with these cells.
@@ -107,15 +68,13 @@ fn push_bases_between(
     candidates: &mut Candidates,
     cells: Mask,
 ) -> Result<(), Memory> {
-    let beside = Beside::of(set.position(), ends, cells);
     let mut rest = cells;
     for _ in 0..121u8 {
         let Some(cell) = rest.least(set.position().size()) else {
             break;
         };
         rest = rest.without(cell);
-        let joined = ends.reach(&Vertex::Of(cell)).cells().meet(rest);
-        let near = beside.near(set.position(), &cell, joined);
+        let near = beside(set.position(), ends, cell).meet(rest);
         push_bases_of(set, candidates, &Vertex::Of(cell), near)?;
     }
     Ok(())

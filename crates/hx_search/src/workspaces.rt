@@ -1,0 +1,47 @@
+//! What a closure by useful links works with, and keeps for the next one.
+
+use crate::candidates::Candidates;
+use crate::covers::Caps;
+use crate::ends::Ends;
+use crate::useful_ands::push_ands;
+use crate::useful_ors::{OrLists, push_ors};
+use hx_board::Memory;
+use hx_link::{Kind, Link};
+use hx_linkset::LinkSet;
+use std::alloc::Global;
+
+/// Room that `reach_with` works in. A caller who keeps it from one call to the next, for whatever set, spares that its memory
+/// is taken anew. What it holds between the calls tells nothing.
+#[derive(Drop)]
+pub struct Workspace {
+    pub(crate) ends: Ends,
+    pub(crate) or_lists: OrLists,
+    pub(crate) candidates: Candidates,
+    pub(crate) caps: Caps,
+}
+
+impl Workspace {
+    pub fn new(alloc: Global) -> Result<Workspace, Memory> {
+        Ok(Workspace {
+            ends: Ends::none(),
+            or_lists: OrLists::new(alloc)?,
+            candidates: Candidates::new(alloc)?,
+            caps: Caps::none(),
+        })
+    }
+
+    /// Makes it ready for a set.
+    pub(crate) fn set_up(&mut self, set: &LinkSet) {
+        self.ends = Ends::of(set);
+        self.caps = Caps::of(set.position());
+        self.candidates.clear();
+    }
+
+    /// Adds what a new link makes possible.
+    pub(crate) fn look_at(&mut self, set: &LinkSet, index: u32, link: &Link) -> Result<(), Memory> {
+        match link.kind {
+            Kind::Full => push_ands(set, &self.ends, &mut self.candidates, index, link),
+            Kind::Semi => push_ors(set, &mut self.candidates, &mut self.or_lists, index, link),
+        }
+    }
+}
