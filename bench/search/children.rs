@@ -45,7 +45,12 @@ pub(crate) enum Look {
 
 impl<'a> Worker<'a> {
     /// The moves that must be tried, in this order.
-    pub(crate) fn moves(&self, turn: &Turn, must: Must, order: &[Cell]) -> Result<Moves, Memory> {
+    pub(crate) fn children(
+        &self,
+        turn: &Turn,
+        must: &Must,
+        order: &[Cell],
+    ) -> Result<Vec<Child>, Memory> {
         let mut tried = must.cells;
         for line in must.under.items() {
             tried = tried.without(line.cell());
@@ -57,11 +62,7 @@ impl<'a> Worker<'a> {
                 children.push(self.child(turn, *cell)).map_err(|_| Memory)?;
             }
         }
-        Ok(Moves {
-            must,
-            children,
-            answers: [0; CELLS],
-        })
+        Ok(children)
     }
 
     /// A move, with the numbers of its hint, or those of a move that nobody looked at: more empty

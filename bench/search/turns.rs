@@ -11,7 +11,7 @@ use crate::measures::{add, moment};
 use crate::orders::in_order;
 use crate::stones::{Place, Stone, push, push_fill};
 use crate::workers::{Outcome, Worker, open};
-use hx_board::{Cell, Colour, Memory};
+use hx_board::{CELLS, Cell, Colour, Memory};
 use hx_fill::{Filled, fill_in, must};
 use hx_linkset::LinkSet;
 use hx_pn::Numbers;
@@ -244,7 +244,7 @@ impl<'a> Worker<'a> {
             add(&mut self.measured.counts.other_links, 1);
             return Ok(outcome);
         }
-        let mut moves = self.expanded(own, others, rt, turn)?;
+        let mut moves = self.expanded(rt, own, others, turn)?;
         let ended = self.look_at_proved(rt, turn, &mut moves);
         if let Some(outcome) = ended {
             return Ok(outcome);
@@ -342,9 +342,9 @@ impl<'a> Worker<'a> {
     /// The moves that must be tried, in their order.
     fn expanded(
         &mut self,
+        rt: &HostRuntime,
         own: &LinkSet,
         others: &LinkSet,
-        rt: &HostRuntime,
         turn: &Turn,
     ) -> Result<Moves, Memory> {
         let start = moment(rt);
@@ -353,12 +353,15 @@ impl<'a> Worker<'a> {
         let start = moment(rt);
         let order = in_order(self.alloc, own, others, must.cells)?;
         self.measured.parts.order.add(rt, start);
-        let moves = self.moves(turn, must, order.as_slice())?;
-        let counts = &mut self.measured.counts;
-        add(&mut counts.expanded, 1);
-        add(&mut counts.cells, u64::from(moves.must.cells.count()));
-        add(&mut counts.lines, moves.must.under.items().len() as u64);
-        add(&mut counts.children, moves.children.len() as u64);
-        Ok(moves)
+        let children = self.children(turn, &must, order.as_slice())?;
+        add(&mut self.measured.counts.expanded, 1);
+        add(&mut self.measured.counts.cells, u64::from(must.cells.count()));
+        add(&mut self.measured.counts.lines, must.under.items().len() as u64);
+        add(&mut self.measured.counts.children, children.len() as u64);
+        Ok(Moves {
+            must,
+            children,
+            answers: [0; CELLS],
+        })
     }
 }
