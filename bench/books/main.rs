@@ -1,0 +1,409 @@
+//! How long `find` and `put` of a book take, beside a HashMap of std's: the least of some rounds.
+//! How many entries a find visits.
+#![tactic(auto)]
+
+ghost use Rattle.std.specs.Prelude.{◌≡◌};
+ghost use Rattle.hx_board.specs.declared.colours.Colour.TheVariants.{Black};
+ghost use Rattle.hx_tree.specs.declared.nodes.Rule.TheVariants.{Chain};
+
+mod clock;
+
+use crate::clock::since;
+use hx_board::{Colour, Mask, Position, Size, chain};
+use hx_book::{Book, Found};
+use hx_tree::{Heading, Node, Rule};
+use std::alloc::{AllocError, Global};
+use std::collections::HashMap;
+use std::io;
+use std::mem::size_of;
+use std::time::Instant;
+
+const ROUNDS: u32 = 7;
+
+/// The cells of the column in the middle.
+const COLUMN: u128 = 0x0008_0100_2004_0080_1002_0040_0801_0020;
+
+/// 2^64.
+const HALF: u128 = 18446744073709551616;
+
+/// A position, in which Black has a chain, and who is to move.
+#[derive(Clone, Copy)]
+struct Asked {
+    position: Position,
+    to_move: Colour,
+}
+
+/// The same for a HashMap.
+#[derive(Clone, Copy, PartialEq, Eq, Hash)]
+struct Key {
+    black: u128,
+    white: u128,
+    black_moves: bool,
+}
+
+impl Asked {
+    fn key(&self) -> Key {
+        Key {
+            black: self.position.stones(Colour::Black).bits(),
+            white: self.position.stones(Colour::White).bits(),
+            black_moves: self.to_move == Colour::Black,
+        }
+    }
+
+    fn node(&self) -> Node
+        ensures { result ≡ record {
+          heading = record {
+            position = self.now.position;
+            to_move = self.now.to_move;
+            winner = Black;
+          };
+          rule = Chain;
+        } }
+    {
+        let heading = Heading {
+            position: self.position,
+            to_move: self.to_move,
+            winner: Colour::Black,
+        };
+        let rule = Rule::Chain;
+        Node { heading, rule }
+    }
+}
+
+/// The ten lowest binary digits, as cells of the first row beside the column.
+fn spread(number: u32) -> u128 {
+    let digits = (number % 1024) as u128;
+    digits % 32 + digits / 32 * 64
+}
+
+/// Which stones stand beside the column is told by a number's digits, ten for White and ten for
+/// Black, after one for the mover. A further stone stands on none of these cells.
+fn drawn(size: Size, number: u32, further: u128) -> Option<Asked> {
+    let white = (spread(number / 2) << 33) | further;
+    let black = (spread(number / 2048) << 77) | COLUMN;
+    let position = Position::from_masks(size, Mask::of(black), Mask::of(white))?;
+    let to_move = if number % 2 == 0 {
+        Colour::Black
+    } else {
+        Colour::White
+    };
+    Some(Asked { position, to_move })
+}
+
+/// So many of them, all different.
+fn list(alloc: Global, size: Size, count: u32, further: u128) -> Result<Vec<Asked>, AllocError> {
+    let mut list = Vec::with_capacity(alloc, count as usize)?;
+    for number in 0..count {
+        if let Some(one) = drawn(size, number, further) {
+            list.push(one)?;
+        }
+    }
+    Ok(list)
+}
+
+/// The same in an order that is as good as random, where their number is a power of two.
+fn mixed(alloc: Global, list: &[Asked]) -> Result<Vec<Asked>, AllocError> {
+    let mut mixed = Vec::with_capacity(alloc, list.len())?;
+    let mut place = 7usize;
+    for _ in 0..list.len() {
+        place = place
+            .wrapping_mul(6364136223846793005)
+            .wrapping_add(1442695040888963407)
+            % list.len().max(1);
+        if let Some(one) = list.get(place) {
+            mixed.push(*one)?;
+        }
+    }
+    Ok(mixed)
+}
+
+fn keys(alloc: Global, list: &[Asked]) -> Result<Vec<Key>, AllocError> {
+    let mut keys = Vec::with_capacity(alloc, list.len())?;
+    for one in list {
+        keys.push(one.key())?;
+    }
+    Ok(keys)
+}
+
+fn fold(a: u64, b: u64) -> u64 {
+    let product = u128::from(a).wrapping_mul(u128::from(b));
+    (product / HALF) as u64 ^ (product % HALF) as u64
+}
+
+fn fold_set(set: Mask, low_key: u64, high_key: u64) -> u64 {
+    let bits = set.bits();
+    fold(
+        (bits % HALF) as u64 ^ low_key,
+        (bits / HALF) as u64 ^ high_key,
+    )
+}
+
+/// The number of hx_book, once more.
+fn number(one: &Asked) -> u64 {
+    let black = fold_set(
+        one.position.stones(Colour::Black),
+        11400714819323198485,
+        14029467366897019727,
+    );
+    let white = fold_set(
+        one.position.stones(Colour::White),
+        1609587929392839161,
+        9650029242287828579,
+    );
+    let key = match one.to_move {
+        Colour::Black => 13287129219935123339,
+        Colour::White => 5871781006564002453,
+    };
+    fold(black ^ key, white ^ 2870177450012600261)
+}
+
+/// The bucket of hx_book, once more.
+fn bucket(one: &Asked, buckets: u32) -> usize {
+    (u128::from(number(one)).wrapping_mul(u128::from(buckets)) / HALF) as usize
+}
+
+/// How many entries the finds of all hits and of all misses visit. The newest entry of a bucket is
+/// found at once, the next one at the second visit, and a miss goes through the whole bucket.
+fn visits(
+    alloc: Global,
+    hits: &[Asked],
+    misses: &[Asked],
+    buckets: u32,
+) -> Result<(u64, u64), AllocError> {
+    let mut held = vec![in alloc; 0u64; buckets as usize]?;
+    let mut hit_visits = 0u64;
+    for one in hits {
+        let bucket = bucket(one, buckets);
+        if let Some(count) = held.get_mut(bucket) {
+            *count = count.wrapping_add(1);
+            hit_visits = hit_visits.wrapping_add(*count);
+        }
+    }
+    let mut miss_visits = 0u64;
+    for one in misses {
+        let bucket = bucket(one, buckets);
+        if let Some(count) = held.get(bucket) {
+            miss_visits = miss_visits.wrapping_add(*count);
+        }
+    }
+    Ok((hit_visits, miss_visits))
+}
+
+/// The looks for a chain that `put_all` makes, alone.
+fn look_at_all(list: &[Asked]) -> u64 {
+    let mut found = 0u64;
+    for one in list {
+        found = found.wrapping_add(u64::from(chain(&one.position, Colour::Black)));
+    }
+    found
+}
+
+/// Puts a node in, after a look for the chain, without which it may not be put in.
+fn put(book: &mut Book, one: &Asked) -> u64 {
+    let _size = one.position.size();
+    if chain(&one.position, Colour::Black) {
+        if let Ok(index) = book.put(one.node()) {
+            return u64::from(index);
+        }
+    }
+    0
+}
+
+fn put_all(book: &mut Book, list: &[Asked]) -> u64 {
+    let mut sum = 0u64;
+    for one in list {
+        sum = sum.wrapping_add(put(book, one));
+    }
+    sum
+}
+
+fn find_all(book: &Book, list: &[Asked]) -> u64 {
+    let mut sum = 0u64;
+    for one in list {
+        if let Some(found) = book.find(&one.position, one.to_move) {
+            sum = sum.wrapping_add(u64::from(found.index));
+        }
+    }
+    sum
+}
+
+/// Adds a node to the list for each of them that the map does not have yet.
+fn insert_all(
+    map: &mut HashMap<Key, Found>,
+    nodes: &mut Vec<Node>,
+    list: &[Asked],
+) -> Result<u64, AllocError> {
+    let mut sum = 0u64;
+    for one in list {
+        let node = one.node();
+        let key = one.key();
+        if map.get(&key).is_none() {
+            let index = u32::try_from(nodes.len()).or(Err(AllocError))?;
+            let winner = node.heading.winner;
+            if map.insert(key, Found { index, winner }).is_err() {
+                return Err(AllocError);
+            }
+            nodes.push(node)?;
+            sum = sum.wrapping_add(u64::from(index));
+        }
+    }
+    Ok(sum)
+}
+
+fn get_all(map: &HashMap<Key, Found>, keys: &[Key]) -> u64 {
+    let mut sum = 0u64;
+    for key in keys {
+        if let Some(found) = map.get(key) {
+            sum = sum.wrapping_add(u64::from(found.index));
+        }
+    }
+    sum
+}
+
+/// The least nanoseconds of each kind of call, and the sum of all answers, which is the same for
+/// the book and the map.
+#[derive(Clone, Copy)]
+struct Least {
+    look: u64,
+    put: u64,
+    hit: u64,
+    miss: u64,
+    map_put: u64,
+    map_hit: u64,
+    map_miss: u64,
+    sum: u64,
+    map_sum: u64,
+}
+
+const NOTHING_YET: Least = Least {
+    look: u64::MAX,
+    put: u64::MAX,
+    hit: u64::MAX,
+    miss: u64::MAX,
+    map_put: u64::MAX,
+    map_hit: u64::MAX,
+    map_miss: u64::MAX,
+    sum: 0,
+    map_sum: 0,
+};
+
+impl Least {
+    fn print(&self, rt: &HostRuntime, each: u64) -> io::Result<()> {
+        let each = each.max(1);
+        println!(rt;
+            "  book: hit {} ns, miss {} ns, put {} ns with the look for a chain",
+            self.hit / each,
+            self.miss / each,
+            self.put / each
+        )?;
+        println!(rt; "  look for a chain alone: {} ns", self.look / each)?;
+        println!(rt;
+            "  map: hit {} ns, miss {} ns, put {} ns; the same answers: {}",
+            self.map_hit / each,
+            self.map_miss / each,
+            self.map_put / each,
+            self.sum == self.map_sum
+        )
+    }
+}
+
+/// What is asked: the positions in the order in which they come, in another one, and others that do
+/// not come.
+#[derive(Drop)]
+struct Lists {
+    puts: Vec<Asked>,
+    hits: Vec<Asked>,
+    misses: Vec<Asked>,
+    hit_keys: Vec<Key>,
+    miss_keys: Vec<Key>,
+}
+
+fn all_lists(alloc: Global, size: Size, count: u32) -> Result<Lists, AllocError> {
+    let puts = list(alloc, size, count, 0)?;
+    let hits = mixed(alloc, &puts)?;
+    let misses = mixed(alloc, &list(alloc, size, count, 1 << 55)?)?;
+    let hit_keys = keys(alloc, &hits)?;
+    let miss_keys = keys(alloc, &misses)?;
+    Ok(Lists {
+        puts,
+        hits,
+        misses,
+        hit_keys,
+        miss_keys,
+    })
+}
+
+fn book_round(
+    rt: &HostRuntime,
+    least: &mut Least,
+    lists: &Lists,
+    slots: u32,
+    buckets: u32,
+) -> io::Result<()> {
+    if slots > 1048576 || buckets == 0 || buckets > 2097152 {
+        return Ok(());
+    }
+    let Ok(mut book) = Book::with_buckets(rt.alloc(), slots, buckets) else {
+        return Ok(());
+    };
+    let start = Instant::now(rt)?;
+    let chains = look_at_all(&lists.puts);
+    least.look = least.look.min(since(rt, start)?);
+    let start = Instant::now(rt)?;
+    let mut sum = put_all(&mut book, &lists.puts);
+    least.put = least.put.min(since(rt, start)?);
+    let start = Instant::now(rt)?;
+    sum = sum.wrapping_add(find_all(&book, &lists.hits));
+    least.hit = least.hit.min(since(rt, start)?);
+    let start = Instant::now(rt)?;
+    sum = sum.wrapping_add(find_all(&book, &lists.misses));
+    least.miss = least.miss.min(since(rt, start)?);
+    least.sum = sum.wrapping_add(chains);
+    Ok(())
+}
+
+fn map_round(rt: &HostRuntime, least: &mut Least, lists: &Lists) -> io::Result<()> {
+    let mut map = HashMap::with_capacity(rt.alloc(), lists.puts.len())?;
+    let mut nodes = Vec::with_capacity(rt.alloc(), lists.puts.len())?;
+    let start = Instant::now(rt)?;
+    let mut sum = insert_all(&mut map, &mut nodes, &lists.puts)?;
+    least.map_put = least.map_put.min(since(rt, start)?);
+    let start = Instant::now(rt)?;
+    sum = sum.wrapping_add(get_all(&map, &lists.hit_keys));
+    least.map_hit = least.map_hit.min(since(rt, start)?);
+    let start = Instant::now(rt)?;
+    sum = sum.wrapping_add(get_all(&map, &lists.miss_keys));
+    least.map_miss = least.map_miss.min(since(rt, start)?);
+    least.map_sum = sum.wrapping_add(lists.puts.len() as u64);
+    Ok(())
+}
+
+fn measure(rt: &HostRuntime, size: Size, count: u32, buckets: u32) -> io::Result<()> {
+    let lists = all_lists(rt.alloc(), size, count)?;
+    let (hit_visits, miss_visits) = visits(rt.alloc(), &lists.puts, &lists.misses, buckets)?;
+    println!(rt;
+        "{count} entries, {buckets} buckets: visits of all hits {hit_visits}, of all misses {miss_visits}"
+    )?;
+    let mut least = NOTHING_YET;
+    for _ in 0..ROUNDS {
+        book_round(rt, &mut least, &lists, count, buckets)?;
+        map_round(rt, &mut least, &lists)?;
+    }
+    least.print(rt, u64::from(count))
+}
+
+fn main(rt: HostRuntime) -> io::Result<()> {
+    let Some(size) = Size::new(11, 11) else {
+        return Ok(());
+    };
+    println!(rt;
+        "a node has {} bytes, a key and its answer {}",
+        size_of::<Node>(),
+        size_of::<(Key, Found)>()
+    )?;
+    for count in [1048576u32, 65536] {
+        measure(&rt, size, count, count)?;
+        measure(&rt, size, count, 2 * count)?;
+    }
+    Ok(())
+}
