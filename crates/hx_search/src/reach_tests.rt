@@ -1,5 +1,5 @@
-//! `reach_with` on sets that stones are put on, in one workspace for many games, beside `reach` on new sets of the same
-//! positions and beside `close`.
+//! `reach_with` on sets that stones are put on, in one workspace for many games, beside `reach` on
+//! new sets of the same positions and beside `close`.
 //!
 //! No clause says which links `reach` adds. That it leaves none out which it looks for shows in two ways: it answers the
 //! same on both sets, and the numbers of links over a whole table are what they were. Each part of it, as the Bases near new
