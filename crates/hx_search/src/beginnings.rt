@@ -1,8 +1,9 @@
 //! What is new when a closure by useful links begins.
 //!
-//! Where a set was brought to its end before and only stones came since, the stones tell what is new: ends that lost a Full
-//! link may have another Or; what an own stone joins has Bases; a stone that stood for its group hands its links over to the
-//! vertex that stands for it now; and over a new stone that stands for its group Ands become Full. Nothing else is tried.
+//! Where a set was brought to its end before and only stones came since, the stones tell what is
+//! new: ends that lost a Full link may have another Or; what an own stone joins has Bases; a stone
+//! that stood for its group hands its links over to the vertex that stands for it now; and over a
+//! new stone that stands for its group Ands become Full. Nothing else is tried.
 
 use crate::ends::standing_stones;
 use crate::pairs::Pairs;
@@ -36,7 +37,8 @@ impl Workspace {
         push_bases(set, &self.ends, &mut self.candidates, all)
     }
 
-    /// Adds what the last stones make possible, where the links that were live before them made nothing more possible.
+    /// Adds what the last stones make possible, where the links that were live before them made
+    /// nothing more possible.
     fn begin_after(&mut self, set: &LinkSet, before: &Position) -> Result<(), Memory> {
         self.join_anew(set)?;
         let colour = set.colour();
@@ -73,8 +75,8 @@ impl Workspace {
         Ok(())
     }
 
-    /// Gives the links of a stone that stands for its group no more to the vertex that now does, and makes those over a new
-    /// stone that stands for its group.
+    /// Gives the links of a stone that stands for its group no more to the vertex that now does,
+    /// and makes those over a new stone that stands for its group.
     fn hand_over(&mut self, set: &LinkSet, before: &Position, fresh: Mask) -> Result<(), Memory> {
         let position = set.position();
         let groups = Groups::of(before, set.colour());

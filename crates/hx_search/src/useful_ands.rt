@@ -13,12 +13,14 @@ struct Partners {
     /// The cells that their carriers lack: those of its carrier, and its far end.
     taken: Mask,
 
-    /// Where they lead: to useful vertices outside its carrier, with which the far end is not joined yet.
+    /// Where they lead: to useful vertices outside its carrier, with which the far end is not
+    /// joined yet.
     to: VertexSet,
 }
 
 impl Partners {
-    /// The partners of a link over an own vertex, or over an empty cell. Over an own vertex two empty cells get no link.
+    /// The partners of a link over an own vertex, or over an empty cell. Over an own vertex two
+    /// empty cells get no link.
     fn of(ends: &Ends, empties: Mask, is_own: bool, link: &FullLink) -> Partners {
         let taken = match link.to {
             Vertex::Of(cell) => link.carrier.with(cell),
@@ -43,7 +45,8 @@ impl Partners {
     }
 }
 
-/// Adds the And of two Full links over the end that they share, which is an own vertex or this empty cell.
+/// Adds the And of two Full links over the end that they share, which is an own vertex or this
+/// empty cell.
 fn push_and(
     set: &LinkSet,
     candidates: &mut Candidates,

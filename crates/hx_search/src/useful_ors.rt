@@ -143,8 +143,8 @@ impl OrSearch {
         candidates.push_or(&self.a, &self.b, chosen.carrier, links)
     }
 
-    /// Adds the Ors of the chosen parts with so many more of these. Each part takes a cell away from what those before it
-    /// share.
+    /// Adds the Ors of the chosen parts with so many more of these. Each part takes a cell away
+    /// from what those before it share.
     fn widen(
         &mut self,
         set: &LinkSet,
@@ -270,7 +270,8 @@ pub(crate) fn push_ors(
     push_ors_of(set, candidates, lists, &link.a, &link.b, &start)
 }
 
-/// Adds the Ors of all live Semi links of two ends. Each has a part besides the first one, so that one needs no search.
+/// Adds the Ors of all live Semi links of two ends. Each has a part that is not the first link, and
+/// is found from that part.
 pub(crate) fn push_ors_between(
     set: &LinkSet,
     candidates: &mut Candidates,

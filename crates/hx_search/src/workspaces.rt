@@ -10,8 +10,8 @@ use hx_link::{Kind, Link};
 use hx_linkset::LinkSet;
 use std::alloc::Global;
 
-/// Room that `reach_with` works in. A caller who keeps it from one call to the next, for whatever set, spares that its memory
-/// is taken anew. What it holds between the calls tells nothing.
+/// Room that `reach_with` works in. A caller may keep it from one call to the next, for whatever
+/// set, so that its memory is taken once. Nothing else in it lasts.
 #[derive(Drop)]
 pub struct Workspace {
     pub(crate) ends: Ends,
