@@ -8,7 +8,7 @@ pub returns-clause-again : goal.returns-clause-again
 returns-clause-again c = λ fault failed.
     let same : c.else-ended.self.place ≡ c.args.self.now.place =
     elim c.else-ended.branch [
-      else-ended-via-then-ended+else-goes_on w ↦ ap (λ (reader : TreeReader). reader.place) w.self-is ∙ w.goes_on.ensures.no w.if-goes_on.false
-    | else-ended-via-else-ended w ↦ ap (λ (reader : TreeReader). reader.place) w.self-is
+      | else-ended-via-then-ended+else-goes_on w ↦ ap (λ (reader : TreeReader). reader.place) w.self-is ∙ w.goes_on.ensures.no w.if-goes_on.false
+      | else-ended-via-else-ended w ↦ ap (λ (reader : TreeReader). reader.place) w.self-is
     ] in
     c.take_line-told.ensures.again fault (failed.0, c.replace-place.ensures.value ∙ same ∙ failed.1)
