@@ -1,11 +1,14 @@
 -- What a run says with each status: each answer fits its cause alone, since an input that one answer is true of is not an
 -- input that another is true of.
-use Rattle.std.proofs.Common.{◌≡◌, ℕ, ◌<◌, ◌≤◌, inl, inr, ⊎_elim, List, [], length, get_or, refl, sym, ap, ◌∙◌, subst, arith}
+use Rattle.std.proofs.Common.{◌≡◌, ◌↔◌, ℕ, ◌<◌, ◌≤◌, inl, inr, ⊎_elim, List, [], length, get_or, refl, sym, ap, ◌∙◌, subst, arith}
 use Rattle.std.specs.Prelude.{Option, None, Some, IfSome}
 use Rattle.hx_io.specs.Sinks.{append}
 use Rattle.hx_tree.specs.declared.nodes.Heading.{Heading}
 use Rattle.hx_proof.proofs.TreeSoundness.{root_wins}
-use Rattle.hx_text.proofs.WholeTrees.{written_is_text}
+use Rattle.hx_text.specs.declared.versions.Version.TheVariants.{Two}
+use Rattle.hx_text.specs.declared.versions.Preamble.{Preamble}
+use Rattle.hx_text.specs.Versions.{HasTurned}
+use Rattle.hx_text.proofs.WholeTrees.{written_with}
 use Rattle.hx_app.specs.declared.answers.Answer.{Answer}
 use Rattle.hx_app.specs.declared.answers.Answer.TheVariants.{Yes, NoText, NoNode, Solved, UnknownSweep, BadPosition, BadWords, ReadFault, OutOfMemory, TooLong}
 use Rattle.hx_app.specs.declared.commands.Command.{Command}
@@ -48,24 +51,27 @@ says_yes input root taken_before taken_now is output = record {
 
 says_solved : (input : List ℕ) (solution : Solution) (taken_before taken_now : Option (List ℕ)) → IsSolved input solution
     → taken_now ≡ append taken_before (solution_text solution) → SaysSolved input taken_before taken_now
-says_solved input solution taken_before taken_now is output = record {
-  board = is.board;
-  mover = is.mover;
-  text = is.text;
-  nodes = solution.nodes.items;
-  root = is.root;
-  valid = is.tree.valid;
-  few = is.tree.few;
-  last = is.tree.last;
-  position = is.tree.position;
-  to_move = is.tree.to_move;
-  tree = solution_text solution;
-  is_text = written_is_text (preamble_of solution) solution.nodes.items solution.winner (rw is.size is.text.is_board.0) is.fits
-      (record { root = is.root; last = is.tree.last; same = sym is.winner }) (omega (arith, is.tree.few));
-  version = is.version;
-  output = output;
-  wins = root_wins solution.nodes.items is.root is.tree.valid is.tree.last;
-}
+says_solved input solution taken_before taken_now is output =
+    let text = written_with (preamble_of solution) solution.nodes.items solution.winner (rw is.size is.text.is_board.0) is.fits
+    (record { root = is.root; last = is.tree.last; same = sym is.winner }) (omega (arith, is.tree.few)) in
+    let HasVersion : Preamble → Type 0 = λ preamble. (preamble.version ≡ Two) ↔ HasTurned solution.nodes.items in
+    record {
+      board = is.board;
+      mover = is.mover;
+      text = is.text;
+      nodes = solution.nodes.items;
+      root = is.root;
+      valid = is.tree.valid;
+      few = is.tree.few;
+      last = is.tree.last;
+      position = is.tree.position;
+      to_move = is.tree.to_move;
+      tree = solution_text solution;
+      is_text = text.0;
+      version = subst HasVersion (sym text.1) is.version;
+      output = output;
+      wins = root_wins solution.nodes.items is.root is.tree.valid is.tree.last;
+    }
 
 -- ---- what the answer to a command says, by its status
 

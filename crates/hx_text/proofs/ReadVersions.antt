@@ -1,14 +1,12 @@
 -- At each place of a tree's text the version that it keeps is that of the first line that was read.
-use Rattle.std.proofs.Common.{◌≡◌, ℕ, List, [], ◌∷◌, ◌++◌, map, ap, ◌∙◌}
+use Rattle.std.proofs.Common.{ℕ, List, [], ◌∷◌, ◌++◌, map, ap, ◌∙◌}
 use Rattle.std.specs.Prelude.{flat_map}
-use Rattle.hx_board.specs.declared.colours.Colour.{Colour}
 use Rattle.hx_tree.specs.declared.nodes.Node.{Node}
 use Rattle.hx_text.specs.declared.places.Place.{Place}
 use Rattle.hx_text.specs.declared.places.Place.TheVariants.{Title, Size, Between, Inside, After, Failed}
-use Rattle.hx_text.specs.declared.versions.Preamble.{Preamble}
 use Rattle.hx_text.specs.PositionTexts.{size_line}
 use Rattle.hx_text.specs.Entries.{entry_line}
-use Rattle.hx_text.specs.TreeTexts.{head_line, node_lines, end_line, title_line, front_lines}
+use Rattle.hx_text.specs.TreeTexts.{head_line, node_lines}
 use Rattle.hx_text.specs.Places.{Stands, entries_in, version_at}
 use Rattle.hx_text.specs.Reader.{IsVersionIn}
 

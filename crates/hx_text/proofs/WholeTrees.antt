@@ -57,16 +57,23 @@ written_text preamble nodes winner =
     (text_of-append (front_lines preamble) (flat_map node_lines nodes)
     ∙ ap (λ (t : List ℕ). text_of (front_lines preamble) ++ t) (text_of-nodes nodes)))
 
--- what is written piece by piece is the text of the nodes
+-- what is written piece by piece is the text of the nodes, with the lines before them that were written
+pub written_with : (preamble : Preamble) (nodes : List Node) (winner : Colour) → IsExtent preamble.size.rows preamble.size.cols → EachNodeFits preamble nodes
+    → IsRootWinner nodes winner → IsNumber (length nodes) → (text : IsTreeText (written_tree preamble nodes winner) nodes) × (text.preamble ≡ preamble)
+written_with preamble nodes winner extent each root few = (
+  record {
+    preamble = preamble;
+    winner = winner;
+    lines = tree_lines preamble nodes winner;
+    are = record { is_size = extent; each = each; root = root; count = few; same = refl };
+    same = written_text preamble nodes winner;
+  },
+  refl,
+)
+
 pub written_is_text : (preamble : Preamble) (nodes : List Node) (winner : Colour) → IsExtent preamble.size.rows preamble.size.cols → EachNodeFits preamble nodes
     → IsRootWinner nodes winner → IsNumber (length nodes) → IsTreeText (written_tree preamble nodes winner) nodes
-written_is_text preamble nodes winner extent each root few = record {
-  preamble = preamble;
-  winner = winner;
-  lines = tree_lines preamble nodes winner;
-  are = record { is_size = extent; each = each; root = root; count = few; same = refl };
-  same = written_text preamble nodes winner;
-}
+written_is_text preamble nodes winner extent each root few = (written_with preamble nodes winner extent each root few).0
 
 -- and it is read as what was written
 pub read_back : (preamble : Preamble) (nodes read : List Node) (winner : Colour) → IsExtent preamble.size.rows preamble.size.cols → EachNodeFits preamble nodes

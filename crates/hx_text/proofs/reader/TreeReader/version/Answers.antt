@@ -1,6 +1,3 @@
-use Rattle.std.proofs.Common.{ℕ, List, sym, subst, Option}
-use Rattle.hx_text.specs.declared.versions.Version.{Version}
-use Rattle.hx_text.specs.Reader.{IsVersionIn}
 use Rattle.hx_text.proofs.ReadVersions.{version_stands}
 use Rattle.hx_text.proofs.reader.TreeReader.version.Goals as goal
 
