@@ -1,8 +1,9 @@
 //! The nodes that were proved, found by position and mover. It is as hx_book's, but asks for no
 //! proof that a node is right.
 
-use hx_board::{Colour, Mask, Memory, Position};
+use hx_board::{Colour, Memory, Position};
 use hx_tree::{Found, Heading, Node, Rule};
+use hx_turn::folded_number;
 use std::alloc::Global;
 
 /// Nodes, in buckets by the numbers of their positions. A link is one more than an index, and 0
@@ -16,38 +17,6 @@ pub(crate) struct Shelf {
 
 /// 2^64.
 const HALF: u128 = 18446744073709551616;
-
-fn low(number: u128) -> u64 {
-    u64::try_from(number % HALF).unwrap_or(0)
-}
-
-fn high(number: u128) -> u64 {
-    u64::try_from(number / HALF).unwrap_or(0)
-}
-
-/// The two halves of a product, mixed into one number: the step of Wang Yi's wyhash.
-fn fold(a: u64, b: u64) -> u64 {
-    let product = u128::from(a).wrapping_mul(u128::from(b));
-    high(product) ^ low(product)
-}
-
-fn fold_set(set: Mask, low_key: u64, high_key: u64) -> u64 {
-    let bits = set.bits();
-    fold(low(bits) ^ low_key, high(bits) ^ high_key)
-}
-
-/// The number of a position and mover.
-fn number(position: &Position, to_move: Colour) -> u64 {
-    let black = position.stones(Colour::Black);
-    let white = position.stones(Colour::White);
-    let blacks = fold_set(black, 11400714819323198485, 14029467366897019727);
-    let whites = fold_set(white, 1609587929392839161, 9650029242287828579);
-    let key = match to_move {
-        Colour::Black => 13287129219935123339,
-        Colour::White => 5871781006564002453,
-    };
-    fold(blacks ^ key, whites ^ 2870177450012600261)
-}
 
 impl Shelf {
     /// Room for so many nodes.
@@ -67,7 +36,7 @@ impl Shelf {
 
     fn bucket(&self, position: &Position, to_move: Colour) -> usize {
         let buckets = self.heads.len() as u128;
-        let product = u128::from(number(position, to_move)).wrapping_mul(buckets);
+        let product = u128::from(folded_number(position, to_move)).wrapping_mul(buckets);
         usize::try_from(product / HALF).unwrap_or(0)
     }
 

@@ -1,9 +1,9 @@
 //! The moves of a turn that are tried, and what is known of each.
 
 use crate::focus::Focus;
-use crate::keys::Sums;
+use crate::stones::after;
 use crate::turns::Turn;
-use crate::workers::{Outcome, Worker, is_proved, open};
+use crate::workers::{Outcome, Worker, is_proved, open, word};
 use hx_board::{CELLS, Cell, Memory};
 use hx_fill::Must;
 use hx_pn::{Numbers, focus};
@@ -14,7 +14,6 @@ use hx_tree::{Found, Rule};
 pub(crate) struct Child {
     pub(crate) cell: Cell,
     pub(crate) numbers: Numbers,
-    pub(crate) sums: Sums,
     pub(crate) word: u32,
 }
 
@@ -57,21 +56,21 @@ impl<'a> Worker<'a> {
         }
         let mut children = Vec::with_capacity(self.alloc, order.len()).map_err(|_| Memory)?;
         for cell in order {
-            let is_tried = tried.has(*cell);
-            if is_tried {
-                children.push(self.child(turn, *cell)).map_err(|_| Memory)?;
+            if tried.has(*cell)
+                && let Some(child) = self.child(turn, *cell)
+            {
+                children.push(child).map_err(|_| Memory)?;
             }
         }
         Ok(children)
     }
 
-    /// A move, with the numbers of its hint, or those of a move that nobody looked at: more empty
-    /// cells, more to prove.
-    fn child(&self, turn: &Turn, cell: Cell) -> Child {
-        let other = turn.to_move.other();
-        let sums = self.keys.with(turn.filled.sums, turn.to_move, cell);
-        let word = sums.word(other);
-        let empty = turn.filled.position.empty_count();
+    /// A move, with the numbers of its hint, or those of a move that nobody looked at: the more
+    /// empty cells, the more to prove. None where the cell holds a stone.
+    fn child(&self, turn: &Turn, cell: Cell) -> Option<Child> {
+        let after = after(&turn.filled, turn.to_move, cell)?;
+        let word = word(&after, turn.to_move.other());
+        let empty = turn.filled.position().empty_count();
         let first = Numbers {
             phi: (empty / 16).saturating_add(1),
             delta: 1,
@@ -80,12 +79,11 @@ impl<'a> Worker<'a> {
             Some(hint) if !is_proved(hint) => hint,
             _ => first,
         };
-        Child {
+        Some(Child {
             cell,
             numbers,
-            sums,
             word,
-        }
+        })
     }
 
     /// Looks at the children in focus. Those of others that are at work count as their hints tell.
@@ -138,8 +136,8 @@ impl<'a> Worker<'a> {
         place: usize,
     ) -> Option<Outcome> {
         let child = moves.children.get(place).copied()?;
-        let after = turn.filled.after(&self.keys, turn.to_move, child.cell)?;
-        match self.look(rt, &after.position, turn.to_move.other()) {
+        let after = after(&turn.filled, turn.to_move, child.cell)?;
+        match self.look(rt, after.position(), turn.to_move.other()) {
             Some(found) => self.proved(rt, turn, moves, place, found),
             None => {
                 self.leave(child.word, open(child.numbers));

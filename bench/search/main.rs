@@ -10,7 +10,6 @@ mod book;
 mod children;
 mod clock;
 mod focus;
-mod keys;
 mod measures;
 mod nodes;
 mod orders;

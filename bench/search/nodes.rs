@@ -7,14 +7,14 @@ ghost use Rattle.hx_linkset.specs.States.{IsLiveAt};
 
 use crate::children::Moves;
 use crate::measures::{add, moment};
-use crate::stones::Place;
 use crate::turns::Turn;
-use crate::workers::{Outcome, Worker, open};
+use crate::workers::{Outcome, Worker, open, word};
 use hx_board::{CELLS, Colour, Memory, Position, Vertex, chain};
 use hx_fill::{Filled, steps_for};
 use hx_link::{Kind, Step, Steps};
 use hx_linkset::{Derived, LinkSet};
 use hx_tree::{Line, Lines, Rule, Threats};
+use hx_turn::Orientations;
 
 /// As many links between the sides are compared by how many steps they need.
 const COMPARED: u8 = 4;
@@ -31,22 +31,22 @@ impl<'a> Worker<'a> {
         self.store(rt, &turn.filled, turn.to_move, winner, rule)
     }
 
-    /// What the book has of a place, or a chain ends at once.
+    /// What the book has of a position, or a chain ends at once.
     pub(crate) fn known(
         &mut self,
         rt: &HostRuntime,
-        place: &Place,
+        here: &Orientations,
         to_move: Colour,
     ) -> Option<Outcome> {
-        let known = self.look(rt, &place.position, to_move);
+        let known = self.look(rt, here.position(), to_move);
         if let Some(found) = known {
             add(&mut self.measured.counts.known, 1);
             return Some(Outcome::Proved(found));
         }
         let start = moment(rt);
-        let winner = winner_by_chain(&place.position);
+        let winner = winner_by_chain(here.position());
         self.measured.parts.chain.add(rt, start);
-        Some(self.store(rt, place, to_move, winner?, Rule::Chain))
+        Some(self.store(rt, here, to_move, winner?, Rule::Chain))
     }
 
     /// The outcome of the position before the fill-in, by that of the position after it.
@@ -71,7 +71,7 @@ impl<'a> Worker<'a> {
                 Ok(self.store(rt, &turn.before, turn.to_move, found.winner, rule))
             }
             Outcome::Open(numbers) => {
-                self.leave(turn.before.sums.word(turn.to_move), open(numbers));
+                self.leave(word(&turn.before, turn.to_move), open(numbers));
                 Ok(outcome)
             }
             Outcome::Stopped => Ok(outcome),
@@ -118,7 +118,7 @@ impl<'a> Worker<'a> {
         let rule = Rule::All {
             steps,
             threats: Threats::new(places),
-            lines: self.lines(&turn.filled.position, moves)?,
+            lines: self.lines(turn.filled.position(), moves)?,
         };
         Ok(self.node(rt, turn, turn.to_move.other(), rule))
     }

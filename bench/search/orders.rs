@@ -3,8 +3,7 @@
 //!
 //! A cell is one step from what it is joined with and from what a Full link leads to.
 
-use hx_board::{CELLS, Cell, Colour, Groups, Mask, Memory, Position, Size, Vertex, VertexSet};
-use hx_link::Kind;
+use hx_board::{CELLS, Cell, Mask, Memory, Position, Size, Vertex, VertexSet};
 use hx_linkset::LinkSet;
 use std::alloc::Global;
 
@@ -14,39 +13,24 @@ const FAR: u32 = 20;
 /// What each empty cell is one step from.
 type Nears = [VertexSet; CELLS];
 
-fn add_near(nears: &mut Nears, from: Vertex, to: Vertex) {
-    if let Vertex::Of(cell) = from {
-        let index = cell.index() as usize;
-        nears[index] = nears[index].with(to);
+/// What a cell is joined with, or has a Full link to.
+fn near(set: &LinkSet, cell: Cell) -> VertexSet {
+    let vertex = Vertex::Of(cell);
+    let mut near = set.groups().joined_with(vertex);
+    for full in set.full_at(vertex) {
+        near = near.with(full.to);
     }
-}
-
-/// What each empty cell is joined with.
-fn joined(position: &Position, player: Colour) -> Nears {
-    let groups = Groups::of(position, player);
-    let size = position.size();
-    let mut nears = [VertexSet::empty(); CELLS];
-    let mut left = position.empties();
-    while let Some(cell) = left.least(size) {
-        left = left.without(cell);
-        nears[cell.index() as usize] = groups.joined_with(Vertex::Of(cell));
-    }
-    nears
+    near
 }
 
 /// What each empty cell is joined with, or has a Full link to.
 fn nears(set: &LinkSet) -> Nears {
-    let position = set.position();
-    let empties = position.empties();
-    let mut nears = joined(position, set.colour());
-    for index in 0..set.count() {
-        let Some(link) = set.held(index) else {
-            break;
-        };
-        if link.kind == Kind::Full && link.carrier.inside(empties) {
-            add_near(&mut nears, link.a, link.b);
-            add_near(&mut nears, link.b, link.a);
-        }
+    let size = set.position().size();
+    let mut nears = [VertexSet::empty(); CELLS];
+    let mut left = set.position().empties();
+    while let Some(cell) = left.least(size) {
+        left = left.without(cell);
+        nears[cell.index() as usize] = near(set, cell);
     }
     nears
 }
@@ -115,12 +99,11 @@ fn list(alloc: Global, size: Size, cells: Mask) -> Result<Vec<Cell>, Memory> {
     Ok(found)
 }
 
-/// These cells, the best ones first.
+/// The empty cells, the best ones first.
 pub(crate) fn in_order(
     alloc: Global,
     own: &LinkSet,
     others: &LinkSet,
-    cells: Mask,
 ) -> Result<Vec<Cell>, Memory> {
     let position = own.position();
     let size = position.size();
@@ -130,7 +113,7 @@ pub(crate) fn in_order(
         add_distances(position, &nears, Vertex::First, &mut sums);
         add_distances(position, &nears, Vertex::Last, &mut sums);
     }
-    let mut found = list(alloc, size, cells)?;
+    let mut found = list(alloc, size, position.empties())?;
     found
         .sort_by_key(|cell: &Cell| {
             let sum = sums[cell.index() as usize];

@@ -1,16 +1,16 @@
 //! What is searched, each with a book of its own.
 
 use crate::book::Shelf;
-use crate::keys::Keys;
 use crate::measures::{Measured, moment};
 use crate::reports::print;
-use crate::stones::Place;
 use crate::turns::Start;
 use crate::workers::{Outcome, Worker};
 use hx_board::{Colour, Memory, Position, Size};
 use hx_count::Hints;
 use hx_linkset::LinkSet;
 use hx_pn::{INF, Numbers};
+use hx_search::Workspace;
+use hx_turn::Orientations;
 use std::io;
 
 /// Words of hints.
@@ -100,7 +100,7 @@ fn search(
     let mut own = LinkSet::new(rt.alloc(), position, to_move)?;
     let mut others = LinkSet::new(rt.alloc(), position, to_move.other())?;
     let start = Start {
-        place: Place::of(&worker.keys, position),
+        here: Orientations::of(position),
         to_move,
         moved: None,
         limit: Numbers {
@@ -153,10 +153,11 @@ fn search_openings(rt: &HostRuntime, worker: &mut Worker, empty: &Position) -> R
 }
 
 fn run(rt: &HostRuntime, task: &Task) -> io::Result<()> {
-    let (Some(size), Ok(hints), Ok(shelf)) = (
+    let (Some(size), Ok(hints), Ok(shelf), Ok(workspace)) = (
         Size::new(task.side, task.side),
         Hints::with_words(rt.alloc(), HINTS),
         Shelf::with_slots(rt.alloc(), SLOTS),
+        Workspace::new(rt.alloc()),
     ) else {
         return Ok(());
     };
@@ -164,7 +165,7 @@ fn run(rt: &HostRuntime, task: &Task) -> io::Result<()> {
         alloc: rt.alloc(),
         shelf,
         hints: &hints,
-        keys: Keys::of(size),
+        workspace,
         budget: task.budget,
         measured: Measured::new(),
     };

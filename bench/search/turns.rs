@@ -9,24 +9,22 @@ ghost use Rattle.std.specs.Prelude.{◌≡◌};
 use crate::children::{Look, Moves};
 use crate::measures::{add, moment};
 use crate::orders::in_order;
-use crate::stones::{Place, Stone, push, push_fill};
+use crate::stones::{Stone, after, push, push_fill};
 use crate::workers::{Outcome, Worker, open};
 use hx_board::{CELLS, Cell, Colour, Memory};
 use hx_fill::{Filled, fill_in, must};
 use hx_linkset::LinkSet;
 use hx_pn::Numbers;
-use hx_search::{Reached, reach};
+use hx_search::{Reached, reach_with};
+use hx_turn::Orientations;
 
 /// A set with more links is not played on: the turn gets a new one.
 const MANY_LINKS: u32 = 6000;
 
-/// More stones than any turn puts.
-const MANY_STONES: u8 = 250;
-
 /// What a turn is given.
 #[derive(Clone, Copy)]
 pub(crate) struct Start {
-    pub(crate) place: Place,
+    pub(crate) here: Orientations,
     pub(crate) to_move: Colour,
 
     /// The move that led to the position.
@@ -39,8 +37,8 @@ pub(crate) struct Start {
 pub(crate) struct Turn {
     pub(crate) to_move: Colour,
     pub(crate) limit: Numbers,
-    pub(crate) before: Place,
-    pub(crate) filled: Place,
+    pub(crate) before: Orientations,
+    pub(crate) filled: Orientations,
 
     /// The stones that neither set of links has yet.
     pub(crate) stones: Vec<Stone>,
@@ -65,12 +63,12 @@ impl<'a> Worker<'a> {
             return Ok(Outcome::Stopped);
         }
         add(&mut self.measured.counts.units, 1);
-        let known = self.known(rt, &start.place, start.to_move);
+        let known = self.known(rt, &start.here, start.to_move);
         if let Some(outcome) = known {
             return Ok(outcome);
         }
         let from = moment(rt);
-        let filled = fill_in(self.alloc, &start.place.position)?;
+        let filled = fill_in(self.alloc, start.here.position())?;
         self.measured.parts.fill_in.add(rt, from);
         let turn = self.begun(&start, &filled)?;
         let known = self.known_filled(rt, &turn, &filled);
@@ -85,20 +83,16 @@ impl<'a> Worker<'a> {
     fn begun(&self, start: &Start, filled: &Filled) -> Result<Turn, Memory> {
         let mut stones = Vec::with_capacity(self.alloc, 8).map_err(|_| Memory)?;
         if let Some(cell) = start.moved {
-            let colour = start.to_move.other();
-            push(&mut stones, Stone { colour, cell })?;
+            push(&mut stones, (start.to_move.other(), cell))?;
         }
-        let mut sums = start.place.sums;
         for fill in filled.steps.as_slice() {
-            sums = self.keys.with_fill(sums, fill);
             push_fill(&mut stones, fill)?;
         }
-        let position = filled.position;
         Ok(Turn {
             to_move: start.to_move,
             limit: start.limit,
-            before: start.place,
-            filled: Place { position, sums },
+            before: start.here,
+            filled: Orientations::of(&filled.position),
             stones,
         })
     }
@@ -111,7 +105,7 @@ impl<'a> Worker<'a> {
         self.known(rt, &turn.filled, turn.to_move)
     }
 
-    /// Goes on with the stones of the turn on the sets, or with new sets.
+    /// Goes on with the stones of the turn on the mover's set, or with a new set.
     #[cycle(search)]
     fn with_stones(
         &mut self,
@@ -126,14 +120,16 @@ impl<'a> Worker<'a> {
     {
         add(&mut self.measured.counts.stones, turn.stones.len() as u64);
         if own.count() > MANY_LINKS {
-            let mut new = LinkSet::new(self.alloc, &turn.filled.position, turn.to_move)?;
-            self.with_own(rt, &mut new, others, turn, depth)
-        } else {
-            self.put_own(rt, own, others, turn, depth, MANY_STONES, 0)
+            let mut new = LinkSet::new(self.alloc, turn.filled.position(), turn.to_move)?;
+            return self.with_own(rt, &mut new, others, turn, depth);
         }
+        if turn.stones.is_empty() {
+            return self.with_own(rt, own, others, turn, depth);
+        }
+        self.put_own(rt, own, others, turn, depth)
     }
 
-    /// Puts the stones on the mover's set, from a place on, of which so many may be left.
+    /// Puts the stones on the mover's set.
     #[cycle(search)]
     fn put_own(
         &mut self,
@@ -142,24 +138,18 @@ impl<'a> Worker<'a> {
         others: &mut LinkSet,
         turn: &Turn,
         depth: u32,
-        left: u8,
-        at: usize,
     ) -> Result<Outcome, Memory>
         ensures own { own.new.past ≡ own.old.past }
         ensures others { others.new.past ≡ others.old.past }
     {
-        let Some(stone) = turn.stones.as_slice().get(at).copied() else {
-            return self.with_own(rt, own, others, turn, depth);
-        };
-        let is_empty = own.position().empties().has(stone.cell);
-        if !is_empty || left == 0 {
+        let can = own.can_play(turn.stones.as_slice());
+        if !can {
             return Ok(Outcome::Stopped);
         }
         let start = moment(rt);
-        own.play(stone.colour, stone.cell);
+        own.play_all(turn.stones.as_slice());
         self.measured.parts.play.add(rt, start);
-        let next = at.saturating_add(1);
-        let outcome = self.put_own(rt, own, others, turn, depth, left - 1, next);
+        let outcome = self.with_own(rt, own, others, turn, depth);
         let start = moment(rt);
         own.undo();
         self.measured.parts.undo.add(rt, start);
@@ -186,14 +176,16 @@ impl<'a> Worker<'a> {
         }
         if others.count() > MANY_LINKS {
             let other = turn.to_move.other();
-            let mut new = LinkSet::new(self.alloc, &turn.filled.position, other)?;
-            self.with_both(rt, own, &mut new, turn, depth)
-        } else {
-            self.put_others(rt, own, others, turn, depth, MANY_STONES, 0)
+            let mut new = LinkSet::new(self.alloc, turn.filled.position(), other)?;
+            return self.with_both(rt, own, &mut new, turn, depth);
         }
+        if turn.stones.is_empty() {
+            return self.with_both(rt, own, others, turn, depth);
+        }
+        self.put_others(rt, own, others, turn, depth)
     }
 
-    /// Puts the stones on the other player's set, from a place on, of which so many may be left.
+    /// Puts the stones on the other player's set.
     #[cycle(search)]
     fn put_others(
         &mut self,
@@ -202,24 +194,18 @@ impl<'a> Worker<'a> {
         others: &mut LinkSet,
         turn: &Turn,
         depth: u32,
-        left: u8,
-        at: usize,
     ) -> Result<Outcome, Memory>
         ensures own { own.new.past ≡ own.old.past }
         ensures others { others.new.past ≡ others.old.past }
     {
-        let Some(stone) = turn.stones.as_slice().get(at).copied() else {
-            return self.with_both(rt, own, others, turn, depth);
-        };
-        let is_empty = others.position().empties().has(stone.cell);
-        if !is_empty || left == 0 {
+        let can = others.can_play(turn.stones.as_slice());
+        if !can {
             return Ok(Outcome::Stopped);
         }
         let start = moment(rt);
-        others.play(stone.colour, stone.cell);
+        others.play_all(turn.stones.as_slice());
         self.measured.parts.play.add(rt, start);
-        let next = at.saturating_add(1);
-        let outcome = self.put_others(rt, own, others, turn, depth, left - 1, next);
+        let outcome = self.with_both(rt, own, others, turn, depth);
         let start = moment(rt);
         others.undo();
         self.measured.parts.undo.add(rt, start);
@@ -303,7 +289,7 @@ impl<'a> Worker<'a> {
     fn start_of(&self, turn: &Turn, moves: &Moves, place: usize, limit: Numbers) -> Option<Start> {
         let child = moves.children.get(place)?;
         Some(Start {
-            place: turn.filled.after(&self.keys, turn.to_move, child.cell)?,
+            here: after(&turn.filled, turn.to_move, child.cell)?,
             to_move: turn.to_move.other(),
             moved: Some(child.cell),
             limit,
@@ -321,7 +307,7 @@ impl<'a> Worker<'a> {
     {
         let before = set.count();
         let start = moment(rt);
-        let reached = reach(set, turn.to_move)?;
+        let reached = reach_with(&mut self.workspace, set, turn.to_move)?;
         let held = set.count();
         if before == 0 {
             self.measured.parts.first_reach.add(rt, start);
@@ -348,11 +334,11 @@ impl<'a> Worker<'a> {
         turn: &Turn,
     ) -> Result<Moves, Memory> {
         let start = moment(rt);
-        let must = must(others)?;
-        self.measured.parts.must.add(rt, start);
-        let start = moment(rt);
-        let order = in_order(self.alloc, own, others, must.cells)?;
+        let order = in_order(self.alloc, own, others)?;
         self.measured.parts.order.add(rt, start);
+        let start = moment(rt);
+        let must = must(others, order.as_slice())?;
+        self.measured.parts.must.add(rt, start);
         let children = self.children(turn, &must, order.as_slice())?;
         add(&mut self.measured.counts.expanded, 1);
         add(&mut self.measured.counts.cells, u64::from(must.cells.count()));

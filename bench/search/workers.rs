@@ -1,19 +1,17 @@
 //! The worker: what it keeps for the whole search, its hints and its book.
 
 use crate::book::Shelf;
-use crate::keys::Keys;
 use crate::measures::{Measured, add, moment};
-use crate::stones::Place;
 use hx_board::{Colour, Position};
 use hx_count::Hints;
 use hx_pn::{INF, Numbers};
+use hx_search::Workspace;
 use hx_tree::{Found, Heading, Rule};
+use hx_turn::Orientations;
 use std::alloc::Global;
 
-/// A phi or a delta so large says that the position is proved, and that the book has it.
-const PROVED_PHI: u32 = INF - 2;
-
-const PROVED_DELTA: u32 = INF - 1;
+/// A phi or a delta that says that the position is proved, and that the book has it.
+const PROVED: u32 = INF - 1;
 
 /// What came of a turn.
 #[derive(Clone, Copy)]
@@ -34,7 +32,7 @@ pub(crate) struct Worker<'a> {
     pub(crate) alloc: Global,
     pub(crate) shelf: Shelf,
     pub(crate) hints: &'a Hints,
-    pub(crate) keys: Keys,
+    pub(crate) workspace: Workspace,
 
     /// How many units may be spent.
     pub(crate) budget: u64,
@@ -43,38 +41,32 @@ pub(crate) struct Worker<'a> {
 
 /// Whether a hint says that the position is proved.
 pub(crate) fn is_proved(hint: Numbers) -> bool {
-    hint.phi >= PROVED_PHI || hint.delta >= PROVED_DELTA
+    hint.phi == PROVED || hint.delta == PROVED
 }
 
 /// Numbers of a position that is not proved.
 pub(crate) fn open(numbers: Numbers) -> Numbers {
     Numbers {
-        phi: numbers.phi.clamp(1, PROVED_PHI - 1),
-        delta: numbers.delta.clamp(1, PROVED_DELTA - 1),
+        phi: numbers.phi.clamp(1, PROVED - 1),
+        delta: numbers.delta.clamp(1, PROVED - 1),
     }
 }
 
+/// The word of the hint of a position and mover, which the turned position shares.
+pub(crate) fn word(here: &Orientations, to_move: Colour) -> u32 {
+    (here.number(to_move) & 0xffffffff) as u32
+}
+
 impl<'a> Worker<'a> {
-    /// The hint of a word. None where none was left. A phi is left as one more, since a word that
-    /// was never written reads 1.
+    /// The hint of a word. None where none was left.
     pub(crate) fn hint(&self, word: u32) -> Option<Numbers> {
         let found = self.hints.get(word);
-        if found.phi == 1 {
-            return None;
-        }
-        Some(Numbers {
-            phi: found.phi.wrapping_sub(1),
-            delta: found.delta,
-        })
+        if found.is_unseen() { None } else { Some(found) }
     }
 
     /// Leaves a hint at a word.
     pub(crate) fn leave(&self, word: u32, numbers: Numbers) {
-        let left = Numbers {
-            phi: numbers.phi.saturating_add(1),
-            delta: numbers.delta,
-        };
-        self.hints.set(word, left);
+        self.hints.set(word, numbers);
     }
 
     /// Looks in the book.
@@ -94,14 +86,14 @@ impl<'a> Worker<'a> {
     pub(crate) fn store(
         &mut self,
         rt: &HostRuntime,
-        place: &Place,
+        here: &Orientations,
         to_move: Colour,
         winner: Colour,
         rule: Rule,
     ) -> Outcome {
         let start = moment(rt);
         let heading = Heading {
-            position: place.position,
+            position: *here.position(),
             to_move,
             winner,
         };
@@ -112,11 +104,11 @@ impl<'a> Worker<'a> {
             return Outcome::Stopped;
         };
         let (phi, delta) = if winner == to_move {
-            (1, PROVED_DELTA)
+            (1, PROVED)
         } else {
-            (PROVED_PHI, 1)
+            (PROVED, 1)
         };
-        self.leave(place.sums.word(to_move), Numbers { phi, delta });
+        self.leave(word(here, to_move), Numbers { phi, delta });
         Outcome::Proved(Found { index, winner })
     }
 }
