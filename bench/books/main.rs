@@ -138,7 +138,7 @@ fn fold_set(set: Mask, low_key: u64, high_key: u64) -> u64 {
     )
 }
 
-/// The number of hx_book, once more.
+/// The folded number of hx_turn, once more.
 fn number(one: &Asked) -> u64 {
     let black = fold_set(
         one.position.stones(Colour::Black),
