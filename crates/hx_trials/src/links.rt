@@ -3,7 +3,5 @@
 mod closed;
 mod fills;
 mod musts;
-mod plain_sets;
-mod runs_of_sets;
 mod tests;
 mod unders;
