@@ -1,7 +1,7 @@
 use Rattle.std.proofs.Common.{ℕ, zero, suc, ◌<◌, List, [], ◌∷◌, slice_index_or, arith}
 use Rattle.hx_pn.specs.declared.proof_numbers.Numbers.{Numbers}
 use Rattle.hx_pn.specs.Numbers.{IsNumbers}
-use Rattle.hx_trials.proofs.numbers.compare.Goals as goal
+use Rattle.hx_trials_books.proofs.numbers.compare.Goals as goal
 
 -- what four items are, each item of their list is
 each_of_four : (a b c d : Numbers) → IsNumbers a → IsNumbers b → IsNumbers c → IsNumbers d
