@@ -112,12 +112,12 @@ impl<'a> Worker<'a> {
         turn: &Turn,
         moves: &mut Moves,
     ) -> Option<Outcome> {
-        let mut left = moves.children.len();
-        while left > 0 {
-            left -= 1;
-            let child = moves.children.get(left).copied()?;
+        let count = moves.children.len();
+        for later in 0..count {
+            let place = count.wrapping_sub(later).wrapping_sub(1);
+            let child = moves.children.get(place).copied()?;
             if self.hint(child.word).is_some_and(is_proved) {
-                let ended = self.look_at(rt, turn, moves, left);
+                let ended = self.look_at(rt, turn, moves, place);
                 if ended.is_some() {
                     return ended;
                 }

@@ -130,7 +130,10 @@ impl<'a> Worker<'a> {
         let mut lines = Vec::with_capacity(self.alloc, CELLS).map_err(|_| Memory)?;
         let mut left = moves.must.cells;
         let mut next = 0usize;
-        while let Some(cell) = left.least(size) {
+        for _ in 0..CELLS {
+            let Some(cell) = left.least(size) else {
+                break;
+            };
             left = left.without(cell);
             let mut line = Line::Child {
                 cell,

@@ -3,6 +3,8 @@
 //!
 //! A cell is one step from what it is joined with and from what a Full link leads to.
 
+ghost use Rattle.hx_board.specs.Cells.{OnBoard};
+
 use hx_board::{CELLS, Cell, Mask, Memory, Position, Size, Vertex, VertexSet};
 use hx_linkset::LinkSet;
 use std::alloc::Global;
@@ -14,10 +16,11 @@ const FAR: u32 = 20;
 type Nears = [VertexSet; CELLS];
 
 /// What a cell is joined with, or has a Full link to.
-fn near(set: &LinkSet, cell: Cell) -> VertexSet {
-    let vertex = Vertex::Of(cell);
-    let mut near = set.groups().joined_with(vertex);
-    for full in set.full_at(vertex) {
+fn near(set: &LinkSet, cell: Cell) -> VertexSet
+    requires { OnBoard set.now.present.board.size cell }
+{
+    let mut near = set.groups().joined_with(Vertex::Of(cell));
+    for full in set.full_at(Vertex::Of(cell)) {
         near = near.with(full.to);
     }
     near
@@ -28,7 +31,10 @@ fn nears(set: &LinkSet) -> Nears {
     let size = set.position().size();
     let mut nears = [VertexSet::empty(); CELLS];
     let mut left = set.position().empties();
-    while let Some(cell) = left.least(size) {
+    for _ in 0..CELLS {
+        let Some(cell) = left.least(size) else {
+            break;
+        };
         left = left.without(cell);
         nears[cell.index() as usize] = near(set, cell);
     }
@@ -39,7 +45,10 @@ fn nears(set: &LinkSet) -> Nears {
 fn next(size: Size, nears: &Nears, reached: VertexSet, cells: Mask) -> Mask {
     let mut found = Mask::empty();
     let mut left = cells;
-    while let Some(cell) = left.least(size) {
+    for _ in 0..CELLS {
+        let Some(cell) = left.least(size) else {
+            break;
+        };
         left = left.without(cell);
         let is_near = !nears[cell.index() as usize].meet(reached).is_empty();
         if is_near {
@@ -52,7 +61,10 @@ fn next(size: Size, nears: &Nears, reached: VertexSet, cells: Mask) -> Mask {
 /// Adds a distance to the sums of these cells.
 fn add(size: Size, cells: Mask, distance: u32, sums: &mut [u32; CELLS]) {
     let mut left = cells;
-    while let Some(cell) = left.least(size) {
+    for _ in 0..CELLS {
+        let Some(cell) = left.least(size) else {
+            break;
+        };
         left = left.without(cell);
         let index = cell.index() as usize;
         sums[index] = sums[index].wrapping_add(distance);
@@ -92,7 +104,10 @@ fn from_centre(size: Size, cell: Cell) -> u32 {
 fn list(alloc: Global, size: Size, cells: Mask) -> Result<Vec<Cell>, Memory> {
     let mut found = Vec::with_capacity(alloc, CELLS).map_err(|_| Memory)?;
     let mut left = cells;
-    while let Some(cell) = left.least(size) {
+    for _ in 0..CELLS {
+        let Some(cell) = left.least(size) else {
+            break;
+        };
         left = left.without(cell);
         found.push(cell).map_err(|_| Memory)?;
     }

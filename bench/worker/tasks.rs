@@ -1,0 +1,238 @@
+//! What is searched, each with a book and hints of its own.
+
+ghost use Rattle.std.specs.Prelude.{◌≤◌, ◌^◌};
+
+use crate::clock::since;
+use crate::searches::{Done, search};
+use hx_board::{Colour, Memory, Position, Size};
+use hx_book::Book;
+use hx_count::Hints;
+use hx_worker::Ended;
+use std::io;
+use std::time::Instant;
+
+/// Words of hints.
+const HINTS: u32 = 1048576;
+
+/// Slots of a book.
+const SLOTS: u32 = 65536;
+
+/// More units than any of the searches takes.
+const MANY_UNITS: u64 = 1000000;
+
+/// The positions that are searched.
+#[derive(Clone, Copy)]
+enum Positions {
+    /// The empty board, Black to move.
+    Empty,
+
+    /// After Black's move to the cell in this row and column.
+    After { row: u8, col: u8 },
+
+    /// After each of Black's moves, all in one book.
+    EachOpening,
+}
+
+/// A search.
+#[derive(Clone, Copy)]
+struct Task {
+    name: &'static str,
+
+    /// The rows and the columns of the board.
+    side: u8,
+    positions: Positions,
+    budget: u64,
+}
+
+/// All searches.
+const TASKS: [Task; 7] = [
+    Task {
+        name: "empty6",
+        side: 6,
+        positions: Positions::Empty,
+        budget: MANY_UNITS,
+    },
+    Task {
+        name: "empty7",
+        side: 7,
+        positions: Positions::Empty,
+        budget: MANY_UNITS,
+    },
+    Task {
+        name: "e6",
+        side: 7,
+        positions: Positions::After { row: 5, col: 4 },
+        budget: MANY_UNITS,
+    },
+    Task {
+        name: "e6-start",
+        side: 7,
+        positions: Positions::After { row: 5, col: 4 },
+        budget: 1500,
+    },
+    Task {
+        name: "openings6",
+        side: 6,
+        positions: Positions::EachOpening,
+        budget: MANY_UNITS,
+    },
+    Task {
+        name: "d5",
+        side: 8,
+        positions: Positions::After { row: 4, col: 3 },
+        budget: 3000,
+    },
+    Task {
+        name: "empty11",
+        side: 11,
+        positions: Positions::Empty,
+        budget: 1000,
+    },
+];
+
+/// What the searches of a task came to.
+#[derive(Clone, Copy)]
+struct Sum {
+    units: u64,
+    nanoseconds: u64,
+    black_wins: u32,
+    white_wins: u32,
+}
+
+impl Sum {
+    fn add(&mut self, done: &Done, nanoseconds: u64) {
+        self.units = self.units.wrapping_add(done.units);
+        self.nanoseconds = self.nanoseconds.wrapping_add(nanoseconds);
+        match done.ended {
+            Ended::Proved {
+                winner: Colour::Black,
+                ..
+            } => self.black_wins = self.black_wins.wrapping_add(1),
+            Ended::Proved {
+                winner: Colour::White,
+                ..
+            } => self.white_wins = self.white_wins.wrapping_add(1),
+            _ => {}
+        }
+    }
+}
+
+/// The position after Black's move to an empty cell.
+fn after(position: &Position, row: u8, col: u8) -> Option<Position> {
+    let cell = position.size().cell(row, col)?;
+    if !position.empties().has(cell) {
+        return None;
+    }
+    Some(position.with(Colour::Black, cell))
+}
+
+/// Searches one position, and gives the book on.
+fn timed(
+    rt: &HostRuntime,
+    book: Book,
+    hints: &Hints,
+    position: &Position,
+    to_move: Colour,
+    budget: u64,
+    sum: &mut Sum,
+) -> Result<Book, Memory>
+    requires { budget ≤ 2 ^ 40 }
+{
+    let start = Instant::now(rt).map_err(|_| Memory)?;
+    let done = search(rt, book, hints, position, to_move, budget)?;
+    sum.add(&done, since(rt, start).unwrap_or(0));
+    let Done { book, .. } = done;
+    Ok(book)
+}
+
+fn search_openings(
+    rt: &HostRuntime,
+    book: Book,
+    hints: &Hints,
+    empty: &Position,
+    sum: &mut Sum,
+) -> Result<Book, Memory> {
+    let size = empty.size();
+    let mut book = book;
+    for row in 0..size.rows() {
+        for col in 0..size.cols() {
+            if let Some(position) = after(empty, row, col) {
+                book = timed(rt, book, hints, &position, Colour::White, MANY_UNITS, sum)?;
+            }
+        }
+    }
+    Ok(book)
+}
+
+fn search_all(rt: &HostRuntime, task: &Task, sum: &mut Sum) -> Result<u32, Memory>
+    requires { task.now.budget ≤ 2 ^ 40 }
+{
+    let Some(size) = Size::new(task.side, task.side) else {
+        return Ok(0);
+    };
+    let hints = Hints::with_words(rt.alloc(), HINTS)?;
+    let book = Book::with_slots(rt.alloc(), SLOTS)?;
+    let empty = Position::empty(size);
+    let book = match task.positions {
+        Positions::Empty => timed(rt, book, &hints, &empty, Colour::Black, task.budget, sum)?,
+        Positions::After { row, col } => match after(&empty, row, col) {
+            Some(position) => timed(
+                rt,
+                book,
+                &hints,
+                &position,
+                Colour::White,
+                task.budget,
+                sum,
+            )?,
+            None => book,
+        },
+        Positions::EachOpening => search_openings(rt, book, &hints, &empty, sum)?,
+    };
+    Ok(book.held())
+}
+
+fn run(rt: &HostRuntime, task: &Task) -> io::Result<()>
+    requires { task.now.budget ≤ 2 ^ 40 }
+{
+    let mut sum = Sum {
+        units: 0,
+        nanoseconds: 0,
+        black_wins: 0,
+        white_wins: 0,
+    };
+    let Ok(proofs) = search_all(rt, task, &mut sum) else {
+        return println!(rt; "{}: out of memory", task.name);
+    };
+    let a_unit = sum.nanoseconds / sum.units.max(1);
+    println!(rt;
+        "{}: Black wins {}, White {}; {} units, {} ms, {}.{} us a unit; {proofs} proofs",
+        task.name,
+        sum.black_wins,
+        sum.white_wins,
+        sum.units,
+        sum.nanoseconds / 1000000,
+        a_unit / 1000,
+        a_unit % 1000 / 100
+    )
+}
+
+/// Runs the searches of this name.
+pub(crate) fn run_named(rt: &HostRuntime, name: &[u8]) -> io::Result<()> {
+    for task in &TASKS {
+        if task.name.as_bytes() == name && task.budget <= MANY_UNITS {
+            run(rt, task)?;
+        }
+    }
+    Ok(())
+}
+
+/// Runs all searches.
+pub(crate) fn run_all(rt: &HostRuntime) -> io::Result<()> {
+    for task in &TASKS {
+        if task.budget <= MANY_UNITS {
+            run(rt, task)?;
+        }
+    }
+    Ok(())
+}
