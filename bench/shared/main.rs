@@ -1,7 +1,7 @@
 //! How many stores and looks a second threads make together in one shared book, and in a book behind a mutex of std's.
 #![tactic(auto)]
 
-ghost use Rattle.std.specs.Prelude.{◌≡◌, ◌<◌, ◌≤◌, IfOk};
+ghost use Rattle.std.specs.Prelude.{◌≡◌, IfOk, IfSome};
 ghost use Rattle.std.specs.List.{All};
 ghost use Rattle.hx_board.specs.declared.colours.Colour.TheVariants.{Black};
 ghost use Rattle.hx_tree.specs.declared.nodes.Rule.TheVariants.{Chain};
@@ -19,9 +19,8 @@ use std::thread::Threads;
 use std::time::Instant;
 use std::{io, thread};
 
-/// How many positions are stored. Each is looked for so many times.
+/// How many positions are stored, and looked for.
 const POSITIONS: u32 = 131072;
-const LOOKS: u32 = 4;
 
 /// The cells of the column in the middle.
 const COLUMN: u128 = 0x0008_0100_2004_0080_1002_0040_0801_0020;
@@ -94,7 +93,7 @@ struct Part {
 }
 
 /// One of so many parts.
-fn part(number: u32, threads: u32) -> Part {
+fn part_of(number: u32, threads: u32) -> Part {
     let each = POSITIONS / threads.max(1);
     let from = number.wrapping_mul(each);
     let to = from.wrapping_add(each);
@@ -156,52 +155,50 @@ fn look_part<R: Wait>(rt: &R, shared: &Shared, list: &[Asked], task: Task) -> Ta
     task
 }
 
-fn tasks(
-    alloc: Global,
-    shared: &Shared,
-    seats: Vec<BookSeat>,
-    threads: u32,
-) -> Result<Vec<Task>, AllocError>
-    requires { All (λ s. s.made ≡ shared.now.made) seats.items }
-    ensures { IfOk result (λ v. All (λ t. t.seat.made ≡ shared.now.made) v.items) }
+/// A shared book, and a worker for each thread.
+fn start(alloc: Global, threads: u32) -> io::Result<(Shared, Vec<Task>)>
+    ensures { IfOk result (λ made. All (λ t. t.seat.made ≡ made.0.made) made.1.items) }
 {
-    let _ = shared;
-    let mut seats = seats;
+    if threads == 0 || threads > 64 {
+        return Err(io::Error::from(io::ErrorKind::InvalidInput));
+    }
+    let Ok((shared, mut seats)) = Shared::start(alloc, POSITIONS, threads) else {
+        return Err(io::Error::from(io::ErrorKind::OutOfMemory));
+    };
     let mut tasks = Vec::with_capacity(alloc, seats.len())?;
     let mut number = 0u32;
     while let Some(seat) = seats.pop() {
-        let part = part(number, threads);
+        let part = part_of(number, threads);
         tasks.push(Task { seat, part })?;
         number = number.wrapping_add(1);
     }
-    Ok(tasks)
+    Ok((shared, tasks))
 }
 
-/// The nanoseconds that all threads together take.
-#[derive(Clone, Copy)]
-struct Times {
-    stores: u64,
-    looks: u64,
-}
-
-fn shared_times(rt: &HostRuntime, list: &[Asked], threads: u32) -> io::Result<Times>
-    requires { (0 < threads) × (threads ≤ 64) }
+/// Each thread stores its part.
+fn store_all<R: Threads + Wait + Sync>(
+    rt: &R,
+    shared: &Shared,
+    list: &[Asked],
+    tasks: Vec<Task>,
+) -> Option<Vec<Task>>
+    requires { All (λ t. t.seat.made ≡ shared.now.made) tasks.items }
+    ensures { IfSome result (λ v. All (λ t. t.seat.made ≡ shared.now.made) v.items) }
 {
-    let made = Shared::start(rt.alloc(), POSITIONS, threads);
-    let Ok((shared, seats)) = made else {
-        return Err(io::Error::from(io::ErrorKind::OutOfMemory));
-    };
-    let tasks = tasks(rt.alloc(), &shared, seats, threads)?;
-    let start = Instant::now(rt)?;
-    let tasks = thread::map_vec(rt, tasks, &|task| store_part(rt, &shared, list, task))?;
-    let stores = since(rt, start)?;
-    let start = Instant::now(rt)?;
-    let mut tasks = tasks;
-    for _ in 0..LOOKS {
-        tasks = thread::map_vec(rt, tasks, &|task| look_part(rt, &shared, list, task))?;
-    }
-    let looks = since(rt, start)?;
-    Ok(Times { stores, looks })
+    thread::map_vec(rt, tasks, &|task| store_part(rt, shared, list, task)).ok()
+}
+
+/// Each thread looks for its part.
+fn look_all<R: Threads + Wait + Sync>(
+    rt: &R,
+    shared: &Shared,
+    list: &[Asked],
+    tasks: Vec<Task>,
+) -> Option<Vec<Task>>
+    requires { All (λ t. t.seat.made ≡ shared.now.made) tasks.items }
+    ensures { IfSome result (λ v. All (λ t. t.seat.made ≡ shared.now.made) v.items) }
+{
+    thread::map_vec(rt, tasks, &|task| look_part(rt, shared, list, task)).ok()
 }
 
 fn put_one(book: &mut Book, one: &Asked) -> u64 {
@@ -238,29 +235,29 @@ fn find_part<R: Wait>(rt: &R, book: &Mutex<Book>, list: &[Asked], part: Part) ->
 fn parts(alloc: Global, threads: u32) -> Result<Vec<Part>, AllocError> {
     let mut parts = Vec::with_capacity(alloc, threads as usize)?;
     for number in 0..threads {
-        parts.push(part(number, threads))?;
+        parts.push(part_of(number, threads))?;
     }
     Ok(parts)
 }
 
-fn mutex_times(rt: &HostRuntime, list: &[Asked], threads: u32) -> io::Result<Times> {
-    let Ok(book) = Book::with_slots(rt.alloc(), POSITIONS) else {
-        return Err(io::Error::from(io::ErrorKind::OutOfMemory));
-    };
-    let book = Mutex::new(book);
-    let start = Instant::now(rt)?;
-    drop(thread::map_vec(rt, parts(rt.alloc(), threads)?, &|part| {
-        put_part(rt, &book, list, part)
-    })?);
-    let stores = since(rt, start)?;
-    let start = Instant::now(rt)?;
-    for _ in 0..LOOKS {
-        drop(thread::map_vec(rt, parts(rt.alloc(), threads)?, &|part| {
-            find_part(rt, &book, list, part)
-        })?);
-    }
-    let looks = since(rt, start)?;
-    Ok(Times { stores, looks })
+/// Each thread puts its part into the book behind the mutex.
+fn put_all<R: Threads + Wait + Sync>(
+    rt: &R,
+    book: &Mutex<Book>,
+    list: &[Asked],
+    parts: Vec<Part>,
+) -> Option<Vec<u64>> {
+    thread::map_vec(rt, parts, &|part| put_part(rt, book, list, part)).ok()
+}
+
+/// Each thread looks for its part in the book behind the mutex.
+fn find_all<R: Threads + Wait + Sync>(
+    rt: &R,
+    book: &Mutex<Book>,
+    list: &[Asked],
+    parts: Vec<Part>,
+) -> Option<Vec<u64>> {
+    thread::map_vec(rt, parts, &|part| find_part(rt, book, list, part)).ok()
 }
 
 /// How many a second, of so many in these nanoseconds.
@@ -269,22 +266,39 @@ fn a_second(count: u32, nanos: u64) -> u64 {
     u64::try_from(product / u128::from(nanos.max(1))).unwrap_or(u64::MAX)
 }
 
-impl Times {
-    fn print(&self, rt: &HostRuntime, name: &str, threads: u32) -> io::Result<()> {
-        println!(rt;
-            "{name}, {threads} threads: {} stores and {} looks a second",
-            a_second(POSITIONS, self.stores),
-            a_second(POSITIONS.wrapping_mul(LOOKS), self.looks)
-        )
-    }
+fn print(rt: &HostRuntime, name: &str, threads: u32, stores: u64, looks: u64) -> io::Result<()> {
+    println!(rt;
+        "{name}, {threads} threads: {} stores and {} looks a second",
+        a_second(POSITIONS, stores),
+        a_second(POSITIONS, looks)
+    )
 }
 
 fn main(rt: HostRuntime) -> io::Result<()> {
     let list = list(rt.alloc())?;
     for power in 0..4u32 {
         let threads = 1 << power;
-        shared_times(&rt, &list, threads)?.print(&rt, "shared book", threads)?;
-        mutex_times(&rt, &list, threads)?.print(&rt, "mutex", threads)?;
+        let (shared, tasks) = start(rt.alloc(), threads)?;
+        let begun = Instant::now(&rt)?;
+        let Some(tasks) = store_all(&rt, &shared, &list, tasks) else {
+            return Ok(());
+        };
+        let stores = since(&rt, begun)?;
+        let begun = Instant::now(&rt)?;
+        drop(look_all(&rt, &shared, &list, tasks));
+        let looks = since(&rt, begun)?;
+        print(&rt, "shared book", threads, stores, looks)?;
+        let Ok(book) = Book::with_slots(rt.alloc(), POSITIONS) else {
+            return Ok(());
+        };
+        let book = Mutex::new(book);
+        let begun = Instant::now(&rt)?;
+        drop(put_all(&rt, &book, &list, parts(rt.alloc(), threads)?));
+        let stores = since(&rt, begun)?;
+        let begun = Instant::now(&rt)?;
+        drop(find_all(&rt, &book, &list, parts(rt.alloc(), threads)?));
+        let looks = since(&rt, begun)?;
+        print(&rt, "mutex", threads, stores, looks)?;
     }
     Ok(())
 }

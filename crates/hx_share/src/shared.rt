@@ -127,7 +127,8 @@ impl Shared {
         ensures stored { PutsLater self.now.made.slots seat.old.seen node result seat.new.seen }
         ensures first { IfOk result (λ place. IsFirstEntry seat.new.seen node.heading.position node.heading.to_move place) }
         ensures none { IfErr result (λ refusal. HasNoEntry seat.new.seen node.heading.position node.heading.to_move) }
-        ensures full { IfErr result (λ refusal. (length seat.new.seen ≡ self.now.made.slots) × (refusal ≡ record { held = self.now.made.slots; node = node })) }
+        ensures full { IfErr result (λ refusal. length seat.new.seen ≡ self.now.made.slots) }
+        ensures back { IfErr result (λ refusal. refusal ≡ record { held = self.now.made.slots; node = node }) }
     {
         let mut book = self.take_turn(rt, &mut seat.seat);
         let answer = book.put(node);
