@@ -27,5 +27,6 @@ mod workers;
 pub use ended::Ended;
 pub use jobs::{Job, work};
 
+
 #[cfg(test)]
 mod tests;
