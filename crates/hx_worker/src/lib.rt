@@ -27,6 +27,5 @@ mod workers;
 pub use ended::Ended;
 pub use jobs::{Job, work};
 
-
 #[cfg(test)]
 mod tests;
