@@ -1,0 +1,44 @@
+-- What became of a proof that was to be stored in a list of nodes with so many slots.
+use Rattle.std.specs.Prelude.{◌≡◌, ℕ, List, length}
+use Rattle.hx_board.specs.declared.colours.Colour.{Colour}
+use Rattle.hx_board.specs.Positions.{Board}
+use Rattle.hx_tree.specs.declared.nodes.Node.{Node}
+use Rattle.hx_tree.specs.Entries.{IsOf, IsEntry, HasNoEntry}
+use Rattle.hx_book.specs.Puts.{Refusal}
+use Rattle.hx_nodes.specs.declared.stored.Stored.{Stored}
+use Rattle.hx_nodes.specs.declared.stored.Stored.TheVariants.{Done, Refused, Missing, Memory}
+
+-- some node is of this position and mover
+abbrev pub HasEntry : List Node → Board → Colour → Type 0
+HasEntry list board mover = (place : ℕ) × IsEntry list board mover place
+
+-- each slot is taken, the refusal tells how many these are, and no node is of the position and mover of the refused one
+pub record IsOutOfSlots (list : List Node) (slots : ℕ) (refusal : Refusal) : Type 0 where
+  pub full : length list ≡ slots
+  pub same_held : refusal.held ≡ slots
+  pub none : HasNoEntry list refusal.node.heading.position refusal.node.heading.to_move
+
+-- what an answer says of the list, where a node of this position and mover was to be stored
+abbrev pub IsStored : List Node → ℕ → Board → Colour → Stored → Type 0
+IsStored list slots board mover Done = HasEntry list board mover
+IsStored list slots board mover (Refused refusal) = IsOutOfSlots list slots refusal × IsOf board mover refusal.node
+IsStored list slots board mover Missing = Unit {0}
+IsStored list slots board mover Memory = Unit {0}
+
+-- where something is missing, it is for this cause
+abbrev pub MissingFor : Type 0 → Stored → Type 0
+MissingFor Cause Done = Unit {0}
+MissingFor Cause (Refused refusal) = Unit {0}
+MissingFor Cause Missing = Cause
+MissingFor Cause Memory = Unit {0}
+
+-- nothing is missing
+abbrev pub IsAnswered : Stored → Type 0
+IsAnswered stored = MissingFor ⊥ stored
+
+-- memory was not wanting
+abbrev pub HadMemory : Stored → Type 0
+HadMemory Done = Unit {0}
+HadMemory (Refused refusal) = Unit {0}
+HadMemory Missing = Unit {0}
+HadMemory Memory = ⊥

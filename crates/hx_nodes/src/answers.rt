@@ -1,0 +1,78 @@
+//! Proofs that whichever move the opponent makes, a player wins after it.
+
+ghost use Rattle.std.specs.Prelude.{◌≡◌};
+ghost use Rattle.hx_board.specs.Colours.{other_of};
+ghost use Rattle.hx_tree.specs.Entries.{Extends};
+ghost use Rattle.hx_nodes.specs.Stored.{IsStored, MissingFor};
+ghost use Rattle.hx_nodes.specs.Missing.{LacksAnswers};
+
+use crate::lines::lines_for;
+use crate::stored::{Stored, store};
+use hx_board::{Cell, Memory};
+use hx_book::Proofs;
+use hx_fill::{Must, must};
+use hx_linkset::{Derived, LinkSet};
+use hx_tree::{Heading, Node, Rule, Threats};
+use std::sync::Wait;
+
+/// Stores that a set's player wins with the opponent to move, where an entry says so of the position after each move that has to
+/// be tried. Of two moves each of which is better than the other, the one that comes first in the order is tried. Missing only
+/// where the board is full, or no entry says so after one of the moves that are to be tried.
+pub fn store_all<P: Proofs, R: Wait>(
+    rt: &R,
+    proofs: &mut P,
+    set: &LinkSet,
+    order: &[Cell],
+) -> Stored
+    ensures slots { P.slots proofs.new ≡ P.slots proofs.old }
+    ensures over { P.over proofs.new ≡ P.over proofs.old }
+    ensures seen { Extends (P.list proofs.new) (P.list proofs.old) }
+    ensures stored { IsStored (P.list proofs.new) (P.slots proofs.new)
+        set.now.present.board (other_of set.now.player) result }
+    ensures missing { MissingFor (LacksAnswers (P.list proofs.old) (P.list proofs.new)
+        set.now order.now) result }
+{
+    set.keeps();
+    let winner = set.colour();
+    let position = *set.position();
+    let Some(_some) = position.empties().least(position.size()) else {
+        return Stored::Missing;
+    };
+    let Ok(found) = must(set, order) else {
+        return Stored::Memory;
+    };
+    let Must {
+        threats,
+        cells,
+        under,
+    } = found;
+    let lines = match lines_for(
+        rt,
+        set.allocator(),
+        proofs,
+        &position,
+        winner,
+        cells,
+        under.items(),
+    ) {
+        Ok(Some(lines)) => lines,
+        Ok(None) => return Stored::Missing,
+        Err(Memory) => return Stored::Memory,
+    };
+    let Ok(derived) = set.derivation(threats.items()) else {
+        return Stored::Memory;
+    };
+    let Derived { steps, places } = derived;
+    let heading = Heading {
+        position,
+        to_move: winner.other(),
+        winner,
+    };
+    let threats = Threats::new(places);
+    let rule = Rule::All {
+        steps,
+        threats,
+        lines,
+    };
+    store(rt, proofs, Node { heading, rule })
+}

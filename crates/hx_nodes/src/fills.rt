@@ -1,0 +1,55 @@
+//! Proofs by what fill-in leaves.
+
+ghost use Rattle.std.specs.Prelude.{◌≡◌};
+ghost use Rattle.hx_tree.specs.Entries.{Extends};
+ghost use Rattle.hx_fill.specs.Fills.{IsFillIn};
+ghost use Rattle.hx_nodes.specs.Stored.{IsStored, MissingFor};
+ghost use Rattle.hx_nodes.specs.Missing.{LacksFill};
+
+use crate::stored::{Stored, store};
+use hx_board::{Colour, Position};
+use hx_book::Proofs;
+use hx_fill::{Filled, steps_for};
+use hx_tree::{Heading, Node, Rule};
+use std::alloc::Global;
+use std::sync::Wait;
+
+/// Stores who wins a position, where an entry says who wins it after fill-in. Missing only where none says so, or where nothing
+/// was filled.
+pub fn store_fill<P: Proofs, R: Wait>(
+    rt: &R,
+    alloc: Global,
+    proofs: &mut P,
+    position: &Position,
+    to_move: Colour,
+    filled: &Filled,
+) -> Stored
+    requires { IsFillIn position.now filled.now.steps.items filled.now.position }
+    ensures slots { P.slots proofs.new ≡ P.slots proofs.old }
+    ensures over { P.over proofs.new ≡ P.over proofs.old }
+    ensures seen { Extends (P.list proofs.new) (P.list proofs.old) }
+    ensures stored { IsStored (P.list proofs.new) (P.slots proofs.new) position.now to_move result }
+    ensures missing { MissingFor (LacksFill (P.list proofs.old) (P.list proofs.new)
+        filled.now.steps.items filled.now.position to_move) result }
+{
+    let _size = position.size();
+    if filled.steps.is_empty() {
+        return Stored::Missing;
+    }
+    let Some(found) = proofs.look(rt, &filled.position, to_move) else {
+        return Stored::Missing;
+    };
+    let Ok(steps) = steps_for(alloc, filled, found.winner) else {
+        return Stored::Memory;
+    };
+    let heading = Heading {
+        position: *position,
+        to_move,
+        winner: found.winner,
+    };
+    let rule = Rule::Fill {
+        steps,
+        child: found.index,
+    };
+    store(rt, proofs, Node { heading, rule })
+}

@@ -1,0 +1,43 @@
+//! Proofs by a link between the two sides.
+
+ghost use Rattle.std.specs.Prelude.{◌≡◌};
+ghost use Rattle.hx_tree.specs.Entries.{Extends};
+ghost use Rattle.hx_search.specs.Decided.{Decides};
+ghost use Rattle.hx_nodes.specs.Stored.{IsStored, IsAnswered};
+
+use crate::stored::{Stored, store};
+use hx_board::Colour;
+use hx_book::Proofs;
+use hx_linkset::{Derived, LinkSet};
+use hx_tree::{Heading, Node, Rule};
+use std::sync::Wait;
+
+/// Stores that a set's player wins by the live link at an index.
+pub fn store_links<P: Proofs, R: Wait>(
+    rt: &R,
+    proofs: &mut P,
+    set: &LinkSet,
+    to_move: Colour,
+    index: u32,
+) -> Stored
+    requires { Decides set.now to_move index }
+    ensures slots { P.slots proofs.new ≡ P.slots proofs.old }
+    ensures over { P.over proofs.new ≡ P.over proofs.old }
+    ensures seen { Extends (P.list proofs.new) (P.list proofs.old) }
+    ensures stored { IsStored (P.list proofs.new) (P.slots proofs.new)
+        set.now.present.board to_move result }
+    ensures answered { IsAnswered result }
+{
+    set.keeps();
+    let Ok(derived) = set.derivation(&[index]) else {
+        return Stored::Memory;
+    };
+    let Derived { steps, places: _ } = derived;
+    let heading = Heading {
+        position: *set.position(),
+        to_move,
+        winner: set.colour(),
+    };
+    let rule = Rule::Links { steps };
+    store(rt, proofs, Node { heading, rule })
+}

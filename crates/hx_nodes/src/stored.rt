@@ -1,0 +1,44 @@
+//! What became of a proof.
+
+ghost use Rattle.std.specs.Prelude.{◌≡◌};
+ghost use Rattle.hx_tree.specs.Entries.{Extends};
+ghost use Rattle.hx_tree.specs.Rules.{IsRightNode};
+ghost use Rattle.hx_tree.specs.Trees.{headings_of};
+ghost use Rattle.hx_nodes.specs.Stored.{IsStored, IsAnswered, HadMemory};
+
+use hx_book::{NoSlot, Proofs};
+use hx_tree::Node;
+use std::sync::Wait;
+
+/// What became of a proof that was to be stored.
+#[derive(Debug, Drop)]
+pub enum Stored {
+    /// The list of proofs has an entry of the position and mover.
+    Done,
+
+    /// It has none, and no slot was left for it.
+    Refused(NoSlot),
+
+    /// There is no such proof yet: an entry that it needs is not there, or names the other player as the winner.
+    Missing,
+
+    /// Memory was wanting.
+    Memory,
+}
+
+/// Stores a right node.
+pub(crate) fn store<P: Proofs, R: Wait>(rt: &R, proofs: &mut P, node: Node) -> Stored
+    requires { IsRightNode (headings_of (P.list proofs.old)) node }
+    ensures slots { P.slots proofs.new ≡ P.slots proofs.old }
+    ensures over { P.over proofs.new ≡ P.over proofs.old }
+    ensures seen { Extends (P.list proofs.new) (P.list proofs.old) }
+    ensures stored { IsStored (P.list proofs.new) (P.slots proofs.new)
+        node.heading.position node.heading.to_move result }
+    ensures answered { IsAnswered result }
+    ensures memory { HadMemory result }
+{
+    match proofs.store(rt, node) {
+        Ok(_) => Stored::Done,
+        Err(refusal) => Stored::Refused(refusal),
+    }
+}

@@ -1,0 +1,46 @@
+-- How a worker's work ends.
+use Rattle.std.specs.Prelude.{◌≡◌, ℕ, List, length, ◌⊎◌}
+use Rattle.hx_board.specs.declared.colours.Colour.{Colour}
+use Rattle.hx_board.specs.Positions.{Board}
+use Rattle.hx_board.specs.Graph.{HasChain}
+use Rattle.hx_tree.specs.declared.nodes.Node.{Node}
+use Rattle.hx_tree.specs.Entries.{IsFirstFound}
+use Rattle.hx_linkset.specs.States.{Standing}
+use Rattle.hx_linkset.specs.declared.sets.TheConstants.{MOST_LINKS}
+use Rattle.hx_count.specs.Seats.{Seat}
+use Rattle.hx_search.specs.Closed.{IsClosed}
+use Rattle.hx_search.specs.Decided.{Decides}
+use Rattle.hx_nodes.specs.Stored.{IsOutOfSlots}
+use Rattle.hx_worker.specs.declared.ended.Ended.{Ended}
+use Rattle.hx_worker.specs.declared.ended.Ended.TheVariants.{Proved, Spent, NoSlots, Memory}
+use Rattle.hx_worker.specs.Keeps.{IsSpent}
+
+-- what an end says of the list of proofs and the seat, where the work was on this position and mover
+abbrev pub IsEnded : List Node → ℕ → Seat → Board → Colour → Ended → Type 0
+IsEnded list slots seat board mover (Proved index winner) =
+    IsFirstFound list board mover (record { index = index; winner = winner })
+IsEnded list slots seat board mover (Spent taken) = IsSpent seat taken
+IsEnded list slots seat board mover (NoSlots refusal) = IsOutOfSlots list slots refusal
+IsEnded list slots seat board mover Memory = Unit {0}
+
+-- the work ended for want of a unit
+abbrev pub EndsSpent : Ended → Type 0
+EndsSpent (Proved index winner) = ⊥
+EndsSpent (Spent taken) = Unit {0}
+EndsSpent (NoSlots refusal) = ⊥
+EndsSpent Memory = ⊥
+
+-- the set is closed, or holds all the links that it can
+abbrev pub IsThrough : Standing → Type 0
+IsThrough set = IsClosed set ⊎ (length set.present.links ≡ MOST_LINKS)
+
+-- a set that is through, and does not decide the position
+pub record IsOpenSet (set : Standing) (mover : Colour) : Type 0 where
+  pub through : IsThrough set
+  pub open_set : (place : ℕ) → Decides set mover place → ⊥
+
+-- the position is decided neither by a chain nor by the links of the sets, which were closed as far as that goes
+pub record IsTried (board : Board) (mover : Colour) (black white : Standing) : Type 0 where
+  pub no_chain : (player : Colour) → HasChain board player → ⊥
+  pub black_open : IsOpenSet black mover
+  pub white_open : IsOpenSet white mover

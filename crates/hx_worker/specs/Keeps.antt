@@ -1,0 +1,21 @@
+-- What a worker's seat and its sets of links are after its calls.
+use Rattle.std.specs.Prelude.{◌≡◌, ℕ, true}
+use Rattle.hx_count.specs.Seats.{Seat, own}
+use Rattle.hx_linkset.specs.States.{Standing}
+
+-- a seat of the same counts, which holds each word as often as before, and is refused if it was
+pub record KeepsSeat (old new : Seat) : Type 0 where
+  pub same_made : new.made ≡ old.made
+  pub same_held : (own new).held ≡ (own old).held
+  pub still_refused : (own old).refused ≡ true → (own new).refused ≡ true
+
+-- the seat's worker was refused a unit, and the refusal carries the budget
+pub record IsSpent (seat : Seat) (taken : ℕ) : Type 0 where
+  pub refused : (own seat).refused ≡ true
+  pub budget : taken ≡ seat.made.limits.budget
+
+-- links may have come; the player, the board and the plays that stand are as before
+pub record StandsAgain (old new : Standing) : Type 0 where
+  pub same_player : new.player ≡ old.player
+  pub same_board : new.present.board ≡ old.present.board
+  pub same_past : new.past ≡ old.past

@@ -1,0 +1,4 @@
+pub mod Keeps
+pub mod Sets
+pub mod Outcomes
+pub mod Ends

@@ -1,0 +1,98 @@
+//! The moves of a turn that are tried.
+
+ghost use Rattle.hx_pn.specs.Numbers.{IsNumbers};
+
+use crate::first_numbers::first_numbers;
+use crate::marks::hinted_or;
+use crate::orders::in_order;
+use crate::starts::Turn;
+use crate::stones::after;
+use hx_board::{Cell, Memory};
+use hx_count::Hints;
+use hx_fill::must;
+use hx_linkset::LinkSet;
+use hx_pn::Numbers;
+
+/// A move that is not known to lose.
+#[derive(Clone, Copy)]
+pub(crate) struct Child {
+    pub(crate) cell: Cell,
+
+    /// The number of the position after the move, which the turned position shares.
+    pub(crate) number: u64,
+
+    /// The numbers that the last turn after the move came to, seen from the player to move there.
+    pub(crate) numbers: Numbers,
+    ghost within: { IsNumbers numbers },
+}
+
+/// The moves of a turn.
+#[derive(Drop)]
+pub(crate) struct Moves {
+    /// All empty cells, the best moves first.
+    pub(crate) order: Vec<Cell>,
+
+    /// The moves that must be tried and are not known to lose, the best ones first.
+    pub(crate) children: Vec<Child>,
+}
+
+impl Moves {
+    /// The moves that must be tried, by the links of both players: no link of the other player answers them, and no other move
+    /// is better.
+    pub(crate) fn of(
+        hints: &Hints,
+        own: &LinkSet,
+        others: &LinkSet,
+        turn: &Turn,
+    ) -> Result<Moves, Memory> {
+        let order = in_order(own, others)?;
+        let must = must(others, order.as_slice())?;
+        let mut tried = must.cells;
+        for line in must.under.items() {
+            tried = tried.without(line.cell());
+        }
+        let mut children = Vec::with_capacity(own.allocator(), order.len()).map_err(|_| Memory)?;
+        for cell in order.as_slice() {
+            if tried.has(*cell)
+                && let Some(child) = child_of(hints, turn, *cell)
+            {
+                children.push(child).map_err(|_| Memory)?;
+            }
+        }
+        Ok(Moves { order, children })
+    }
+
+    /// A move is known to lose.
+    pub(crate) fn leave_out(&mut self, place: usize) {
+        if place < self.children.len() {
+            self.children.remove(place);
+        }
+    }
+
+    /// The turn after a move has come to these numbers.
+    pub(crate) fn note(&mut self, place: usize, child: &Child, numbers: Numbers)
+        requires { IsNumbers numbers }
+    {
+        if place < self.children.len() {
+            self.children[place] = Child {
+                cell: child.cell,
+                number: child.number,
+                numbers,
+            };
+        }
+    }
+}
+
+/// A move, with the numbers of its hint or the first ones. None where the cell holds a stone.
+fn child_of(hints: &Hints, turn: &Turn, cell: Cell) -> Option<Child> {
+    let Some(there) = after(&turn.filled, turn.to_move, cell) else {
+        return None;
+    };
+    let number = there.number(turn.to_move.other());
+    let first = first_numbers(turn.filled.position());
+    Some(Child {
+        cell,
+        number,
+        numbers: hinted_or(hints, number, first),
+    })
+}

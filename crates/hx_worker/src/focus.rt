@@ -1,0 +1,125 @@
+//! Which move a turn goes down to, and how far.
+//!
+//! Of the moves that are left the first ones alone are looked at, a quarter of them and one more: with all in focus a search
+//! of 7 by 7 takes twice the units. Of these the turn goes down to the one with the least delta, as df-pn does.
+
+ghost use Rattle.std.specs.Prelude.{◌≡◌, ◌<◌, IfOk};
+ghost use Rattle.std.specs.List.{All};
+ghost use Rattle.hx_pn.specs.Numbers.{IsNumbers};
+ghost use Rattle.hx_worker.specs.Keeps.{KeepsSeat};
+
+use crate::children::{Child, Moves};
+use crate::losses::{WORDS, with_losses};
+use crate::marks::hinted_or;
+use crate::starts::{Start, Turn};
+use crate::stones::after;
+use crate::workers::Worker;
+use hx_board::Memory;
+use hx_count::CountSeat;
+use hx_pn::{Numbers, combine, focus, thresholds};
+use std::alloc::Global;
+
+/// What a turn does next.
+#[derive(Drop)]
+pub(crate) enum Choice {
+    /// Each move is known to lose.
+    AllLose,
+
+    /// The numbers of the turn have come to its limit.
+    Limit(Numbers),
+
+    /// It goes down.
+    Down(Down),
+}
+
+/// A move that a turn goes down to.
+#[derive(Drop)]
+pub(crate) struct Down {
+    /// Its place among the moves.
+    pub(crate) place: usize,
+    pub(crate) child: Child,
+
+    /// The turn after the move.
+    pub(crate) start: Start,
+}
+
+/// The moves in focus.
+pub(crate) fn in_focus(moves: &Moves) -> &[Child] {
+    let children = moves.children.as_slice();
+    let live = u32::try_from(children.len()).unwrap_or(u32::MAX);
+    children.get(..focus(live) as usize).unwrap_or(children)
+}
+
+/// What the turn does next.
+pub(crate) fn choose<G>(
+    worker: &Worker<'_, G>,
+    seat: &mut CountSeat,
+    alloc: Global,
+    turn: &Turn,
+    moves: &Moves,
+) -> Result<Choice, Memory>
+    requires seat { seat.old.made ≡ worker.now.counts.now }
+    requires words { worker.now.counts.now.limits.words ≡ WORDS }
+    ensures { KeepsSeat seat.old seat.new }
+{
+    if moves.children.is_empty() {
+        return Ok(Choice::AllLose);
+    }
+    let Ok(numbers) = numbers_of(worker, seat, alloc, in_focus(moves)) else {
+        return Err(Memory);
+    };
+    let numbers = numbers.as_slice();
+    let Some((place, limit)) = thresholds(turn.limit, numbers) else {
+        return Ok(Choice::Limit(combine(numbers)));
+    };
+    match way_down(turn, moves, place, limit) {
+        Some(down) => Ok(Choice::Down(down)),
+        None => Ok(Choice::Limit(combine(numbers))),
+    }
+}
+
+/// The numbers of some moves, as their hints tell them, with losses.
+fn numbers_of<G>(
+    worker: &Worker<'_, G>,
+    seat: &mut CountSeat,
+    alloc: Global,
+    children: &[Child],
+) -> Result<Vec<Numbers>, Memory>
+    requires seat { seat.old.made ≡ worker.now.counts.now }
+    requires words { worker.now.counts.now.limits.words ≡ WORDS }
+    ensures seat { KeepsSeat seat.old seat.new }
+    ensures numbers { IfOk result (λ numbers. All IsNumbers numbers.items) }
+{
+    let Ok(mut numbers) = Vec::with_capacity(alloc, children.len()) else {
+        return Err(Memory);
+    };
+    for child in children {
+        let told = hinted_or(worker.hints, child.number, child.numbers);
+        let seen = with_losses(worker.counts, seat, child.number, told);
+        numbers.push_reserved(seen);
+    }
+    Ok(numbers)
+}
+
+/// The way down to the move at a place.
+fn way_down(turn: &Turn, moves: &Moves, place: usize, limit: Numbers) -> Option<Down>
+    requires { IsNumbers limit }
+{
+    let Some(child) = moves.children.get(place).copied() else {
+        return None;
+    };
+    let Some(here) = after(&turn.filled, turn.to_move, child.cell) else {
+        return None;
+    };
+    let start = Start {
+        here,
+        to_move: turn.to_move.other(),
+        moved: Some(child.cell),
+        limit,
+    };
+    Some(Down {
+        place,
+        child,
+        start,
+    })
+}

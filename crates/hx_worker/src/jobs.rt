@@ -1,0 +1,99 @@
+//! The work of one worker.
+
+ghost use Rattle.std.specs.Prelude.{◌≡◌, ◌<◌};
+ghost use Rattle.hx_count.specs.Machine.{held_in_all};
+ghost use Rattle.hx_count.specs.Seats.{own};
+ghost use Rattle.hx_tree.specs.Entries.{Extends};
+ghost use Rattle.hx_search.specs.Closed.{IsGrown};
+ghost use Rattle.hx_worker.specs.Sets.{AreOn};
+ghost use Rattle.hx_worker.specs.Keeps.{KeepsSeat};
+ghost use Rattle.hx_worker.specs.Ends.{IsEnded, IsTried, EndsSpent};
+
+use crate::ended::Ended;
+use crate::opening::begin;
+use crate::rounds::search;
+use crate::workers::Worker;
+use hx_board::{Colour, Position};
+use hx_book::Proofs;
+use hx_count::{CountSeat, Counts, Hints};
+use hx_io::Gate;
+use hx_linkset::LinkSet;
+use std::sync::Wait;
+
+/// What a worker works on, and with.
+#[derive(Drop)]
+pub struct Job<'a, P: Proofs> {
+    /// The worker's number, which its gate is told.
+    pub worker: u32,
+    pub position: Position,
+    pub to_move: Colour,
+
+    /// Where proofs are looked for and stored.
+    pub proofs: P,
+
+    /// The units, and how many workers are below a move.
+    pub counts: &'a Counts,
+    pub seat: CountSeat,
+
+    /// What workers leave for one another.
+    pub hints: &'a Hints,
+
+    /// The links of both players at the position.
+    pub black: LinkSet,
+    pub white: LinkSet,
+}
+
+/// Searches until the position of the job is proved, or a unit, a slot or memory is wanting.
+///
+/// The job's sets are closed at the job's position, and are never played on. Whatever the answer, the seat holds what it held,
+/// the sets stand at the job's position, and links that were live in them are.
+pub fn work<P: Proofs, G: Gate, R: Wait>(rt: &R, job: &mut Job<'_, P>, gate: &G) -> Ended
+    requires seat { job.old.seat.made ≡ job.old.counts.now }
+    requires words { job.old.counts.now.limits.words ≡ 4096 }
+    requires nothing_held { held_in_all (own job.old.seat) ≡ 0 }
+    requires sets { AreOn job.old.position job.old.black job.old.white }
+    ensures worker { job.new.worker ≡ job.old.worker }
+    ensures position { job.new.position ≡ job.old.position }
+    ensures to_move { job.new.to_move ≡ job.old.to_move }
+    ensures counts { job.new.counts.now ≡ job.old.counts.now }
+    ensures hints { job.new.hints.now ≡ job.old.hints.now }
+    ensures slots { P.slots job.new.proofs ≡ P.slots job.old.proofs }
+    ensures over { P.over job.new.proofs ≡ P.over job.old.proofs }
+    ensures seen { Extends (P.list job.new.proofs) (P.list job.old.proofs) }
+    ensures seat { KeepsSeat job.old.seat job.new.seat }
+    ensures black { IsGrown job.old.black job.new.black }
+    ensures white { IsGrown job.old.white job.new.white }
+    ensures ended { IsEnded (P.list job.new.proofs) (P.slots job.new.proofs) job.new.seat job.old.position job.old.to_move result }
+    // A spent budget ends the work before the first turn, or after one that tried all that can be tried at once.
+    ensures tried { EndsSpent result → (own job.old.seat).granted < (own job.new.seat).granted
+        → IsTried job.old.position job.old.to_move job.new.black job.new.white }
+{
+    let worker = Worker {
+        number: job.worker,
+        gate,
+        counts: job.counts,
+        hints: job.hints,
+    };
+    let begun = begin(
+        rt,
+        &worker,
+        &mut job.proofs,
+        &mut job.seat,
+        &job.position,
+        job.to_move,
+        &mut job.black,
+        &mut job.white,
+    );
+    if let Some(ended) = begun {
+        return ended;
+    }
+    search(
+        rt,
+        job.black.allocator(),
+        &worker,
+        &mut job.proofs,
+        &mut job.seat,
+        &job.position,
+        job.to_move,
+    )
+}

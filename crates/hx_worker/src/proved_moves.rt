@@ -1,0 +1,197 @@
+//! What is known of a turn's moves, once some are proved: by the turn after a move, or by marks.
+
+ghost use Rattle.std.specs.Prelude.{◌≡◌, IfSome};
+ghost use Rattle.hx_count.specs.Seats.{Seat};
+ghost use Rattle.hx_tree.specs.Entries.{Extends};
+ghost use Rattle.hx_worker.specs.Outcomes.{IsOutcome};
+
+use crate::children::{Child, Moves};
+use crate::first_numbers::first_numbers;
+use crate::focus::{Down, in_focus};
+use crate::marks::{is_marked, leave_open, open};
+use crate::outcomes::{Outcome, outcome_of};
+use crate::starts::Turn;
+use crate::stones::after;
+use hx_book::Proofs;
+use hx_count::Hints;
+use hx_linkset::LinkSet;
+use hx_nodes::{Stored, store_all, store_move, store_turned};
+use hx_pn::{INF, Numbers};
+use std::sync::Wait;
+
+/// The numbers of a turn whose moves all lose.
+const LOST: Numbers = Numbers { phi: INF, delta: 0 };
+
+/// Looks for the turn's own position, where it is marked, and then for the marked moves in focus: another worker may have proved
+/// them since. Some where that ends the turn.
+pub(crate) fn look_again<P: Proofs, R: Wait>(
+    rt: &R,
+    proofs: &mut P,
+    hints: &Hints,
+    turn: &Turn,
+    moves: &mut Moves,
+) -> Option<Outcome>
+    ensures slots { P.slots proofs.new ≡ P.slots proofs.old }
+    ensures over { P.over proofs.new ≡ P.over proofs.old }
+    ensures seen { Extends (P.list proofs.new) (P.list proofs.old) }
+    ensures outcome { (seat : Seat) → IfSome result (IsOutcome (P.list proofs.new) (P.slots proofs.new) seat) }
+{
+    if let Some(outcome) = look_at_own(rt, proofs, hints, turn) {
+        return Some(outcome);
+    }
+    let count = in_focus(moves).len();
+    look_at_marked(rt, proofs, hints, turn, moves, count)
+}
+
+/// Looks for the turn's own position, where it is marked. A mark of which the proofs know nothing was another position's, and
+/// is written anew.
+fn look_at_own<P: Proofs, R: Wait>(
+    rt: &R,
+    proofs: &mut P,
+    hints: &Hints,
+    turn: &Turn,
+) -> Option<Outcome>
+    ensures slots { P.slots proofs.new ≡ P.slots proofs.old }
+    ensures over { P.over proofs.new ≡ P.over proofs.old }
+    ensures seen { Extends (P.list proofs.new) (P.list proofs.old) }
+    ensures outcome { (seat : Seat) → IfSome result (IsOutcome (P.list proofs.new) (P.slots proofs.new) seat) }
+{
+    let number = turn.filled.number(turn.to_move);
+    if !is_marked(hints, number) {
+        return None;
+    }
+    let position = turn.filled.position();
+    let known = outcome_of(store_turned(rt, proofs, position, turn.to_move));
+    if known.is_none() {
+        leave_open(hints, number, first_numbers(position));
+    }
+    known
+}
+
+/// Looks for the marked ones among the first so many moves, the last one first. Some where that ends the turn.
+pub(crate) fn look_at_marked<P: Proofs, R: Wait>(
+    rt: &R,
+    proofs: &mut P,
+    hints: &Hints,
+    turn: &Turn,
+    moves: &mut Moves,
+    count: usize,
+) -> Option<Outcome>
+    ensures slots { P.slots proofs.new ≡ P.slots proofs.old }
+    ensures over { P.over proofs.new ≡ P.over proofs.old }
+    ensures seen { Extends (P.list proofs.new) (P.list proofs.old) }
+    ensures outcome { (seat : Seat) → IfSome result (IsOutcome (P.list proofs.new) (P.slots proofs.new) seat) }
+{
+    let mut left = count;
+    while left > 0 {
+        left -= 1;
+        if let Some(outcome) = look_at(rt, proofs, hints, turn, moves, left) {
+            return Some(outcome);
+        }
+    }
+    None
+}
+
+/// Looks for the move at a place, where it is marked. A mark of which the proofs know nothing was another position's, and is
+/// written anew.
+fn look_at<P: Proofs, R: Wait>(
+    rt: &R,
+    proofs: &mut P,
+    hints: &Hints,
+    turn: &Turn,
+    moves: &mut Moves,
+    place: usize,
+) -> Option<Outcome>
+    ensures slots { P.slots proofs.new ≡ P.slots proofs.old }
+    ensures over { P.over proofs.new ≡ P.over proofs.old }
+    ensures seen { Extends (P.list proofs.new) (P.list proofs.old) }
+    ensures outcome { (seat : Seat) → IfSome result (IsOutcome (P.list proofs.new) (P.slots proofs.new) seat) }
+{
+    let Some(child) = moves.children.get(place).copied() else {
+        return None;
+    };
+    if !is_marked(hints, child.number) {
+        return None;
+    }
+    let Some(there) = after(&turn.filled, turn.to_move, child.cell) else {
+        return None;
+    };
+    match store_turned(rt, proofs, there.position(), turn.to_move.other()) {
+        Stored::Done => by_move(rt, proofs, turn, moves, place, &child),
+        Stored::Refused(refusal) => Some(Outcome::NoSlots(refusal)),
+        Stored::Missing => {
+            leave_open(hints, child.number, child.numbers);
+            None
+        }
+        Stored::Memory => Some(Outcome::Memory),
+    }
+}
+
+/// The proofs say who wins after a move. Where the mover does, the turn ends by it; else the move is left out.
+fn by_move<P: Proofs, R: Wait>(
+    rt: &R,
+    proofs: &mut P,
+    turn: &Turn,
+    moves: &mut Moves,
+    place: usize,
+    child: &Child,
+) -> Option<Outcome>
+    ensures slots { P.slots proofs.new ≡ P.slots proofs.old }
+    ensures over { P.over proofs.new ≡ P.over proofs.old }
+    ensures seen { Extends (P.list proofs.new) (P.list proofs.old) }
+    ensures outcome { (seat : Seat) → IfSome result (IsOutcome (P.list proofs.new) (P.slots proofs.new) seat) }
+{
+    let position = turn.filled.position();
+    let is_empty = position.empties().has(child.cell);
+    if is_empty {
+        let won = outcome_of(store_move(rt, proofs, position, turn.to_move, child.cell));
+        if won.is_some() {
+            return won;
+        }
+    }
+    moves.leave_out(place);
+    None
+}
+
+/// What the turn after a move tells of the turn itself. None where it goes on.
+pub(crate) fn take_in<P: Proofs, R: Wait>(
+    rt: &R,
+    proofs: &mut P,
+    turn: &Turn,
+    moves: &mut Moves,
+    down: &Down,
+    outcome: Outcome,
+) -> Option<Outcome>
+    ensures slots { P.slots proofs.new ≡ P.slots proofs.old }
+    ensures over { P.over proofs.new ≡ P.over proofs.old }
+    ensures seen { Extends (P.list proofs.new) (P.list proofs.old) }
+    ensures outcome { (seat : Seat) → IsOutcome (P.list proofs.old) (P.slots proofs.old) seat outcome
+        → IfSome result (IsOutcome (P.list proofs.new) (P.slots proofs.new) seat) }
+{
+    match outcome {
+        Outcome::Proved => by_move(rt, proofs, turn, moves, down.place, &down.child),
+        Outcome::Open(numbers) => {
+            moves.note(down.place, &down.child, open(numbers));
+            None
+        }
+        other => Some(other),
+    }
+}
+
+/// Ends a turn whose moves all lose.
+pub(crate) fn all_lose<P: Proofs, R: Wait>(
+    rt: &R,
+    proofs: &mut P,
+    others: &LinkSet,
+    moves: &Moves,
+) -> Outcome
+    ensures slots { P.slots proofs.new ≡ P.slots proofs.old }
+    ensures over { P.over proofs.new ≡ P.over proofs.old }
+    ensures seen { Extends (P.list proofs.new) (P.list proofs.old) }
+    ensures outcome { (seat : Seat) → IsOutcome (P.list proofs.new) (P.slots proofs.new) seat result }
+{
+    match outcome_of(store_all(rt, proofs, others, moves.order.as_slice())) {
+        Some(outcome) => outcome,
+        None => Outcome::Open(LOST),
+    }
+}

@@ -1,0 +1,53 @@
+//! What a turn is given, and what it goes on with after fill-in.
+
+ghost use Rattle.std.specs.Prelude.{◌≡◌, IfOk};
+ghost use Rattle.hx_pn.specs.Numbers.{IsNumbers};
+
+use crate::stones::{Stone, stones_of};
+use hx_board::{Cell, Colour, Memory};
+use hx_fill::Filled;
+use hx_pn::Numbers;
+use hx_turn::Orientations;
+use std::alloc::Global;
+
+/// What a turn is given.
+#[derive(Drop)]
+pub(crate) struct Start {
+    pub(crate) here: Orientations,
+    pub(crate) to_move: Colour,
+
+    /// The move that led to the position. The sets of links do not have its stone yet.
+    pub(crate) moved: Option<Cell>,
+
+    /// The turn ends where its numbers come to this.
+    pub(crate) limit: Numbers,
+    ghost within: { IsNumbers limit },
+}
+
+/// A turn after fill-in.
+#[derive(Drop)]
+pub(crate) struct Turn {
+    pub(crate) filled: Orientations,
+    pub(crate) to_move: Colour,
+    pub(crate) limit: Numbers,
+
+    /// Whether anything was filled.
+    pub(crate) is_filled: bool,
+
+    /// The stones that neither set of links has yet.
+    pub(crate) stones: Vec<Stone>,
+    ghost within: { IsNumbers limit },
+}
+
+impl Turn {
+    /// The turn of this start, with what was filled in.
+    pub(crate) fn of(alloc: Global, start: &Start, filled: &Filled) -> Result<Turn, Memory> {
+        Ok(Turn {
+            filled: Orientations::of(&filled.position),
+            to_move: start.to_move,
+            limit: start.limit,
+            is_filled: !filled.steps.is_empty(),
+            stones: stones_of(alloc, start, filled)?,
+        })
+    }
+}

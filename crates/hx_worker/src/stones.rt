@@ -1,0 +1,56 @@
+//! The stones that come in a turn: the move that led to it, and what is filled in.
+
+use crate::starts::Start;
+use hx_board::{Cell, Colour, Memory};
+use hx_fill::{Fill, Filled};
+use hx_inferior::FillStep;
+use hx_turn::Orientations;
+use std::alloc::Global;
+
+/// A stone that is put on a position.
+pub(crate) type Stone = (Colour, Cell);
+
+/// Room for the stones of most turns.
+const FEW: usize = 8;
+
+/// The position after a move. None where the cell holds a stone.
+pub(crate) fn after(before: &Orientations, colour: Colour, cell: Cell) -> Option<Orientations> {
+    let is_empty = before.position().empties().has(cell);
+    if is_empty {
+        Some(before.with(colour, cell))
+    } else {
+        None
+    }
+}
+
+/// The stones of a turn, the move first.
+pub(crate) fn stones_of(
+    alloc: Global,
+    start: &Start,
+    filled: &Filled,
+) -> Result<Vec<Stone>, Memory> {
+    let mut stones = Vec::with_capacity(alloc, FEW).map_err(|_| Memory)?;
+    if let Some(cell) = start.moved {
+        push(&mut stones, start.to_move.other(), cell)?;
+    }
+    for fill in filled.steps.as_slice() {
+        push_fill(&mut stones, fill)?;
+    }
+    Ok(stones)
+}
+
+/// Adds the stones of one step of fill-in.
+fn push_fill(stones: &mut Vec<Stone>, fill: &Fill) -> Result<(), Memory> {
+    let colour = fill.colour;
+    match fill.step {
+        FillStep::Dead(cell) | FillStep::Other(cell) => push(stones, colour, cell),
+        FillStep::Pair(a, b) => {
+            push(stones, colour, a)?;
+            push(stones, colour, b)
+        }
+    }
+}
+
+fn push(stones: &mut Vec<Stone>, colour: Colour, cell: Cell) -> Result<(), Memory> {
+    stones.push((colour, cell)).map_err(|_| Memory)
+}

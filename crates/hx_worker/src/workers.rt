@@ -1,0 +1,28 @@
+//! A worker, and how it asks for a unit.
+
+ghost use Rattle.std.specs.Prelude.{◌≡◌, IfErr};
+ghost use Rattle.hx_count.specs.Seats.{own, after_spend};
+ghost use Rattle.hx_worker.specs.Keeps.{KeepsSeat, IsSpent};
+
+use hx_count::{CountSeat, Counts, Hints, Spent};
+use hx_io::Gate;
+
+/// A worker's number, and what it has in common with all other workers.
+#[derive(Drop)]
+pub(crate) struct Worker<'a, G> {
+    pub(crate) number: u32,
+    pub(crate) gate: &'a G,
+    pub(crate) counts: &'a Counts,
+    pub(crate) hints: &'a Hints,
+}
+
+/// Calls the gate and asks for a unit.
+pub(crate) fn ask<G: Gate>(worker: &Worker<'_, G>, seat: &mut CountSeat) -> Result<(), Spent>
+    requires { seat.old.made ≡ worker.now.counts.now }
+    ensures seat { KeepsSeat seat.old seat.new }
+    ensures own { own seat.new ≡ after_spend result (own seat.old) }
+    ensures spent { IfErr result (IsSpent seat.new) }
+{
+    worker.gate.at_turn(worker.number, seat.granted());
+    worker.counts.spend(seat)
+}
