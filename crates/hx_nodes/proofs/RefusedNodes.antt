@@ -9,12 +9,14 @@ pub refused-out : (slots : ℕ) (old : List Node) (node : Node) (refusal : Refus
     → IsOutOfSlots new slots refusal × IsOf node.heading.position node.heading.to_move refusal.node
 refused-out slots old node refusal new later =
     let refused = later.puts.0 in
-    let same : refusal.node ≡ node = later.puts.1 in
-    (record {
-      full = ap length refused.same ∙ refused.full;
-      same_held = refused.same_held ∙ refused.full;
-      none = rw (refused.same, same) refused.none;
-    }, record {
-      same_position = ap (λ (n : Node). n.heading.position) same;
-      same_mover = ap (λ (n : Node). n.heading.to_move) same;
-    })
+    let same : refusal.node ≡ node = later.puts.1 in (
+      record {
+        full = ap length refused.same ∙ refused.full;
+        same_held = refused.same_held ∙ refused.full;
+        none = rw (refused.same, same) refused.none;
+      },
+      record {
+        same_position = ap (λ (n : Node). n.heading.position) same;
+        same_mover = ap (λ (n : Node). n.heading.to_move) same;
+      },
+    )
