@@ -13,7 +13,7 @@ use hx_search::Workspace;
 use hx_turn::Orientations;
 use std::io;
 
-/// Words of hints.
+/// Words of hints, where a task does not try how much their number matters.
 const HINTS: u32 = 1048576;
 
 /// Slots of a book.
@@ -47,45 +47,82 @@ struct Task {
     side: u8,
     positions: Positions,
     budget: u64,
+
+    /// Words of hints.
+    hints: u32,
 }
 
 /// All searches.
-const TASKS: [Task; 6] = [
+const TASKS: [Task; 10] = [
     Task {
         name: "empty6",
         side: 6,
         positions: Positions::Empty,
         budget: MANY_UNITS,
+        hints: HINTS,
     },
     Task {
         name: "empty7",
         side: 7,
         positions: Positions::Empty,
         budget: MANY_UNITS,
+        hints: HINTS,
     },
     Task {
         name: "e6",
         side: 7,
         positions: Positions::After { row: 5, col: 4 },
         budget: MANY_UNITS,
+        hints: HINTS,
     },
     Task {
         name: "e6-start",
         side: 7,
         positions: Positions::After { row: 5, col: 4 },
         budget: 1500,
+        hints: HINTS,
+    },
+    Task {
+        name: "e6-hints16",
+        side: 7,
+        positions: Positions::After { row: 5, col: 4 },
+        budget: MANY_UNITS,
+        hints: 65536,
+    },
+    Task {
+        name: "e6-hints18",
+        side: 7,
+        positions: Positions::After { row: 5, col: 4 },
+        budget: MANY_UNITS,
+        hints: 262144,
+    },
+    Task {
+        name: "e6-hints22",
+        side: 7,
+        positions: Positions::After { row: 5, col: 4 },
+        budget: MANY_UNITS,
+        hints: 4194304,
+    },
+    Task {
+        name: "e6-hints24",
+        side: 7,
+        positions: Positions::After { row: 5, col: 4 },
+        budget: MANY_UNITS,
+        hints: 16777216,
     },
     Task {
         name: "openings6",
         side: 6,
         positions: Positions::EachOpening,
         budget: MANY_UNITS,
+        hints: HINTS,
     },
     Task {
         name: "empty11",
         side: 11,
         positions: Positions::Empty,
         budget: 1000,
+        hints: HINTS,
     },
 ];
 
@@ -155,7 +192,7 @@ fn search_openings(rt: &HostRuntime, worker: &mut Worker, empty: &Position) -> R
 fn run(rt: &HostRuntime, task: &Task) -> io::Result<()> {
     let (Some(size), Ok(hints), Ok(shelf), Ok(workspace)) = (
         Size::new(task.side, task.side),
-        Hints::with_words(rt.alloc(), HINTS),
+        Hints::with_words(rt.alloc(), task.hints.clamp(1, 16777216)),
         Shelf::with_slots(rt.alloc(), SLOTS),
         Workspace::new(rt.alloc()),
     ) else {
