@@ -1,8 +1,11 @@
 //! Each call once in one thread, and stores of many threads.
 
-ghost use Rattle.std.specs.Prelude.{◌≡◌, ◌<◌, ◌≤◌, length, IfOk, IfSome, IsSomeAnd};
+ghost use Rattle.std.specs.Prelude.{◌≡◌, ◌<◌, ◌≤◌, IfOk, IfSome, IsSomeAnd};
 ghost use Rattle.std.specs.List.{All};
+ghost use Rattle.hx_board.specs.declared.colours.Colour.TheVariants.{Black, White};
 ghost use Rattle.hx_tree.specs.declared.nodes.Rule.TheVariants.{Chain, Move};
+ghost use Rattle.hx_tree.specs.Entries.{Extends};
+ghost use Rattle.hx_book.specs.Puts.{PutsLater};
 
 use super::*;
 use hx_board::Colour::{Black, White};
@@ -11,6 +14,8 @@ use hx_book::{Book, NoSlot, Proofs};
 use hx_tree::{Found, Heading, Node, Rule};
 use std::alloc::Global;
 use std::sync::Wait;
+use std::sync::atomic::AtomicU64;
+use std::sync::atomic::Ordering::SeqCst;
 use std::test::Fail;
 use std::thread;
 use std::thread::Threads;
@@ -44,6 +49,18 @@ fn close(shared: Shared, seats: Vec<BookSeat>, count: u32) -> Result<Book, Fail>
         return Err("a seat is missing".into());
     }
     Ok(shared.close(seats))
+}
+
+/// The book of two seats.
+fn close_two(alloc: Global, shared: Shared, first: BookSeat, second: BookSeat) -> Result<Book, Fail>
+    requires seats { shared.seats ≡ 2 }
+    requires first { first.made ≡ shared.made }
+    requires second { second.made ≡ shared.made }
+{
+    let mut seats = Vec::new(alloc);
+    seats.push(first)?;
+    seats.push(second)?;
+    close(shared, seats, 2)
 }
 
 /// Black wins the position by its chain, with White to move.
@@ -80,7 +97,10 @@ fn store_chain<R: Wait>(
     position: &Position,
 ) -> Option<Result<u32, NoSlot>>
     requires { seat.old.made ≡ shared.now.made }
-    ensures { seat.new.made ≡ seat.old.made }
+    ensures made { seat.new.made ≡ seat.old.made }
+    ensures stored { IfSome result (λ answer. PutsLater shared.now.made.slots seat.old.seen
+        (record { heading = record { position = position.now; to_move = White; winner = Black }; rule = Chain })
+        answer seat.new.seen) }
 {
     let _size = position.size();
     if !chain(position, Black) {
@@ -135,32 +155,20 @@ fn one_cell() -> Result<(Position, Position, Cell), Fail> {
     Ok((Position::empty(size), stone.ok_or("stones")?, cell))
 }
 
-#[test]
-fn a_told_seat_finds_what_was_stored(rt: HostRuntime) -> Result<(), Fail> {
-    let (shared, mut seats) = start(rt.alloc(), 4, 2)?;
-    let mut second = last_seat(&shared, &mut seats)?;
-    let mut first = last_seat(&shared, &mut seats)?;
-    let (empty, stone, cell) = one_cell()?;
-    let stored = store_chain(&rt, &shared, &mut first, &stone).ok_or("no chain")?;
-    assert_eq!(rt; stored.ok(), Some(0));
-    let again = store_chain(&rt, &shared, &mut second, &stone).ok_or("no chain")?;
-    assert_eq!(rt; again.ok(), Some(0));
-    let (mut first, moved) = store_move_at(&rt, &shared, first, &empty, cell);
-    assert_eq!(rt; moved, Some(1));
-    let note = shared.tell(&mut first);
-    shared.learn(&mut second, note);
-    shared.compare(&mut first, &mut second);
-    assert_eq!(rt; (first.seen(), second.seen()), (2, 2));
-    let found = shared.look(&rt, &mut second, &empty, Black);
-    let (index, winner) = (1, Black);
-    assert_eq!(rt; found, Some(Found { index, winner }));
-    seats.push(first)?;
-    seats.push(second)?;
-    assert_eq!(rt; close(shared, seats, 2)?.held(), 2);
-    Ok(())
+/// The second seat has then seen what the first has.
+fn tell(shared: &Shared, first: &mut BookSeat, second: &mut BookSeat)
+    requires first { first.old.made ≡ shared.now.made }
+    requires second { second.old.made ≡ shared.now.made }
+    ensures first { first.new ≡ first.old }
+    ensures made { second.new.made ≡ second.old.made }
+    ensures seen { Extends second.new.seen first.old.seen }
+{
+    let note = shared.tell(first);
+    shared.learn(second, note);
+    shared.compare(first, second);
 }
 
-/// What one seat stores, another finds once it was told.
+/// What one seat stores, another finds once it was told: the answered index, and what was found.
 fn find_once_told<R: Wait>(
     rt: &R,
     shared: &Shared,
@@ -170,26 +178,53 @@ fn find_once_told<R: Wait>(
 ) -> Option<(u32, Option<Found>)>
     requires one { one.old.made ≡ shared.now.made }
     requires other { other.old.made ≡ shared.now.made }
-    ensures { IfSome result (λ both. IsSomeAnd both.1 (λ found. found.index ≡ both.0)) }
+    ensures one { one.new.made ≡ one.old.made }
+    ensures other { other.new.made ≡ other.old.made }
+    ensures found { IfSome result (λ both. IsSomeAnd both.1 (λ found. found.index ≡ both.0)) }
 {
     stored_is_found();
     let Some(Ok(index)) = store_chain(rt, shared, one, position) else {
         return None;
     };
-    let note = shared.tell(one);
-    shared.learn(other, note);
+    tell(shared, one, other);
     let found = shared.look(rt, other, position, White);
     Some((index, found))
 }
 
+#[test]
+fn a_told_seat_finds_what_was_stored(rt: HostRuntime) -> Result<(), Fail> {
+    let (shared, mut seats) = start(rt.alloc(), 4, 2)?;
+    let mut second = last_seat(&shared, &mut seats)?;
+    let mut first = last_seat(&shared, &mut seats)?;
+    let (empty, stone, cell) = one_cell()?;
+    let again = find_once_told(&rt, &shared, &mut first, &mut second, &stone);
+    let (index, winner) = (0, Black);
+    assert_eq!(rt; again, Some((0, Some(Found { index, winner }))));
+    let stored = store_chain(&rt, &shared, &mut second, &stone).ok_or("no chain")?;
+    assert_eq!(rt; stored.ok(), Some(0));
+    let (mut first, moved) = store_move_at(&rt, &shared, first, &empty, cell);
+    assert_eq!(rt; moved, Some(1));
+    tell(&shared, &mut first, &mut second);
+    assert_eq!(rt; (first.seen(), second.seen()), (2, 2));
+    let found = shared.look(&rt, &mut second, &empty, Black);
+    let index = 1;
+    assert_eq!(rt; found, Some(Found { index, winner }));
+    let book = close_two(rt.alloc(), shared, first, second)?;
+    assert_eq!(rt; book.held(), 2);
+    Ok(())
+}
+
+/// The cells of the sixth column.
+const COLUMN: u128 = 0x0008_0100_2004_0080_1002_0040_0801_0020;
+
 /// The cell at this place of those that are not in the sixth column.
-fn beside(place: u32) -> u128 {
+fn beside(place: u64) -> u128 {
     let (row, col) = (place / 10 % 11, place % 10);
     let col = if col < 5 { col } else { col + 1 };
     1u128 << (row * 11 + col)
 }
 
-/// Boards of Black's column: with one stone of White's, of which there are 110, or a thousand with two.
+/// Boards with Black's stones on the sixth column: with one stone of White's, of which there are 110, or a thousand with two.
 #[derive(Clone, Copy)]
 enum Boards {
     OneStone,
@@ -198,7 +233,7 @@ enum Boards {
 
 impl Boards {
     /// White's stones on the board of this number.
-    fn stones(self, number: u32) -> u128 {
+    fn stones(self, number: u64) -> u128 {
         match self {
             Boards::OneStone => beside(number),
             Boards::TwoStones => beside(number / 100 % 10) | beside(number % 100 + 10),
@@ -206,17 +241,13 @@ impl Boards {
     }
 }
 
-/// The board of 11 by 11 with Black's stones on the sixth column, and White's on these cells.
+/// The board with these stones of White's.
 fn column(white: u128) -> Option<Position> {
     let size = Size::new(11, 11)?;
-    let mut black = 0u128;
-    for row in 0..11 {
-        black |= 1u128 << (row * 11 + 5);
-    }
-    Position::from_masks(size, Mask::of(black), Mask::of(white))
+    Position::from_masks(size, Mask::of(COLUMN), Mask::of(white))
 }
 
-/// Stores a board of Black's column, and looks for it: whether it is found where the store says.
+/// Stores a board, and looks for it: whether it is found where the store says.
 fn store_and_look<R: Wait>(rt: &R, shared: &Shared, seat: &mut BookSeat, white: u128) -> bool
     requires { seat.old.made ≡ shared.now.made }
     ensures { seat.new.made ≡ seat.old.made }
@@ -231,110 +262,81 @@ fn store_and_look<R: Wait>(rt: &R, shared: &Shared, seat: &mut BookSeat, white: 
     shared.look(rt, seat, &position, White) == Some(Found { index, winner })
 }
 
-/// A seat, which boards it stores, and whether each was found.
+/// Which boards each thread stores: so many, from a first one on, which comes so much later from thread to thread. And how
+/// many of all were found.
 #[derive(Drop)]
-struct Task {
-    seat: BookSeat,
+struct Work {
     boards: Boards,
-    first: u32,
-    count: u32,
-    all_found: bool,
+    count: u64,
+    apart: u64,
+    next: AtomicU64,
+    found: AtomicU64,
 }
 
-fn store_boards<R: Wait>(rt: &R, shared: &Shared, task: Task) -> Task
-    requires { task.seat.made ≡ shared.now.made }
-    ensures { result.seat.made ≡ shared.now.made }
-{
-    let mut task = task;
-    for place in 0..task.count {
-        let white = task.boards.stones(task.first.wrapping_add(place));
-        let found = store_and_look(rt, shared, &mut task.seat, white);
-        task.all_found = task.all_found && found;
+impl Work {
+    fn new(boards: Boards, count: u64, apart: u64) -> Work {
+        Work {
+            boards,
+            count,
+            apart,
+            next: AtomicU64::new(0),
+            found: AtomicU64::new(0),
+        }
     }
-    task
 }
 
-/// A thread for each task.
-fn store_each<R: Threads + Wait + Sync>(
+/// One thread's boards.
+fn store_boards<R: Wait>(rt: &R, shared: &Shared, work: &Work, seat: BookSeat) -> BookSeat
+    requires { seat.made ≡ shared.now.made }
+    ensures { result.made ≡ shared.now.made }
+{
+    let mut seat = seat;
+    let first = work.next.fetch_add(work.apart, SeqCst);
+    for place in 0..work.count {
+        let white = work.boards.stones(first.wrapping_add(place));
+        if store_and_look(rt, shared, &mut seat, white) {
+            work.found.fetch_add(1, SeqCst);
+        }
+    }
+    seat
+}
+
+/// A thread for each seat.
+fn store_all<R: Threads + Wait + Sync>(
     rt: &R,
     shared: &Shared,
-    tasks: Vec<Task>,
-) -> Result<Vec<Task>, Fail>
-    requires { All (λ t. t.seat.made ≡ shared.now.made) tasks.items }
-    ensures { IfOk result (λ v. All (λ t. t.seat.made ≡ shared.now.made) v.items) }
-{
-    Ok(thread::map_vec(rt, tasks, &|task| store_boards(rt, shared, task))?)
-}
-
-/// A task for each seat: so many boards, of which the first is so many further on from task to task.
-fn tasks_of(
-    alloc: Global,
-    shared: &Shared,
+    work: &Work,
     seats: Vec<BookSeat>,
-    boards: Boards,
-    apart: u32,
-    count: u32,
-) -> Result<Vec<Task>, Fail>
+) -> Result<Vec<BookSeat>, Fail>
     requires { All (λ s. s.made ≡ shared.now.made) seats.items }
-    ensures { IfOk result (λ v. All (λ t. t.seat.made ≡ shared.now.made) v.items) }
-{
-    let _ = shared;
-    let mut seats = seats;
-    let mut tasks = Vec::new(alloc);
-    let mut first = 0u32;
-    while let Some(seat) = seats.pop() {
-        let all_found = true;
-        tasks.push(Task {
-            seat,
-            boards,
-            first,
-            count,
-            all_found,
-        })?;
-        first = first.wrapping_add(apart);
-    }
-    Ok(tasks)
-}
-
-/// The seats of tasks whose boards were all found.
-fn seats_of(alloc: Global, shared: &Shared, tasks: Vec<Task>) -> Result<Vec<BookSeat>, Fail>
-    requires { All (λ t. t.seat.made ≡ shared.now.made) tasks.items }
     ensures { IfOk result (λ v. All (λ s. s.made ≡ shared.now.made) v.items) }
 {
-    let _ = shared;
-    let mut tasks = tasks;
-    let mut seats = Vec::new(alloc);
-    while let Some(task) = tasks.pop() {
-        if !task.all_found {
-            return Err("a board was not found".into());
-        }
-        seats.push(task.seat)?;
-    }
-    Ok(seats)
+    Ok(thread::map_vec(rt, seats, &|seat| store_boards(rt, shared, work, seat))?)
 }
 
 #[test]
 fn two_threads_fill_a_book(rt: HostRuntime) -> Result<(), Fail> {
     let (shared, seats) = start(rt.alloc(), 110, 2)?;
-    let tasks = tasks_of(rt.alloc(), &shared, seats, Boards::OneStone, 55, 55)?;
-    let tasks = store_each(&rt, &shared, tasks)?;
-    let mut seats = seats_of(rt.alloc(), &shared, tasks)?;
-    let mut seat = last_seat(&shared, &mut seats)?;
+    let work = Work::new(Boards::OneStone, 55, 55);
+    let mut seats = store_all(&rt, &shared, &work, seats)?;
+    assert_eq!(rt; work.found.load(SeqCst), 110);
+    let mut second = last_seat(&shared, &mut seats)?;
+    let first = last_seat(&shared, &mut seats)?;
     let bare = column(0).ok_or("stones")?;
-    let refused = store_chain(&rt, &shared, &mut seat, &bare).ok_or("no chain")?;
+    let refused = store_chain(&rt, &shared, &mut second, &bare).ok_or("no chain")?;
     let refusal = refused.err().ok_or("a slot was left")?;
     assert_eq!(rt; refusal.held(), 110);
-    seats.push(seat)?;
-    assert_eq!(rt; close(shared, seats, 2)?.held(), 110);
+    let book = close_two(rt.alloc(), shared, first, second)?;
+    assert_eq!(rt; book.held(), 110);
     Ok(())
 }
 
 #[test]
 fn eight_threads_store_the_same_boards(rt: HostRuntime) -> Result<(), Fail> {
     let (shared, seats) = start(rt.alloc(), 2000, 8)?;
-    let tasks = tasks_of(rt.alloc(), &shared, seats, Boards::TwoStones, 125, 1000)?;
-    let tasks = store_each(&rt, &shared, tasks)?;
-    let seats = seats_of(rt.alloc(), &shared, tasks)?;
+    let work = Work::new(Boards::TwoStones, 1000, 125);
+    let seats = store_all(&rt, &shared, &work, seats)?;
+    assert_eq!(rt; work.found.load(SeqCst), 8000);
     assert_eq!(rt; close(shared, seats, 8)?.held(), 1000);
     Ok(())
 }
