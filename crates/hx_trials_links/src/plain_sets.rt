@@ -104,7 +104,8 @@ impl PlainSet {
             return Ok(Added::Refused);
         };
         if let Some(place) = self.covering(&link) {
-            return Ok(Added::Covered(place as u32));
+            let place = u32::try_from(place).unwrap_or(u32::MAX);
+            return Ok(Added::Covered(place));
         }
         let count = self.links.len();
         if count >= MOST_LINKS {
