@@ -6,7 +6,7 @@ use hx_board::{Cell, Colour, Mask, Position, Size, chain};
 use hx_book::Book;
 use hx_fill::fill_in;
 use hx_linkset::LinkSet;
-use hx_search::{Reached, reach};
+use hx_search::{Reached, decided, reach};
 use hx_tree::{Verdict, check_tree};
 use std::alloc::Global;
 use std::sync::Wait;
@@ -34,6 +34,14 @@ fn after(position: &Position, colour: Colour, cell: Cell) -> Result<Position, Fa
         return Err("a stone".into());
     }
     Ok(position.with(colour, cell))
+}
+
+fn is_done(stored: Stored) -> bool {
+    matches!(stored, Stored::Done)
+}
+
+fn is_missing(stored: Stored) -> bool {
+    matches!(stored, Stored::Missing)
 }
 
 /// Stores that a player wins by a chain.
@@ -66,6 +74,44 @@ fn moved<R: Wait>(
     Ok(store_move(rt, book, position, to_move, cell))
 }
 
+/// What fill-in leaves of a position.
+fn left_of(alloc: Global, position: &Position) -> Result<Position, Fail> {
+    match fill_in(alloc, position) {
+        Ok(filled) => Ok(filled.position),
+        Err(_) => Err("memory".into()),
+    }
+}
+
+/// Stores who wins a position by what fill-in leaves of it.
+fn filled<R: Wait>(
+    rt: &R,
+    alloc: Global,
+    book: &mut Book,
+    position: &Position,
+    to_move: Colour,
+) -> Result<Stored, Fail> {
+    match fill_in(alloc, position) {
+        Ok(filled) => Ok(store_fill(rt, alloc, book, position, to_move, &filled)),
+        Err(_) => Err("memory".into()),
+    }
+}
+
+/// Stores that a set's player wins by a link, after the links that are useful were added.
+fn linked<R: Wait>(
+    rt: &R,
+    book: &mut Book,
+    set: &mut LinkSet,
+    to_move: Colour,
+) -> Result<Stored, Fail> {
+    if reach(set, to_move).is_err() {
+        return Err("memory".into());
+    }
+    match decided(set, to_move) {
+        Reached::Decided(index) => Ok(store_links(rt, book, set, to_move, index)),
+        Reached::Open => Err("open".into()),
+    }
+}
+
 /// What the checker says of the tree of an entry.
 fn verdict_of(
     alloc: Global,
@@ -87,15 +133,11 @@ fn a_turned_position(rt: HostRuntime) -> Result<(), Fail> {
     let position = board(2, 2, 0x801)?;
     let other = board(2, 2, 0x1002)?;
     let mut book = Book::with_slots(rt.alloc(), 2).or(Err("memory"))?;
-    let stored = store_turned(&rt, &mut book, &position, White);
-    assert!(rt; matches!(stored, Stored::Missing));
-    let stored = chained(&rt, &mut book, &position, White, Black)?;
-    assert!(rt; matches!(stored, Stored::Done));
-    let stored = store_turned(&rt, &mut book, &position, White);
-    assert!(rt; matches!(stored, Stored::Done));
+    assert!(rt; is_missing(store_turned(&rt, &mut book, &position, White)));
+    assert!(rt; is_done(chained(&rt, &mut book, &position, White, Black)?));
+    assert!(rt; is_done(store_turned(&rt, &mut book, &position, White)));
     assert_eq!(rt; book.held(), 1);
-    let stored = store_turned(&rt, &mut book, &other, White);
-    assert!(rt; matches!(stored, Stored::Done));
+    assert!(rt; is_done(store_turned(&rt, &mut book, &other, White)));
     assert_eq!(rt; verdict_of(rt.alloc(), book, &other, White)?, Verdict::Yes);
     Ok(())
 }
@@ -113,23 +155,21 @@ fn no_slot(rt: HostRuntime) -> Result<(), Fail> {
     Ok(())
 }
 
-/// With a black stone on b1 the cells of the row below are a captured pair of Black's.
+/// With a black stone on b1 the cells of the row below are a captured pair of Black's, and then a1 is dead.
 #[test]
 fn a_fill_and_a_move(rt: HostRuntime) -> Result<(), Fail> {
     let empty = board(2, 2, 0)?;
+    let position = board(2, 2, 0x2)?;
+    let last = left_of(rt.alloc(), &position)?;
     let b1 = empty_cell(&empty, 0, 1)?;
-    let position = after(&empty, Black, b1)?;
     let mut book = Book::with_slots(rt.alloc(), 3).or(Err("memory"))?;
-    let filled = fill_in(rt.alloc(), &position).or(Err("memory"))?;
-    let stored = store_fill(&rt, rt.alloc(), &mut book, &position, White, &filled);
-    assert!(rt; matches!(stored, Stored::Missing));
-    chained(&rt, &mut book, &filled.position, White, Black)?;
-    let stored = moved(&rt, &mut book, &empty, Black, b1)?;
-    assert!(rt; matches!(stored, Stored::Missing));
-    let stored = store_fill(&rt, rt.alloc(), &mut book, &position, White, &filled);
-    assert!(rt; matches!(stored, Stored::Done));
-    let stored = moved(&rt, &mut book, &empty, Black, b1)?;
-    assert!(rt; matches!(stored, Stored::Done));
+    let stored = filled(&rt, rt.alloc(), &mut book, &position, White)?;
+    assert!(rt; is_missing(stored));
+    chained(&rt, &mut book, &last, White, Black)?;
+    assert!(rt; is_missing(moved(&rt, &mut book, &empty, Black, b1)?));
+    let stored = filled(&rt, rt.alloc(), &mut book, &position, White)?;
+    assert!(rt; is_done(stored));
+    assert!(rt; is_done(moved(&rt, &mut book, &empty, Black, b1)?));
     assert_eq!(rt; verdict_of(rt.alloc(), book, &empty, Black)?, Verdict::Yes);
     Ok(())
 }
@@ -140,12 +180,7 @@ fn a_link(rt: HostRuntime) -> Result<(), Fail> {
     let position = board(2, 2, 0x2)?;
     let mut book = Book::with_slots(rt.alloc(), 1).or(Err("memory"))?;
     let mut set = LinkSet::new(rt.alloc(), &position, Black).or(Err("memory"))?;
-    let reached = reach(&mut set, White).or(Err("memory"))?;
-    let Reached::Decided(index) = reached else {
-        return Err("open".into());
-    };
-    let stored = store_links(&rt, &mut book, &set, White, index);
-    assert!(rt; matches!(stored, Stored::Done));
+    assert!(rt; is_done(linked(&rt, &mut book, &mut set, White)?));
     assert_eq!(rt;
         verdict_of(rt.alloc(), book, &position, White)?,
         Verdict::Yes
@@ -174,12 +209,10 @@ fn each_answer(rt: HostRuntime) -> Result<(), Fail> {
     let b1 = empty_cell(&position, 0, 1)?;
     let mut book = Book::with_slots(rt.alloc(), 5).or(Err("memory"))?;
     let set = LinkSet::new(rt.alloc(), &position, Black).or(Err("memory"))?;
-    let stored = store_all(&rt, &mut book, &set, &[b1]);
-    assert!(rt; matches!(stored, Stored::Missing));
+    assert!(rt; is_missing(store_all(&rt, &mut book, &set, &[b1])));
     answered(&rt, &mut book, &position, a1, b1)?;
     answered(&rt, &mut book, &position, b1, a1)?;
-    let stored = store_all(&rt, &mut book, &set, &[b1]);
-    assert!(rt; matches!(stored, Stored::Done));
+    assert!(rt; is_done(store_all(&rt, &mut book, &set, &[b1])));
     assert_eq!(rt;
         verdict_of(rt.alloc(), book, &position, White)?,
         Verdict::Yes
@@ -194,8 +227,7 @@ fn threats_alone(rt: HostRuntime) -> Result<(), Fail> {
     let mut book = Book::with_slots(rt.alloc(), 1).or(Err("memory"))?;
     let mut set = LinkSet::new(rt.alloc(), &position, Black).or(Err("memory"))?;
     reach(&mut set, White).or(Err("memory"))?;
-    let stored = store_all(&rt, &mut book, &set, &[]);
-    assert!(rt; matches!(stored, Stored::Done));
+    assert!(rt; is_done(store_all(&rt, &mut book, &set, &[])));
     assert_eq!(rt;
         verdict_of(rt.alloc(), book, &position, White)?,
         Verdict::Yes
