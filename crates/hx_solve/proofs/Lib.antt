@@ -1,0 +1,5 @@
+pub mod LaterLists
+pub mod PartedEnds
+pub mod ForemostEnds
+pub mod ClosedEnds
+pub mod TreeSolutions
