@@ -19,4 +19,4 @@ pub record AreNewSeats (book : BookOrigin) (counts : Origin) (seats : Seats) : T
 pub record IsDone (book : BookOrigin) (counts : Origin) (board : Board) (mover : Colour) (done : Done) : Type 0 where
   pub same_book : done.book.made ≡ book
   pub same_counts : done.counts.made ≡ counts
-  pub ended : IsEnded done.book.seen book.limits.slots done.counts board mover done.ended
+  pub ended : IsEnded done.book.seen book.slots done.counts board mover done.ended

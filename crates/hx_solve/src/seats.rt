@@ -30,11 +30,11 @@ impl Crew<'_> {
     ) -> Result<Vec<Seats>, Memory>
         requires len { vec_len books ≡ vec_len counts }
         requires few { vec_len books ≤ 64 }
-        requires books { All (λ s. s.made ≡ self.now.shared.now) books.items }
+        requires books { All (λ s. s.made ≡ self.now.shared.now.made) books.items }
         requires counts { All (λ s. s.made ≡ self.now.counts.now) counts.items }
         requires nothing { All (λ s. HasNothing (own s)) counts.items }
         ensures len { IfOk result (λ dealt. vec_len dealt ≡ vec_len books) }
-        ensures seats { IfOk result (λ dealt. All (AreNewSeats self.now.shared.now self.now.counts.now) dealt.items) }
+        ensures seats { IfOk result (λ dealt. All (AreNewSeats self.now.shared.now.made self.now.counts.now) dealt.items) }
     {
         let Ok(mut dealt) = Vec::with_capacity(alloc, books.len()) else {
             return Err(Memory);
