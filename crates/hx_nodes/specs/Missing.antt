@@ -1,15 +1,18 @@
 -- What a proof lacks, in a list of nodes that only grows.
-use Rattle.std.specs.Prelude.{◌≡◌, ◌≢◌, ◌⊎◌, ℕ, List, []}
+use Rattle.std.specs.Prelude.{◌≡◌, ◌≢◌, ◌⊎◌, ℕ, true, List, []}
 use Rattle.hx_board.specs.declared.colours.Colour.{Colour}
 use Rattle.hx_board.specs.Colours.{other_of}
+use Rattle.hx_board.specs.Sets.{has}
 use Rattle.hx_board.specs.Positions.{Board, IsEmpty, put}
 use Rattle.hx_tree.specs.declared.entries.Found.{Found}
+use Rattle.hx_tree.specs.declared.nodes.Line.{Line}
 use Rattle.hx_tree.specs.declared.nodes.Node.{Node}
 use Rattle.hx_tree.specs.Entries.{Extends, IsFirstFound}
 use Rattle.hx_book.specs.EitherEntry.{WasMissed}
 use Rattle.hx_linkset.specs.States.{Standing}
 use Rattle.hx_fill.specs.declared.fills.Fill.{Fill}
-use Rattle.hx_fill.specs.Musts.{IsSharedByAll}
+use Rattle.hx_fill.specs.Musts.{IsMust}
+use Rattle.hx_fill.specs.Unders.{HasLine, AreByOrder}
 
 -- the first entry of the position and mover, if there is one, does not name the player as the winner
 abbrev pub NamesNoWin : List Node → Board → Colour → Colour → Type 0
@@ -38,13 +41,19 @@ LacksFill old new fills filled mover = (fills ≡ []) ⊎ WasMissed old new fill
 abbrev pub IsFull : Board → Type 0
 IsFull board = (cell : ℕ) → IsEmpty board cell → ⊥
 
--- a cell that all live links between the sides of the set's player share, and after the opponent's move to which the player was not
--- seen to win
-pub record HasUnanswered (old new : List Node) (set : Standing) : Type 0 where
+-- a cell that must be answered, and that has no line by a better cell, where the better cells were gone through in the order; and
+-- after the opponent's move to it the player was not seen to win
+pub record HasUnanswered (old new : List Node) (set : Standing) (order : List ℕ) : Type 0 where
+  pub threats : List ℕ
+  pub cells : ℕ
+  pub under : List Line
+  pub must : IsMust set threats cells under
+  pub by_order : AreByOrder set.present.board (other_of set.player) cells order under
   pub cell : ℕ
-  pub shared : IsSharedByAll set cell
+  pub among : has cells cell ≡ true
+  pub no_line : ¬ HasLine under cell
   pub lacks : LacksAnswer old new set.present.board set.player cell
 
 -- the opponent of the set's player has no move, or one that is not answered
-abbrev pub LacksAnswers : List Node → List Node → Standing → Type 0
-LacksAnswers old new set = IsFull set.present.board ⊎ HasUnanswered old new set
+abbrev pub LacksAnswers : List Node → List Node → Standing → List ℕ → Type 0
+LacksAnswers old new set order = IsFull set.present.board ⊎ HasUnanswered old new set order

@@ -17,7 +17,7 @@ use std::sync::Wait;
 
 /// Stores that a set's player wins with the opponent to move, where an entry says so of the position after each move that has to
 /// be tried. Of two moves each of which is better than the other, the one that comes first in the order is tried. Missing only
-/// where the board is full, or no entry says so after some move that no live link answers.
+/// where the board is full, or no entry says so after one of the moves that are to be tried.
 pub fn store_all<P: Proofs, R: Wait>(
     rt: &R,
     proofs: &mut P,
@@ -29,8 +29,8 @@ pub fn store_all<P: Proofs, R: Wait>(
     ensures seen { Extends (P.list proofs.new) (P.list proofs.old) }
     ensures stored { IsStored (P.list proofs.new) (P.slots proofs.new)
         set.now.present.board (other_of set.now.player) result }
-    ensures missing { MissingFor (LacksAnswers (P.list proofs.old) (P.list proofs.new) set.now)
-        result }
+    ensures missing { MissingFor (LacksAnswers (P.list proofs.old) (P.list proofs.new)
+        set.now order.now) result }
 {
     set.keeps();
     let winner = set.colour();

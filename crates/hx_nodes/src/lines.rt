@@ -7,8 +7,7 @@ ghost use Rattle.hx_board.specs.Positions.{IsEmpty};
 ghost use Rattle.hx_tree.specs.Answers.{cell_of, cells_of};
 ghost use Rattle.hx_tree.specs.Entries.{Extends};
 ghost use Rattle.hx_tree.specs.Trees.{headings_of};
-ghost use Rattle.hx_nodes.specs.Missing.{LacksAnswer};
-ghost use Rattle.hx_nodes.specs.Lines.{wins_next, NamesBetter, IsLineOf, AreLines, HasLacking};
+ghost use Rattle.hx_nodes.specs.Lines.{wins_next, NamesBetter, IsLineOf, AreLines, IsLacking, HasLacking};
 
 use hx_board::{Cell, Colour, Mask, Memory, Position};
 use hx_book::Proofs;
@@ -33,11 +32,13 @@ pub(crate) fn lines_for<P: Proofs, R: Wait>(
     ensures over { P.over proofs.new ≡ P.over proofs.old }
     ensures seen { Extends (P.list proofs.new) (P.list proofs.old) }
     ensures lines { IfOk result (λ found. MatchOption found
-        (HasLacking (P.list proofs.old) (P.list proofs.new) position.now winner cells)
+        (HasLacking (P.list proofs.old) (P.list proofs.new) position.now winner cells under.now)
         (AreLines (headings_of (P.list proofs.new)) (wins_next position.now winner) cells under.now)) }
 {
     let size = position.size();
-    let mut lines = Vec::new(alloc);
+    let Ok(mut lines) = Vec::with_capacity(alloc, cells.count() as usize) else {
+        return Err(Memory);
+    };
     let mut left = cells;
     while let Some(cell) = left.least(size) {
         let Some(line) = line_for(rt, proofs, position, winner, under, cell) else {
@@ -67,7 +68,7 @@ fn line_for<P: Proofs, R: Wait>(
     ensures over { P.over proofs.new ≡ P.over proofs.old }
     ensures seen { Extends (P.list proofs.new) (P.list proofs.old) }
     ensures line { MatchOption result
-        (LacksAnswer (P.list proofs.old) (P.list proofs.new) position.now winner cell)
+        (IsLacking (P.list proofs.old) (P.list proofs.new) position.now winner under.now cell)
         (IsLineOf (headings_of (P.list proofs.new)) (wins_next position.now winner) under.now cell) }
 {
     if let Some(line) = line_among(under, cell) {

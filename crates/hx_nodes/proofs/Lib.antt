@@ -1,0 +1,10 @@
+pub mod GrowingLists
+pub mod FoundEntries
+pub mod RefusedNodes
+pub mod TakenCells
+pub mod CellLines
+pub mod GatheredLines
+pub mod MoveNodes
+pub mod FillNodes
+pub mod LinkNodes
+pub mod AllNodes

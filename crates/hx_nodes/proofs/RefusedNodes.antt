@@ -1,0 +1,20 @@
+-- A node that was refused: each slot is taken, and no node is of its position and mover.
+use Rattle.std.proofs.Common.{◌≡◌, ℕ, List, length, ap, ◌∙◌, Err}
+use Rattle.hx_tree.specs.declared.nodes.Node.{Node}
+use Rattle.hx_tree.specs.Entries.{IsOf}
+use Rattle.hx_book.specs.Puts.{Refusal, PutsLater}
+use Rattle.hx_nodes.specs.Stored.{IsOutOfSlots}
+
+pub refused-out : (slots : ℕ) (old : List Node) (node : Node) (refusal : Refusal) (new : List Node) → PutsLater slots old node (Err refusal) new
+    → IsOutOfSlots new slots refusal × IsOf node.heading.position node.heading.to_move refusal.node
+refused-out slots old node refusal new later =
+    let refused = later.puts.0 in
+    let same : refusal.node ≡ node = later.puts.1 in
+    (record {
+      full = ap length refused.same ∙ refused.full;
+      same_held = refused.same_held ∙ refused.full;
+      none = rw (refused.same, same) refused.none;
+    }, record {
+      same_position = ap (λ (n : Node). n.heading.position) same;
+      same_mover = ap (λ (n : Node). n.heading.to_move) same;
+    })

@@ -1,0 +1,4 @@
+pub mod Fronts
+pub mod OneList
+pub mod Readers
+pub mod Laws

@@ -1,0 +1,36 @@
+//! A worker's place at a shared book.
+
+ghost use Rattle.std.specs.Prelude.{◌≡◌};
+
+use crate::readers::BookSeat;
+use crate::shared::Shared;
+use hx_board::{Colour, Position};
+use hx_book::{NoSlot, Proofs};
+use hx_tree::{Found, Node};
+use std::sync::Wait;
+
+/// A shared book, and a seat made by it.
+#[derive(Drop)]
+pub struct Desk<'a> {
+    pub shared: &'a Shared,
+    pub seat: BookSeat,
+    pub ghost fits: { seat.made ≡ shared.now.made },
+}
+
+impl<'a> Proofs for Desk<'a> {
+    ghost use Rattle.std.specs.Prelude.{Some};
+
+    ghost list = { λ d. d.seat.seen };
+
+    ghost slots = { λ d. d.seat.made.slots };
+
+    ghost over = { λ d. Some d.seat.made.table };
+
+    fn look<R: Wait>(&mut self, rt: &R, position: &Position, to_move: Colour) -> Option<Found> {
+        self.shared.look(rt, &mut self.seat, position, to_move)
+    }
+
+    fn store<R: Wait>(&mut self, rt: &R, node: Node) -> Result<u32, NoSlot> {
+        self.shared.store(rt, &mut self.seat, node)
+    }
+}
