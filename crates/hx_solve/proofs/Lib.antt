@@ -1,4 +1,6 @@
+pub mod LastElements
 pub mod LaterLists
+pub mod SweepSizes
 pub mod PartedEnds
 pub mod ForemostEnds
 pub mod ClosedEnds

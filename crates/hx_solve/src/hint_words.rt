@@ -6,16 +6,18 @@
 ghost use Rattle.std.specs.Prelude.{◌≤◌};
 
 /// The fewest words.
-const FEWEST_WORDS: u64 = 16;
+const FEWEST_WORDS: u32 = 16;
 
 /// The most words. They take 8 megabytes.
-const MOST_WORDS: u64 = 1048576;
+const MOST_WORDS: u32 = 1048576;
 
 /// The words of hints for a budget: the next power of two, within the bounds.
 pub(crate) fn hint_words(budget: u64) -> u32
     ensures some { 16 ≤ result }
     ensures few { result ≤ 1048576 }
 {
-    let useful = budget.max(FEWEST_WORDS).min(MOST_WORDS);
-    (useful as u32).next_power_of_two()
+    let units = budget.min(u64::from(MOST_WORDS)) as u32;
+    units
+        .next_power_of_two()
+        .clamp(FEWEST_WORDS, MOST_WORDS)
 }
