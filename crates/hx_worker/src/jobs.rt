@@ -56,6 +56,7 @@ pub fn work<P: Proofs, G: Gate, R: Wait>(rt: &R, job: &mut Job<'_, P>, gate: &G)
     ensures position { job.new.position ≡ job.old.position }
     ensures to_move { job.new.to_move ≡ job.old.to_move }
     ensures counts { job.new.counts.now ≡ job.old.counts.now }
+    ensures hints { job.new.hints.now ≡ job.old.hints.now }
     ensures slots { P.slots job.new.proofs ≡ P.slots job.old.proofs }
     ensures over { P.over job.new.proofs ≡ P.over job.old.proofs }
     ensures seen { Extends (P.list job.new.proofs) (P.list job.old.proofs) }

@@ -4,6 +4,8 @@
 //! more: in cell order the openings of 6 by 6 take more than fifteen times the units, and from the centre alone one and a half
 //! times; by the distances of one player alone the empty 7 by 7 takes twice the units.
 
+ghost use Rattle.hx_board.specs.Graph.{IsVertex};
+
 use hx_board::{CELLS, Cell, Mask, Memory, Position, Size, Vertex, VertexSet};
 use hx_linkset::LinkSet;
 use std::alloc::Global;
@@ -14,11 +16,12 @@ const FAR: u32 = 20;
 /// What each empty cell is one step from.
 type Nears = [VertexSet; CELLS];
 
-/// What a cell is joined with, or has a Full link to.
-fn near(set: &LinkSet, cell: Cell) -> VertexSet {
-    let vertex = Vertex::Of(cell);
-    let mut near = set.groups().joined_with(vertex);
-    for full in set.full_at(vertex) {
+/// What a vertex is joined with, or has a Full link to.
+fn near(set: &LinkSet, vertex: &Vertex) -> VertexSet
+    requires { IsVertex set.now.present.board.size vertex.now }
+{
+    let mut near = set.groups().joined_with(*vertex);
+    for full in set.full_at(*vertex) {
         near = near.with(full.to);
     }
     near
@@ -29,9 +32,12 @@ fn nears(set: &LinkSet) -> Nears {
     let size = set.position().size();
     let mut nears = [VertexSet::empty(); CELLS];
     let mut left = set.position().empties();
-    while let Some(cell) = left.least(size) {
+    for _ in 0..CELLS {
+        let Some(cell) = left.least(size) else {
+            break;
+        };
         left = left.without(cell);
-        nears[cell.index() as usize] = near(set, cell);
+        nears[cell.index() as usize] = near(set, &Vertex::Of(cell));
     }
     nears
 }
@@ -40,7 +46,10 @@ fn nears(set: &LinkSet) -> Nears {
 fn next(size: Size, nears: &Nears, reached: VertexSet, cells: Mask) -> Mask {
     let mut found = Mask::empty();
     let mut left = cells;
-    while let Some(cell) = left.least(size) {
+    for _ in 0..CELLS {
+        let Some(cell) = left.least(size) else {
+            break;
+        };
         left = left.without(cell);
         let is_near = !nears[cell.index() as usize].meet(reached).is_empty();
         if is_near {
@@ -53,7 +62,10 @@ fn next(size: Size, nears: &Nears, reached: VertexSet, cells: Mask) -> Mask {
 /// Adds a distance to the sums of these cells.
 fn add(size: Size, cells: Mask, distance: u32, sums: &mut [u32; CELLS]) {
     let mut left = cells;
-    while let Some(cell) = left.least(size) {
+    for _ in 0..CELLS {
+        let Some(cell) = left.least(size) else {
+            break;
+        };
         left = left.without(cell);
         let index = cell.index() as usize;
         sums[index] = sums[index].wrapping_add(distance);
@@ -93,7 +105,10 @@ fn from_centre(size: Size, cell: Cell) -> u32 {
 fn list(alloc: Global, size: Size, cells: Mask) -> Result<Vec<Cell>, Memory> {
     let mut found = Vec::with_capacity(alloc, CELLS).map_err(|_| Memory)?;
     let mut left = cells;
-    while let Some(cell) = left.least(size) {
+    for _ in 0..CELLS {
+        let Some(cell) = left.least(size) else {
+            break;
+        };
         left = left.without(cell);
         found.push(cell).map_err(|_| Memory)?;
     }

@@ -1,4 +1,4 @@
-//! What is known of the moves of a turn: moves after which somebody is proved to win.
+//! What is known of a turn's moves, once some are proved: by the turn after a move, or by marks.
 
 ghost use Rattle.std.specs.Prelude.{◌≡◌, IfSome};
 ghost use Rattle.hx_count.specs.Seats.{Seat};
@@ -6,7 +6,8 @@ ghost use Rattle.hx_tree.specs.Entries.{Extends};
 ghost use Rattle.hx_worker.specs.Outcomes.{IsOutcome};
 
 use crate::children::{Child, Moves};
-use crate::focus::Down;
+use crate::first_numbers::first_numbers;
+use crate::focus::{Down, in_focus};
 use crate::marks::{is_marked, leave_open, open};
 use crate::outcomes::{Outcome, outcome_of};
 use crate::starts::Turn;
@@ -20,6 +21,52 @@ use std::sync::Wait;
 
 /// The numbers of a turn whose moves all lose.
 const LOST: Numbers = Numbers { phi: INF, delta: 0 };
+
+/// Looks for the turn's own position, where it is marked, and then for the marked moves in focus: another worker may have proved
+/// them since. Some where that ends the turn.
+pub(crate) fn look_again<P: Proofs, R: Wait>(
+    rt: &R,
+    proofs: &mut P,
+    hints: &Hints,
+    turn: &Turn,
+    moves: &mut Moves,
+) -> Option<Outcome>
+    ensures slots { P.slots proofs.new ≡ P.slots proofs.old }
+    ensures over { P.over proofs.new ≡ P.over proofs.old }
+    ensures seen { Extends (P.list proofs.new) (P.list proofs.old) }
+    ensures outcome { (seat : Seat) → IfSome result (IsOutcome (P.list proofs.new) (P.slots proofs.new) seat) }
+{
+    if let Some(outcome) = look_at_own(rt, proofs, hints, turn) {
+        return Some(outcome);
+    }
+    let count = in_focus(moves).len();
+    look_at_marked(rt, proofs, hints, turn, moves, count)
+}
+
+/// Looks for the turn's own position, where it is marked. A mark of which the proofs know nothing was another position's, and
+/// is written anew.
+fn look_at_own<P: Proofs, R: Wait>(
+    rt: &R,
+    proofs: &mut P,
+    hints: &Hints,
+    turn: &Turn,
+) -> Option<Outcome>
+    ensures slots { P.slots proofs.new ≡ P.slots proofs.old }
+    ensures over { P.over proofs.new ≡ P.over proofs.old }
+    ensures seen { Extends (P.list proofs.new) (P.list proofs.old) }
+    ensures outcome { (seat : Seat) → IfSome result (IsOutcome (P.list proofs.new) (P.slots proofs.new) seat) }
+{
+    let number = turn.filled.number(turn.to_move);
+    if !is_marked(hints, number) {
+        return None;
+    }
+    let position = turn.filled.position();
+    let known = outcome_of(store_turned(rt, proofs, position, turn.to_move));
+    if known.is_none() {
+        leave_open(hints, number, first_numbers(position));
+    }
+    known
+}
 
 /// Looks for the marked ones among the first so many moves, the last one first. Some where that ends the turn.
 pub(crate) fn look_at_marked<P: Proofs, R: Wait>(

@@ -13,12 +13,12 @@ ghost use Rattle.hx_worker.specs.Keeps.{KeepsSeat, StandsAgain};
 ghost use Rattle.hx_worker.specs.Outcomes.{IsOutcome};
 
 use crate::children::Moves;
-use crate::focus::{Choice, Down, choose, in_focus};
+use crate::focus::{Choice, Down, choose};
 use crate::looks::{by_links, look_up, look_up_filled};
 use crate::losses::{WORDS, loss_word};
 use crate::marks::{leave, leave_proved};
 use crate::outcomes::{Outcome, outcome_of};
-use crate::proved_moves::{all_lose, look_at_marked, take_in};
+use crate::proved_moves::{all_lose, look_again, look_at_marked, take_in};
 use crate::sets::{put, serves, take_back};
 use crate::starts::{Start, Turn};
 use crate::workers::{Worker, ask};
@@ -234,8 +234,7 @@ fn expand<P: Proofs, G: Gate, R: Wait>(
     }
     // Hints may change at any time, so nothing says how many rounds there are.
     for _ in 0..u64::MAX {
-        let focused = in_focus(&moves).len();
-        if let Some(outcome) = look_at_marked(rt, proofs, worker.hints, turn, &mut moves, focused) {
+        if let Some(outcome) = look_again(rt, proofs, worker.hints, turn, &mut moves) {
             return outcome;
         }
         let down = match choose(worker, seat, alloc, turn, &moves) {

@@ -1,0 +1,16 @@
+use Rattle.hx_board.specs.declared.colours.Colour.{Colour}
+use Rattle.hx_board.specs.declared.colours.Colour.TheVariants.{Black, White}
+use Rattle.hx_board.specs.Positions.{Board}
+use Rattle.hx_board.specs.Graph.{HasChain}
+use Rattle.hx_worker.proofs.opening.decide.Goals as goal
+
+no-chains : (board : Board) → (HasChain board Black → ⊥) → (HasChain board White → ⊥) → (player : Colour) → HasChain board player → ⊥
+no-chains board black white Black = black
+no-chains board black white White = white
+
+pub returns-clause-tried : goal.returns-clause-tried
+returns-clause-tried g c = λ none. record {
+  no_chain = no-chains _ (c.by_chain.ensures.no_chain c.in_default-by_chain.is) (c.by_chain-2.ensures.no_chain c.in_default-by_chain-2.is);
+  black_open = c.by_closed.ensures.open_set c.in_default-by_closed.is;
+  white_open = c.by_closed-2.ensures.open_set none;
+}
