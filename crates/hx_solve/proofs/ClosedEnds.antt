@@ -29,13 +29,14 @@ module _ (settings : Settings) (board : Board) (mover : Colour) (books : List Re
       → IsEnded some.book.seen settings.slots some.seat board mover end → IsClosedEnd nodes granted board mover settings end
   closed are (Proved index winner) some is =
       found-later some.book.seen nodes board mover (record { index = index; winner = winner }) (all-get (λ (s : Reader). Extends nodes s.seen) books some.place some.book are.seen some.book_there) is
-  closed are (Spent taken) some is =
-      (is.budget ∙ all-get (λ (s : Seat). s.made.limits.budget ≡ settings.budget) counts some.place some.seat are.budgets some.seat_there,
-        are.full (any-get (λ (s : Seat). (own s).refused ≡ true) counts some.place some.seat some.seat_there is.refused))
+  closed are (Spent taken) some is = (
+    is.budget ∙ all-get (λ (s : Seat). s.made.limits.budget ≡ settings.budget) counts some.place some.seat are.budgets some.seat_there,
+    are.full (any-get (λ (s : Seat). (own s).refused ≡ true) counts some.place some.seat some.seat_there is.refused),
+  )
   closed are (NoSlots refusal) some is =
       subst (λ (list : List Node). IsOutOfSlots list settings.slots refusal)
-          (sym (no_longer some.book.seen nodes (all-get (λ (s : Reader). Extends nodes s.seen) books some.place some.book are.seen some.book_there) (omega (arith, are.few, is.full))))
-          is
+      (sym (no_longer some.book.seen nodes (all-get (λ (s : Reader). Extends nodes s.seen) books some.place some.book are.seen some.book_there) (omega (arith, are.few, is.full))))
+      is
   closed are Memory some is = tt
 
   pub end-closed : AreClosed settings books counts nodes granted → (end : Ended) → IsEndOfSome settings.slots board mover books counts end
@@ -51,11 +52,11 @@ pub contained-closed : (settings : Settings) (board : Board) (mover : Colour) (s
     → IsClosedEnd book.nodes granted board mover settings end
 contained-closed settings board mover slots made books counts ends end book granted same_slots same_budget same_made all one is_book book_slots seen refused =
     end-closed settings board mover books counts book.nodes granted
-        (record {
-          few = omega (arith, is_book.held, book_slots, same_slots);
-          seen = seen;
-          budgets = All-weaker (λ (s : Seat). s.made ≡ made) (λ (s : Seat). s.made.limits.budget ≡ settings.budget) (λ s same. ap (λ (o : Origin). o.limits.budget) same ∙ same_budget) counts same_made;
-          full = λ some. refused some ∙ same_budget;
-        })
-        end
-        (subst (λ (n : ℕ). IsEndOfSome n board mover books counts end) same_slots (All-contains (IsEndOfSome slots board mover books counts) ends end all one))
+    (record {
+      few = omega (arith, is_book.held, book_slots, same_slots);
+      seen = seen;
+      budgets = All-weaker (λ (s : Seat). s.made ≡ made) (λ (s : Seat). s.made.limits.budget ≡ settings.budget) (λ s same. ap (λ (o : Origin). o.limits.budget) same ∙ same_budget) counts same_made;
+      full = λ some. refused some ∙ same_budget;
+    })
+    end
+    (subst (λ (n : ℕ). IsEndOfSome n board mover books counts end) same_slots (All-contains (IsEndOfSome slots board mover books counts) ends end all one))

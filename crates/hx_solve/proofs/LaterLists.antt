@@ -33,12 +33,14 @@ found-later old new board mover found more first = rw more.1 later
   where
     inside : found.index < length old
     inside = get-lt old found.index first.first.entry.node first.first.entry.there
+
     before : (earlier : ℕ) → earlier < found.index → IsEntry (old ++ more.0) board mover earlier → ⊥
     before earlier less entry = first.first.first earlier less (record {
       node = entry.node;
       there = sym (get-before old more.0 earlier (omega (arith, less, inside))) ∙ entry.there;
       is_of = entry.is_of;
     })
+
     later : IsFirstFound (old ++ more.0) board mover found
     later = record {
       first = record {

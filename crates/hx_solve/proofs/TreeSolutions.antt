@@ -32,7 +32,7 @@ root-heading : (nodes tree : List Node) (board : Board) (mover : Colour) (index 
     → is.root.heading ≡ found.first.entry.node.heading
 root-heading nodes tree board mover index winner found is =
     same_some is.root.heading found.first.entry.node.heading
-        (sym is.same_heading ∙ get-map (λ (node : Node). node.heading) nodes index found.first.entry.node found.first.entry.there)
+    (sym is.same_heading ∙ get-map (λ (node : Node). node.heading) nodes index found.first.entry.node found.first.entry.there)
 
 entry-solves : (nodes tree : List Node) (board : Board) (mover : Colour) (index : ℕ) (winner : Colour) → length nodes ≤ MOST_SLOTS
     → IsFirstFound nodes board mover (record { index = index; winner = winner }) → IsTreeOf nodes index tree → IsSolution board mover tree
@@ -48,6 +48,7 @@ entry-solves nodes tree board mover index winner few found is = record {
   where
     same : is.root.heading ≡ found.first.entry.node.heading
     same = root-heading nodes tree board mover index winner found is
+
     position : is.root.heading.position ≡ board
     position = ap (λ (h : Heading). h.position) same ∙ found.first.entry.is_of.same_position
 

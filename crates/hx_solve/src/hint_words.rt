@@ -17,7 +17,5 @@ pub(crate) fn hint_words(budget: u64) -> u32
     ensures few { result ≤ 1048576 }
 {
     let units = budget.min(u64::from(MOST_WORDS)) as u32;
-    units
-        .next_power_of_two()
-        .clamp(FEWEST_WORDS, MOST_WORDS)
+    units.next_power_of_two().clamp(FEWEST_WORDS, MOST_WORDS)
 }

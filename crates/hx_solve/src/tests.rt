@@ -215,14 +215,7 @@ fn two_workers_meet(rt: HostRuntime) -> Result<(), Fail> {
         came: AtomicU64::new(0),
         met: AtomicU64::new(0),
     };
-    let answer = answer_on(
-        &rt,
-        rt.alloc(),
-        &position,
-        Colour::Black,
-        settings,
-        &gate,
-    )?;
+    let answer = answer_on(&rt, rt.alloc(), &position, Colour::Black, settings, &gate)?;
     assert_eq!(rt; answer, Told::Winner(Colour::Black));
     assert_eq!(rt; gate.met.load(Ordering::SeqCst), 1);
     Ok(())

@@ -9,8 +9,15 @@ use Rattle.hx_solve.proofs.searches.search.Goals as goal
 pub deal-requires-clause-len : goal.deal-requires-clause-len
 deal-requires-clause-len g c =
     let books = c.in_ok-shared.ensures.seats in let counts = c.in_ok-counts.ensures.seats in
-    omega (arith, c.in_ok-shared.books.ok, c.in_ok-counts.count_seats.ok, ap length books, length-replicate c.args.settings.now.workers (reader c.in_ok-shared.shared.made []),
-    ap length counts, length-new c.in_ok-counts.counts 0 c.args.settings.now.workers)
+    omega (
+      arith,
+      c.in_ok-shared.books.ok,
+      c.in_ok-counts.count_seats.ok,
+      ap length books,
+      length-replicate c.args.settings.now.workers (reader c.in_ok-shared.shared.made []),
+      ap length counts,
+      length-new c.in_ok-counts.counts 0 c.args.settings.now.workers,
+    )
 
 pub returns : goal.returns
 returns g c =
