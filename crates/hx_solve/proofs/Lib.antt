@@ -1,0 +1,7 @@
+pub mod LastElements
+pub mod LaterLists
+pub mod SweepSizes
+pub mod PartedEnds
+pub mod ForemostEnds
+pub mod ClosedEnds
+pub mod TreeSolutions

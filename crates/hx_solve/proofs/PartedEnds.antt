@@ -1,0 +1,41 @@
+-- The end of a worker whose seats stand at some place of two lists, where both lists get one more seat.
+use Rattle.std.proofs.Common.{◌≡◌, ℕ, List, [], ◌∷◌, ◌++◌, length, sym, subst, All, Some}
+use Rattle.std.specs.Prelude.{slice_get}
+use Rattle.std.proofs.lemmas.List.Elements.{All-push, All-weaker}
+use Rattle.hx_board.specs.declared.colours.Colour.{Colour}
+use Rattle.hx_board.specs.Positions.{Board}
+use Rattle.hx_board.proofs.ListLaws.{get-push_before, get-push_last}
+use Rattle.hx_count.specs.Seats.{Seat}
+use Rattle.hx_share.specs.Readers.{Reader}
+use Rattle.hx_worker.specs.declared.ended.Ended.{Ended}
+use Rattle.hx_worker.specs.Ends.{IsEnded}
+use Rattle.hx_solve.specs.Parts.{IsEndOfSome}
+
+module _ (slots : ℕ) (board : Board) (mover : Colour) (books : List Reader) (counts : List Seat) (book : Reader) (seat : Seat) where
+  end-more : (end : Ended) → IsEndOfSome slots board mover books counts end → IsEndOfSome slots board mover (books ++ book ∷ []) (counts ++ seat ∷ []) end
+  end-more end some = record {
+    place = some.place;
+    book = some.book;
+    seat = some.seat;
+    book_there = get-push_before books book some.place some.book some.book_there;
+    seat_there = get-push_before counts seat some.place some.seat some.seat_there;
+    ended = some.ended;
+  }
+
+  end-last : (end : Ended) → length books ≡ length counts → IsEnded book.seen slots seat board mover end
+      → IsEndOfSome slots board mover (books ++ book ∷ []) (counts ++ seat ∷ []) end
+  end-last end same ended = record {
+    place = length books;
+    book = book;
+    seat = seat;
+    book_there = get-push_last books book;
+    seat_there = subst (λ (n : ℕ). slice_get (counts ++ seat ∷ []) n ≡ Some seat) (sym same) (get-push_last counts seat);
+    ended = ended;
+  }
+
+  pub ends-more : (ends : List Ended) (end : Ended) → length books ≡ length counts → All (IsEndOfSome slots board mover books counts) ends
+      → IsEnded book.seen slots seat board mover end
+      → All (IsEndOfSome slots board mover (books ++ book ∷ []) (counts ++ seat ∷ [])) (ends ++ end ∷ [])
+  ends-more ends end same all ended = All-push (IsEndOfSome slots board mover (books ++ book ∷ []) (counts ++ seat ∷ [])) ends end
+      (All-weaker (IsEndOfSome slots board mover books counts) (IsEndOfSome slots board mover (books ++ book ∷ []) (counts ++ seat ∷ [])) end-more ends all)
+      (end-last end same ended)

@@ -1,0 +1,88 @@
+-- The tree of a proof that a search came to solves the position; what else the search came to is a cause.
+use Rattle.std.proofs.Common.{◌≡◌, ℕ, ◌≤◌, List, length, get_or, sym, ap, ◌∙◌, subst, ◌++◌, ◌∷◌, [], arith}
+use Rattle.std.specs.List.{All}
+use Rattle.std.proofs.lemmas.Option.{slice_get-get_or}
+use Rattle.hx_board.specs.declared.colours.Colour.{Colour}
+use Rattle.hx_board.specs.Positions.{Board}
+use Rattle.hx_board.specs.Counts.{empty_count}
+use Rattle.hx_board.proofs.EmptyCells.{sweep_size-below, sweep_size-nine}
+use Rattle.hx_board.proofs.ListLaws.{same_some, get-map, get-lt}
+use Rattle.hx_tree.specs.declared.nodes.Heading.{Heading}
+use Rattle.hx_tree.specs.declared.nodes.Node.{Node}
+use Rattle.hx_tree.specs.Trees.{IsRoot, headings_of}
+use Rattle.hx_book.specs.declared.books.TheConstants.{MOST_SLOTS}
+use Rattle.hx_book.specs.Entries.{contents, IsBook}
+use Rattle.hx_book.specs.Trees.{IsTreeOf}
+use Rattle.hx_tree.specs.Entries.{IsFirstFound}
+use Rattle.hx_sweep.specs.Sweeps.{AreOfSize, IsSweep}
+use Rattle.hx_worker.specs.declared.ended.Ended.{Ended}
+use Rattle.hx_worker.specs.declared.ended.Ended.TheVariants.{Proved, Spent, NoSlots, Memory}
+use Rattle.hx_solve.specs.declared.settings.Settings.{Settings}
+use Rattle.hx_solve.specs.declared.unsolved.Unsolved.{Unsolved}
+use Rattle.hx_solve.specs.declared.unsolved.Unsolved.TheVariants.{Budget, Slots, Memory as NoMemory}
+use Rattle.hx_solve.specs.Solutions.{IsSolution}
+use Rattle.hx_solve.specs.Causes.{HasCause, FoundNoRoom}
+use Rattle.hx_solve.specs.Searches.{IsClosedEnd, HasEntryFor, IsTreeFrom, SaysWhy}
+
+-- ---- by workers
+
+-- the root of an entry's tree has the entry's heading
+root-heading : (nodes tree : List Node) (board : Board) (mover : Colour) (index : ℕ) (winner : Colour)
+    → (found : IsFirstFound nodes board mover (record { index = index; winner = winner })) (is : IsTreeOf nodes index tree)
+    → is.root.heading ≡ found.first.entry.node.heading
+root-heading nodes tree board mover index winner found is =
+    same_some is.root.heading found.first.entry.node.heading
+    (sym is.same_heading ∙ get-map (λ (node : Node). node.heading) nodes index found.first.entry.node found.first.entry.there)
+
+entry-solves : (nodes tree : List Node) (board : Board) (mover : Colour) (index : ℕ) (winner : Colour) → length nodes ≤ MOST_SLOTS
+    → IsFirstFound nodes board mover (record { index = index; winner = winner }) → IsTreeOf nodes index tree → IsSolution board mover tree
+entry-solves nodes tree board mover index winner few found is = record {
+  valid = is.valid;
+  root = is.root;
+  last = is.is_root;
+  position = position;
+  to_move = ap (λ (h : Heading). h.to_move) same ∙ found.first.entry.is_of.same_mover;
+  few = omega (arith, is.few, few);
+  size = λ k d inside. is.one_size k (get_or tree k d) (slice_get-get_or tree k d inside) ∙ ap (λ (b : Board). b.size) position;
+}
+  where
+    same : is.root.heading ≡ found.first.entry.node.heading
+    same = root-heading nodes tree board mover index winner found is
+
+    position : is.root.heading.position ≡ board
+    position = ap (λ (h : Heading). h.position) same ∙ found.first.entry.is_of.same_position
+
+pub tree-solves : (nodes tree : List Node) (granted : ℕ) (board : Board) (mover : Colour) (settings : Settings) (ended : Ended) → length nodes ≤ MOST_SLOTS
+    → IsClosedEnd nodes granted board mover settings ended → IsTreeFrom nodes ended tree → IsSolution board mover tree
+tree-solves nodes tree granted board mover settings (Proved index winner) few says is = entry-solves nodes tree board mover index winner few says is
+tree-solves nodes tree granted board mover settings (Spent taken) few says is = absurd is
+tree-solves nodes tree granted board mover settings (NoSlots refusal) few says is = absurd is
+tree-solves nodes tree granted board mover settings Memory few says is = absurd is
+
+pub entry-there : (nodes : List Node) (granted : ℕ) (board : Board) (mover : Colour) (settings : Settings) (ended : Ended)
+    → IsClosedEnd nodes granted board mover settings ended → HasEntryFor nodes ended
+entry-there nodes granted board mover settings (Proved index winner) says = get-lt nodes index says.first.entry.node says.first.entry.there
+entry-there nodes granted board mover settings (Spent taken) says = tt
+entry-there nodes granted board mover settings (NoSlots refusal) says = tt
+entry-there nodes granted board mover settings Memory says = tt
+
+pub cause-by : (nodes : List Node) (granted : ℕ) (board : Board) (mover : Colour) (settings : Settings) (ended : Ended) (why : Unsolved)
+    → IsBook (contents settings.slots nodes) → IsClosedEnd nodes granted board mover settings ended → SaysWhy ended why → HasCause settings why
+cause-by nodes granted board mover settings (Proved index winner) why book says is = subst (HasCause settings) (sym is) tt
+cause-by nodes granted board mover settings (Spent taken) why book says is = subst (HasCause settings) (sym is) says.0
+cause-by nodes granted board mover settings (NoSlots refusal) why book says is =
+    subst (HasCause settings) (sym is) (let room : FoundNoRoom settings.slots refusal = record { nodes = nodes; book = book; out_of_slots = says } in room)
+cause-by nodes granted board mover settings Memory why book says is = subst (HasCause settings) (sym is) tt
+
+-- ---- by a full search
+
+pub sweep-solves : (board : Board) (mover : Colour) (tree : List Node) → empty_count board ≤ 9 → IsSweep board mover tree → IsSolution board mover tree
+sweep-solves board mover tree few sweep = record {
+  valid = sweep.valid;
+  root = sweep.root;
+  last = sweep.last;
+  position = sweep.position;
+  to_move = sweep.to_move;
+  few = omega (arith, sweep.few, sweep_size-below (empty_count board) 9 few, sweep_size-nine);
+  size = sweep.size;
+}

@@ -1,0 +1,32 @@
+use Rattle.std.proofs.Common.{arith, ap, ◌∙◌, [], length}
+use Rattle.std.proofs.lemmas.List.{length-replicate}
+use Rattle.hx_count.specs.declared.views.Limits.{Limits}
+use Rattle.hx_count.proofs.DealLaws.{length-new}
+use Rattle.hx_share.specs.Readers.{reader}
+use Rattle.hx_solve.proofs.ClosedEnds.{contained-closed}
+use Rattle.hx_solve.proofs.searches.search.Goals as goal
+
+pub deal-requires-clause-len : goal.deal-requires-clause-len
+deal-requires-clause-len g c =
+    let books = c.in_ok-shared.ensures.seats in let counts = c.in_ok-counts.ensures.seats in
+    omega (
+      arith,
+      c.in_ok-shared.books.ok,
+      c.in_ok-counts.count_seats.ok,
+      ap length books,
+      length-replicate c.args.settings.now.workers (reader c.in_ok-shared.shared.made []),
+      ap length counts,
+      length-new c.in_ok-counts.counts 0 c.args.settings.now.workers,
+    )
+
+pub returns : goal.returns
+returns g c =
+    let parts = c.take_apart-parts.result in let book = c.close-book.ensures in record {
+      book = c.keeps.ensures.book;
+      slots = book.slots ∙ c.in_ok-shared.ensures.limits.0;
+      ended = contained-closed c.args.settings.now c.args.position.now c.args.to_move c.in_ok-shared.shared.made.slots c.in_ok-counts.counts
+          parts.books.items parts.counts.items parts.ends.items c.foremost-ended.result c.close-book.result c.close-totals.result.granted
+          c.in_ok-shared.ensures.limits.0 (ap (λ (l : Limits). l.budget) c.in_ok-counts.ensures.limits) c.take_apart-parts.ensures.counts
+          c.take_apart-parts.ensures.ends c.foremost-ended.ensures.one
+          c.keeps.ensures.book book.slots book.seen c.close-totals.ensures.refused;
+    }

@@ -1,0 +1,22 @@
+-- A worker's seats, before its work and after it.
+use Rattle.std.specs.Prelude.{◌≡◌, ℕ}
+use Rattle.hx_board.specs.declared.colours.Colour.{Colour}
+use Rattle.hx_board.specs.Positions.{Board}
+use Rattle.hx_count.specs.Machine.{held_in_all}
+use Rattle.hx_count.specs.Seats.{Origin, own}
+use Rattle.hx_share.specs.Readers.{Origin as BookOrigin}
+use Rattle.hx_worker.specs.Ends.{IsEnded}
+use Rattle.hx_solve.specs.declared.seats.Seats.{Seats}
+use Rattle.hx_solve.specs.declared.crews.Done.{Done}
+
+-- seats of this book and of these counts, whose worker holds nothing
+pub record AreNewSeats (book : BookOrigin) (counts : Origin) (seats : Seats) : Type 0 where
+  pub same_book : seats.book.made ≡ book
+  pub same_counts : seats.counts.made ≡ counts
+  pub nothing_held : held_in_all (own seats.counts) ≡ 0
+
+-- seats of this book and of these counts, and what the end says of them
+pub record IsDone (book : BookOrigin) (counts : Origin) (board : Board) (mover : Colour) (done : Done) : Type 0 where
+  pub same_book : done.book.made ≡ book
+  pub same_counts : done.counts.made ≡ counts
+  pub ended : IsEnded done.book.seen book.slots done.counts board mover done.ended

@@ -1,0 +1,126 @@
+//! The workers, each in a thread.
+//!
+//! All work is one fork and one join. A worker's seats go into its thread and come back with the end of its work, since the
+//! book and the counts are closed with all seats. Its links are made in the thread, so that workers do not wait for one
+//! another's. Where no thread can be made the work is done on the caller's thread, one worker after another.
+
+ghost use Rattle.std.specs.Prelude.{◌≡◌, IfOk, vec_len};
+ghost use Rattle.std.specs.List.{All};
+ghost use Rattle.hx_worker.specs.Sets.{AreOn};
+ghost use Rattle.hx_solve.specs.Seats.{AreNewSeats, IsDone};
+
+use crate::seats::Seats;
+use hx_board::{Colour, Memory, Position};
+use hx_count::{CountSeat, Counts, Hints};
+use hx_io::Gate;
+use hx_linkset::LinkSet;
+use hx_share::{BookSeat, Desk, Shared};
+use hx_worker::{Ended, Job, work};
+use std::alloc::Global;
+use std::sync::Wait;
+use std::thread;
+use std::thread::Threads;
+
+/// The position that all workers search, and what they share.
+#[derive(Drop)]
+pub(crate) struct Crew<'a> {
+    pub(crate) position: Position,
+    pub(crate) to_move: Colour,
+    pub(crate) shared: &'a Shared,
+    pub(crate) counts: &'a Counts,
+    pub(crate) hints: &'a Hints,
+}
+
+/// A worker's seats, and how its work ended.
+#[derive(Drop)]
+pub(crate) struct Done {
+    pub(crate) book: BookSeat,
+    pub(crate) counts: CountSeat,
+    pub(crate) ended: Ended,
+}
+
+impl Crew<'_> {
+    /// The work of all workers.
+    pub(crate) fn work_all<G: Gate + Sync, R: Threads + Wait + Sync>(
+        &self,
+        rt: &R,
+        alloc: Global,
+        gate: &G,
+        seats: Vec<Seats>,
+    ) -> Result<Vec<Done>, Memory>
+        requires words { self.now.counts.now.limits.words ≡ 4096 }
+        requires seats { All (AreNewSeats self.now.shared.now.made self.now.counts.now) seats.items }
+        ensures len { IfOk result (λ dones. vec_len dones ≡ vec_len seats) }
+        ensures dones { IfOk result (λ dones. All (IsDone self.now.shared.now.made self.now.counts.now self.now.position self.now.to_move) dones.items) }
+    {
+        let ended = thread::map_vec(rt, seats, &|seats| self.work(rt, alloc, gate, seats));
+        match ended {
+            Ok(dones) => Ok(dones),
+            Err(_) => Err(Memory),
+        }
+    }
+
+    /// The work of one worker.
+    fn work<G: Gate, R: Wait>(&self, rt: &R, alloc: Global, gate: &G, seats: Seats) -> Done
+        requires words { self.now.counts.now.limits.words ≡ 4096 }
+        requires seats { AreNewSeats self.now.shared.now.made self.now.counts.now seats }
+        ensures { IsDone self.now.shared.now.made self.now.counts.now self.now.position self.now.to_move result }
+    {
+        let Seats {
+            worker,
+            book,
+            counts,
+        } = seats;
+        let Ok((black, white)) = self.new_sets(alloc) else {
+            return Done {
+                book,
+                counts,
+                ended: Ended::Memory,
+            };
+        };
+        let mut job = Job {
+            worker,
+            position: self.position,
+            to_move: self.to_move,
+            proofs: Desk {
+                shared: self.shared,
+                seat: book,
+            },
+            counts: self.counts,
+            seat: counts,
+            hints: self.hints,
+            black,
+            white,
+        };
+        let ended = work(rt, &mut job, gate);
+        let Job {
+            worker: _,
+            position: _,
+            to_move: _,
+            proofs,
+            counts: _,
+            seat,
+            hints: _,
+            black: _,
+            white: _,
+        } = job;
+        let Desk {
+            shared: _,
+            seat: book,
+        } = proofs;
+        Done {
+            book,
+            counts: seat,
+            ended,
+        }
+    }
+
+    /// Sets of links of both players, Black's first, with no link yet.
+    fn new_sets(&self, alloc: Global) -> Result<(LinkSet, LinkSet), Memory>
+        ensures { IfOk result (λ sets. AreOn self.now.position sets.0 sets.1) }
+    {
+        let black = LinkSet::new(alloc, &self.position, Colour::Black)?;
+        let white = LinkSet::new(alloc, &self.position, Colour::White)?;
+        Ok((black, white))
+    }
+}

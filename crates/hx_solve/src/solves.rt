@@ -1,0 +1,64 @@
+//! Who wins a position, with a tree that proves it.
+
+ghost use Rattle.std.specs.Prelude.{IfOk, IfErr};
+ghost use Rattle.hx_board.specs.Counts.{IsSmall};
+ghost use Rattle.hx_solve.specs.Settings.{AreSettings};
+ghost use Rattle.hx_solve.specs.Solutions.{IsSolution};
+ghost use Rattle.hx_solve.specs.Causes.{HasCause, LacksMemory};
+
+use crate::searches::search;
+use crate::settings::Settings;
+use crate::small_positions::{by_sweep, is_small};
+use crate::trees::conclude;
+use crate::unsolved::Unsolved;
+use hx_board::{Colour, Memory, Position};
+use hx_io::Gate;
+use hx_tree::Node;
+use std::alloc::Global;
+use std::sync::Wait;
+use std::thread::Threads;
+
+/// The tree of a position and mover, by workers in threads and, where they come to no proof of a small position, by a full
+/// search. Else it is answered what was wanting: memory, if that ended some worker's search; or a slot, if a worker's proof
+/// found no room; or a unit.
+///
+/// It may wait for a worker. Before each of its turns a worker calls the gate.
+pub fn solve<G: Gate + Sync, R: Threads + Wait + Sync>(
+    rt: &R,
+    alloc: Global,
+    position: &Position,
+    to_move: Colour,
+    settings: Settings,
+    gate: &G,
+) -> Result<Vec<Node>, Unsolved>
+    requires { AreSettings settings }
+    ensures tree { IfOk result (λ tree. IsSolution position.now to_move tree.items) }
+    // A refusal carries the budget or the slots of the settings.
+    ensures cause { IfErr result (HasCause settings) }
+    ensures small { IsSmall position.now settings.budget → IfErr result LacksMemory }
+{
+    let answer = by_workers(rt, alloc, position, to_move, &settings, gate);
+    if answer.is_err() && is_small(position, settings.budget) {
+        return by_sweep(alloc, position, to_move);
+    }
+    answer
+}
+
+/// The tree of a position and mover by workers alone, or what was wanting.
+fn by_workers<G: Gate + Sync, R: Threads + Wait + Sync>(
+    rt: &R,
+    alloc: Global,
+    position: &Position,
+    to_move: Colour,
+    settings: &Settings,
+    gate: &G,
+) -> Result<Vec<Node>, Unsolved>
+    requires { AreSettings settings.now }
+    ensures tree { IfOk result (λ tree. IsSolution position.now to_move tree.items) }
+    ensures cause { IfErr result (HasCause settings.now) }
+{
+    match search(rt, alloc, position, to_move, settings, gate) {
+        Ok(searched) => conclude(searched),
+        Err(Memory) => Err(Unsolved::Memory),
+    }
+}

@@ -1,0 +1,222 @@
+//! Small boards. Each tree is judged by the checker.
+
+ghost use Rattle.std.specs.Prelude.{◌≡◌, IfErr};
+ghost use Rattle.hx_solve.specs.Settings.{AreSettings};
+
+use super::*;
+use hx_board::{Colour, Mask, Position, Size};
+use hx_io::{Gate, RealGate};
+use hx_tree::{Node, Verdict, check_tree};
+use std::alloc::Global;
+use std::sync::Wait;
+use std::sync::atomic::{AtomicU64, Ordering};
+use std::test::Fail;
+use std::thread::Threads;
+
+/// What a search came to: the winner, or the number that a refusal carries.
+#[derive(Clone, Copy, Debug, PartialEq, Eq)]
+enum Told {
+    Winner(Colour),
+    Budget(u64),
+    Slots(u32),
+    Memory,
+}
+
+/// What an answer tells, where the checker accepts its tree.
+fn answer_on<G: Gate + Sync, R: Threads + Wait + Sync>(
+    rt: &R,
+    alloc: Global,
+    position: &Position,
+    to_move: Colour,
+    settings: Settings,
+    gate: &G,
+) -> Result<Told, Fail>
+    requires { AreSettings settings }
+{
+    match solve(rt, alloc, position, to_move, settings, gate) {
+        Ok(tree) => Ok(Told::Winner(judged(alloc, &tree)?)),
+        Err(Unsolved::Budget(refusal)) => Ok(Told::Budget(refusal.taken())),
+        Err(Unsolved::Slots(refusal)) => Ok(Told::Slots(refusal.held())),
+        Err(Unsolved::Memory) => Ok(Told::Memory),
+    }
+}
+
+/// The winner of a tree that the checker accepts.
+fn judged(alloc: Global, tree: &[Node]) -> Result<Colour, Fail> {
+    if tree.len() > 1_048_576 {
+        return Err("too many nodes".into());
+    }
+    let verdict = check_tree(alloc, tree).or(Err("memory"))?;
+    let Some(root) = tree.last() else {
+        return Err("no node".into());
+    };
+    if verdict != Verdict::Yes {
+        return Err("a wrong tree".into());
+    }
+    Ok(root.heading.winner)
+}
+
+/// What is told of an empty board with Black to move.
+fn on_empty<R: Threads + Wait + Sync>(
+    rt: &R,
+    alloc: Global,
+    size: Option<Size>,
+    settings: Settings,
+) -> Result<Told, Fail>
+    requires { AreSettings settings }
+{
+    let position = Position::empty(size.ok_or("size")?);
+    answer_on(rt, alloc, &position, Colour::Black, settings, &RealGate)
+}
+
+/// The counts of a tally after a search of the empty board of one cell.
+fn counted<R: Threads + Wait + Sync>(
+    rt: &R,
+    alloc: Global,
+    budget: u64,
+    slots: u32,
+) -> Result<(u64, u64), Fail>
+    requires budget { budget ≤ 2 ^ 40 }
+    requires slots { slots ≤ 1048576 }
+{
+    let position = Position::empty(Size::new(1, 1).ok_or("size")?);
+    let settings = Settings {
+        workers: 1,
+        budget,
+        slots,
+    };
+    let mut tally = Tally::new(budget, slots);
+    match solve(rt, alloc, &position, Colour::Black, settings, &RealGate) {
+        Ok(_) => {}
+        Err(Unsolved::Memory) => return Err("memory".into()),
+        Err(Unsolved::Budget(refusal)) => tally.add(Unsolved::Budget(refusal)),
+        Err(Unsolved::Slots(refusal)) => tally.add(Unsolved::Slots(refusal)),
+    }
+    Ok((tally.budgets(), tally.proofs()))
+}
+
+#[test]
+fn by_links(rt: HostRuntime) -> Result<(), Fail> {
+    for workers in [1, 4] {
+        let settings = Settings {
+            workers,
+            budget: 1_000_000,
+            slots: 65_536,
+        };
+        let answer = on_empty(&rt, rt.alloc(), Size::new(4, 4), settings)?;
+        assert_eq!(rt; answer, Told::Winner(Colour::Black));
+    }
+    Ok(())
+}
+
+#[test]
+fn a_stone_in_the_centre(rt: HostRuntime) -> Result<(), Fail> {
+    let size = Size::new(5, 5).ok_or("size")?;
+    // The cell c3 is in row 2 and column 2.
+    let stones = Position::from_masks(size, Mask::of(1 << 24), Mask::empty());
+    let position = stones.ok_or("stones")?;
+    let settings = Settings {
+        workers: 2,
+        budget: 1_000_000,
+        slots: 65_536,
+    };
+    let answer = answer_on(
+        &rt,
+        rt.alloc(),
+        &position,
+        Colour::White,
+        settings,
+        &RealGate,
+    )?;
+    assert_eq!(rt; answer, Told::Winner(Colour::Black));
+    Ok(())
+}
+
+#[test]
+fn refusals_on_one_cell(rt: HostRuntime) -> Result<(), Fail> {
+    let rows = [
+        (1, 0, 65_536, Told::Budget(0)),
+        (1, 1, 0, Told::Slots(0)),
+        (1, 1, 1, Told::Winner(Colour::Black)),
+        (64, 1, 1, Told::Winner(Colour::Black)),
+    ];
+    for (workers, budget, slots, expected) in rows {
+        let settings = Settings {
+            workers,
+            budget,
+            slots,
+        };
+        let answer = on_empty(&rt, rt.alloc(), Size::new(1, 1), settings)?;
+        assert_eq!(rt; answer, expected);
+    }
+    Ok(())
+}
+
+#[test]
+fn refusals_are_counted(rt: HostRuntime) -> Result<(), Fail> {
+    assert_eq!(rt; counted(&rt, rt.alloc(), 0, 65_536)?, (1, 0));
+    assert_eq!(rt; counted(&rt, rt.alloc(), 1, 0)?, (0, 1));
+    assert_eq!(rt; counted(&rt, rt.alloc(), 1, 1)?, (0, 0));
+    Ok(())
+}
+
+#[test]
+fn by_a_full_search(rt: HostRuntime) -> Result<(), Fail> {
+    let rows = [(3, 3, 986_410), (1, 3, 16)];
+    for (rows, cols, budget) in rows {
+        let settings = Settings {
+            workers: 1,
+            budget,
+            slots: 0,
+        };
+        let answer = on_empty(&rt, rt.alloc(), Size::new(rows, cols), settings)?;
+        assert_eq!(rt; answer, Told::Winner(Colour::Black));
+    }
+    Ok(())
+}
+
+/// Holds worker 0 at its first turn until worker 1 has come to its first turn, for at most a thousand million looks.
+#[derive(Drop)]
+struct Meeting {
+    came: AtomicU64,
+    met: AtomicU64,
+}
+
+impl Meeting {
+    fn hold(&self) {
+        for _ in 0..1_000_000_000u32 {
+            if self.came.load(Ordering::SeqCst) == 1 {
+                self.met.store(1, Ordering::SeqCst);
+                return;
+            }
+        }
+    }
+}
+
+impl Gate for Meeting {
+    fn at_turn(&self, worker: u32, turn: u64) {
+        if worker == 1 {
+            self.came.store(1, Ordering::SeqCst);
+        } else if turn == 0 {
+            self.hold();
+        }
+    }
+}
+
+#[test]
+fn two_workers_meet(rt: HostRuntime) -> Result<(), Fail> {
+    let position = Position::empty(Size::new(4, 4).ok_or("size")?);
+    let settings = Settings {
+        workers: 2,
+        budget: 1_000_000,
+        slots: 65_536,
+    };
+    let gate = Meeting {
+        came: AtomicU64::new(0),
+        met: AtomicU64::new(0),
+    };
+    let answer = answer_on(&rt, rt.alloc(), &position, Colour::Black, settings, &gate)?;
+    assert_eq!(rt; answer, Told::Winner(Colour::Black));
+    assert_eq!(rt; gate.met.load(Ordering::SeqCst), 1);
+    Ok(())
+}
