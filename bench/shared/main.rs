@@ -14,6 +14,8 @@ use hx_book::Book;
 use hx_share::{BookSeat, Shared};
 use hx_tree::{Heading, Node, Rule};
 use std::alloc::{AllocError, Global};
+use std::sync::atomic::AtomicU64;
+use std::sync::atomic::Ordering::SeqCst;
 use std::sync::{Mutex, Wait};
 use std::thread::Threads;
 use std::time::Instant;
@@ -88,23 +90,28 @@ fn list(alloc: Global) -> Result<Vec<Asked>, AllocError> {
 /// A part of the list.
 #[derive(Clone, Copy)]
 struct Part {
-    from: u32,
-    to: u32,
+    from: u64,
+    to: u64,
 }
 
-/// One of so many parts.
-fn part_of(number: u32, threads: u32) -> Part {
-    let each = POSITIONS / threads.max(1);
-    let from = number.wrapping_mul(each);
-    let to = from.wrapping_add(each);
-    Part { from, to }
-}
-
-/// A worker at the shared book, and its part of the list.
+/// The list, how many threads share it, and how many parts of it were taken.
 #[derive(Drop)]
-struct Task {
-    seat: BookSeat,
-    part: Part,
+struct Work {
+    list: Vec<Asked>,
+    threads: AtomicU64,
+    next: AtomicU64,
+}
+
+impl Work {
+    /// The next thread's part.
+    fn part(&self) -> Part {
+        let threads = self.threads.load(SeqCst).max(1);
+        let each = u64::from(POSITIONS) / threads;
+        let number = self.next.fetch_add(1, SeqCst) % threads;
+        let from = number.wrapping_mul(each);
+        let to = from.wrapping_add(each);
+        Part { from, to }
+    }
 }
 
 fn store_one<R: Wait>(rt: &R, shared: &Shared, seat: &mut BookSeat, one: &Asked) -> u64
@@ -120,85 +127,81 @@ fn store_one<R: Wait>(rt: &R, shared: &Shared, seat: &mut BookSeat, one: &Asked)
     0
 }
 
-fn store_part<R: Wait>(rt: &R, shared: &Shared, list: &[Asked], task: Task) -> Task
-    requires { task.seat.made ≡ shared.now.made }
-    ensures { result.seat.made ≡ shared.now.made }
+fn store_part<R: Wait>(
+    rt: &R,
+    shared: &Shared,
+    work: &Work,
+    seat: BookSeat,
+) -> BookSeat
+    requires { seat.made ≡ shared.now.made }
+    ensures { result.made ≡ shared.now.made }
 {
-    let mut task = task;
-    let mut sum = 0u64;
-    for k in task.part.from..task.part.to {
-        if let Some(one) = list.get(k as usize) {
-            sum = sum.wrapping_add(store_one(rt, shared, &mut task.seat, one));
+    let part = work.part();
+    let mut seat = seat;
+    for k in part.from..part.to {
+        if let Some(one) = work.list.get(k as usize) {
+            let _ = store_one(rt, shared, &mut seat, one);
         }
     }
-    if sum == 1 {
-        task.part.to = 0;
-    }
-    task
+    seat
 }
 
-fn look_part<R: Wait>(rt: &R, shared: &Shared, list: &[Asked], task: Task) -> Task
-    requires { task.seat.made ≡ shared.now.made }
-    ensures { result.seat.made ≡ shared.now.made }
+fn look_part<R: Wait>(
+    rt: &R,
+    shared: &Shared,
+    work: &Work,
+    seat: BookSeat,
+) -> BookSeat
+    requires { seat.made ≡ shared.now.made }
+    ensures { result.made ≡ shared.now.made }
 {
-    let mut task = task;
-    let mut sum = 0u64;
-    for k in task.part.from..task.part.to {
-        if let Some(one) = list.get(k as usize) {
-            let found = shared.look(rt, &mut task.seat, &one.position, one.to_move);
-            sum = sum.wrapping_add(u64::from(found.is_some()));
+    let part = work.part();
+    let mut seat = seat;
+    for k in part.from..part.to {
+        if let Some(one) = work.list.get(k as usize) {
+            let _ = shared.look(rt, &mut seat, &one.position, one.to_move);
         }
     }
-    if sum == 1 {
-        task.part.to = 0;
-    }
-    task
+    seat
 }
 
-/// A shared book, and a worker for each thread.
-fn start(alloc: Global, threads: u32) -> io::Result<(Shared, Vec<Task>)>
-    ensures { IfOk result (λ made. All (λ t. t.seat.made ≡ made.0.made) made.1.items) }
+/// A shared book, and a seat for each thread.
+fn start(alloc: Global, threads: u32) -> io::Result<(Shared, Vec<BookSeat>)>
+    ensures { IfOk result (λ made. All (λ s. s.made ≡ made.0.made) made.1.items) }
 {
     if threads == 0 || threads > 64 {
         return Err(io::Error::from(io::ErrorKind::InvalidInput));
     }
-    let Ok((shared, mut seats)) = Shared::start(alloc, POSITIONS, threads) else {
-        return Err(io::Error::from(io::ErrorKind::OutOfMemory));
-    };
-    let mut tasks = Vec::with_capacity(alloc, seats.len())?;
-    let mut number = 0u32;
-    while let Some(seat) = seats.pop() {
-        let part = part_of(number, threads);
-        tasks.push(Task { seat, part })?;
-        number = number.wrapping_add(1);
+    match Shared::start(alloc, POSITIONS, threads) {
+        Ok(made) => Ok(made),
+        Err(_) => Err(io::Error::from(io::ErrorKind::OutOfMemory)),
     }
-    Ok((shared, tasks))
 }
 
 /// Each thread stores its part.
 fn store_all<R: Threads + Wait + Sync>(
     rt: &R,
     shared: &Shared,
-    list: &[Asked],
-    tasks: Vec<Task>,
-) -> Option<Vec<Task>>
-    requires { All (λ t. t.seat.made ≡ shared.now.made) tasks.items }
-    ensures { IfSome result (λ v. All (λ t. t.seat.made ≡ shared.now.made) v.items) }
+    work: &Work,
+    seats: Vec<BookSeat>,
+) -> Option<Vec<BookSeat>>
+    requires { All (λ s. s.made ≡ shared.now.made) seats.items }
+    ensures { IfSome result (λ v. All (λ s. s.made ≡ shared.now.made) v.items) }
 {
-    thread::map_vec(rt, tasks, &|task| store_part(rt, shared, list, task)).ok()
+    thread::map_vec(rt, seats, &|seat| store_part(rt, shared, work, seat)).ok()
 }
 
 /// Each thread looks for its part.
 fn look_all<R: Threads + Wait + Sync>(
     rt: &R,
     shared: &Shared,
-    list: &[Asked],
-    tasks: Vec<Task>,
-) -> Option<Vec<Task>>
-    requires { All (λ t. t.seat.made ≡ shared.now.made) tasks.items }
-    ensures { IfSome result (λ v. All (λ t. t.seat.made ≡ shared.now.made) v.items) }
+    work: &Work,
+    seats: Vec<BookSeat>,
+) -> Option<Vec<BookSeat>>
+    requires { All (λ s. s.made ≡ shared.now.made) seats.items }
+    ensures { IfSome result (λ v. All (λ s. s.made ≡ shared.now.made) v.items) }
 {
-    thread::map_vec(rt, tasks, &|task| look_part(rt, shared, list, task)).ok()
+    thread::map_vec(rt, seats, &|seat| look_part(rt, shared, work, seat)).ok()
 }
 
 fn put_one(book: &mut Book, one: &Asked) -> u64 {
@@ -211,20 +214,22 @@ fn put_one(book: &mut Book, one: &Asked) -> u64 {
     0
 }
 
-fn put_part<R: Wait>(rt: &R, book: &Mutex<Book>, list: &[Asked], part: Part) -> u64 {
+fn put_part<R: Wait>(rt: &R, book: &Mutex<Book>, work: &Work) -> u64 {
+    let part = work.part();
     let mut sum = 0u64;
     for k in part.from..part.to {
-        if let Some(one) = list.get(k as usize) {
+        if let Some(one) = work.list.get(k as usize) {
             sum = sum.wrapping_add(put_one(&mut book.lock(rt), one));
         }
     }
     sum
 }
 
-fn find_part<R: Wait>(rt: &R, book: &Mutex<Book>, list: &[Asked], part: Part) -> u64 {
+fn find_part<R: Wait>(rt: &R, book: &Mutex<Book>, work: &Work) -> u64 {
+    let part = work.part();
     let mut sum = 0u64;
     for k in part.from..part.to {
-        if let Some(one) = list.get(k as usize) {
+        if let Some(one) = work.list.get(k as usize) {
             let found = book.lock(rt).find(&one.position, one.to_move);
             sum = sum.wrapping_add(u64::from(found.is_some()));
         }
@@ -232,32 +237,33 @@ fn find_part<R: Wait>(rt: &R, book: &Mutex<Book>, list: &[Asked], part: Part) ->
     sum
 }
 
-fn parts(alloc: Global, threads: u32) -> Result<Vec<Part>, AllocError> {
-    let mut parts = Vec::with_capacity(alloc, threads as usize)?;
-    for number in 0..threads {
-        parts.push(part_of(number, threads))?;
-    }
-    Ok(parts)
-}
-
 /// Each thread puts its part into the book behind the mutex.
 fn put_all<R: Threads + Wait + Sync>(
     rt: &R,
     book: &Mutex<Book>,
-    list: &[Asked],
-    parts: Vec<Part>,
+    work: &Work,
+    threads: Vec<u32>,
 ) -> Option<Vec<u64>> {
-    thread::map_vec(rt, parts, &|part| put_part(rt, book, list, part)).ok()
+    thread::map_vec(rt, threads, &|_| put_part(rt, book, work)).ok()
 }
 
 /// Each thread looks for its part in the book behind the mutex.
 fn find_all<R: Threads + Wait + Sync>(
     rt: &R,
     book: &Mutex<Book>,
-    list: &[Asked],
-    parts: Vec<Part>,
+    work: &Work,
+    threads: Vec<u32>,
 ) -> Option<Vec<u64>> {
-    thread::map_vec(rt, parts, &|part| find_part(rt, book, list, part)).ok()
+    thread::map_vec(rt, threads, &|_| find_part(rt, book, work)).ok()
+}
+
+/// One number for each thread.
+fn numbers(alloc: Global, threads: u32) -> Result<Vec<u32>, AllocError> {
+    let mut numbers = Vec::with_capacity(alloc, threads as usize)?;
+    for number in 0..threads {
+        numbers.push(number)?;
+    }
+    Ok(numbers)
 }
 
 /// How many a second, of so many in these nanoseconds.
@@ -275,28 +281,35 @@ fn print(rt: &HostRuntime, name: &str, threads: u32, stores: u64, looks: u64) ->
 }
 
 fn main(rt: HostRuntime) -> io::Result<()> {
-    let list = list(rt.alloc())?;
+    let work = Work {
+        list: list(rt.alloc())?,
+        threads: AtomicU64::new(1),
+        next: AtomicU64::new(0),
+    };
     for power in 0..4u32 {
         let threads = 1 << power;
-        let (shared, tasks) = start(rt.alloc(), threads)?;
+        work.threads.store(u64::from(threads), SeqCst);
+        let (shared, seats) = start(rt.alloc(), threads)?;
         let begun = Instant::now(&rt)?;
-        let Some(tasks) = store_all(&rt, &shared, &list, tasks) else {
+        let Some(seats) = store_all(&rt, &shared, &work, seats) else {
             return Ok(());
         };
         let stores = since(&rt, begun)?;
         let begun = Instant::now(&rt)?;
-        drop(look_all(&rt, &shared, &list, tasks));
+        drop(look_all(&rt, &shared, &work, seats));
         let looks = since(&rt, begun)?;
         print(&rt, "shared book", threads, stores, looks)?;
         let Ok(book) = Book::with_slots(rt.alloc(), POSITIONS) else {
             return Ok(());
         };
         let book = Mutex::new(book);
+        let all = numbers(rt.alloc(), threads)?;
         let begun = Instant::now(&rt)?;
-        drop(put_all(&rt, &book, &list, parts(rt.alloc(), threads)?));
+        drop(put_all(&rt, &book, &work, all));
         let stores = since(&rt, begun)?;
+        let all = numbers(rt.alloc(), threads)?;
         let begun = Instant::now(&rt)?;
-        drop(find_all(&rt, &book, &list, parts(rt.alloc(), threads)?));
+        drop(find_all(&rt, &book, &work, all));
         let looks = since(&rt, begun)?;
         print(&rt, "mutex", threads, stores, looks)?;
     }

@@ -12,6 +12,7 @@ use hx_io::RealGate;
 use hx_linkset::LinkSet;
 use hx_worker::{Ended, Job, work};
 use std::alloc::Global;
+use std::sync::Wait;
 
 /// What a search gives back.
 #[derive(Drop)]
@@ -36,8 +37,9 @@ fn counted(alloc: Global, budget: u64) -> Result<(Counts, CountSeat), Memory>
 }
 
 /// Searches until the position is proved or something is spent.
-pub(crate) fn search(
-    rt: &HostRuntime,
+pub(crate) fn search<R: Wait>(
+    rt: &R,
+    alloc: Global,
     book: Book,
     hints: &Hints,
     position: &Position,
@@ -46,9 +48,9 @@ pub(crate) fn search(
 ) -> Result<Done, Memory>
     requires { budget ≤ 2 ^ 40 }
 {
-    let (counts, seat) = counted(rt.alloc(), budget)?;
-    let black = LinkSet::new(rt.alloc(), position, Colour::Black)?;
-    let white = LinkSet::new(rt.alloc(), position, Colour::White)?;
+    let (counts, seat) = counted(alloc, budget)?;
+    let black = LinkSet::new(alloc, position, Colour::Black)?;
+    let white = LinkSet::new(alloc, position, Colour::White)?;
     let mut job = Job {
         worker: 0,
         position: *position,

@@ -2,14 +2,14 @@
 
 ghost use Rattle.std.specs.Prelude.{◌≤◌, ◌^◌};
 
-use crate::clock::since;
 use crate::searches::{Done, search};
 use hx_board::{Colour, Memory, Position, Size};
 use hx_book::Book;
 use hx_count::Hints;
 use hx_worker::Ended;
-use std::io;
-use std::time::Instant;
+use std::alloc::Global;
+use std::sync::Wait;
+use std::time::{Clock, Instant};
 
 /// Words of hints.
 const HINTS: u32 = 1048576;
@@ -35,8 +35,8 @@ enum Positions {
 
 /// A search.
 #[derive(Clone, Copy)]
-struct Task {
-    name: &'static str,
+pub(crate) struct Task {
+    pub(crate) name: &'static str,
 
     /// The rows and the columns of the board.
     side: u8,
@@ -45,7 +45,7 @@ struct Task {
 }
 
 /// All searches.
-const TASKS: [Task; 7] = [
+pub(crate) const TASKS: [Task; 7] = [
     Task {
         name: "empty6",
         side: 6,
@@ -92,11 +92,12 @@ const TASKS: [Task; 7] = [
 
 /// What the searches of a task came to.
 #[derive(Clone, Copy)]
-struct Sum {
-    units: u64,
-    nanoseconds: u64,
-    black_wins: u32,
-    white_wins: u32,
+pub(crate) struct Sum {
+    pub(crate) units: u64,
+    pub(crate) nanoseconds: u64,
+    pub(crate) black_wins: u32,
+    pub(crate) white_wins: u32,
+    pub(crate) proofs: u32,
 }
 
 impl Sum {
@@ -127,8 +128,9 @@ fn after(position: &Position, row: u8, col: u8) -> Option<Position> {
 }
 
 /// Searches one position, and gives the book on.
-fn timed(
-    rt: &HostRuntime,
+fn timed<R: Wait + Clock>(
+    rt: &R,
+    alloc: Global,
     book: Book,
     hints: &Hints,
     position: &Position,
@@ -139,14 +141,16 @@ fn timed(
     requires { budget ≤ 2 ^ 40 }
 {
     let start = Instant::now(rt).map_err(|_| Memory)?;
-    let done = search(rt, book, hints, position, to_move, budget)?;
-    sum.add(&done, since(rt, start).unwrap_or(0));
+    let done = search(rt, alloc, book, hints, position, to_move, budget)?;
+    let time = start.elapsed(rt).map_err(|_| Memory)?.as_nanos();
+    sum.add(&done, u64::try_from(time).unwrap_or(u64::MAX));
     let Done { book, .. } = done;
     Ok(book)
 }
 
-fn search_openings(
-    rt: &HostRuntime,
+fn search_openings<R: Wait + Clock>(
+    rt: &R,
+    alloc: Global,
     book: Book,
     hints: &Hints,
     empty: &Position,
@@ -157,82 +161,64 @@ fn search_openings(
     for row in 0..size.rows() {
         for col in 0..size.cols() {
             if let Some(position) = after(empty, row, col) {
-                book = timed(rt, book, hints, &position, Colour::White, MANY_UNITS, sum)?;
+                book = timed(
+                    rt,
+                    alloc,
+                    book,
+                    hints,
+                    &position,
+                    Colour::White,
+                    MANY_UNITS,
+                    sum,
+                )?;
             }
         }
     }
     Ok(book)
 }
 
-fn search_all(rt: &HostRuntime, task: &Task, sum: &mut Sum) -> Result<u32, Memory>
-    requires { task.now.budget ≤ 2 ^ 40 }
-{
-    let Some(size) = Size::new(task.side, task.side) else {
-        return Ok(0);
-    };
-    let hints = Hints::with_words(rt.alloc(), HINTS)?;
-    let book = Book::with_slots(rt.alloc(), SLOTS)?;
-    let empty = Position::empty(size);
-    let book = match task.positions {
-        Positions::Empty => timed(rt, book, &hints, &empty, Colour::Black, task.budget, sum)?,
-        Positions::After { row, col } => match after(&empty, row, col) {
-            Some(position) => timed(
-                rt,
-                book,
-                &hints,
-                &position,
-                Colour::White,
-                task.budget,
-                sum,
-            )?,
-            None => book,
-        },
-        Positions::EachOpening => search_openings(rt, book, &hints, &empty, sum)?,
-    };
-    Ok(book.held())
-}
-
-fn run(rt: &HostRuntime, task: &Task) -> io::Result<()>
-    requires { task.now.budget ≤ 2 ^ 40 }
-{
+/// The searches of a task.
+pub(crate) fn run<R: Wait + Clock>(rt: &R, alloc: Global, task: &Task) -> Result<Sum, Memory> {
     let mut sum = Sum {
         units: 0,
         nanoseconds: 0,
         black_wins: 0,
         white_wins: 0,
+        proofs: 0,
     };
-    let Ok(proofs) = search_all(rt, task, &mut sum) else {
-        return println!(rt; "{}: out of memory", task.name);
+    let Some(size) = Size::new(task.side, task.side) else {
+        return Ok(sum);
     };
-    let a_unit = sum.nanoseconds / sum.units.max(1);
-    println!(rt;
-        "{}: Black wins {}, White {}; {} units, {} ms, {}.{} us a unit; {proofs} proofs",
-        task.name,
-        sum.black_wins,
-        sum.white_wins,
-        sum.units,
-        sum.nanoseconds / 1000000,
-        a_unit / 1000,
-        a_unit % 1000 / 100
-    )
-}
-
-/// Runs the searches of this name.
-pub(crate) fn run_named(rt: &HostRuntime, name: &[u8]) -> io::Result<()> {
-    for task in &TASKS {
-        if task.name.as_bytes() == name && task.budget <= MANY_UNITS {
-            run(rt, task)?;
-        }
-    }
-    Ok(())
-}
-
-/// Runs all searches.
-pub(crate) fn run_all(rt: &HostRuntime) -> io::Result<()> {
-    for task in &TASKS {
-        if task.budget <= MANY_UNITS {
-            run(rt, task)?;
-        }
-    }
-    Ok(())
+    let budget = task.budget.min(MANY_UNITS);
+    let hints = Hints::with_words(alloc, HINTS)?;
+    let book = Book::with_slots(alloc, SLOTS)?;
+    let empty = Position::empty(size);
+    let book = match task.positions {
+        Positions::Empty => timed(
+            rt,
+            alloc,
+            book,
+            &hints,
+            &empty,
+            Colour::Black,
+            budget,
+            &mut sum,
+        )?,
+        Positions::After { row, col } => match after(&empty, row, col) {
+            Some(position) => timed(
+                rt,
+                alloc,
+                book,
+                &hints,
+                &position,
+                Colour::White,
+                budget,
+                &mut sum,
+            )?,
+            None => book,
+        },
+        Positions::EachOpening => search_openings(rt, alloc, book, &hints, &empty, &mut sum)?,
+    };
+    sum.proofs = book.held();
+    Ok(sum)
 }

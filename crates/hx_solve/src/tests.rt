@@ -1,7 +1,8 @@
 //! Small boards. Each tree is judged by the checker.
 
-ghost use Rattle.std.specs.Prelude.{◌≡◌, IfErr};
+ghost use Rattle.std.specs.Prelude.{◌≤◌, ◌^◌};
 ghost use Rattle.hx_solve.specs.Settings.{AreSettings};
+ghost use Rattle.hx_solve.specs.Tallies.{tallied, IsCountedBy};
 
 use super::*;
 use hx_board::{Colour, Mask, Position, Size};
@@ -61,25 +62,64 @@ fn on_empty<R: Threads + Wait + Sync>(
     rt: &R,
     alloc: Global,
     size: Option<Size>,
-    settings: Settings,
+    workers: u32,
+    budget: u64,
+    slots: u32,
 ) -> Result<Told, Fail>
-    requires { AreSettings settings }
+    requires workers { (1 ≤ workers) × (workers ≤ 64) }
+    requires budget { budget ≤ 2 ^ 40 }
+    requires slots { slots ≤ 1048576 }
 {
     let position = Position::empty(size.ok_or("size")?);
+    let settings = Settings {
+        workers,
+        budget,
+        slots,
+    };
     answer_on(rt, alloc, &position, Colour::Black, settings, &RealGate)
+}
+
+/// The counts of a tally that counts a refusal.
+fn counts_with(budget: u64, slots: u32, refusal: Unsolved) -> (u64, u64)
+    requires { IsCountedBy (tallied budget slots 0 0) refusal }
+{
+    let mut tally = Tally::new(budget, slots);
+    tally.add(refusal);
+    (tally.budgets(), tally.proofs())
+}
+
+/// The counts of a tally after a search of the empty board of one cell.
+fn counted<R: Threads + Wait + Sync>(
+    rt: &R,
+    alloc: Global,
+    budget: u64,
+    slots: u32,
+) -> Result<(u64, u64), Fail>
+    requires budget { budget ≤ 2 ^ 40 }
+    requires slots { slots ≤ 1048576 }
+{
+    let position = Position::empty(Size::new(1, 1).ok_or("size")?);
+    let settings = Settings {
+        workers: 1,
+        budget,
+        slots,
+    };
+    match solve(rt, alloc, &position, Colour::Black, settings, &RealGate) {
+        Ok(_) => Ok((0, 0)),
+        Err(Unsolved::Memory) => Err("memory".into()),
+        Err(Unsolved::Budget(spent)) => { Ok(counts_with(budget, slots, Unsolved::Budget(spent))) }
+        Err(Unsolved::Slots(no_slot)) => {
+            Ok(counts_with(budget, slots, Unsolved::Slots(no_slot)))
+        }
+    }
 }
 
 #[test]
 fn by_links(rt: HostRuntime) -> Result<(), Fail> {
-    for workers in [1, 4] {
-        let settings = Settings {
-            workers,
-            budget: 1_000_000,
-            slots: 65_536,
-        };
-        let answer = on_empty(&rt, rt.alloc(), Size::new(4, 4), settings)?;
-        assert_eq!(rt; answer, Told::Winner(Colour::Black));
-    }
+    let alone = on_empty(&rt, rt.alloc(), Size::new(4, 4), 1, 1_000_000, 65_536)?;
+    assert_eq!(rt; alone, Told::Winner(Colour::Black));
+    let together = on_empty(&rt, rt.alloc(), Size::new(4, 4), 4, 1_000_000, 65_536)?;
+    assert_eq!(rt; together, Told::Winner(Colour::Black));
     Ok(())
 }
 
@@ -107,44 +147,37 @@ fn a_stone_in_the_centre(rt: HostRuntime) -> Result<(), Fail> {
 }
 
 #[test]
-fn refusals_on_one_cell(rt: HostRuntime) -> Result<(), Fail> {
-    let rows = [
-        (1, 0, 65_536, Told::Budget(0)),
-        (1, 1, 0, Told::Slots(0)),
-        (1, 1, 1, Told::Winner(Colour::Black)),
-        (64, 1, 1, Told::Winner(Colour::Black)),
-    ];
-    for (workers, budget, slots, expected) in rows {
-        let settings = Settings {
-            workers,
-            budget,
-            slots,
-        };
-        let answer = on_empty(&rt, rt.alloc(), Size::new(1, 1), settings)?;
-        assert_eq!(rt; answer, expected);
-    }
+fn one_cell_without_a_unit(rt: HostRuntime) -> Result<(), Fail> {
+    let answer = on_empty(&rt, rt.alloc(), Size::new(1, 1), 1, 0, 65_536)?;
+    assert_eq!(rt; answer, Told::Budget(0));
+    assert_eq!(rt; counted(&rt, rt.alloc(), 0, 65_536)?, (1, 0));
     Ok(())
 }
 
 #[test]
-fn no_refusal_is_counted_yet(rt: HostRuntime) {
-    let tally = Tally::new(5, 7);
-    assert_eq!(rt; tally.budgets(), 0);
-    assert_eq!(rt; tally.proofs(), 0);
+fn one_cell_without_a_slot(rt: HostRuntime) -> Result<(), Fail> {
+    let answer = on_empty(&rt, rt.alloc(), Size::new(1, 1), 1, 1, 0)?;
+    assert_eq!(rt; answer, Told::Slots(0));
+    assert_eq!(rt; counted(&rt, rt.alloc(), 1, 0)?, (0, 1));
+    Ok(())
+}
+
+#[test]
+fn one_cell_with_one_unit_and_one_slot(rt: HostRuntime) -> Result<(), Fail> {
+    let alone = on_empty(&rt, rt.alloc(), Size::new(1, 1), 1, 1, 1)?;
+    assert_eq!(rt; alone, Told::Winner(Colour::Black));
+    let together = on_empty(&rt, rt.alloc(), Size::new(1, 1), 64, 1, 1)?;
+    assert_eq!(rt; together, Told::Winner(Colour::Black));
+    assert_eq!(rt; counted(&rt, rt.alloc(), 1, 1)?, (0, 0));
+    Ok(())
 }
 
 #[test]
 fn by_a_full_search(rt: HostRuntime) -> Result<(), Fail> {
-    let rows = [(3, 3, 986_410), (1, 3, 16)];
-    for (rows, cols, budget) in rows {
-        let settings = Settings {
-            workers: 1,
-            budget,
-            slots: 0,
-        };
-        let answer = on_empty(&rt, rt.alloc(), Size::new(rows, cols), settings)?;
-        assert_eq!(rt; answer, Told::Winner(Colour::Black));
-    }
+    let square = on_empty(&rt, rt.alloc(), Size::new(3, 3), 1, 986_410, 0)?;
+    assert_eq!(rt; square, Told::Winner(Colour::Black));
+    let row = on_empty(&rt, rt.alloc(), Size::new(1, 3), 1, 16, 0)?;
+    assert_eq!(rt; row, Told::Winner(Colour::Black));
     Ok(())
 }
 
