@@ -1,0 +1,2 @@
+pub mod CutterLaws
+pub mod LineLaws

@@ -1,0 +1,16 @@
+use Rattle.std.proofs.Common.{◌≡◌, ◌-◌, ◌≤◌, true, if◌then◌else◌, length}
+use Rattle.hx_io.specs.Sources.{IsAtEnd}
+use Rattle.hx_lines.specs.Cutters.{IsSettled, Stays}
+use Rattle.hx_lines.proofs.cutters.LineCutter.next.Given as goal
+
+abbrev pub invariant-loop-self : goal.invariant-loop-self
+invariant-loop-self g l = record {
+  stays : Stays l.initial.self l.self (g.S.Source.left l.initial.source) (g.S.Source.left l.source);
+  met_end : l.self.met_end ≡ true → IsAtEnd (g.S.Source.left l.source);
+  later : g.S.Source.faults l.initial.source ≤ g.S.Source.faults l.source;
+  reads : IsSettled l.initial.self → l.source ≡ l.initial.source;
+  same : IsSettled l.initial.self → l.self ≡ l.initial.self;
+}
+
+abbrev pub decreases-loop-self : goal.decreases-loop-self
+decreases-loop-self g l = if l.self.met_end then 0 else 4098 - length l.self.held
