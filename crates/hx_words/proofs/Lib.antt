@@ -1,0 +1,4 @@
+pub mod Names
+pub mod Spellings
+pub mod Leads
+pub mod CommandWords

@@ -1,0 +1,17 @@
+use Rattle.std.proofs.Common.{◌≡◌, codes, sym, ap, ◌∙◌, string_bytes}
+use Rattle.hx_words.specs.Words.{words_of}
+use Rattle.hx_words.proofs.CommandWords.{Asks-solve}
+use Rattle.hx_words.proofs.Leads.{AreOptions-settings}
+use Rattle.hx_words.proofs.commands.command_of.Goals as goal
+
+pub returns-in_err-settings-in-solve-clause-finds : goal.returns-in_err-settings-in-solve-clause-finds
+returns-in_err-settings-in-solve-clause-finds c =
+    let words = ap words_of c.in_ok-name.ensures.cases.0 in
+    let name : string_bytes c.in_ok-name.name.now ≡ codes "solve" = sym c.as_str.ensures.value ∙ c.in-solve.is in
+    rw c.from_residual-in_err-settings-in-solve.ensures
+    (Asks-solve (words_of c.args.words.now) (words_of c.in_ok-name.rest.now) (cc)
+    c.in_err-settings-in-solve.ensures)
+
+pub returns-in_ok-settings-in-solve-clause-limits : goal.returns-in_ok-settings-in-solve-clause-limits
+returns-in_ok-settings-in-solve-clause-limits c =
+    AreOptions-settings (words_of c.in_ok-name.rest.now) c.in_ok-settings-in-solve.settings c.in_ok-settings-in-solve.ensures

@@ -1,0 +1,51 @@
+-- What options choose, one after the other.
+use Rattle.std.specs.Prelude.{◌≡◌, ℕ, ◌≤◌, List, [], unwrap_or, Option, None, Some}
+use Rattle.hx_solve.specs.declared.settings.Settings.{Settings}
+use Rattle.hx_words.specs.declared.settings.Setting.{Setting}
+use Rattle.hx_words.specs.declared.settings.Setting.TheVariants.{Workers, Budget, Proofs}
+use Rattle.hx_words.specs.declared.options.Choice.{Choice}
+use Rattle.hx_words.specs.declared.choices.Chosen.{Chosen}
+use Rattle.hx_words.specs.Settings.{least_of, most_of}
+use Rattle.hx_words.specs.Options.{Spelled}
+
+abbrev pub nothing : Chosen
+nothing = record { workers = None; budget = None; slots = None }
+
+-- the number that was chosen for a setting
+abbrev pub number_for : Chosen → Setting → Option ℕ
+number_for chosen Workers = chosen.workers
+number_for chosen Budget = chosen.budget
+number_for chosen Proofs = chosen.slots
+
+-- what was chosen, with this number for this setting
+abbrev pub with_number : Chosen → Setting → ℕ → Chosen
+with_number chosen Workers number = record chosen { workers = Some number }
+with_number chosen Budget number = record chosen { budget = Some number }
+with_number chosen Proofs number = record chosen { slots = Some number }
+
+-- one choice more: the first for its setting, within its limits
+pub record Adds (before : Chosen) (choice : Choice) (now : Chosen) : Type 0 where
+  pub first : number_for before choice.setting ≡ None
+  pub least : least_of choice.setting ≤ choice.number
+  pub most : choice.number ≤ most_of choice.setting
+  pub same : now ≡ with_number before choice.setting choice.number
+
+-- the words are options, one after the other, that lead from what was chosen before them to what is chosen then
+pub data Lead : List (List ℕ) → Chosen → Chosen → Type 0 where
+  Done : (words : List (List ℕ)) (before now : Chosen) → words ≡ [] → now ≡ before → Lead words before now
+  Then : (words : List (List ℕ)) (before now : Chosen) (choice : Choice) (rest : List (List ℕ)) (next : Chosen)
+      → Spelled choice words rest → Adds before choice next → Lead rest next now → Lead words before now
+
+-- each setting is the number that was chosen for it, or else its default
+abbrev pub settings_of : Chosen → Settings
+settings_of chosen = record {
+  workers = unwrap_or chosen.workers 1;
+  budget = unwrap_or chosen.budget 1000000;
+  slots = unwrap_or chosen.slots 65536;
+}
+
+-- the words are options, and these are the settings that they choose
+pub record AreOptions (words : List (List ℕ)) (settings : Settings) : Type 0 where
+  pub chosen : Chosen
+  pub lead : Lead words nothing chosen
+  pub same : settings ≡ settings_of chosen

@@ -1,0 +1,5 @@
+pub mod Words
+pub mod Settings
+pub mod Options
+pub mod Choices
+pub mod Commands

@@ -1,0 +1,40 @@
+//! The commands of the program. Each is told by its first word.
+
+ghost use Rattle.std.specs.Prelude.{IfSome};
+ghost use Rattle.hx_board.specs.Finds.{Finds};
+ghost use Rattle.hx_words.specs.Words.{words_of};
+ghost use Rattle.hx_words.specs.Commands.{Asks, IsWithinLimits};
+
+use crate::choices::settings_in;
+use hx_solve::Settings;
+
+/// A command of the program, with its settings.
+#[derive(Clone, Copy, Debug, PartialEq, Eq)]
+pub enum Command {
+    /// Judge the text of a tree.
+    Check,
+    /// Solve the position of a text.
+    Solve(Settings),
+}
+
+/// The command that the words are. The program's own name is not one of them.
+pub fn command_of(words: &[String]) -> Option<Command>
+    ensures finds { Finds result (λ command. Asks command (words_of words.now)) }
+    ensures limits { IfSome result IsWithinLimits }
+{
+    let (name, rest) = words.split_first()?;
+    match name.as_str() {
+        "check" => {
+            if rest.is_empty() {
+                Some(Command::Check)
+            } else {
+                None
+            }
+        }
+        "solve" => {
+            let settings = settings_in(rest)?;
+            Some(Command::Solve(settings))
+        }
+        _ => None,
+    }
+}

@@ -1,0 +1,18 @@
+//! The words of the command line: which command they are, with which settings.
+//!
+//! A command is its name, and for one that searches its options, in any order and each at most once. Words that are
+//! spelled in any other way are no command.
+#![tactic(auto)]
+
+mod choices;
+mod commands;
+mod laws;
+mod numbers;
+mod options;
+mod settings;
+
+pub use commands::{Command, command_of};
+pub use laws::one_command;
+
+#[cfg(test)]
+mod tests;

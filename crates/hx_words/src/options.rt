@@ -1,0 +1,49 @@
+//! Options, taken off the front of the words. An option is a name and its value, in two words, or in one with an equals
+//! sign between. So a word after a name is a value, whatever it looks like.
+
+ghost use Rattle.std.specs.Prelude.{MatchOption, List, ℕ};
+ghost use Rattle.hx_board.specs.Finds.{Finds};
+ghost use Rattle.hx_words.specs.Words.{words_of};
+ghost use Rattle.hx_words.specs.declared.options.Choice.{Choice};
+ghost use Rattle.hx_words.specs.Options.{Spelled, IsJoined};
+
+use crate::numbers::number_of;
+use crate::settings::Setting;
+use hx_text::cut;
+
+/// What an option chooses: a number for a setting.
+#[derive(Clone, Copy, Debug, PartialEq, Eq)]
+pub struct Choice {
+    pub setting: Setting,
+    pub number: u64,
+}
+
+/// The option that the words begin with, and the words after it.
+pub(crate) fn first_option(words: &[String]) -> Option<(Choice, &[String])>
+    ensures { MatchOption result
+        ((choice : Choice) (rest : List (List ℕ)) → Spelled choice (words_of words.now) rest → ⊥)
+        (λ found. Spelled found.0 (words_of words.now) (words_of found.1.now)) }
+{
+    let (word, rest) = words.split_first()?;
+    match Setting::named(word.as_bytes()) {
+        Some(setting) => {
+            let (value, rest) = rest.split_first()?;
+            let number = number_of(value.as_bytes())?;
+            Some((Choice { setting, number }, rest))
+        }
+        None => {
+            let choice = joined(word.as_bytes())?;
+            Some((choice, rest))
+        }
+    }
+}
+
+/// The option that is this one word.
+fn joined(word: &[u8]) -> Option<Choice>
+    ensures { Finds result (λ choice. IsJoined choice word.now) }
+{
+    let (name, value) = cut(word, b'=')?;
+    let setting = Setting::named(name)?;
+    let number = number_of(value)?;
+    Some(Choice { setting, number })
+}

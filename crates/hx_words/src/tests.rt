@@ -1,0 +1,85 @@
+//! Which words are which command.
+
+use crate::{Command, command_of, one_command};
+use hx_solve::Settings;
+use std::alloc::{AllocError, Global};
+use std::test::Fail;
+
+/// The words of a line, which have one space between them.
+fn words_in(alloc: Global, line: &str) -> Result<Vec<String>, AllocError> {
+    let mut words = Vec::new(alloc);
+    for word in line.split_whitespace() {
+        words.push(String::from_str(alloc, word)?)?;
+    }
+    Ok(words)
+}
+
+#[test]
+fn check_stands_alone(rt: HostRuntime) -> Result<(), Fail> {
+    one_command();
+    let words = words_in(rt.alloc(), "check")?;
+    assert_eq!(rt; command_of(&words), Some(Command::Check));
+    Ok(())
+}
+
+#[test]
+fn options_choose_settings(rt: HostRuntime) -> Result<(), Fail> {
+    let lines = [
+        ("solve", 1, 1_000_000, 65_536),
+        ("solve --workers=2", 2, 1_000_000, 65_536),
+        ("solve --budget=0005 --workers 1", 1, 5, 65_536),
+        ("solve --proofs 0 --budget 0000000000000", 1, 0, 0),
+        (
+            "solve --budget 1099511627776 --proofs=1048576 --workers 64",
+            64,
+            1_099_511_627_776,
+            1_048_576,
+        ),
+    ];
+    for (line, workers, budget, slots) in lines {
+        let words = words_in(rt.alloc(), line)?;
+        let settings = Settings {
+            workers,
+            budget,
+            slots,
+        };
+        assert_eq!(rt;
+            command_of(&words),
+            Some(Command::Solve(settings)),
+            "{line}"
+        );
+    }
+    Ok(())
+}
+
+#[test]
+fn other_words_are_no_command(rt: HostRuntime) -> Result<(), Fail> {
+    let lines = [
+        "",
+        "--",
+        "--help",
+        "chec",
+        "check now",
+        "solve 5",
+        "solve --",
+        "solve --help",
+        "solve --work 2",
+        "solve --workers",
+        "solve --workers=",
+        "solve --workers=1=2",
+        "solve --workers 0",
+        "solve --workers 65",
+        "solve --workers --budget=1 2",
+        "solve --budget -1",
+        "solve --budget +1",
+        "solve --budget 1 --budget=1",
+        "solve --budget 1099511627777",
+        "solve --budget 00000000000001",
+        "solve --proofs 1048577",
+    ];
+    for line in lines {
+        let words = words_in(rt.alloc(), line)?;
+        assert_eq!(rt; command_of(&words), None, "{line}");
+    }
+    Ok(())
+}
