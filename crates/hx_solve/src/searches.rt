@@ -45,7 +45,8 @@ pub(crate) fn search<G: Gate + Sync, R: Threads + Wait + Sync>(
     let workers = settings.workers;
     let (shared, books) = Shared::start(alloc, settings.slots, workers)?;
     let (counts, count_seats) = Counts::start(alloc, settings.budget, LOSS_WORDS, workers)?;
-    let hints = Hints::with_words(alloc, hint_words(settings.budget))?;
+    let words = hint_words(settings.budget, position.empty_count());
+    let hints = Hints::with_words(alloc, words)?;
     let room = Parts::with_room(alloc, workers)?;
     let crew = Crew {
         position: *position,
