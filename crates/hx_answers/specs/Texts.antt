@@ -1,0 +1,7 @@
+-- What answers are made of.
+use Rattle.std.specs.Prelude.{ℕ, List, [], ◌∷◌, ◌++◌}
+use Rattle.std.specs.Fmt.{decimal}
+
+-- some words, a number and an LF
+abbrev pub counted_text : List ℕ → ℕ → List ℕ
+counted_text words n = words ++ (decimal n ++ 10 ∷ [])

@@ -1,0 +1,26 @@
+//! A line that ends with a number.
+
+ghost use Rattle.hx_io.specs.Causes.{HasCause};
+ghost use Rattle.hx_io.specs.Sinks.{TakesAll};
+ghost use Rattle.hx_answers.specs.Texts.{counted_text};
+
+use hx_io::{Failed, Sink, write_all};
+use itoa::Buffer;
+
+/// Writes some words, a number and an LF.
+#[tactic(auto, using(hx_io::proofs::SinkLaws::several_writes))]
+pub fn write_counted<K: Sink>(sink: &mut K, words: &[u8], n: u64) -> Result<(), Failed>
+    ensures bytes { TakesAll (K.taken sink.old) (K.taken sink.new) result
+        (counted_text words.now n) }
+    ensures cause { HasCause (K.faults sink.old) (K.faults sink.new) result }
+{
+    let mut buffer = Buffer::new();
+    match write_all(sink, words) {
+        Ok(()) => {}
+        Err(Failed) => return Err(Failed),
+    }
+    match write_all(sink, buffer.format(n).as_bytes()) {
+        Ok(()) => write_all(sink, b"\n"),
+        Err(Failed) => Err(Failed),
+    }
+}

@@ -1,0 +1,51 @@
+//! Reading all that a source has, up to a limit on its bytes, which bounds the memory that an input takes.
+
+ghost use Rattle.std.specs.Prelude.{◌≡◌, ℕ, ◌<◌, ◌≤◌, List, length, IfOk, IsErrOf};
+ghost use Rattle.hx_io.specs.Causes.{Rose};
+ghost use Rattle.hx_io.specs.Sources.{prepend, IsAtEnd};
+
+use hx_io::Source;
+use std::alloc::Global;
+use thiserror::Error;
+
+/// Why not all of an input was read.
+#[derive(Clone, Copy, Debug, Drop, Error, PartialEq, Eq)]
+pub enum Unread {
+    #[error("the source failed")]
+    Failed,
+    #[error("the source has more bytes than are read")]
+    TooLong,
+    #[error("there is not enough memory")]
+    OutOfMemory,
+}
+
+/// The most bytes that are asked for at a time.
+const BUFFER: usize = 16_384;
+
+/// Reads to the end of a source that has no more bytes than the limit.
+pub fn read_all<S: Source>(alloc: Global, source: &mut S, limit: usize) -> Result<Vec<u8>, Unread>
+    ensures all { IfOk result (λ bytes. (length bytes.items ≤ limit)
+        × (S.left source.old ≡ prepend bytes.items (S.left source.new))
+        × IsAtEnd (S.left source.new)) }
+    ensures too_long { IsErrOf result Unread.TooLong → (bytes : List ℕ)
+        × (limit < length bytes) × (S.left source.old ≡ prepend bytes (S.left source.new)) }
+    ensures failed { IsErrOf result Unread.Failed
+        → Rose (S.faults source.old) (S.faults source.new) }
+    ensures later { S.faults source.old ≤ S.faults source.new }
+{
+    let mut bytes = Vec::new(alloc);
+    let mut buffer = [0u8; BUFFER];
+    while bytes.len() <= limit {
+        let count = match source.read(&mut buffer) {
+            Ok(count) => count,
+            Err(_) => return Err(Unread::Failed),
+        };
+        if count == 0 {
+            return Ok(bytes);
+        }
+        if bytes.extend_from_slice(&buffer[..count]).is_err() {
+            return Err(Unread::OutOfMemory);
+        }
+    }
+    Err(Unread::TooLong)
+}

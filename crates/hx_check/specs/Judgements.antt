@@ -1,0 +1,74 @@
+-- What is said of an input, and when.
+use Rattle.std.specs.Prelude.{◌≡◌, ◌⊎◌, ℕ, ◌<◌, ◌≤◌, List, [], ◌∷◌, ◌++◌, length, codes, Option, IfSome}
+use Rattle.hx_board.specs.declared.colours.Colour.{Colour}
+use Rattle.hx_tree.specs.declared.nodes.Heading.{Heading}
+use Rattle.hx_text.specs.Words.{colour_word}
+use Rattle.hx_text.specs.PositionTexts.{position_text}
+use Rattle.hx_answers.specs.Texts.{counted_text}
+use Rattle.hx_answers.specs.Endings.{IsWritten}
+use Rattle.hx_check.specs.declared.judgements.Judgement.{Judgement}
+use Rattle.hx_check.specs.declared.judgements.Judgement.TheVariants.{Yes, NoText, NoNode, ReadFault, OutOfMemory, TooLong}
+use Rattle.hx_check.specs.Limits.{most_bytes}
+use Rattle.hx_check.specs.Judging.{IsYes, IsNoText, IsNoNode, IsTooManyNodes}
+
+-- the line that names a winner
+abbrev pub yes_line : Colour → List ℕ
+yes_line winner = codes "yes " ++ (colour_word winner ++ 10 ∷ [])
+
+-- the winner of the root, and the root's position and mover
+abbrev pub yes_text : Heading → List ℕ
+yes_text root = yes_line root.winner ++ position_text root.position root.to_move
+
+-- the line that names a line at fault
+abbrev pub no_text_line : ℕ → List ℕ
+no_text_line line = counted_text (codes "no text ") line
+
+-- the line that names a node that is not right
+abbrev pub no_node_line : ℕ → List ℕ
+no_node_line node = counted_text (codes "no node ") node
+
+-- what is written for each judgement
+abbrev pub judgement_text : Judgement → List ℕ
+judgement_text (Yes root) = yes_text root
+judgement_text (NoText line) = no_text_line line
+judgement_text (NoNode node) = no_node_line node
+judgement_text ReadFault = codes "read fault\n"
+judgement_text OutOfMemory = codes "out of memory\n"
+judgement_text TooLong = codes "too long\n"
+
+-- the exit status that tells each judgement, where it was written whole
+abbrev pub status_of : Judgement → ℕ
+status_of (Yes root) = 0
+status_of (NoText line) = 1
+status_of (NoNode node) = 1
+status_of ReadFault = 5
+status_of OutOfMemory = 7
+status_of TooLong = 8
+
+-- the input is above a limit: it has more bytes than are read, or more nodes than a text may have
+abbrev pub IsLong : List ℕ → Type 0
+IsLong input = (most_bytes < length input) ⊎ IsTooManyNodes input
+
+-- the whole input, which has no more bytes than are read
+abbrev pub WithinLimit : Option (List ℕ) → (List ℕ → Type 0) → Type 0
+WithinLimit left says = IfSome left (λ input. (length input ≤ most_bytes) × says input)
+
+-- When each judgement comes: what the source had left before, and whether its faults rose.
+abbrev pub IsDue : Option (List ℕ) → Type 0 → Judgement → Type 0
+IsDue before rose (Yes root) = WithinLimit before (λ input. IsYes input root)
+IsDue before rose (NoText line) = WithinLimit before (λ input. IsNoText input line)
+IsDue before rose (NoNode node) = WithinLimit before (λ input. IsNoNode input node)
+IsDue before rose ReadFault = rose
+IsDue before rose OutOfMemory = Unit {0}
+IsDue before rose TooLong = IfSome before IsLong
+
+-- a status of the command
+abbrev pub IsCheckStatus : ℕ → Type 0
+IsCheckStatus status = (status ≤ 1) ⊎ ((5 ≤ status) × (status ≤ 8))
+
+-- A run of the command: some judgement is due, and it was written.
+pub record IsCheckRun (left_before : Option (List ℕ)) (source_rose : Type 0)
+    (taken_before taken_now : Option (List ℕ)) (sink_rose : Type 0) (status : ℕ) : Type 0 where
+  pub judgement : Judgement
+  pub due : IsDue left_before source_rose judgement
+  pub written : IsWritten taken_before taken_now sink_rose (judgement_text judgement) (status_of judgement) status

@@ -1,0 +1,81 @@
+//! What is said of an input: the text that is written for it, and the exit status that tells it.
+
+ghost use Rattle.std.specs.Prelude.{◌≡◌};
+ghost use Rattle.hx_io.specs.Causes.{HasCause};
+ghost use Rattle.hx_io.specs.Sinks.{TakesAll};
+ghost use Rattle.hx_check.specs.Judgements.{status_of, judgement_text, yes_line, yes_text};
+
+use hx_answers::{OUT_OF_MEMORY, READ_FAULT, write_counted};
+use hx_board::Colour;
+use hx_io::{Failed, Sink, write_all};
+use hx_text::write_position;
+use hx_tree::Heading;
+
+/// What is said in the end, whatever becomes of the writing.
+#[derive(Clone, Copy, Debug, PartialEq, Eq)]
+pub enum Judgement {
+    /// The input is the text of a valid tree with this root.
+    Yes { root: Heading },
+    /// This line, counted from 1, is the first that is not of the grammar in its place.
+    NoText { line: u64 },
+    /// This node, counted from 0, is the first that is not right.
+    NoNode { node: u64 },
+    /// A read failed.
+    ReadFault,
+    /// There was not enough memory.
+    OutOfMemory,
+    /// The input has more bytes than are read, or more nodes than a text may have.
+    TooLong,
+}
+
+impl Judgement {
+    /// The exit status that tells this judgement.
+    pub fn status(&self) -> u8
+        ensures { result ≡ status_of self.now }
+    {
+        match self {
+            Judgement::Yes { .. } => 0,
+            Judgement::NoText { .. } | Judgement::NoNode { .. } => 1,
+            Judgement::ReadFault => READ_FAULT,
+            Judgement::OutOfMemory => OUT_OF_MEMORY,
+            Judgement::TooLong => 8,
+        }
+    }
+}
+
+/// Writes a judgement.
+pub(crate) fn write_judgement<K: Sink>(sink: &mut K, judgement: &Judgement) -> Result<(), Failed>
+    ensures bytes { TakesAll (K.taken sink.old) (K.taken sink.new) result
+        (judgement_text judgement.now) }
+    ensures cause { HasCause (K.faults sink.old) (K.faults sink.new) result }
+{
+    match judgement {
+        Judgement::Yes { root } => write_yes(sink, root),
+        Judgement::NoText { line } => write_counted(sink, b"no text ", *line),
+        Judgement::NoNode { node } => write_counted(sink, b"no node ", *node),
+        Judgement::ReadFault => write_all(sink, b"read fault\n"),
+        Judgement::OutOfMemory => write_all(sink, b"out of memory\n"),
+        Judgement::TooLong => write_all(sink, b"too long\n"),
+    }
+}
+
+/// Writes the winner of a root, and its position and mover.
+fn write_yes<K: Sink>(sink: &mut K, root: &Heading) -> Result<(), Failed>
+    ensures bytes { TakesAll (K.taken sink.old) (K.taken sink.new) result (yes_text root.now) }
+    ensures cause { HasCause (K.faults sink.old) (K.faults sink.new) result }
+{
+    match write_all(sink, yes_line(root.winner)) {
+        Ok(()) => write_position(sink, &root.position, root.to_move),
+        Err(Failed) => Err(Failed),
+    }
+}
+
+/// The line that names a winner.
+fn yes_line(winner: Colour) -> &'static [u8]
+    ensures { result.now ≡ yes_line winner }
+{
+    match winner {
+        Colour::Black => b"yes black\n",
+        Colour::White => b"yes white\n",
+    }
+}

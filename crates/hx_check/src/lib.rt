@@ -1,0 +1,17 @@
+//! The command `check`: whether the text of a tree proves who wins the position of its root.
+//!
+//! The lines and nodes are judged in their order, up to the first fault. First it is settled what is to be said, and then all of
+//! it is written, so that a fault of the sink never changes what is said.
+#![tactic(auto)]
+
+mod check;
+mod judge;
+mod judgements;
+mod laws;
+
+pub use check::run_check;
+pub use judgements::Judgement;
+pub use laws::one_fault;
+
+#[cfg(test)]
+mod tests;
