@@ -1,12 +1,5 @@
-pub mod Standings
-pub mod Judgements
-pub mod Endings
-pub mod Answering
-pub mod Readings
-pub mod OneAnswer
-pub mod NamedAnswers
-pub mod OneFault
 pub mod NodesOut
 pub mod Positions
-pub mod SweptTrees
-pub mod Runs
+pub mod SolvedTrees
+pub mod KeptPromises
+pub mod RunClauses

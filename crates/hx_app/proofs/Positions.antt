@@ -1,6 +1,6 @@
--- The text of a position tells the position, so at most one answer to it fits: it has no wrong line, and one number of empty
--- cells.
-use Rattle.std.proofs.Common.{◌≡◌, ℕ, ◌+◌, ◌≤◌, List, [], ◌∷◌, length, refl, ap, ◌∙◌, arith, length-append}
+-- The text of a position tells the position, so at most one answer to it fits: it has no wrong line, and it is small under a
+-- budget or not.
+use Rattle.std.proofs.Common.{◌≡◌, ℕ, ◌+◌, ◌≤◌, List, [], ◌∷◌, length, refl, ap, ◌∙◌, subst, arith, length-append}
 use Rattle.std.specs.Fmt.{decimal}
 use Rattle.std.specs.declared.result.Result.{Result}
 use Rattle.std.specs.declared.result.Result.TheVariants.{Ok, Err}
@@ -8,7 +8,7 @@ use Rattle.hx_board.specs.declared.colours.Colour.{Colour}
 use Rattle.hx_board.specs.declared.colours.Colour.TheVariants.{Black, White}
 use Rattle.hx_board.specs.Cells.{Extent, IsExtent}
 use Rattle.hx_board.specs.Positions.{Board, IsBoard}
-use Rattle.hx_board.specs.Counts.{empty_count}
+use Rattle.hx_board.specs.Counts.{IsSmall}
 use Rattle.hx_text.specs.declared.positions.TextFault.{TextFault}
 use Rattle.hx_text.specs.Words.{spaced, mask_word, colour_word}
 use Rattle.hx_text.specs.Grammars.{text_of}
@@ -16,9 +16,8 @@ use Rattle.hx_text.specs.PositionTexts.{position_text, position_title, size_line
 use Rattle.hx_text.proofs.Masks.{length-hex}
 use Rattle.hx_text.proofs.Spelled.{length-colour_word, length-small}
 use Rattle.hx_text.proofs.WholePositions.{spelled_is_read}
-use Rattle.hx_app.specs.declared.commands.Command.TheVariants.{Solve}
-use Rattle.hx_app.specs.Commands.{limit_of}
-use Rattle.hx_app.specs.Solving.{IsPositionText, IsBadPosition, HasEmpties}
+use Rattle.hx_app.specs.Limits.{most_bytes}
+use Rattle.hx_app.specs.Positions.{IsPositionText, IsSmallPosition, IsOpenPosition, IsBadPosition}
 
 abbrev found : Board → Colour → Result (Board × Colour) TextFault
 found board mover = Ok (board, mover)
@@ -43,10 +42,11 @@ unfolding text_of
 same_position input a b m n is_a is_b =
     same_found a b m n (spelled_is_read input (found a m) (is_a.is_board, is_a.same) b n is_b.is_board is_b.same)
 
-pub same_empties : (input : List ℕ) (board : Board) (mover : Colour) (empties : ℕ) → IsPositionText input board mover → HasEmpties input empties
-    → empty_count board ≡ empties
-same_empties input board mover empties is has =
-    ap empty_count (same_position input board has.board mover has.mover is has.text) ∙ has.count
+-- no position is small under a budget and also not
+pub small_not_open : (budget : ℕ) (input : List ℕ) → IsSmallPosition budget input → IsOpenPosition budget input → ⊥
+small_not_open budget input small other =
+    let same : small.board ≡ other.board = same_position input small.board other.board small.mover other.mover small.text other.text in
+    other.not_small (subst (λ (board : Board). IsSmall board budget) same small.small)
 
 -- the text of a position has no wrong line
 pub not_bad : (input : List ℕ) (board : Board) (mover : Colour) (line : ℕ) → IsPositionText input board mover → IsBadPosition input line → ⊥
@@ -107,5 +107,5 @@ length-position_text board mover is =
       length-none,
     )
 
-pub position_text_short : {input : List ℕ} {board : Board} {mover : Colour} → IsPositionText input board mover → length input ≤ limit_of Solve
+pub position_text_short : {input : List ℕ} {board : Board} {mover : Colour} → IsPositionText input board mover → length input ≤ most_bytes
 position_text_short {input} {board} {mover} is = omega (arith, ap length is.same, length-position_text board mover is.is_board)

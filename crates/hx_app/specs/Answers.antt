@@ -1,119 +1,150 @@
--- What the program answers, and when.
-use Rattle.std.specs.Prelude.{◌≡◌, ◌⊎◌, ℕ, ◌<◌, ◌≤◌, List, [], ◌∷◌, ◌++◌, length, flat_map, codes, Option, IfSome}
-use Rattle.std.specs.Fmt.{decimal}
+-- What `solve` answers, and when.
+use Rattle.std.specs.Prelude.{◌≡◌, ◌↔◌, ◌⊎◌, ℕ, ◌<◌, ◌≤◌, List, [], ◌∷◌, ◌++◌, length, flat_map, codes, Option, IfSome}
 use Rattle.std.specs.List.{All}
-use Rattle.hx_io.specs.Sinks.{append, TakesFront}
 use Rattle.hx_board.specs.declared.colours.Colour.{Colour}
-use Rattle.hx_tree.specs.declared.nodes.Heading.{Heading}
+use Rattle.hx_board.specs.Positions.{Board}
 use Rattle.hx_tree.specs.declared.nodes.Node.{Node}
-use Rattle.hx_text.specs.Words.{colour_word}
+use Rattle.hx_text.specs.declared.versions.Version.{Version}
+use Rattle.hx_text.specs.declared.versions.Version.TheVariants.{Two}
+use Rattle.hx_text.specs.declared.versions.Preamble.{Preamble}
+use Rattle.hx_text.specs.Versions.{HasTurned}
 use Rattle.hx_text.specs.Grammars.{text_of}
-use Rattle.hx_text.specs.PositionTexts.{position_text}
-use Rattle.hx_text.specs.TreeTexts.{ListsFit, node_lines, written_tree}
+use Rattle.hx_text.specs.TreeTexts.{EachNodeFits, ListsFit, node_lines, written_tree}
 use Rattle.hx_text.specs.Places.{most_nodes}
+use Rattle.hx_solve.specs.declared.settings.Settings.{Settings}
+use Rattle.hx_solve.specs.declared.unsolved.Unsolved.{Unsolved}
+use Rattle.hx_solve.specs.declared.unsolved.Unsolved.TheVariants.{Budget, Slots, Memory}
+use Rattle.hx_solve.specs.Solutions.{IsSolution}
+use Rattle.hx_solve.specs.Tallies.{Tallied, tallied}
+use Rattle.hx_answers.specs.Texts.{counted_text}
+use Rattle.hx_answers.specs.Endings.{IsWritten}
 use Rattle.hx_app.specs.declared.answers.Answer.{Answer}
-use Rattle.hx_app.specs.declared.answers.Answer.TheVariants.{Yes, NoText, NoNode, Solved, UnknownSweep, BadPosition, BadWords, ReadFault, OutOfMemory, TooLong}
+use Rattle.hx_app.specs.declared.answers.Answer.TheVariants.{Solved, UnknownBudget, UnknownProofs, BadPosition, ReadFault, OutOfMemory, TooLong}
+use Rattle.hx_app.specs.declared.finishes.Finish.{Finish}
 use Rattle.hx_app.specs.declared.solutions.Solution.{Solution}
-use Rattle.hx_app.specs.declared.commands.Command.{Command}
-use Rattle.hx_app.specs.declared.commands.Command.TheVariants.{Check, Solve}
-use Rattle.hx_app.specs.Commands.{Asks, IsCommand, limit_of}
-use Rattle.hx_app.specs.Judging.{IsYes, IsNoText, IsNoNode, IsTooManyNodes}
-use Rattle.hx_app.specs.Solving.{IsSolved, preamble_of, IsUnknown, IsBadPosition}
-
--- the line that names a winner
-abbrev pub yes_line : Colour → List ℕ
-yes_line winner = codes "yes " ++ (colour_word winner ++ 10 ∷ [])
-
--- the winner of the root, and the root's position and mover
-abbrev pub yes_text : Heading → List ℕ
-yes_text root = yes_line root.winner ++ position_text root.position root.to_move
-
--- some words, a number and an LF
-abbrev pub counted_text : List ℕ → ℕ → List ℕ
-counted_text words n = words ++ (decimal n ++ 10 ∷ [])
+use Rattle.hx_app.specs.Limits.{most_bytes}
+use Rattle.hx_app.specs.Positions.{IsPositionText, IsOpenPosition, IsBadPosition}
 
 -- the lines of some nodes
 abbrev pub nodes_text : List Node → List ℕ
 nodes_text nodes = flat_map (λ node. text_of (node_lines node)) nodes
 
+-- what the lines before the nodes say in the text of a solution's tree
+abbrev pub preamble_of : Solution → Preamble
+preamble_of solution = record { version = solution.version; size = solution.size }
+
 -- the text of a solution's tree
 abbrev pub solution_text : Solution → List ℕ
 solution_text solution = written_tree (preamble_of solution) solution.nodes.items solution.winner
 
--- the tree of a solution is within the limits of a text
-abbrev pub CanBeWritten : Answer → Type 0
-CanBeWritten (Solved solution) = (length solution.nodes.items ≤ most_nodes) × All (λ node. ListsFit node.rule) solution.nodes.items
-CanBeWritten (Yes root) = Unit {0}
-CanBeWritten (NoText line) = Unit {0}
-CanBeWritten (NoNode node) = Unit {0}
-CanBeWritten (UnknownSweep empties) = Unit {0}
-CanBeWritten (BadPosition line) = Unit {0}
-CanBeWritten BadWords = Unit {0}
-CanBeWritten ReadFault = Unit {0}
-CanBeWritten OutOfMemory = Unit {0}
-CanBeWritten TooLong = Unit {0}
+-- the line that names a budget that was used up
+abbrev pub unknown_budget_line : ℕ → List ℕ
+unknown_budget_line budget = counted_text (codes "unknown budget ") budget
+
+-- the line that names how many slots were used up
+abbrev pub unknown_proofs_line : ℕ → List ℕ
+unknown_proofs_line slots = counted_text (codes "unknown proofs ") slots
+
+-- the line that names a wrong line of a position
+abbrev pub bad_position_line : ℕ → List ℕ
+bad_position_line line = counted_text (codes "bad position ") line
 
 -- what is written for each answer
 abbrev pub answer_text : Answer → List ℕ
-answer_text (Yes root) = yes_text root
-answer_text (NoText line) = counted_text (codes "no text ") line
-answer_text (NoNode node) = counted_text (codes "no node ") node
 answer_text (Solved solution) = solution_text solution
-answer_text (UnknownSweep empties) = counted_text (codes "unknown sweep ") empties
-answer_text (BadPosition line) = counted_text (codes "bad position ") line
-answer_text BadWords = codes "bad words\n"
+answer_text (UnknownBudget budget) = unknown_budget_line budget
+answer_text (UnknownProofs slots) = unknown_proofs_line slots
+answer_text (BadPosition line) = bad_position_line line
 answer_text ReadFault = codes "read fault\n"
 answer_text OutOfMemory = codes "out of memory\n"
 answer_text TooLong = codes "too long\n"
 
 -- the exit status that tells each answer, where it was written whole
 abbrev pub status_of : Answer → ℕ
-status_of (Yes root) = 0
-status_of (NoText line) = 1
-status_of (NoNode node) = 1
 status_of (Solved solution) = 0
-status_of (UnknownSweep empties) = 3
+status_of (UnknownBudget budget) = 3
+status_of (UnknownProofs slots) = 3
 status_of (BadPosition line) = 4
-status_of BadWords = 2
 status_of ReadFault = 5
 status_of OutOfMemory = 7
 status_of TooLong = 8
 
--- the input is above a limit of the command: it has more bytes than are read, or more nodes than a text may have
-abbrev pub IsLong : Command → List ℕ → Type 0
-IsLong Check input = (limit_of Check < length input) ⊎ IsTooManyNodes input
-IsLong Solve input = limit_of Solve < length input
+-- the refusals that stand behind each answer: of a unit, of a slot, or none
+abbrev pub tally_of : Settings → Answer → Tallied
+tally_of settings (Solved solution) = tallied settings.budget settings.slots 0 0
+tally_of settings (UnknownBudget budget) = tallied settings.budget settings.slots 1 0
+tally_of settings (UnknownProofs slots) = tallied settings.budget settings.slots 0 1
+tally_of settings (BadPosition line) = tallied settings.budget settings.slots 0 0
+tally_of settings ReadFault = tallied settings.budget settings.slots 0 0
+tally_of settings OutOfMemory = tallied settings.budget settings.slots 0 0
+tally_of settings TooLong = tallied settings.budget settings.slots 0 0
 
--- the whole input, which has no more bytes than the command reads
-abbrev pub WithinLimit : Command → Option (List ℕ) → (List ℕ → Type 0) → Type 0
-WithinLimit command left says = IfSome left (λ input. (length input ≤ limit_of command) × says input)
+-- the second version, exactly where some node is turned
+abbrev pub IsVersionOf : Version → List Node → Type 0
+IsVersionOf version nodes = (version ≡ Two) ↔ HasTurned nodes
 
--- When each answer to a command comes: what the source had left before, and whether its faults rose.
-abbrev pub IsDueTo : Command → Option (List ℕ) → Type 0 → Answer → Type 0
-IsDueTo command before rose (Yes root) = (command ≡ Check) × WithinLimit Check before (λ input. IsYes input root)
-IsDueTo command before rose (NoText line) = (command ≡ Check) × WithinLimit Check before (λ input. IsNoText input line)
-IsDueTo command before rose (NoNode node) = (command ≡ Check) × WithinLimit Check before (λ input. IsNoNode input node)
-IsDueTo command before rose (Solved solution) = (command ≡ Solve) × WithinLimit Solve before (λ input. IsSolved input solution)
-IsDueTo command before rose (UnknownSweep empties) = (command ≡ Solve) × WithinLimit Solve before (λ input. IsUnknown input empties)
-IsDueTo command before rose (BadPosition line) = (command ≡ Solve) × WithinLimit Solve before (λ input. IsBadPosition input line)
-IsDueTo command before rose BadWords = ⊥
-IsDueTo command before rose ReadFault = rose
-IsDueTo command before rose OutOfMemory = Unit {0}
-IsDueTo command before rose TooLong = IfSome before (IsLong command)
+-- the input is the text of a position, and the solution is a tree that solves it, with its root's winner and the version of
+-- its text
+pub record IsSolved (input : List ℕ) (solution : Solution) : Type 0 where
+  pub board : Board
+  pub mover : Colour
+  pub text : IsPositionText input board mover
+  pub tree : IsSolution board mover solution.nodes.items
+  pub size : solution.size ≡ board.size
+  pub version : IsVersionOf solution.version solution.nodes.items
+  pub fits : EachNodeFits (preamble_of solution) solution.nodes.items
+  pub winner : solution.winner ≡ tree.root.heading.winner
 
--- When each answer comes: the words are no command, and then the source is left as it was; or they are one.
-pub data IsDue (words : List (List ℕ)) (before now : Option (List ℕ)) (rose : Type 0) (answer : Answer) : Type 0 where
-  Refused : (IsCommand words → ⊥) → answer ≡ BadWords → now ≡ before → IsDue words before now rose answer
-  Answered : (command : Command) → Asks command words → IsDueTo command before rose answer → IsDue words before now rose answer
+-- what each answer says of the input
+abbrev pub IsFound : Settings → List ℕ → Answer → Type 0
+IsFound settings input (Solved solution) = IsSolved input solution
+IsFound settings input (UnknownBudget budget) = (budget ≡ settings.budget) × IsOpenPosition settings.budget input
+IsFound settings input (UnknownProofs slots) = (slots ≡ settings.slots) × IsOpenPosition settings.budget input
+IsFound settings input (BadPosition line) = IsBadPosition input line
+IsFound settings input ReadFault = ⊥
+IsFound settings input OutOfMemory = Unit {0}
+IsFound settings input TooLong = ⊥
 
--- the answer was written whole, or the sink failed before it took all of it
-pub data IsWritten (before now : Option (List ℕ)) (rose : Type 0) (answer : Answer) (status : ℕ) : Type 0 where
-  Whole : status ≡ status_of answer → now ≡ append before (answer_text answer) → IsWritten before now rose answer status
-  Cut : status ≡ 6 → rose → TakesFront before now (answer_text answer) → IsWritten before now rose answer status
+-- the whole input, which has no more bytes than are read
+abbrev pub WithinLimit : Option (List ℕ) → (List ℕ → Type 0) → Type 0
+WithinLimit left says = IfSome left (λ input. (length input ≤ most_bytes) × says input)
 
--- A run: some answer is due, and it was written.
-pub record IsRun (words : List (List ℕ)) (left_before left_now : Option (List ℕ)) (source_rose : Type 0)
-    (taken_before taken_now : Option (List ℕ)) (sink_rose : Type 0) (status : ℕ) : Type 0 where
+-- When each answer comes: what the source had left before, and whether its faults rose.
+abbrev pub IsDue : Settings → Option (List ℕ) → Type 0 → Answer → Type 0
+IsDue settings before rose (Solved solution) = WithinLimit before (λ input. IsSolved input solution)
+IsDue settings before rose (UnknownBudget budget) = (budget ≡ settings.budget) × WithinLimit before (IsOpenPosition settings.budget)
+IsDue settings before rose (UnknownProofs slots) = (slots ≡ settings.slots) × WithinLimit before (IsOpenPosition settings.budget)
+IsDue settings before rose (BadPosition line) = WithinLimit before (λ input. IsBadPosition input line)
+IsDue settings before rose ReadFault = rose
+IsDue settings before rose OutOfMemory = Unit {0}
+IsDue settings before rose TooLong = IfSome before (λ input. most_bytes < length input)
+
+-- A run of `solve`: some answer is due, it was written, and the tally has the refusals behind it.
+pub record IsSolveRun (settings : Settings) (left_before : Option (List ℕ)) (source_rose : Type 0)
+    (taken_before taken_now : Option (List ℕ)) (sink_rose : Type 0) (finish : Finish) : Type 0 where
   pub answer : Answer
-  pub due : IsDue words left_before left_now source_rose answer
-  pub written : IsWritten taken_before taken_now sink_rose answer status
+  pub due : IsDue settings left_before source_rose answer
+  pub written : IsWritten taken_before taken_now sink_rose (answer_text answer) (status_of answer) finish.status
+  pub counted : finish.tally ≡ tally_of settings answer
+
+-- a status of `solve`
+abbrev pub IsSolveStatus : ℕ → Type 0
+IsSolveStatus status = (status ≡ 0) ⊎ ((3 ≤ status) × (status ≤ 8))
+
+-- ---- words for the functions inside the crate alone
+
+-- the tree of a solution is within the limits of a text
+abbrev pub CanBeWritten : Answer → Type 0
+CanBeWritten (Solved solution) = (length solution.nodes.items ≤ most_nodes) × All (λ node. ListsFit node.rule) solution.nodes.items
+CanBeWritten (UnknownBudget budget) = Unit {0}
+CanBeWritten (UnknownProofs slots) = Unit {0}
+CanBeWritten (BadPosition line) = Unit {0}
+CanBeWritten ReadFault = Unit {0}
+CanBeWritten OutOfMemory = Unit {0}
+CanBeWritten TooLong = Unit {0}
+
+-- the answer to a refusal of a unit or of a slot, or to want of memory
+abbrev pub SaysWhy : Settings → Unsolved → Answer → Type 0
+SaysWhy settings (Budget taken) answer = answer ≡ UnknownBudget settings.budget
+SaysWhy settings (Slots refusal) answer = answer ≡ UnknownProofs settings.slots
+SaysWhy settings Memory answer = answer ≡ OutOfMemory

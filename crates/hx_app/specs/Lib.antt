@@ -1,5 +1,5 @@
-pub mod Commands
-pub mod Judging
-pub mod Solving
+pub mod Limits
+pub mod Positions
 pub mod Answers
 pub mod Promises
+pub mod Runs

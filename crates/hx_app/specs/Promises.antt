@@ -1,9 +1,8 @@
--- What a run is good for: who is named wins, and each input gets its answer.
-use Rattle.std.specs.Prelude.{◌≡◌, ◌↔◌, ◌⊎◌, ℕ, ◌<◌, ◌≤◌, List, length, Option}
+-- What a run of `solve` is good for: who is named wins, and what is left open has its cause.
+use Rattle.std.specs.Prelude.{◌≡◌, ◌↔◌, ◌⊎◌, ℕ, ◌<◌, ◌≤◌, List, length, Option, IfSome}
 use Rattle.hx_io.specs.Sinks.{append}
 use Rattle.hx_board.specs.declared.colours.Colour.{Colour}
 use Rattle.hx_board.specs.Positions.{Board}
-use Rattle.hx_board.specs.Counts.{empty_count}
 use Rattle.hx_tree.specs.declared.nodes.Node.{Node}
 use Rattle.hx_tree.specs.Trees.{IsValidTree, IsRoot}
 use Rattle.hx_text.specs.declared.versions.Version.TheVariants.{Two}
@@ -11,40 +10,13 @@ use Rattle.hx_text.specs.Versions.{HasTurned}
 use Rattle.hx_text.specs.TreeTexts.{IsTreeText}
 use Rattle.hx_text.specs.Places.{most_nodes}
 use Rattle.hx_proof.specs.Winners.{OnlyWinner}
-use Rattle.hx_app.specs.declared.answers.Answer.{Answer}
-use Rattle.hx_app.specs.Answers.{answer_text, status_of, yes_text}
-use Rattle.hx_app.specs.Solving.{IsPositionText, most_empties}
-
--- The input is the text of a valid tree, the output names the root's winner and its position, and that player wins and
--- the other does not.
-pub record SaysYes (input : List ℕ) (taken_before taken_now : Option (List ℕ)) : Type 0 where
-  pub nodes : List Node
-  pub root : Node
-  pub text : IsTreeText input nodes
-  pub valid : IsValidTree nodes
-  pub last : IsRoot nodes root
-  pub output : taken_now ≡ append taken_before (yes_text root.heading)
-  pub wins : OnlyWinner root.heading
-
--- the input is the text of a valid tree of no more nodes than a text may have
-pub record IsProof (input : List ℕ) : Type 0 where
-  pub nodes : List Node
-  pub text : IsTreeText input nodes
-  pub few : length nodes ≤ most_nodes
-  pub valid : IsValidTree nodes
-
--- the input is the text of no valid tree
-abbrev pub IsNoProof : List ℕ → Type 0
-IsNoProof input = (nodes : List Node) → IsTreeText input nodes → IsValidTree nodes → ⊥
-
--- this status, unless a fault or want of memory came in its place
-abbrev pub IsUnlessStopped : ℕ → ℕ → Type 0
-IsUnlessStopped status wanted = (status ≡ wanted) ⊎ ((status ≡ 5) ⊎ ((status ≡ 6) ⊎ (status ≡ 7)))
-
--- this answer was written, unless a fault or want of memory came in its place
-abbrev pub AnswersUnlessStopped : Answer → Option (List ℕ) → Option (List ℕ) → ℕ → Type 0
-AnswersUnlessStopped answer taken_before taken_now status =
-    ((status ≡ status_of answer) × (taken_now ≡ append taken_before (answer_text answer))) ⊎ ((status ≡ 5) ⊎ ((status ≡ 6) ⊎ (status ≡ 7)))
+use Rattle.hx_solve.specs.declared.settings.Settings.{Settings}
+use Rattle.hx_solve.specs.Tallies.{Tallied}
+use Rattle.hx_answers.specs.Endings.{IsUnlessStopped, AnswersUnlessStopped}
+use Rattle.hx_app.specs.declared.finishes.Finish.{Finish}
+use Rattle.hx_app.specs.Limits.{most_bytes}
+use Rattle.hx_app.specs.Positions.{IsPositionText, IsSmallPosition, IsOpenPosition, IsNoPosition, IsBadPosition}
+use Rattle.hx_app.specs.Answers.{IsSolveStatus, unknown_budget_line, unknown_proofs_line, bad_position_line}
 
 -- The input is the text of a position, the output is the text of a valid tree of that position and mover, and the root's
 -- winner, which its last line names, wins and the other does not. The text is of the first version where no node is turned,
@@ -66,20 +38,35 @@ pub record SaysSolved (input : List ℕ) (taken_before taken_now : Option (List 
   pub output : taken_now ≡ append taken_before tree
   pub wins : OnlyWinner root.heading
 
--- the input is the text of a position with few enough empty cells for a full search
-pub record IsSmallPosition (input : List ℕ) : Type 0 where
-  pub board : Board
-  pub mover : Colour
-  pub text : IsPositionText input board mover
-  pub few : empty_count board ≤ most_empties
+-- the output names the budget, and the refusal of a unit was counted once; or it names the slots, and the refusal of a slot
+-- was
+abbrev pub SaysUnknown : Settings → Option (List ℕ) → Option (List ℕ) → Tallied → Type 0
+SaysUnknown settings before now tally =
+    ((now ≡ append before (unknown_budget_line settings.budget)) × (tally.budgets ≡ 1))
+    ⊎ ((now ≡ append before (unknown_proofs_line settings.slots)) × (tally.proofs ≡ 1))
 
--- the input is the text of a position with more empty cells
-pub record IsLargePosition (input : List ℕ) : Type 0 where
-  pub board : Board
-  pub mover : Colour
-  pub text : IsPositionText input board mover
-  pub many : most_empties < empty_count board
-
--- the input is the text of no position
-abbrev pub IsNoPosition : List ℕ → Type 0
-IsNoPosition input = (board : Board) (mover : Colour) → IsPositionText input board mover → ⊥
+-- The promises of `solve` with its settings, by what the source had left, whether its faults rose, what the sink had taken and
+-- has taken, whether its faults rose, and how it ended. What is said of an input is said of sources that tell what they have left.
+pub record KeepsPromises (settings : Settings) (left : Option (List ℕ)) (rose : Type 0) (before now : Option (List ℕ)) (sink_rose : Type 0)
+    (finish : Finish) : Type 0 where
+  -- with status 0 the input is the text of a position, the output is the text of a valid tree of it, and the winner of the tree
+  -- wins and the other player does not
+  pub solved : finish.status ≡ 0 → IfSome left (λ input. SaysSolved input before now)
+  -- a position that is small under the budget is answered with 0
+  pub small : IfSome left (λ input. IsSmallPosition settings.budget input → IsUnlessStopped finish.status 0)
+  -- 3 comes only for a position that is not small, and only where a refusal was counted, of a unit of the budget or of one of the
+  -- slots; the line that is written says which of them
+  pub unknown : finish.status ≡ 3
+      → IfSome left (IsOpenPosition settings.budget) × SaysUnknown settings before now finish.tally
+  -- what is no position is answered with 4 and its first wrong line, and nothing else is
+  pub no_position : IfSome left (λ input. length input ≤ most_bytes → IsNoPosition input → IsUnlessStopped finish.status 4)
+  pub position_line : IfSome left (λ input. (line : ℕ) → length input ≤ most_bytes → IsBadPosition input line
+      → AnswersUnlessStopped (bad_position_line line) 4 before now finish.status)
+  pub bad_position : finish.status ≡ 4 → IfSome left IsNoPosition
+  -- what is above the limit is answered with 8, and nothing else
+  pub long : IfSome left (λ input. most_bytes < length input → IsUnlessStopped finish.status 8)
+  pub too_long : finish.status ≡ 8 → IfSome left (λ input. most_bytes < length input)
+  -- each fault has its cause, and no other status comes
+  pub read_fault : finish.status ≡ 5 → rose
+  pub write_fault : finish.status ≡ 6 → sink_rose
+  pub none_else : IsSolveStatus finish.status

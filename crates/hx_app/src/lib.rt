@@ -3,14 +3,14 @@
 
 mod answers;
 mod commands;
-mod input;
-mod judge;
-mod laws;
+mod finishes;
 mod solutions;
-mod solve;
+mod solving;
 
+pub use answers::Answer;
 pub use commands::run;
-pub use laws::one_fault;
+pub use finishes::Finish;
+pub use solutions::Solution;
 
 #[cfg(test)]
 mod tests;

@@ -1,41 +1,44 @@
 //! The top call over sources and sinks in memory.
 
-mod damage;
 mod faults;
-mod rules;
 mod solve;
+mod unknown;
 mod words;
 
-use crate::{one_fault, run};
+use crate::run;
 use hx_io::{MemorySink, MemorySource, RealGate};
 use std::alloc::{AllocError, Global};
 use std::process::Abort;
+use std::sync::Wait;
 use std::test::Fail;
+use std::thread::Threads;
 
-/// The tree of the empty board of one cell, on which Black moves and wins.
-const EXAMPLE: &str = "hextree 1
-size 1 1
-node 00000000000000000000000000000001 00000000000000000000000000000000 white black chain
-node 00000000000000000000000000000000 00000000000000000000000000000000 black black move a1 0
-end 2 black
-";
-
-/// What is answered to the example.
-const EXAMPLE_ANSWER: &str = "yes black
-hexpos 1
+/// The empty board of one cell, on which Black is to move.
+const ONE_CELL: &str = "hexpos 1
 size 1 1
 black 00000000000000000000000000000000
 white 00000000000000000000000000000000
 move black
 ";
 
+/// What is answered to it: Black's link from side to side over the one cell.
+const TREE_OF_ONE_CELL: &str = "hextree 1
+size 1 1
+node 00000000000000000000000000000000 00000000000000000000000000000000 black black links 3
+base last a1
+base first a1
+cell 1 0
+end 1 black
+";
+
+/// The most bytes of an output.
+const ROOM: usize = 16_777_216;
+
 /// A run to be tried.
 #[derive(Clone, Copy, Debug)]
 struct Trial<'a> {
     words: &'a [&'a str],
     input: &'a str,
-    /// The most bytes of a read and of a write.
-    piece: usize,
     /// The read that fails, counted from 0.
     failing_read: Option<u64>,
     /// The write that fails, counted from 0.
@@ -46,17 +49,18 @@ struct Trial<'a> {
 #[derive(Drop)]
 struct Outcome {
     status: u8,
+    /// How often a unit was refused, and how often a slot.
+    refusals: (u64, u64),
     output: Vec<u8>,
     reads: u64,
     writes: u64,
 }
 
-/// A command over this input, in pieces of this many bytes, where no call fails.
-fn trial_of<'a>(words: &'a [&'a str], input: &'a str, piece: usize) -> Trial<'a> {
+/// A command over this input, where no call fails.
+fn trial_of<'a>(words: &'a [&'a str], input: &'a str) -> Trial<'a> {
     Trial {
         words,
         input,
-        piece,
         failing_read: None,
         failing_write: None,
     }
@@ -72,8 +76,11 @@ fn calls_of(alloc: Global, call: Option<u64>) -> Result<Vec<u64>, AllocError> {
 }
 
 /// Tries a run.
-fn outcome_of(rt: &impl Abort, alloc: Global, trial: Trial<'_>) -> Result<Outcome, Fail> {
-    assert!(rt; trial.piece > 0);
+fn outcome_of<R: Threads + Wait + Sync>(
+    rt: &R,
+    alloc: Global,
+    trial: Trial<'_>,
+) -> Result<Outcome, Fail> {
     let mut words = Vec::new(alloc);
     for word in trial.words {
         words.push(String::from_str(alloc, word)?)?;
@@ -81,11 +88,12 @@ fn outcome_of(rt: &impl Abort, alloc: Global, trial: Trial<'_>) -> Result<Outcom
     let input = trial.input.as_bytes().to_vec(alloc)?;
     let failing_reads = calls_of(alloc, trial.failing_read)?;
     let failing_writes = calls_of(alloc, trial.failing_write)?;
-    let mut source = MemorySource::new(input, trial.piece, failing_reads);
-    let mut sink = MemorySink::new(alloc, 65_536, trial.piece, failing_writes)?;
-    let status = run(alloc, &words, &mut source, &mut sink, &RealGate);
+    let mut source = MemorySource::new(input, 4096, failing_reads);
+    let mut sink = MemorySink::new(alloc, ROOM, 65_536, failing_writes)?;
+    let finish = run(rt, alloc, &words, &mut source, &mut sink, &RealGate);
     Ok(Outcome {
-        status,
+        status: finish.status,
+        refusals: (finish.tally.budgets(), finish.tally.proofs()),
         output: sink.bytes().to_vec(alloc)?,
         reads: source.calls(),
         writes: sink.calls(),
@@ -93,8 +101,8 @@ fn outcome_of(rt: &impl Abort, alloc: Global, trial: Trial<'_>) -> Result<Outcom
 }
 
 /// Tries a run that has to end with this status and to write this.
-fn assert_answer(
-    rt: &impl Abort,
+fn assert_answer<R: Threads + Wait + Sync + Abort>(
+    rt: &R,
     alloc: Global,
     trial: Trial<'_>,
     status: u8,
@@ -105,27 +113,4 @@ fn assert_answer(
     assert_eq!(rt; output, answer, "{trial:?}");
     assert_eq!(rt; outcome.status, status, "{trial:?}");
     Ok(outcome)
-}
-
-/// Each change of the text is found. It is what stands there, what is put in its first place, and the answer, which has
-/// this status.
-fn assert_found(
-    rt: &impl Abort,
-    alloc: Global,
-    trial: Trial<'_>,
-    status: u8,
-    changes: &[(&str, &str, &str)],
-) -> Result<(), Fail> {
-    for (old, new, answer) in changes {
-        let (before, after) = trial.input.split_once(*old).ok_or("not in the text")?;
-        let changed = format!(in alloc; "{before}{new}{after}")?;
-        let changed_trial = trial_of(trial.words, changed.as_str(), trial.piece);
-        let _ = assert_answer(rt, alloc, changed_trial, status, answer)?;
-    }
-    Ok(())
-}
-
-#[test]
-fn the_law_is_there() {
-    one_fault();
 }

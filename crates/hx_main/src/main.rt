@@ -20,8 +20,8 @@ fn main(rt: HostRuntime) -> ExitCode {
     };
     let mut source = StdSource::new(rt.stdin());
     let mut sink = StdSink::new(rt.stdout());
-    let status = run(rt.alloc(), &words, &mut source, &mut sink, &RealGate);
-    ExitCode::from(status)
+    let finish = run(&rt, rt.alloc(), &words, &mut source, &mut sink, &RealGate);
+    ExitCode::from(finish.status)
 }
 
 /// The words behind the program's name, which is not looked at: it may be no text. A word that is no text, or a longer

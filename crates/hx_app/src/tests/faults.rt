@@ -1,45 +1,37 @@
-//! Runs of which a read or a write fails.
+//! Runs of `solve` of which a read or a write fails.
 
-use super::{EXAMPLE, EXAMPLE_ANSWER, Trial, assert_answer, outcome_of};
+use super::{ONE_CELL, TREE_OF_ONE_CELL, Trial, assert_answer, outcome_of, trial_of};
 use std::test::Fail;
-
-/// The example in pieces of two bytes.
-const CHECKED: Trial<'_> = Trial {
-    words: &["check"],
-    input: EXAMPLE,
-    piece: 2,
-    failing_read: None,
-    failing_write: None,
-};
 
 #[test]
 fn each_read_fails_in_turn(rt: HostRuntime) -> Result<(), Fail> {
-    let whole = assert_answer(&rt, rt.alloc(), CHECKED, 0, EXAMPLE_ANSWER)?;
-    // The example has 213 bytes, and the last read finds the end.
-    assert_eq!(rt; whole.reads, 108);
+    let trial = trial_of(&["solve"], ONE_CELL);
+    let whole = assert_answer(&rt, rt.alloc(), trial, 0, TREE_OF_ONE_CELL)?;
+    assert_eq!(rt; whole.reads, 2);
     for call in 0..whole.reads {
-        let trial = Trial {
+        let failing = Trial {
             failing_read: Some(call),
-            ..CHECKED
+            ..trial
         };
-        let _ = assert_answer(&rt, rt.alloc(), trial, 5, "read fault\n")?;
+        let _ = assert_answer(&rt, rt.alloc(), failing, 5, "read fault\n")?;
     }
     Ok(())
 }
 
 #[test]
 fn each_write_fails_in_turn(rt: HostRuntime) -> Result<(), Fail> {
-    let whole = assert_answer(&rt, rt.alloc(), CHECKED, 0, EXAMPLE_ANSWER)?;
+    let trial = trial_of(&["solve"], ONE_CELL);
+    let whole = assert_answer(&rt, rt.alloc(), trial, 0, TREE_OF_ONE_CELL)?;
     for call in 0..whole.writes {
-        let trial = Trial {
+        let failing = Trial {
             failing_write: Some(call),
-            ..CHECKED
+            ..trial
         };
-        let cut = outcome_of(&rt, rt.alloc(), trial)?;
+        let cut = outcome_of(&rt, rt.alloc(), failing)?;
         assert_eq!(rt; cut.status, 6, "at write {call}");
-        assert_eq!(rt; cut.output.len() as u64 / 2, call);
+        let front = cut.output.as_slice();
         assert!(rt;
-            whole.output.as_slice().starts_with(cut.output.as_slice()),
+            whole.output.as_slice().starts_with(front),
             "at write {call}"
         );
     }

@@ -1,73 +1,31 @@
-use Rattle.std.proofs.Common.{refl}
-use Rattle.hx_io.specs.Causes.{Rose}
-use Rattle.hx_app.specs.Commands.{words_of}
-use Rattle.hx_app.specs.Answers.{Cut}
-use Rattle.hx_app.proofs.Runs.{RunSays, says_whole, yes_of, solved_of, line_named, node_named, empties_named, position_line_named}
-use Rattle.hx_app.proofs.commands.run.Given.{Over}
+use Rattle.hx_words.specs.declared.commands.Command.TheVariants.{Check, Solve}
+use Rattle.hx_app.proofs.RunClauses.{checked_run, checked_kept, checked_not_solved, solved_not_checked, solved_run, solved_kept}
 use Rattle.hx_app.proofs.commands.run.Goals as goal
 
--- what the answer says that was written whole
-says : (g : Over) (c : goal.Joined-answer g)
-    → RunSays (words_of c.args.words.now) (g.S.Source.left c.args.source.now)
-    (Rose (g.S.Source.faults c.args.source.now) (g.S.Source.faults c.answer_to-answer.new.source)) c.status.result
-says g c = says_whole _ (g.S.Source.left c.answer_to-answer.new.source) _ c.answer_to-answer.result _ c.status.ensures _ c.answer_to-answer.ensures.due
+pub returns-in-Some-Check-clause-run : goal.returns-in-Some-Check-clause-run
+returns-in-Some-Check-clause-run g c =
+    checked_run _ _ _ _ _ _ _ c.run_check.result c.uncounted.result (rw c.in-Some-Check.field-0-is at c.in-Some-Check.ensures.finds)
+    c.uncounted.ensures.status c.uncounted.ensures.tally c.run_check.ensures.run
 
-pub returns-in-Ok-clause-yes : goal.returns-in-Ok-clause-yes
-returns-in-Ok-clause-yes g c =
-    yes_of _ (g.S.Source.left c.answer_to-answer.new.source)
-    (Rose (g.S.Source.faults c.args.source.now) (g.S.Source.faults c.answer_to-answer.new.source)) c.answer_to-answer.result
-    _ c.status.ensures _ _ _ c.answer_to-answer.ensures.due c.in-Ok.ensures.bytes
+pub returns-in-Some-Check-clause-check : goal.returns-in-Some-Check-clause-check
+returns-in-Some-Check-clause-check g c = λ check.
+    checked_kept _ _ _ _ _ c.run_check.result c.uncounted.result c.uncounted.ensures.status c.run_check.ensures.promises
 
-pub returns-in-Ok-clause-proof : goal.returns-in-Ok-clause-proof
-returns-in-Ok-clause-proof g c = (says g c).proof
+pub returns-in-Some-Check-clause-solve : goal.returns-in-Some-Check-clause-solve
+returns-in-Some-Check-clause-solve g c = λ settings solve. absurd (checked_not_solved _ settings (rw c.in-Some-Check.field-0-is at c.in-Some-Check.ensures.finds) solve)
 
-pub returns-in-Ok-clause-no_proof : goal.returns-in-Ok-clause-no_proof
-returns-in-Ok-clause-no_proof g c = (says g c).no_proof
+pub returns-in-Some-Solve-clause-run : goal.returns-in-Some-Solve-clause-run
+returns-in-Some-Solve-clause-run g c = solved_run _ _ _ _ _ _ _ _ _ (rw (c.in-Some-Solve.field-0-is, c.in-Some-Solve.settings-is) at c.in-Some-Solve.ensures.finds) c.run_solve.ensures.run
 
-pub returns-in-Ok-clause-wrong : goal.returns-in-Ok-clause-wrong
-returns-in-Ok-clause-wrong g c = (says g c).wrong
+pub returns-in-Some-Solve-clause-check : goal.returns-in-Some-Solve-clause-check
+returns-in-Some-Solve-clause-check g c = λ check. absurd (solved_not_checked _ _ (rw (c.in-Some-Solve.field-0-is, c.in-Some-Solve.settings-is) at c.in-Some-Solve.ensures.finds) check)
 
-pub returns-in-Ok-clause-solved : goal.returns-in-Ok-clause-solved
-returns-in-Ok-clause-solved g c =
-    solved_of _ (g.S.Source.left c.answer_to-answer.new.source)
-    (Rose (g.S.Source.faults c.args.source.now) (g.S.Source.faults c.answer_to-answer.new.source)) c.answer_to-answer.result
-    _ c.status.ensures _ _ _ c.answer_to-answer.ensures.due c.in-Ok.ensures.bytes
+pub returns-in-Some-Solve-clause-solve : goal.returns-in-Some-Solve-clause-solve
+returns-in-Some-Solve-clause-solve g c = λ settings solve.
+    solved_kept _ _ _ _ _ _ _ _ settings (rw (c.in-Some-Solve.field-0-is, c.in-Some-Solve.settings-is) at c.in-Some-Solve.ensures.finds) solve c.run_solve.ensures.promises
 
-pub returns-in-Ok-clause-small : goal.returns-in-Ok-clause-small
-returns-in-Ok-clause-small g c = (says g c).small
+pub returns-in-None-clause-check : goal.returns-in-None-clause-check
+returns-in-None-clause-check g c = λ check. absurd (c.in-None.ensures.finds Check check)
 
-pub returns-in-Ok-clause-no_text : goal.returns-in-Ok-clause-no_text
-returns-in-Ok-clause-no_text g c =
-    line_named _ (g.S.Source.left c.answer_to-answer.new.source) (Rose (g.S.Source.faults c.args.source.now) (g.S.Source.faults c.answer_to-answer.new.source))
-    c.answer_to-answer.result _ c.status.ensures _ _ _ c.answer_to-answer.ensures.due c.in-Ok.ensures.bytes
-
-pub returns-in-Ok-clause-no_node : goal.returns-in-Ok-clause-no_node
-returns-in-Ok-clause-no_node g c =
-    node_named _ (g.S.Source.left c.answer_to-answer.new.source) (Rose (g.S.Source.faults c.args.source.now) (g.S.Source.faults c.answer_to-answer.new.source))
-    c.answer_to-answer.result _ c.status.ensures _ _ _ c.answer_to-answer.ensures.due c.in-Ok.ensures.bytes
-
-pub returns-in-Ok-clause-large : goal.returns-in-Ok-clause-large
-returns-in-Ok-clause-large g c =
-    empties_named _ (g.S.Source.left c.answer_to-answer.new.source) (Rose (g.S.Source.faults c.args.source.now) (g.S.Source.faults c.answer_to-answer.new.source))
-    c.answer_to-answer.result _ c.status.ensures _ _ _ c.answer_to-answer.ensures.due c.in-Ok.ensures.bytes
-
-pub returns-in-Ok-clause-position_line : goal.returns-in-Ok-clause-position_line
-returns-in-Ok-clause-position_line g c =
-    position_line_named _ (g.S.Source.left c.answer_to-answer.new.source) (Rose (g.S.Source.faults c.args.source.now) (g.S.Source.faults c.answer_to-answer.new.source))
-    c.answer_to-answer.result _ c.status.ensures _ _ _ c.answer_to-answer.ensures.due c.in-Ok.ensures.bytes
-
-pub returns-in-Ok-clause-no_position : goal.returns-in-Ok-clause-no_position
-returns-in-Ok-clause-no_position g c = (says g c).no_position
-
-pub returns-in-Ok-clause-bad_position : goal.returns-in-Ok-clause-bad_position
-returns-in-Ok-clause-bad_position g c = (says g c).bad_position
-
-pub returns-in-Ok-clause-long : goal.returns-in-Ok-clause-long
-returns-in-Ok-clause-long g c = (says g c).long
-
-pub returns-clause-run : goal.returns-clause-run
-returns-clause-run g c = record {
-  answer = c.answer_to-answer.result;
-  due = c.answer_to-answer.ensures.due;
-  written = Cut refl c.in-Err.ensures.cause.failed c.in-Err.ensures.bytes;
-}
+pub returns-in-None-clause-solve : goal.returns-in-None-clause-solve
+returns-in-None-clause-solve g c = λ settings solve. absurd (c.in-None.ensures.finds (Solve settings) solve)

@@ -1,0 +1,233 @@
+-- What a run of `solve` says with each status: each answer fits its cause alone, since an input that one answer is true of is
+-- not an input that another is true of.
+use Rattle.std.proofs.Common.{◌≡◌, ◌↔◌, ℕ, ◌<◌, ◌≤◌, inl, inr, List, length, refl, sym, ap, ◌∙◌, subst, arith}
+use Rattle.std.specs.Prelude.{Option, None, Some, IfSome}
+use Rattle.hx_io.specs.Sinks.{append}
+use Rattle.hx_proof.proofs.TreeSoundness.{root_wins}
+use Rattle.hx_text.specs.declared.versions.Version.TheVariants.{Two}
+use Rattle.hx_text.specs.declared.versions.Preamble.{Preamble}
+use Rattle.hx_text.specs.Versions.{HasTurned}
+use Rattle.hx_text.proofs.WholeTrees.{written_with}
+use Rattle.hx_text.proofs.OneFault.{one_position_fault}
+use Rattle.hx_solve.specs.declared.settings.Settings.{Settings}
+use Rattle.hx_answers.specs.Endings.{IsWritten, Whole, Cut, IsUnlessStopped, AnswersUnlessStopped}
+use Rattle.hx_app.specs.declared.answers.Answer.{Answer}
+use Rattle.hx_app.specs.declared.answers.Answer.TheVariants.{Solved, UnknownBudget, UnknownProofs, BadPosition, ReadFault, OutOfMemory, TooLong}
+use Rattle.hx_app.specs.declared.finishes.Finish.{Finish}
+use Rattle.hx_app.specs.declared.solutions.Solution.{Solution}
+use Rattle.hx_app.specs.Limits.{most_bytes}
+use Rattle.hx_app.specs.Positions.{IsSmallPosition, IsOpenPosition, IsNoPosition, IsBadPosition}
+use Rattle.hx_app.specs.Answers.{IsSolved, IsDue, IsSolveStatus, preamble_of, answer_text, solution_text, unknown_budget_line, unknown_proofs_line, bad_position_line, status_of, tally_of}
+use Rattle.hx_app.specs.Promises.{SaysSolved, SaysUnknown, KeepsPromises}
+use Rattle.hx_app.proofs.Positions.{small_not_open, not_bad, position_text_short}
+
+says_solved : (input : List ℕ) (solution : Solution) (taken_before taken_now : Option (List ℕ)) → IsSolved input solution
+    → taken_now ≡ append taken_before (solution_text solution) → SaysSolved input taken_before taken_now
+says_solved input solution taken_before taken_now is output =
+    let text = written_with (preamble_of solution) solution.nodes.items solution.winner (rw is.size is.text.is_board.0) is.fits
+    (record { root = is.tree.root; last = is.tree.last; same = sym is.winner }) (omega (arith, is.tree.few)) in
+    let HasVersion : Preamble → Type 0 = λ preamble. (preamble.version ≡ Two) ↔ HasTurned solution.nodes.items in
+    record {
+      board = is.board;
+      mover = is.mover;
+      text = is.text;
+      nodes = solution.nodes.items;
+      root = is.tree.root;
+      valid = is.tree.valid;
+      few = omega (arith, is.tree.few);
+      last = is.tree.last;
+      position = is.tree.position;
+      to_move = is.tree.to_move;
+      tree = solution_text solution;
+      is_text = text.0;
+      version = subst HasVersion (sym text.1) is.version;
+      output = output;
+      wins = root_wins solution.nodes.items is.tree.root is.tree.valid is.tree.last;
+    }
+
+-- ---- what an answer says of an input that the source tells
+
+module _ (settings : Settings) (input : List ℕ) (rose : Type 0) where
+  solved_of : (answer : Answer) (before now : Option (List ℕ)) → status_of answer ≡ 0 → IsDue settings (Some input) rose answer
+      → now ≡ append before (answer_text answer) → SaysSolved input before now
+  solved_of (Solved solution) before now zero due written = says_solved input solution before now due.1 written
+  solved_of (UnknownBudget budget) before now zero due written = absurd (omega arith)
+  solved_of (UnknownProofs slots) before now zero due written = absurd (omega arith)
+  solved_of (BadPosition line) before now zero due written = absurd (omega arith)
+  solved_of ReadFault before now zero due written = absurd (omega arith)
+  solved_of OutOfMemory before now zero due written = absurd (omega arith)
+  solved_of TooLong before now zero due written = absurd (omega arith)
+
+  small_of : (answer : Answer) → IsSmallPosition settings.budget input → IsDue settings (Some input) rose answer
+      → IsUnlessStopped (status_of answer) 0
+  small_of (Solved solution) small due = inl refl
+  small_of (UnknownBudget budget) small due = absurd (small_not_open settings.budget input small due.1.1)
+  small_of (UnknownProofs slots) small due = absurd (small_not_open settings.budget input small due.1.1)
+  small_of (BadPosition line) small due = absurd (not_bad input small.board small.mover line small.text due.1)
+  small_of ReadFault small due = inr (inl refl)
+  small_of OutOfMemory small due = inr (inr (inr refl))
+  small_of TooLong small due = absurd (omega (arith, due, position_text_short small.text))
+
+  no_position_of : (answer : Answer) → length input ≤ most_bytes → IsNoPosition input → IsDue settings (Some input) rose answer
+      → IsUnlessStopped (status_of answer) 4
+  no_position_of (Solved solution) short none due = let is : IsSolved input solution = due.1 in absurd (none is.board is.mover is.text)
+  no_position_of (UnknownBudget budget) short none due =
+      let is : IsOpenPosition settings.budget input = due.1.1 in absurd (none is.board is.mover is.text)
+  no_position_of (UnknownProofs slots) short none due =
+      let is : IsOpenPosition settings.budget input = due.1.1 in absurd (none is.board is.mover is.text)
+  no_position_of (BadPosition line) short none due = inl refl
+  no_position_of ReadFault short none due = inr (inl refl)
+  no_position_of OutOfMemory short none due = inr (inr (inr refl))
+  no_position_of TooLong short none due = absurd (omega arith)
+
+  position_line_of : (answer : Answer) (line : ℕ) (before now : Option (List ℕ)) → now ≡ append before (answer_text answer)
+      → length input ≤ most_bytes → IsBadPosition input line → IsDue settings (Some input) rose answer
+      → AnswersUnlessStopped (bad_position_line line) 4 before now (status_of answer)
+  position_line_of (Solved solution) line before now written short bad due =
+      let is : IsSolved input solution = due.1 in absurd (not_bad input is.board is.mover line is.text bad)
+  position_line_of (UnknownBudget budget) line before now written short bad due =
+      let is : IsOpenPosition settings.budget input = due.1.1 in absurd (not_bad input is.board is.mover line is.text bad)
+  position_line_of (UnknownProofs slots) line before now written short bad due =
+      let is : IsOpenPosition settings.budget input = due.1.1 in absurd (not_bad input is.board is.mover line is.text bad)
+  position_line_of (BadPosition other) line before now written short bad due =
+      inl (refl, written ∙ ap (λ (n : ℕ). append before (bad_position_line n)) (one_position_fault input other line due.1 bad))
+  position_line_of ReadFault line before now written short bad due = inr (inl refl)
+  position_line_of OutOfMemory line before now written short bad due = inr (inr (inr refl))
+  position_line_of TooLong line before now written short bad due = absurd (omega arith)
+
+  long_of : (answer : Answer) → most_bytes < length input → IsDue settings (Some input) rose answer → IsUnlessStopped (status_of answer) 8
+  long_of (Solved solution) long due = absurd (omega (arith, long, due.0))
+  long_of (UnknownBudget budget) long due = absurd (omega (arith, long, due.1.0))
+  long_of (UnknownProofs slots) long due = absurd (omega (arith, long, due.1.0))
+  long_of (BadPosition line) long due = absurd (omega (arith, long, due.0))
+  long_of ReadFault long due = inr (inl refl)
+  long_of OutOfMemory long due = inr (inr (inr refl))
+  long_of TooLong long due = inl refl
+
+-- ---- what a status says of what was left, whatever the answer
+
+module _ (settings : Settings) (rose : Type 0) where
+  open_of : (before : Option (List ℕ)) → IfSome before (λ input. (length input ≤ most_bytes) × IsOpenPosition settings.budget input)
+      → IfSome before (IsOpenPosition settings.budget)
+  open_of None left = tt
+  open_of (Some input) left = left.1
+
+  unknown_of : (left : Option (List ℕ)) (answer : Answer) (finish : Finish) (before now : Option (List ℕ)) → status_of answer ≡ 3
+      → IsDue settings left rose answer → now ≡ append before (answer_text answer) → finish.tally ≡ tally_of settings answer
+      → IfSome left (IsOpenPosition settings.budget) × SaysUnknown settings before now finish.tally
+  unknown_of left (Solved solution) finish before now three due written counted = absurd (omega arith)
+  unknown_of left (UnknownBudget budget) finish before now three due written counted = (
+    open_of left due.1,
+    inl (written ∙ ap (λ (n : ℕ). append before (unknown_budget_line n)) due.0, rw counted refl),
+  )
+  unknown_of left (UnknownProofs slots) finish before now three due written counted = (
+    open_of left due.1,
+    inr (written ∙ ap (λ (n : ℕ). append before (unknown_proofs_line n)) due.0, rw counted refl),
+  )
+  unknown_of left (BadPosition line) finish before now three due written counted = absurd (omega arith)
+  unknown_of left ReadFault finish before now three due written counted = absurd (omega arith)
+  unknown_of left OutOfMemory finish before now three due written counted = absurd (omega arith)
+  unknown_of left TooLong finish before now three due written counted = absurd (omega arith)
+
+  bad_of : (before : Option (List ℕ)) (answer : Answer) → status_of answer ≡ 4 → IsDue settings before rose answer → IfSome before IsNoPosition
+  bad_of None answer four due = tt
+  bad_of (Some input) (Solved solution) four due = absurd (omega arith)
+  bad_of (Some input) (UnknownBudget budget) four due = absurd (omega arith)
+  bad_of (Some input) (UnknownProofs slots) four due = absurd (omega arith)
+  bad_of (Some input) (BadPosition line) four due = λ board mover text. not_bad input board mover line text due.1
+  bad_of (Some input) ReadFault four due = absurd (omega arith)
+  bad_of (Some input) OutOfMemory four due = absurd (omega arith)
+  bad_of (Some input) TooLong four due = absurd (omega arith)
+
+  too_long_of : (before : Option (List ℕ)) (answer : Answer) → status_of answer ≡ 8 → IsDue settings before rose answer
+      → IfSome before (λ input. most_bytes < length input)
+  too_long_of before (Solved solution) eight due = absurd (omega arith)
+  too_long_of before (UnknownBudget budget) eight due = absurd (omega arith)
+  too_long_of before (UnknownProofs slots) eight due = absurd (omega arith)
+  too_long_of before (BadPosition line) eight due = absurd (omega arith)
+  too_long_of before ReadFault eight due = absurd (omega arith)
+  too_long_of before OutOfMemory eight due = absurd (omega arith)
+  too_long_of before TooLong eight due = due
+
+  read_fault_of : (before : Option (List ℕ)) (answer : Answer) → status_of answer ≡ 5 → IsDue settings before rose answer → rose
+  read_fault_of before (Solved solution) five due = absurd (omega arith)
+  read_fault_of before (UnknownBudget budget) five due = absurd (omega arith)
+  read_fault_of before (UnknownProofs slots) five due = absurd (omega arith)
+  read_fault_of before (BadPosition line) five due = absurd (omega arith)
+  read_fault_of before ReadFault five due = due
+  read_fault_of before OutOfMemory five due = absurd (omega arith)
+  read_fault_of before TooLong five due = absurd (omega arith)
+
+status_of_solve : (answer : Answer) → IsSolveStatus (status_of answer)
+status_of_solve (Solved solution) = inl refl
+status_of_solve (UnknownBudget budget) = inr (omega arith, omega arith)
+status_of_solve (UnknownProofs slots) = inr (omega arith, omega arith)
+status_of_solve (BadPosition line) = inr (omega arith, omega arith)
+status_of_solve ReadFault = inr (omega arith, omega arith)
+status_of_solve OutOfMemory = inr (omega arith, omega arith)
+status_of_solve TooLong = inr (omega arith, omega arith)
+
+-- each clause of an input that the source tells
+of_input : (settings : Settings) (left : Option (List ℕ)) (rose : Type 0) (answer : Answer) (Says : List ℕ → Type 0) → IsDue settings left rose answer
+    → ((input : List ℕ) → IsDue settings (Some input) rose answer → Says input) → IfSome left Says
+of_input settings None rose answer Says due says = tt
+of_input settings (Some input) rose answer Says due says = says input due
+
+-- each clause of an input that holds whatever the answer
+of_any : (left : Option (List ℕ)) (Says : List ℕ → Type 0) → ((input : List ℕ) → Says input) → IfSome left Says
+of_any None Says says = tt
+of_any (Some input) Says says = says input
+
+status_not_6 : (answer : Answer) → status_of answer ≡ 6 → ⊥
+status_not_6 (Solved solution) six = omega arith
+status_not_6 (UnknownBudget budget) six = omega arith
+status_not_6 (UnknownProofs slots) six = omega arith
+status_not_6 (BadPosition line) six = omega arith
+status_not_6 ReadFault six = omega arith
+status_not_6 OutOfMemory six = omega arith
+status_not_6 TooLong six = omega arith
+
+kept_whole : (settings : Settings) (left : Option (List ℕ)) (rose sink_rose : Type 0) (answer : Answer) (before now : Option (List ℕ)) (finish : Finish)
+    → IsDue settings left rose answer → finish.tally ≡ tally_of settings answer → finish.status ≡ status_of answer
+    → now ≡ append before (answer_text answer) → KeepsPromises settings left rose before now sink_rose finish
+kept_whole settings left rose sink_rose answer before now finish due counted same written = record {
+  solved = λ zero. of_input settings left rose answer _ due
+      (λ input is. solved_of settings input rose answer before now (sym same ∙ zero) is written);
+  small = of_input settings left rose answer _ due (λ input is small. rw same (small_of settings input rose answer small is));
+  unknown = λ three. unknown_of settings rose left answer finish before now (sym same ∙ three) due written counted;
+  no_position = of_input settings left rose answer _ due
+      (λ input is short none. rw same (no_position_of settings input rose answer short none is));
+  position_line = of_input settings left rose answer _ due
+      (λ input is line short bad. rw same (position_line_of settings input rose answer line before now written short bad is));
+  bad_position = λ four. bad_of settings rose left answer (sym same ∙ four) due;
+  long = of_input settings left rose answer _ due (λ input is long. rw same (long_of settings input rose answer long is));
+  too_long = λ eight. too_long_of settings rose left answer (sym same ∙ eight) due;
+  read_fault = λ five. read_fault_of settings rose left answer (sym same ∙ five) due;
+  write_fault = λ six. absurd (status_not_6 answer (sym same ∙ six));
+  none_else = rw same (status_of_solve answer);
+}
+
+-- the sink failed before it took all of an answer
+kept_cut : (settings : Settings) (left : Option (List ℕ)) (rose sink_rose : Type 0) (before now : Option (List ℕ)) (finish : Finish)
+    → finish.status ≡ 6 → sink_rose → KeepsPromises settings left rose before now sink_rose finish
+kept_cut settings left rose sink_rose before now finish six failed = record {
+  solved = λ zero. absurd (omega (arith, six, zero));
+  small = of_any left _ (λ input small. inr (inr (inl six)));
+  unknown = λ three. absurd (omega (arith, six, three));
+  no_position = of_any left _ (λ input short none. inr (inr (inl six)));
+  position_line = of_any left _ (λ input line short bad. inr (inr (inl six)));
+  bad_position = λ four. absurd (omega (arith, six, four));
+  long = of_any left _ (λ input long. inr (inr (inl six)));
+  too_long = λ eight. absurd (omega (arith, six, eight));
+  read_fault = λ five. absurd (omega (arith, six, five));
+  write_fault = λ is. failed;
+  none_else = inr (omega (arith, six), omega (arith, six));
+}
+
+pub kept : (settings : Settings) (left : Option (List ℕ)) (rose sink_rose : Type 0) (answer : Answer) (before now : Option (List ℕ)) (finish : Finish)
+    → IsDue settings left rose answer → finish.tally ≡ tally_of settings answer
+    → IsWritten before now sink_rose (answer_text answer) (status_of answer) finish.status → KeepsPromises settings left rose before now sink_rose finish
+kept settings left rose sink_rose answer before now finish due counted (Whole same written) =
+    kept_whole settings left rose sink_rose answer before now finish due counted same written
+kept settings left rose sink_rose answer before now finish due counted (Cut six failed front) =
+    kept_cut settings left rose sink_rose before now finish six failed

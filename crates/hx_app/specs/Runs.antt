@@ -1,0 +1,43 @@
+-- A run of the program: its words are a command, which then ran, or they are none.
+use Rattle.std.specs.Prelude.{◌≡◌, ℕ, List, codes, Option}
+use Rattle.hx_solve.specs.declared.settings.Settings.{Settings}
+use Rattle.hx_solve.specs.Tallies.{tallied}
+use Rattle.hx_words.specs.declared.commands.Command.{Command}
+use Rattle.hx_words.specs.declared.commands.Command.TheVariants.{Check, Solve}
+use Rattle.hx_words.specs.Commands.{Asks}
+use Rattle.hx_answers.specs.Endings.{IsWritten}
+use Rattle.hx_check.specs.Judgements.{IsCheckRun}
+use Rattle.hx_app.specs.declared.finishes.Finish.{Finish}
+use Rattle.hx_app.specs.Answers.{IsSolveRun}
+
+abbrev pub IsCheck : List (List ℕ) → Type 0
+IsCheck words = Asks Check words
+
+-- the words are `solve` with these settings
+abbrev pub IsSolve : Settings → List (List ℕ) → Type 0
+IsSolve settings words = Asks (Solve settings) words
+
+-- the words are a command
+abbrev pub IsCommand : List (List ℕ) → Type 0
+IsCommand words = (command : Command) × Asks command words
+
+-- what is written where the words are no command
+abbrev pub bad_words_line : List ℕ
+bad_words_line = codes "bad words\n"
+
+-- no refusal is counted
+abbrev pub CountsNothing : Finish → Type 0
+CountsNothing finish = finish.tally ≡ tallied 0 0 0 0
+
+-- A run: words that are no command are told so, and then the source is left as it was; or they are one, and it ran.
+pub data IsRun (words : List (List ℕ)) (left_before left_now : Option (List ℕ)) (source_rose : Type 0)
+    (taken_before taken_now : Option (List ℕ)) (sink_rose : Type 0) (finish : Finish) : Type 0 where
+  Refused : (IsCommand words → ⊥) → left_now ≡ left_before → CountsNothing finish
+      → IsWritten taken_before taken_now sink_rose bad_words_line 2 finish.status
+      → IsRun words left_before left_now source_rose taken_before taken_now sink_rose finish
+  Checked : IsCheck words → CountsNothing finish
+      → IsCheckRun left_before source_rose taken_before taken_now sink_rose finish.status
+      → IsRun words left_before left_now source_rose taken_before taken_now sink_rose finish
+  Searched : (settings : Settings) → IsSolve settings words
+      → IsSolveRun settings left_before source_rose taken_before taken_now sink_rose finish
+      → IsRun words left_before left_now source_rose taken_before taken_now sink_rose finish

@@ -1,0 +1,183 @@
+//! The command `solve`: a position is read, workers search it, and the tree that they come to is written, or why there is none.
+
+ghost use Rattle.std.specs.Prelude.{◌≡◌, ◌≢◌, []};
+ghost use Rattle.hx_io.specs.Causes.{Rose};
+ghost use Rattle.hx_tree.specs.declared.nodes.Node.{Node as TreeNode};
+ghost use Rattle.hx_tree.specs.Trees.{IsRoot};
+ghost use Rattle.hx_solve.specs.Settings.{AreSettings};
+ghost use Rattle.hx_solve.specs.Tallies.{tallied};
+ghost use Rattle.hx_solve.specs.Causes.{HasCause};
+ghost use Rattle.hx_answers.specs.Endings.{IsWritten};
+ghost use Rattle.hx_app.specs.Answers.{CanBeWritten, IsDue, IsFound, IsSolveRun, IsVersionOf, answer_text, status_of, tally_of, SaysWhy};
+ghost use Rattle.hx_app.specs.Promises.{KeepsPromises};
+
+use crate::answers::{Answer, write_answer};
+use crate::finishes::Finish;
+use crate::solutions::Solution;
+use hx_answers::{Unread, WRITE_FAULT, read_all};
+use hx_board::{Colour, Position};
+use hx_io::{Failed, Gate, Sink, Source};
+use hx_solve::{Settings, Tally, Unsolved, solve};
+use hx_text::{read_position, version_of};
+use hx_tree::Node;
+use std::alloc::Global;
+use std::sync::Wait;
+use std::thread::Threads;
+
+/// The most bytes that are read.
+const MOST_BYTES: usize = 4096;
+
+/// What is to be said, and the refusals that stand behind it.
+#[derive(Drop)]
+struct Finding {
+    answer: Answer,
+    tally: Tally,
+}
+
+/// Reads the text of a position, solves it with these settings, and writes the text of a tree that proves who wins it, or why
+/// there is none.
+pub(crate) fn run_solve<S: Source, K: Sink, G: Gate + Sync, R: Threads + Wait + Sync>(
+    rt: &R,
+    alloc: Global,
+    settings: Settings,
+    source: &mut S,
+    sink: &mut K,
+    gate: &G,
+) -> Finish
+    requires { AreSettings settings }
+    ensures run { IsSolveRun settings
+        (S.left source.old) (Rose (S.faults source.old) (S.faults source.new))
+        (K.taken sink.old) (K.taken sink.new) (Rose (K.faults sink.old) (K.faults sink.new))
+        result }
+    ensures promises { KeepsPromises settings
+        (S.left source.old) (Rose (S.faults source.old) (S.faults source.new))
+        (K.taken sink.old) (K.taken sink.new) (Rose (K.faults sink.old) (K.faults sink.new))
+        result }
+{
+    let Finding { answer, tally } = settle(rt, alloc, settings, source, gate);
+    let status = say(sink, &answer);
+    Finish { status, tally }
+}
+
+/// Writes an answer, and gives the exit status.
+fn say<K: Sink>(sink: &mut K, answer: &Answer) -> u8
+    requires { CanBeWritten answer.now }
+    ensures { IsWritten (K.taken sink.old) (K.taken sink.new)
+        (Rose (K.faults sink.old) (K.faults sink.new)) (answer_text answer.now)
+        (status_of answer.now) result }
+{
+    match write_answer(sink, answer) {
+        Ok(()) => answer.status(),
+        Err(Failed) => WRITE_FAULT,
+    }
+}
+
+/// What is to be said, before any of it is written.
+fn settle<S: Source, G: Gate + Sync, R: Threads + Wait + Sync>(
+    rt: &R,
+    alloc: Global,
+    settings: Settings,
+    source: &mut S,
+    gate: &G,
+) -> Finding
+    requires { AreSettings settings }
+    ensures due { IsDue settings (S.left source.old)
+        (Rose (S.faults source.old) (S.faults source.new)) result.answer }
+    ensures counted { result.tally ≡ tally_of settings result.answer }
+    ensures writable { CanBeWritten result.answer }
+{
+    match read_all(alloc, source, MOST_BYTES) {
+        Ok(bytes) => found(rt, alloc, settings, &bytes, gate),
+        Err(Unread::Failed) => without_refusal(settings, Answer::ReadFault),
+        Err(Unread::TooLong) => without_refusal(settings, Answer::TooLong),
+        Err(Unread::OutOfMemory) => without_refusal(settings, Answer::OutOfMemory),
+    }
+}
+
+/// An answer that no refusal stands behind.
+fn without_refusal(settings: Settings, answer: Answer) -> Finding
+    ensures answer { result.answer ≡ answer }
+    ensures tally { result.tally ≡ tallied settings.budget settings.slots 0 0 }
+{
+    Finding {
+        answer,
+        tally: Tally::new(settings.budget, settings.slots),
+    }
+}
+
+/// What is to be said of an input.
+fn found<G: Gate + Sync, R: Threads + Wait + Sync>(
+    rt: &R,
+    alloc: Global,
+    settings: Settings,
+    input: &[u8],
+    gate: &G,
+) -> Finding
+    requires { AreSettings settings }
+    ensures found { IsFound settings input.now result.answer }
+    ensures counted { result.tally ≡ tally_of settings result.answer }
+    ensures writable { CanBeWritten result.answer }
+{
+    let (position, to_move) = match read_position(input) {
+        Ok(found) => found,
+        Err(fault) => {
+            return without_refusal(settings, Answer::BadPosition { line: fault.line });
+        }
+    };
+    match solve(rt, alloc, &position, to_move, settings, gate) {
+        Ok(nodes) => without_refusal(settings, Answer::Solved(solution_of(&position, nodes))),
+        Err(why) => left_open(settings, why),
+    }
+}
+
+/// The solution that these nodes are.
+fn solution_of(position: &Position, nodes: Vec<Node>) -> Solution
+    requires { nodes.items ≢ [] }
+    ensures nodes { result.nodes.items ≡ nodes.items }
+    ensures size { result.size ≡ position.now.size }
+    ensures version { IsVersionOf result.version nodes.items }
+    ensures winner { (root : TreeNode) → IsRoot nodes.items root → result.winner ≡ root.heading.winner }
+{
+    Solution {
+        version: version_of(&nodes),
+        size: position.size(),
+        winner: root_winner(&nodes),
+        nodes,
+    }
+}
+
+/// The winner in the last node's heading.
+fn root_winner(nodes: &[Node]) -> Colour
+    requires { nodes.now ≢ [] }
+    ensures { (root : TreeNode) → IsRoot nodes.now root → result ≡ root.heading.winner }
+{
+    match nodes.last() {
+        Some(root) => root.heading.winner,
+        None => unreachable!(),
+    }
+}
+
+/// What is to be said where a search ended without a tree. The refusal is counted.
+fn left_open(settings: Settings, why: Unsolved) -> Finding
+    requires { HasCause settings why }
+    ensures answer { SaysWhy settings why result.answer }
+    ensures counted { result.tally ≡ tally_of settings result.answer }
+{
+    let mut tally = Tally::new(settings.budget, settings.slots);
+    let answer = match why {
+        Unsolved::Budget(refusal) => {
+            tally.add(Unsolved::Budget(refusal));
+            Answer::UnknownBudget {
+                budget: settings.budget,
+            }
+        }
+        Unsolved::Slots(refusal) => {
+            tally.add(Unsolved::Slots(refusal));
+            Answer::UnknownProofs {
+                slots: settings.slots,
+            }
+        }
+        Unsolved::Memory => Answer::OutOfMemory,
+    };
+    Finding { answer, tally }
+}
