@@ -51,11 +51,11 @@ const CHANGES: [(&str, &str, &str); 11] = [
 ];
 
 /// Solves a position that Black wins, and checks the tree that comes of it.
-fn assert_black_wins<R: Threads + Wait + Sync + Abort>(
+fn assert_black_wins<'a, R: Threads + Wait + Sync + Abort>(
     rt: &R,
     alloc: Global,
-    words: &[&str],
-    input: &str,
+    words: &'a [&'a str],
+    input: &'a str,
 ) -> Result<(), Fail> {
     let solved = outcome_of(rt, alloc, trial_of(words, input))?;
     assert_eq!(rt; solved.status, 0, "{words:?}");
