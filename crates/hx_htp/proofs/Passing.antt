@@ -1,6 +1,7 @@
 -- Passing the moves of a player in turn. Either the other player was told to win after each of them, and then he wins
 -- the position; or one was left open, and as all positions after one move have as many empty cells, each is as large.
-use Rattle.std.proofs.Common.{◌≡◌, ◌⊎◌, inl, inr, ℕ, ◌≤◌, Bool, true, false, refl, sym, ap, ◌∙◌, subst, arith}
+use Rattle.std.proofs.Common.{◌≡◌, ◌⊎◌, inl, inr, ℕ, ◌≤◌, Bool, true, false, ◌&&◌, not, eqb, refl, sym, ap, ◌∙◌, subst, arith}
+use Rattle.std.proofs.lemmas.Bool.{eqb-true, true≢false}
 use Rattle.hx_io.specs.Causes.{Rose}
 use Rattle.hx_board.specs.declared.colours.Colour.{Colour}
 use Rattle.hx_board.specs.Colours.{other_of}
@@ -12,8 +13,6 @@ use Rattle.hx_board.specs.Game.Wins.{By_answers}
 use Rattle.hx_board.proofs.ColourLaws.{other-other}
 use Rattle.hx_board.proofs.EmptyCells.{empty_count-put}
 use Rattle.hx_law.proofs.OneWinner.{not_both_win}
-use Rattle.std.proofs.Common.{◌&&◌, not, eqb}
-use Rattle.std.proofs.lemmas.Bool.{eqb-true, true≢false}
 use Rattle.hx_htp.specs.declared.answerers.Told.{Told}
 use Rattle.hx_htp.specs.declared.answerers.Told.TheVariants.{Winner}
 use Rattle.hx_htp.specs.Accounts.{Account, Continues, SomeRose, IsOpen, MayTell}

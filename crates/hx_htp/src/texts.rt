@@ -1,5 +1,5 @@
-//! The text of a reply, put together in place. The longest is that of a board of eleven rows and columns, of fewer than 400
-//! bytes.
+//! The text of a reply, put together in place. The longest shows a board of eleven rows and columns behind a number of ten
+//! digits, and has 358 bytes.
 
 ghost use Rattle.std.specs.Prelude.{◌≡◌, ◌+◌, ◌≤◌, ◌<◌, ◌++◌, ◌∷◌, [], length, replicate, codes};
 ghost use Rattle.std.specs.Fmt.{decimal};
@@ -17,7 +17,7 @@ pub const ROOM: usize = 1024;
 
 /// A text of at most `ROOM` bytes, seen as its bytes.
 #[derive(Drop)]
-pub(crate) struct Text {
+struct Text {
     bytes: ArrayVec<u8, ROOM>,
 }
 
@@ -31,7 +31,7 @@ impl Model for Text {
 
 impl Text {
     /// The empty text.
-    pub(crate) fn new() -> Text
+    fn new() -> Text
         ensures { result ≡ [] }
     {
         Text {
@@ -40,7 +40,7 @@ impl Text {
     }
 
     /// Its bytes.
-    pub(crate) fn into_bytes(self) -> ArrayVec<u8, ROOM>
+    fn into_bytes(self) -> ArrayVec<u8, ROOM>
         ensures { result.items ≡ self }
     {
         let Text { bytes } = self;
@@ -48,7 +48,7 @@ impl Text {
     }
 
     /// Puts these bytes at the end.
-    pub(crate) fn put(&mut self, bytes: &[u8])
+    fn put(&mut self, bytes: &[u8])
         requires { length self.old + length bytes.now ≤ ROOM }
         ensures { self.new ≡ self.old ++ bytes.now }
     {
@@ -56,7 +56,7 @@ impl Text {
     }
 
     /// Puts one byte at the end.
-    pub(crate) fn put_byte(&mut self, byte: u8)
+    fn put_byte(&mut self, byte: u8)
         requires { length self.old < ROOM }
         ensures { self.new ≡ self.old ++ byte ∷ [] }
     {
@@ -87,7 +87,7 @@ impl Text {
     }
 
     /// Puts an answer.
-    pub(crate) fn put_answer(&mut self, answer: &Answer)
+    fn put_answer(&mut self, answer: &Answer)
         requires { length self.old ≤ 16 }
         ensures text { self.new ≡ self.old ++ answer_text answer.now }
         ensures short { length self.new ≤ 1000 }
@@ -114,7 +114,7 @@ impl Text {
     }
 
     /// Puts why there is no answer.
-    pub(crate) fn put_refusal(&mut self, refusal: Refusal)
+    fn put_refusal(&mut self, refusal: Refusal)
         requires { length self.old ≤ 16 }
         ensures text { self.new ≡ self.old ++ refusal_text refusal }
         ensures short { length self.new ≤ 1000 }
