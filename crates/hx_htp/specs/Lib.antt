@@ -1,0 +1,11 @@
+pub mod Words
+pub mod Arguments
+pub mod Commands
+pub mod States
+pub mod Accounts
+pub mod Sessions
+pub mod Answers
+pub mod Replies
+pub mod Runs
+pub mod Laws
+pub mod Parts
