@@ -9,9 +9,8 @@ use Rattle.hx_io.specs.Sinks.{append, TakesFront}
 use Rattle.hx_io.proofs.SourceLaws.{prepend-nil}
 use Rattle.hx_io.proofs.SinkLaws.{append-nil as append-none, append-then, TakesFront-then}
 use Rattle.hx_lines.specs.Lines.{HasLf, longest, ended_lines, lines_of}
-use Rattle.hx_lines.specs.declared.cutters.Cut.{Cut}
 use Rattle.hx_lines.specs.declared.cutters.Cut.TheVariants.{Line, TooLong as Is_too_long, Over}
-use Rattle.hx_lines.specs.Cutters.{Cutter, Stays, CutsLine, IsTooLong as HoldsTooMuch, IsCut, BeginLong}
+use Rattle.hx_lines.specs.Cutters.{Cutter, Stays, CutsLine, IsCut, BeginLong}
 use Rattle.hx_lines.proofs.LineLaws.{lines_of-nil}
 use Rattle.hx_htp.specs.States.{State, fresh}
 use Rattle.hx_htp.specs.Accounts.{Account}
@@ -20,7 +19,7 @@ use Rattle.hx_htp.specs.Runs.{Run, SessionRun, AnswersLine, asks_quit, until_qui
 use Rattle.hx_htp.specs.Runs.Run.{Begun, Then}
 use Rattle.hx_serve.specs.declared.serving.Ended.{Ended}
 use Rattle.hx_serve.specs.declared.serving.Ended.TheVariants.{Done, ReadFault, TooLong}
-use Rattle.hx_serve.specs.Serving.{most_lines, read_fault_words, too_long_words, AreShort, IsWithinLimits, Answered, IsReadOut, IsDone, ArePassed, AreAllRead, IsReadFault, IsAbove, AreBeforeLimit, IsTooLong, AreFirst, AreDue, IsWriteFault, Ends}
+use Rattle.hx_serve.specs.Serving.{most_lines, read_fault_words, too_long_words, AreShort, IsWithinLimits, Answered, IsReadOut, IsDone, AreAllRead, IsAbove, AreBeforeLimit, IsTooLong, AreDue, IsWriteFault, Ends}
 use Rattle.hx_serve.specs.Serving.IsReadOut.{By_quit, By_end}
 use Rattle.hx_serve.specs.Serving.IsAbove.{Long, Many}
 use Rattle.hx_serve.specs.Serving.AreDue.{No_words, Of_fault, Of_limit}

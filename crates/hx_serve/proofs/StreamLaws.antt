@@ -1,15 +1,15 @@
 -- The bytes and the lines of an input of which some lines were read, with some bytes behind them.
 -- What a cut does to the held bytes and to what the source has left is put behind the lines that were read; where the source
 -- tells its input, these are its first lines, and the cut tells the next.
-use Rattle.std.proofs.Common.{◌≡◌, ℕ, Bool, true, false, cond, List, [], ◌∷◌, ◌++◌, Option, Some, None, refl, sym, ap, ◌∙◌, append_assoc, append-nil}
+use Rattle.std.proofs.Common.{◌≡◌, ℕ, List, [], ◌∷◌, ◌++◌, Option, Some, None, refl, sym, ap, ◌∙◌, append_assoc, append-nil}
 use Rattle.std.proofs.lemmas.List.Concat.{flat_map-append}
 use Rattle.std.specs.Prelude.{IfSome, All}
-use Rattle.hx_io.specs.Sources.{prepend, IsAtEnd}
+use Rattle.hx_io.specs.Sources.{prepend}
 use Rattle.hx_io.proofs.SourceLaws.{prepend-prepend}
 use Rattle.hx_lines.specs.Lines.{HasLf, ended_lines, lines_of}
 use Rattle.hx_lines.specs.declared.cutters.Cut.{Cut}
 use Rattle.hx_lines.specs.declared.cutters.Cut.TheVariants.{Line, TooLong, Over}
-use Rattle.hx_lines.specs.Cutters.{Cutter, Loses, Stays, CutsLine, IsCut, TellsLines, whole_line}
+use Rattle.hx_lines.specs.Cutters.{Cutter, Loses, Stays, IsCut, TellsLines}
 use Rattle.hx_lines.proofs.LineLaws.{lines_of-ended_lines, cut_tells_lines}
 
 pub ended_lines-push : (lines : List (List ℕ)) (line : List ℕ) → ended_lines (lines ++ line ∷ []) ≡ ended_lines lines ++ (line ++ 10 ∷ [])

@@ -11,8 +11,10 @@ use Rattle.hx_serve.specs.declared.serving.Ended.{Ended}
 use Rattle.hx_serve.specs.declared.serving.Ended.TheVariants.{WriteFault}
 use Rattle.hx_serve.specs.Serving.{ArePassed}
 
--- so many lines were read and answered, and these bytes are held behind them
-pub record Stands (start : Account) (before taken : Option (List ℕ)) (count : ℕ) (held : List ℕ) (left now : Option (List ℕ)) (state : State) (account : Account) : Type 0 where
+-- So many lines were read and answered, and the session goes on: where it began, what the source had left and the sink had
+-- taken then; how many lines; the bytes that are held behind them, and what is left, was taken and has become of the session.
+pub record Stands (start : Account) (before taken : Option (List ℕ)) (count : ℕ)
+    (held : List ℕ) (left now : Option (List ℕ)) (state : State) (account : Account) : Type 0 where
   pub lines : List (List ℕ)
   pub replies : List ℕ
   pub passed : ArePassed lines

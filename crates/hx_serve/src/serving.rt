@@ -4,7 +4,7 @@
 //! more is cut and not answered: it tells whether the input was over.
 
 ghost use Rattle.std.specs.Prelude.{◌≡◌, ◌≢◌, ◌+◌, ◌<◌, ◌≤◌, ℕ, true, List, Option, Some, None, MatchOption, if◌then◌else◌, ◌||◌, not};
-ghost use Rattle.hx_io.specs.Causes.{Rose, HasCause};
+ghost use Rattle.hx_io.specs.Causes.{Rose};
 ghost use Rattle.hx_io.specs.Sources.{IsAtEnd};
 ghost use Rattle.hx_htp.specs.Accounts.{Account};
 ghost use Rattle.hx_htp.specs.States.{State};
@@ -44,7 +44,10 @@ pub fn serve<R: Threads + Wait + Sync, S: Source, K: Sink, A: Answerer>(
     answerer: &mut A,
 ) -> Ended
     // Which lines were answered, and what was written: all replies, or a front of them where a write failed.
-    ensures ends { Ends (A.account answerer.old) (A.account answerer.new) (S.left source.old) (S.left source.new) (K.taken sink.old) (K.taken sink.new) result }
+    ensures ends { Ends (A.account answerer.old) (A.account answerer.new)
+        (S.left source.old) (S.left source.new) (K.taken sink.old) (K.taken sink.new) result }
+
+    // A fault is the end only where a call of this run failed.
     ensures read_fault { result ≡ ReadFault → Rose (S.faults source.old) (S.faults source.new) }
     ensures write_fault { result ≡ WriteFault → Rose (K.faults sink.old) (K.faults sink.new) }
 {
@@ -70,9 +73,11 @@ fn serve_line<R: Threads + Wait + Sync, S: Source, K: Sink, A: Answerer>(
     requires { cutter.old.met_end ≡ true → IsAtEnd (S.left source.old) }
     ensures met_end { cutter.new.met_end ≡ true → IsAtEnd (S.left source.new) }
     ensures step { (start : Account) (before taken : Option (List ℕ)) (count : ℕ) → count < most_lines
-        → Stands start before taken count cutter.old.held (S.left source.old) (K.taken sink.old) session.old (A.account answerer.old)
+        → Stands start before taken count cutter.old.held
+        (S.left source.old) (K.taken sink.old) session.old (A.account answerer.old)
         → MatchOption result
-        (Stands start before taken (count + 1) cutter.new.held (S.left source.new) (K.taken sink.new) session.new (A.account answerer.new))
+        (Stands start before taken (count + 1) cutter.new.held
+        (S.left source.new) (K.taken sink.new) session.new (A.account answerer.new))
         (Ends start (A.account answerer.new) before (S.left source.new) taken (K.taken sink.new)) }
     ensures read_fault { result ≡ Some ReadFault → Rose (S.faults source.old) (S.faults source.new) }
     ensures write_fault { result ≡ Some WriteFault → Rose (K.faults sink.old) (K.faults sink.new) }
@@ -124,7 +129,8 @@ fn after_most_lines<S: Source, K: Sink>(
 ) -> Ended
     requires { cutter.old.met_end ≡ true → IsAtEnd (S.left source.old) }
     ensures ends { (start account : Account) (state : State) (before taken : Option (List ℕ))
-        → Stands start before taken most_lines cutter.old.held (S.left source.old) (K.taken sink.old) state account
+        → Stands start before taken most_lines cutter.old.held
+        (S.left source.old) (K.taken sink.old) state account
         → Ends start account before (S.left source.new) taken (K.taken sink.new) result }
     ensures read_fault { result ≡ ReadFault → Rose (S.faults source.old) (S.faults source.new) }
     ensures write_fault { result ≡ WriteFault → Rose (K.faults sink.old) (K.faults sink.new) }

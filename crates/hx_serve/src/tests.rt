@@ -4,9 +4,6 @@ mod faults;
 mod limits;
 mod turns;
 
-ghost use Rattle.hx_htp.specs.Accounts.{Continues, MayTell};
-ghost use Rattle.std.specs.Prelude.{IfOk};
-
 use crate::{Ended, only_lines_above_a_limit_are_too_long, serve};
 use hx_board::{Colour, Memory, Position};
 use hx_htp::{Answerer, Told};
@@ -114,41 +111,36 @@ fn assert_session<R: Threads + Wait + Sync + Abort>(
 }
 
 /// Lines of which each has another answer, and a last piece without LF.
-const LINES: &str = "boardsize 3
-# a comment
-
-7 play b a1
-showboard
-solve
-undo";
+const LINES: &str = "boardsize 3\n# a comment\n\n7 play b a1\nshowboard\nsolve\nundo";
 
 /// The replies to these lines.
-const REPLIES: &str = "= 
+const REPLIES: &str =
+    "= \n\n=7 \n\n=   a b c\n1 b . .\n 2 . . .\n  3 . . .\n\n? out of memory\n\n= \n\n";
 
-=7 
-
-=   a b c
-1 b . .
- 2 . . .
-  3 . . .
-
-? out of memory
-
-= 
-
-";
+/// Tries a session in which no call fails, and which has to end with `Done` and to write this.
+fn assert_done<R: Threads + Wait + Sync + Abort>(
+    rt: &R,
+    alloc: Global,
+    input: &str,
+    read_piece: usize,
+    replies: &str,
+) -> Result<Outcome, Fail> {
+    assert_session(rt, alloc, trial_of(input, read_piece), Ended::Done, replies)
+}
 
 #[test]
 fn each_line_in_small_pieces(rt: HostRuntime) -> Result<(), Fail> {
     for piece in [1, 2, 7] {
-        let session = assert_session(
-            &rt,
-            rt.alloc(),
-            trial_of(LINES, piece),
-            Ended::Done,
-            REPLIES,
-        )?;
+        let session = assert_done(&rt, rt.alloc(), LINES, piece, REPLIES)?;
         assert_eq!(rt; session.writes, 5);
+    }
+    Ok(())
+}
+
+#[test]
+fn the_last_piece_is_a_line_if_it_has_a_byte(rt: HostRuntime) -> Result<(), Fail> {
+    for (input, replies) in [("boardsize 1", "= \n\n"), ("", ""), ("\n", ""), ("#", "")] {
+        let _ = assert_done(&rt, rt.alloc(), input, 64, replies)?;
     }
     Ok(())
 }
@@ -156,22 +148,11 @@ fn each_line_in_small_pieces(rt: HostRuntime) -> Result<(), Fail> {
 #[test]
 fn nothing_is_read_behind_quit(rt: HostRuntime) -> Result<(), Fail> {
     let alloc = rt.alloc();
-    let tail = format!(in alloc; "quit\n{:x<5000}", "")?;
-    let session = assert_session(
-        &rt,
-        alloc,
-        trial_of(tail.as_str(), 5),
-        Ended::Done,
-        "= \n\n",
-    )?;
-    assert_eq!(rt; session.reads, 1);
-    let _ = assert_session(
-        &rt,
-        alloc,
-        trial_of(tail.as_str(), 9000),
-        Ended::Done,
-        "= \n\n",
-    )?;
+    let input = format!(in alloc; "quit\n{:x<5000}", "")?;
+    for piece in [5, 9000] {
+        let session = assert_done(&rt, alloc, input.as_str(), piece, "= \n\n")?;
+        assert_eq!(rt; session.reads, 1);
+    }
     Ok(())
 }
 

@@ -21,7 +21,7 @@ fn the_third_read_fails(rt: HostRuntime) -> Result<(), Fail> {
 }
 
 #[test]
-fn a_read_behind_quit_would_fail(rt: HostRuntime) -> Result<(), Fail> {
+fn a_read_behind_quit_that_would_fail_is_not_made(rt: HostRuntime) -> Result<(), Fail> {
     let trial = Trial {
         failing_read: Some(1),
         ..trial_of("quit\n", 5)

@@ -2,7 +2,7 @@
 
 ghost use Rattle.std.specs.Prelude.{None};
 
-use super::{NoMemory, assert_session, trial_of};
+use super::{NoMemory, assert_done, assert_session, trial_of};
 use crate::{Ended, serve};
 use hx_io::{CountSink, Failed, Source};
 use std::process::Abort;
@@ -25,14 +25,7 @@ fn the_longest_line_is_answered_and_a_longer_one_is_not(rt: HostRuntime) -> Resu
         )?;
     }
     let longest = format!(in alloc; "{:x<4096}", "")?;
-    let replies = "? unknown command\n\n";
-    let _ = assert_session(
-        &rt,
-        alloc,
-        trial_of(longest.as_str(), 1000),
-        Ended::Done,
-        replies,
-    )?;
+    let _ = assert_done(&rt, alloc, longest.as_str(), 1000, "? unknown command\n\n")?;
     Ok(())
 }
 
@@ -63,7 +56,7 @@ impl Source for Names {
 }
 
 /// How a session over so many lines `name` ends, and how many bytes it writes.
-fn named<R: Threads + Wait + Sync>(rt: &R, lines: u32) -> (Ended, u64) {
+fn session_of_names<R: Threads + Wait + Sync>(rt: &R, lines: u32) -> (Ended, u64) {
     let mut source = Names {
         bytes_left: lines as usize * LINE.len(),
         place: 0,
@@ -76,6 +69,9 @@ fn named<R: Threads + Wait + Sync>(rt: &R, lines: u32) -> (Ended, u64) {
 #[test]
 fn the_most_lines_are_answered_and_one_more_is_not(rt: HostRuntime) {
     // A reply has six bytes, and the last words have seventeen.
-    assert_eq!(rt; named(&rt, 1_048_576), (Ended::Done, 6_291_456));
-    assert_eq!(rt; named(&rt, 1_048_577), (Ended::TooLong, 6_291_473));
+    assert_eq!(rt; session_of_names(&rt, 1_048_576), (Ended::Done, 6_291_456));
+    assert_eq!(rt;
+        session_of_names(&rt, 1_048_577),
+        (Ended::TooLong, 6_291_473)
+    );
 }
