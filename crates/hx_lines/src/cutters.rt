@@ -90,9 +90,11 @@ impl LineCutter {
         ensures cut { IfOk result (IsCut self.old self.new (S.left source.old) (S.left source.new)) }
         ensures met_end { self.new.met_end ≡ true → IsAtEnd (S.left source.new) }
 
-        // A fault loses nothing, and comes only when all lines whose LF was read have been cut.
+        // A fault loses nothing, and comes only when all lines whose LF was read have been cut and no line is known to be too
+        // long.
         ensures failed { OnErr result (Stays self.old self.new (S.left source.old) (S.left source.new)) }
         ensures plain { OnErr result (¬ HasLf self.new.held) }
+        ensures short { OnErr result (length self.new.held ≤ longest) }
         ensures cause { HasCause (S.faults source.old) (S.faults source.new) result }
 
         // Where what is held tells the answer, nothing is read: so after `TooLong` and after `Over`.

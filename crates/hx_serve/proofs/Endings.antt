@@ -1,0 +1,333 @@
+-- How a session ends, from how it stands before a line: one lemma an end.
+-- What the next cut tells of a told input (`tells_next`) gives the lines up to `quit`, or those before a limit; the run of the
+-- lines that were answered is then a session's run.
+use Rattle.std.proofs.Common.{◌≤◌, ◌≡◌, ℕ, ◌+◌, ◌<◌, suc, Bool, true, false, cond, ◌||◌, not, List, [], ◌∷◌, ◌++◌, length, Option, Some, None, refl, sym, ap, ◌∙◌, subst, append_assoc, append-nil, length-append, arith}
+use Rattle.std.proofs.lemmas.Option.{IfSome_then}
+use Rattle.std.specs.Prelude.{IfSome, MatchOption, Any}
+use Rattle.hx_io.specs.Sources.{prepend, IsAtEnd}
+use Rattle.hx_io.specs.Sinks.{append, TakesFront}
+use Rattle.hx_io.proofs.SourceLaws.{prepend-nil}
+use Rattle.hx_io.proofs.SinkLaws.{append-nil as append-none, append-then, TakesFront-then}
+use Rattle.hx_lines.specs.Lines.{HasLf, longest, ended_lines, lines_of}
+use Rattle.hx_lines.specs.declared.cutters.Cut.TheVariants.{Line, TooLong as Is_too_long, Over}
+use Rattle.hx_lines.specs.Cutters.{Cutter, Stays, CutsLine, IsCut, BeginLong}
+use Rattle.hx_lines.proofs.LineLaws.{lines_of-nil}
+use Rattle.hx_htp.specs.States.{State, fresh}
+use Rattle.hx_htp.specs.Accounts.{Account}
+use Rattle.hx_htp.specs.Sessions.{moment}
+use Rattle.hx_htp.specs.Runs.{Run, SessionRun, AnswersLine, asks_quit, until_quit}
+use Rattle.hx_htp.specs.Runs.Run.{Begun, Then}
+use Rattle.hx_serve.specs.declared.serving.Ended.{Ended}
+use Rattle.hx_serve.specs.declared.serving.Ended.TheVariants.{Done, ReadFault, TooLong}
+use Rattle.hx_serve.specs.Serving.{most_lines, read_fault_words, too_long_words, AreShort, IsWithinLimits, Answered, IsReadOut, IsDone, AreAllRead, IsAbove, AreBeforeLimit, IsTooLong, AreDue, IsWriteFault, Ends}
+use Rattle.hx_serve.specs.Serving.IsReadOut.{By_quit, By_end}
+use Rattle.hx_serve.specs.Serving.IsAbove.{Long, Many}
+use Rattle.hx_serve.specs.Serving.AreDue.{No_words, Of_fault, Of_limit}
+use Rattle.hx_serve.specs.Standings.{Stands, SaysLast}
+use Rattle.hx_serve.specs.Standings.SaysLast.{Whole, Front}
+use Rattle.hx_serve.proofs.QuitLaws.{until_quit-append, until_quit-all, until_quit-last, until_quit-quits, passed-push}
+use Rattle.hx_serve.proofs.StreamLaws.{ended_lines-push, parts-lost, parts-stay, TellsNext, tells_next}
+use Rattle.std.proofs.lemmas.List.Elements.{All-push, All-tail}
+
+-- ---- runs
+
+-- a run of some lines is that of a session whose lines up to `quit` they are
+as_session : (start account : Account) (state : State) (all lines : List (List ℕ)) (replies : List ℕ) → until_quit all ≡ lines
+    → Run (moment fresh start) lines replies (moment state account) → SessionRun start all replies account
+as_session start account state all lines replies same run = record {
+  state = state;
+  run = (let P : List (List ℕ) → Type 0 = λ ls. Run (moment fresh start) ls replies (moment state account) in subst P (sym same) run);
+}
+
+-- one more line was answered
+record OneMore (start : Account) (lines : List (List ℕ)) (replies line reply : List ℕ) (state : State) (account : Account) : Type 0 where
+  run : Run (moment fresh start) (lines ++ line ∷ []) (replies ++ reply) (moment state account)
+
+one_more : (start : Account) (lines : List (List ℕ)) (replies line reply : List ℕ) (state then_state : State) (account then_account : Account)
+    → Run (moment fresh start) lines replies (moment state account) → AnswersLine (moment state account) line reply (moment then_state then_account)
+    → OneMore start lines replies line reply then_state then_account
+one_more start lines replies line reply state then_state account then_account run answers = record {
+  run = Then (lines ++ line ∷ []) (replies ++ reply) (moment then_state then_account) lines line replies reply (moment state account) refl refl run answers;
+}
+
+pub stands_first : (start : Account) (before taken : Option (List ℕ)) (held : List ℕ) (state : State) → held ≡ [] → state ≡ fresh
+    → Stands start before taken 0 held before taken state start
+stands_first start before taken held state none new = record {
+  lines = [];
+  replies = [];
+  passed = record { plain = λ k d inside. absurd (omega (arith, inside)); short = λ k d inside. absurd (omega (arith, inside)); few = omega arith; going = λ k d inside. absurd (omega (arith, inside)) };
+  counted = refl;
+  parts = sym (prepend-nil before) ∙ ap (λ bytes. prepend bytes before) (sym none);
+  run = Begun [] [] (moment state start) refl refl (ap (λ s. moment s start) new);
+  wrote = sym (append-none taken);
+}
+
+-- ---- the next line
+
+-- the line was cut, and a session goes on behind it
+pub goes_on : (start : Account) (before taken : Option (List ℕ)) (count : ℕ) (fits : count < most_lines) (old new : Cutter) (left then_left now then_now : Option (List ℕ)) (state then_state : State)
+    (account then_account : Account) (reply : List ℕ) → Stands start before taken count old.held left now state account → CutsLine old new left then_left true
+    → AnswersLine (moment state account) new.line reply (moment then_state then_account) → then_now ≡ append now reply → asks_quit new.line ≡ false
+    → Stands start before taken (count + 1) new.held then_left then_now then_state then_account
+goes_on start before taken count fits old new left then_left now then_now state then_state account then_account reply stands cut answers writes going = record {
+  lines = stands.lines ++ new.line ∷ [];
+  replies = stands.replies ++ reply;
+  passed = passed-push stands.lines new.line stands.passed (omega (arith, fits, stands.counted)) cut.plain cut.short going;
+  counted = length-append stands.lines (new.line ∷ []) ∙ ap (λ n. n + 1) stands.counted;
+  parts = parts-lost before (ended_lines stands.lines) old.held new.held (new.line ++ 10 ∷ []) left then_left stands.parts cut.loses
+      ∙ ap (λ bytes. prepend (bytes ++ new.held) then_left) (sym (ended_lines-push stands.lines new.line));
+  run = (one_more start stands.lines stands.replies new.line reply state then_state account then_account stands.run answers).run;
+  wrote = append-then taken now then_now stands.replies reply stands.wrote writes;
+}
+
+-- the lines of a told input, of which the next one was cut
+record NextLine (lines : List (List ℕ)) (line : List ℕ) (input : List ℕ) : Type 0 where
+  later : List (List ℕ)
+  parts : lines_of input ≡ lines ++ line ∷ later
+
+abbrev next_line : (ended : Bool) (lines : List (List ℕ)) (new : Cutter) (then_left : Option (List ℕ)) (input : List ℕ) → TellsNext lines new then_left (Line ended) input → NextLine lines new.line input
+next_line ended lines new then_left input next = record {
+  later = lines_of (new.held ++ next.rest);
+  parts = next.parts ∙ ap (λ (ls : List (List ℕ)). lines ++ ls) next.tells;
+}
+
+-- nothing is held and nothing left
+at_end : (held rest : List ℕ) (left : Option (List ℕ)) → left ≡ Some rest → held ≡ [] → IsAtEnd left → (lines_of (held ++ rest) ≡ []) × (left ≡ Some [])
+at_end held rest left is none end =
+    let no_more : rest ≡ [] = subst IsAtEnd is end in
+    (ap lines_of (ap (λ bytes. bytes ++ rest) none ∙ no_more) ∙ lines_of-nil, is ∙ ap Some no_more)
+
+-- ---- the session is done
+
+all_answered : (start account : Account) (state : State) (left taken now : Option (List ℕ)) (input : List ℕ) (lines : List (List ℕ)) (replies : List ℕ)
+    → until_quit (lines_of input) ≡ lines → Run (moment fresh start) lines replies (moment state account) → now ≡ append taken replies
+    → AreShort lines → length lines ≤ most_lines → IsReadOut left (lines_of input) → IsDone start account left taken now input
+all_answered start account state left taken now input lines replies up_to run wrote short few read_out = record {
+  answered = record {
+    replies = replies;
+    run = as_session start account state (lines_of input) lines replies up_to run;
+    wrote = wrote ∙ ap (append taken) (sym (append-nil replies));
+  };
+  read_out = read_out;
+  within = record {
+    short = subst AreShort (sym up_to) short;
+    few = (let P : List (List ℕ) → Type 0 = λ ls. length ls ≤ most_lines in subst P (sym up_to) few);
+  };
+}
+
+-- the next line was answered, and it is the last up to `quit` or the end
+last_answered : (start : Account) (before taken : Option (List ℕ)) (count : ℕ) (fits : count < most_lines) (held line reply : List ℕ) (left then_left now then_now : Option (List ℕ)) (state then_state : State)
+    (account then_account : Account) (input : List ℕ) → (stands : Stands start before taken count held left now state account) → length line ≤ longest
+    → AnswersLine (moment state account) line reply (moment then_state then_account) → then_now ≡ append now reply
+    → until_quit (lines_of input) ≡ stands.lines ++ line ∷ [] → IsReadOut then_left (lines_of input) → IsDone start then_account then_left taken then_now input
+last_answered start before taken count fits held line reply left then_left now then_now state then_state account then_account input stands short answers writes up_to read_out =
+    all_answered start then_account then_state then_left taken then_now input (stands.lines ++ line ∷ []) (stands.replies ++ reply) up_to
+    (one_more start stands.lines stands.replies line reply state then_state account then_account stands.run answers).run
+    (append-then taken now then_now stands.replies reply stands.wrote writes)
+    (All-push (λ l. length l ≤ longest) stands.lines line stands.passed.short short)
+    (omega (arith, fits, stands.counted, length-append stands.lines (line ∷ [])))
+    read_out
+
+-- a line behind others asks to quit
+asks_behind : (lines later : List (List ℕ)) (line : List ℕ) → asks_quit line ≡ true → Any (λ l. asks_quit l ≡ true) (lines ++ line ∷ later)
+asks_behind [] later line quits = (0, line, omega arith, refl, quits)
+asks_behind (first ∷ lines) later line quits =
+    let behind = asks_behind lines later line quits in
+    (suc behind.0, behind.1, omega (arith, behind.2), behind.3, behind.4)
+
+pub ends_by_quit : (start : Account) (before taken : Option (List ℕ)) (count : ℕ) (fits : count < most_lines) (ended : Bool) (old new : Cutter) (left then_left now then_now : Option (List ℕ)) (state then_state : State)
+    (account then_account : Account) (reply : List ℕ) → Stands start before taken count old.held left now state account → CutsLine old new left then_left ended
+    → AnswersLine (moment state account) new.line reply (moment then_state then_account) → then_now ≡ append now reply → asks_quit new.line ≡ true
+    → IfSome before (IsDone start then_account then_left taken then_now)
+ends_by_quit start before taken count fits ended old new left then_left now then_now state then_state account then_account reply stands cut answers writes quits =
+    IfSome_then before (tells_next before stands.lines old new left then_left (Line ended) stands.passed.plain stands.parts cut)
+    (λ input told.
+    let next = next_line ended stands.lines new then_left input told in
+    last_answered start before taken count fits old.held new.line reply left then_left now then_now state then_state account then_account input stands cut.short answers writes
+    (ap until_quit next.parts ∙ until_quit-quits stands.lines next.later new.line stands.passed.going quits)
+    (By_quit (subst (Any (λ l. asks_quit l ≡ true)) (sym next.parts) (asks_behind stands.lines next.later new.line quits))))
+
+-- the line is a last piece without LF
+pub ends_by_last : (start : Account) (before taken : Option (List ℕ)) (count : ℕ) (fits : count < most_lines) (old new : Cutter) (left then_left now then_now : Option (List ℕ)) (state then_state : State)
+    (account then_account : Account) (reply : List ℕ) → Stands start before taken count old.held left now state account → CutsLine old new left then_left false
+    → AnswersLine (moment state account) new.line reply (moment then_state then_account) → then_now ≡ append now reply
+    → IfSome before (IsDone start then_account then_left taken then_now)
+ends_by_last start before taken count fits old new left then_left now then_now state then_state account then_account reply stands cut answers writes =
+    IfSome_then before (tells_next before stands.lines old new left then_left (Line false) stands.passed.plain stands.parts cut)
+    (λ input told.
+    let next = next_line false stands.lines new then_left input told in
+    let last = cut.last refl in
+    let end = at_end new.held told.rest then_left told.left last.1 last.2 in
+    last_answered start before taken count fits old.held new.line reply left then_left now then_now state then_state account then_account input stands cut.short answers writes
+    (ap until_quit (next.parts ∙ ap (λ (ls : List (List ℕ)). stands.lines ++ new.line ∷ ls) end.0) ∙ until_quit-last stands.lines new.line stands.passed.going)
+    (By_end end.1))
+
+-- the input is over
+pub ends_by_end : (start : Account) (before taken : Option (List ℕ)) (count : ℕ) (old new : Cutter) (left then_left now : Option (List ℕ)) (state : State) (account : Account)
+    → Stands start before taken count old.held left now state account → IsCut old new left then_left Over → IfSome before (IsDone start account then_left taken now)
+ends_by_end start before taken count old new left then_left now state account stands cut =
+    IfSome_then before (tells_next before stands.lines old new left then_left Over stands.passed.plain stands.parts cut)
+    (λ input told.
+    let lines_are : lines_of input ≡ stands.lines = told.parts ∙ ap (λ (ls : List (List ℕ)). stands.lines ++ ls) told.tells ∙ append-nil stands.lines in
+    all_answered start account state then_left taken now input stands.lines stands.replies (ap until_quit lines_are ∙ until_quit-all stands.lines stands.passed.going)
+    stands.run stands.wrote stands.passed.short stands.passed.few (By_end (at_end new.held told.rest then_left told.left cut.1 cut.2).1))
+
+-- ---- a write fails in a reply
+
+pub ends_in_reply : (start : Account) (before taken : Option (List ℕ)) (count : ℕ) (fits : count < most_lines) (ended : Bool) (old new : Cutter) (left then_left now then_now : Option (List ℕ)) (state then_state : State)
+    (account then_account : Account) (reply : List ℕ) → Stands start before taken count old.held left now state account → CutsLine old new left then_left ended
+    → AnswersLine (moment state account) new.line reply (moment then_state then_account) → TakesFront now then_now reply → IsWriteFault start then_account before then_left taken then_now
+ends_in_reply start before taken count fits ended old new left then_left now then_now state then_state account then_account reply stands cut answers front = record {
+  lines = stands.lines ++ new.line ∷ [];
+  words = [];
+  replies = stands.replies ++ reply;
+  due = No_words refl
+      (IfSome_then before (tells_next before stands.lines old new left then_left (Line ended) stands.passed.plain stands.parts cut)
+      (λ input told. let next = next_line ended stands.lines new then_left input told in record {
+        later = next.later;
+        parts = next.parts ∙ sym (append_assoc stands.lines (new.line ∷ []) next.later);
+      }));
+  short = All-push (λ l. length l ≤ longest) stands.lines new.line stands.passed.short cut.short;
+  few = omega (arith, fits, stands.counted, length-append stands.lines (new.line ∷ []));
+  run = as_session start then_account then_state (stands.lines ++ new.line ∷ []) (stands.lines ++ new.line ∷ []) (stands.replies ++ reply)
+      (until_quit-last stands.lines new.line stands.passed.going)
+      (one_more start stands.lines stands.replies new.line reply state then_state account then_account stands.run answers).run;
+  wrote = subst (TakesFront taken then_now) (sym (append-nil (stands.replies ++ reply))) (TakesFront-then taken now then_now stands.replies reply stands.wrote front);
+}
+
+-- the next line was answered
+pub ends_or_goes_on : (start : Account) (before taken : Option (List ℕ)) (count : ℕ) (fits : count < most_lines) (old new : Cutter) (left then_left now then_now : Option (List ℕ)) (state then_state : State)
+    (account then_account : Account) (reply : List ℕ) (quit ended : Bool) (result : Option Ended) → Stands start before taken count old.held left now state account
+    → CutsLine old new left then_left ended → AnswersLine (moment state account) new.line reply (moment then_state then_account) → then_now ≡ append now reply
+    → quit ≡ asks_quit new.line → result ≡ cond (quit || not ended) (Some Done) None
+    → MatchOption result (Stands start before taken (count + 1) new.held then_left then_now then_state then_account) (Ends start then_account before then_left taken then_now)
+ends_or_goes_on start before taken count fits old new left then_left now then_now state then_state account then_account reply true ended result stands cut answers writes quits is =
+    rw is (ends_by_quit start before taken count fits ended old new left then_left now then_now state then_state account then_account reply stands cut answers writes (sym quits))
+ends_or_goes_on start before taken count fits old new left then_left now then_now state then_state account then_account reply false true result stands cut answers writes quits is =
+    rw is (goes_on start before taken count fits old new left then_left now then_now state then_state account then_account reply stands cut answers writes (sym quits))
+ends_or_goes_on start before taken count fits old new left then_left now then_now state then_state account then_account reply false false result stands cut answers writes quits is =
+    rw is (ends_by_last start before taken count fits old new left then_left now then_now state then_state account then_account reply stands cut answers writes)
+
+-- ---- the last words
+
+-- the lines before the last words were answered, and the words were written
+with_words : (start : Account) (before taken : Option (List ℕ)) (count : ℕ) (held words : List ℕ) (left now then_now : Option (List ℕ)) (state : State) (account : Account)
+    → (stands : Stands start before taken count held left now state account) → then_now ≡ append now words → Answered start account taken then_now stands.lines words
+with_words start before taken count held words left now then_now state account stands writes = record {
+  replies = stands.replies;
+  run = as_session start account state stands.lines stands.lines stands.replies (until_quit-all stands.lines stands.passed.going) stands.run;
+  wrote = append-then taken now then_now stands.replies words stands.wrote writes;
+}
+
+-- or they were written in part
+in_words : (start : Account) (before taken : Option (List ℕ)) (count : ℕ) (held words : List ℕ) (left then_left now then_now : Option (List ℕ)) (state : State) (account : Account)
+    → (stands : Stands start before taken count held left now state account) → AreDue before then_left stands.lines words → TakesFront now then_now words
+    → IsWriteFault start account before then_left taken then_now
+in_words start before taken count held words left then_left now then_now state account stands due front = record {
+  lines = stands.lines;
+  words = words;
+  replies = stands.replies;
+  due = due;
+  short = stands.passed.short;
+  few = stands.passed.few;
+  run = as_session start account state stands.lines stands.lines stands.replies (until_quit-all stands.lines stands.passed.going) stands.run;
+  wrote = TakesFront-then taken now then_now stands.replies words stands.wrote front;
+}
+
+-- a read failed
+pub ends_by_fault : (start : Account) (before taken : Option (List ℕ)) (count : ℕ) (old new : Cutter) (left then_left now then_now : Option (List ℕ)) (state : State) (account : Account)
+    (result : Ended) → Stands start before taken count old.held left now state account → Stays old new left then_left → ¬ HasLf new.held → length new.held ≤ longest
+    → SaysLast now then_now read_fault_words ReadFault result → Ends start account before then_left taken then_now result
+ends_by_fault start before taken count old new left then_left now then_now state account result stands stays plain short says =
+    let all_read : AreAllRead before then_left stands.lines = record {
+      held = new.held;
+      parts = parts-stay before (ended_lines stands.lines) old new left then_left stands.parts stays;
+      passed = stands.passed;
+      plain = plain;
+      short = short;
+    } in
+    said all_read says
+  where
+    said : AreAllRead before then_left stands.lines → SaysLast now then_now read_fault_words ReadFault result → Ends start account before then_left taken then_now result
+    said all_read (Whole is writes) = rw is (record {
+      lines = stands.lines;
+      all_read = all_read;
+      answered = with_words start before taken count old.held read_fault_words left now then_now state account stands writes;
+    })
+    said all_read (Front is front) =
+        rw is (in_words start before taken count old.held read_fault_words left then_left now then_now state account stands (Of_fault refl all_read) front)
+
+-- the next line is above a limit
+above_limit : (start : Account) (before taken : Option (List ℕ)) (count : ℕ) (held : List ℕ) (left then_left now then_now : Option (List ℕ)) (state : State) (account : Account)
+    (result : Ended) → (stands : Stands start before taken count held left now state account) → IfSome before (λ input. AreBeforeLimit input stands.lines)
+    → SaysLast now then_now too_long_words TooLong result → Ends start account before then_left taken then_now result
+above_limit start before taken count held left then_left now then_now state account result stands before_limit (Whole is writes) =
+    rw is (IfSome_then before before_limit (λ input limit. record {
+      lines = stands.lines;
+      before_limit = limit;
+      answered = with_words start before taken count held too_long_words left now then_now state account stands writes;
+    }))
+above_limit start before taken count held left then_left now then_now state account result stands before_limit (Front is front) =
+    rw is (in_words start before taken count held too_long_words left then_left now then_now state account stands (Of_limit refl before_limit) front)
+
+-- the first of some lines, which is too long
+record LongFirst (lines : List (List ℕ)) : Type 0 where
+  line : List ℕ
+  later : List (List ℕ)
+  parts : lines ≡ line ∷ later
+  long : longest < length line
+
+long_first : (lines : List (List ℕ)) → BeginLong lines → LongFirst lines
+long_first [] long = absurd long
+long_first (line ∷ later) long = record { line = line; later = later; parts = refl; long = long }
+
+pub ends_too_long : (start : Account) (before taken : Option (List ℕ)) (count : ℕ) (old new : Cutter) (left then_left now then_now : Option (List ℕ)) (state : State) (account : Account)
+    (result : Ended) → Stands start before taken count old.held left now state account → IsCut old new left then_left Is_too_long
+    → SaysLast now then_now too_long_words TooLong result → Ends start account before then_left taken then_now result
+ends_too_long start before taken count old new left then_left now then_now state account result stands cut says =
+    above_limit start before taken count old.held left then_left now then_now state account result stands
+    (IfSome_then before (tells_next before stands.lines old new left then_left Is_too_long stands.passed.plain stands.parts cut)
+    (λ input told. let first = long_first told.others told.tells in record {
+      line = first.line;
+      later = first.later;
+      parts = told.parts ∙ ap (λ (ls : List (List ℕ)). stands.lines ++ ls) first.parts;
+      passed = stands.passed;
+      above = Long first.long;
+    }))
+    says
+
+pub ends_too_many : (start : Account) (before taken : Option (List ℕ)) (ended : Bool) (old new : Cutter) (left then_left now then_now : Option (List ℕ)) (state : State) (account : Account)
+    (result : Ended) → Stands start before taken most_lines old.held left now state account → CutsLine old new left then_left ended
+    → SaysLast now then_now too_long_words TooLong result → Ends start account before then_left taken then_now result
+ends_too_many start before taken ended old new left then_left now then_now state account result stands cut says =
+    above_limit start before taken most_lines old.held left then_left now then_now state account result stands
+    (IfSome_then before (tells_next before stands.lines old new left then_left (Line ended) stands.passed.plain stands.parts cut)
+    (λ input told. let next = next_line ended stands.lines new then_left input told in record {
+      line = new.line;
+      later = next.later;
+      parts = next.parts;
+      passed = stands.passed;
+      above = Many stands.counted;
+    }))
+    says
+
+-- ---- a limit is passed only by an input that is not within the limits
+
+first_up_to_quit : (line : List ℕ) (later : List (List ℕ)) (quits : Bool) → (more : List (List ℕ)) × (cond quits (line ∷ []) (line ∷ until_quit later) ≡ line ∷ more)
+first_up_to_quit line later true = ([], refl)
+first_up_to_quit line later false = (until_quit later, refl)
+
+not_above : (lines more : List (List ℕ)) (line : List ℕ) → AreShort (lines ++ line ∷ more) → length (lines ++ line ∷ more) ≤ most_lines → IsAbove (length lines) line → ⊥
+not_above lines more line short few (Many count) = omega (arith, few, count, length-append lines (line ∷ more))
+not_above [] more line short few (Long long) = omega (arith, long, short 0 line (omega arith))
+not_above (first ∷ lines) more line short few (Long long) =
+    not_above lines more line (All-tail (λ l. length l ≤ longest) first (lines ++ line ∷ more) short) (omega (arith, few)) (Long long)
+
+pub not_within_limits : (start account : Account) (input : List ℕ) (taken now : Option (List ℕ)) → IsTooLong start account input taken now → ¬ IsWithinLimits input
+not_within_limits start account input taken now long within =
+    let limit = long.before_limit in
+    let first = first_up_to_quit limit.line limit.later (asks_quit limit.line) in
+    let up_to : until_quit (lines_of input) ≡ long.lines ++ limit.line ∷ first.0 =
+    ap until_quit limit.parts ∙ until_quit-append long.lines (limit.line ∷ limit.later) limit.passed.going ∙ ap (λ (ls : List (List ℕ)). long.lines ++ ls) first.1 in
+    let P : List (List ℕ) → Type 0 = λ ls. length ls ≤ most_lines in
+    not_above long.lines first.0 limit.line (subst AreShort up_to within.short) (subst P up_to within.few) limit.above

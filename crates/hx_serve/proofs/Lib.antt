@@ -1,0 +1,3 @@
+pub mod QuitLaws
+pub mod StreamLaws
+pub mod Endings

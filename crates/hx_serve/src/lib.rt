@@ -1,0 +1,11 @@
+//! A session of the Hex Text Protocol over the lines of a source, from the first line to one of four ends.
+#![tactic(auto)]
+
+mod laws;
+mod serving;
+
+pub use laws::only_lines_above_a_limit_are_too_long;
+pub use serving::{Ended, serve};
+
+#[cfg(test)]
+mod tests;
