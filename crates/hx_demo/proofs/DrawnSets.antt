@@ -1,0 +1,41 @@
+-- The set of the cells in a list: its members are of the list, and where the list has no cell twice they are as many.
+use Rattle.std.proofs.Common.{◌≡◌, ℕ, suc, ◌<◌, Bool, true, false, ◌||◌, eqb, List, [], ◌∷◌, ◌++◌, length, refl, sym, ap, ◌∙◌, inl, inr, ⊎_elim}
+use Rattle.std.proofs.lemmas.Bool.{false≢true}
+use Rattle.hx_board.specs.Sets.{has, insert, count_below}
+use Rattle.hx_board.proofs.SetLaws.{has-insert, has-insert_cases, has-insert_same, has-empty, same_set, is_false, remove-insert}
+use Rattle.hx_board.proofs.Tallies.{count_below-remove}
+use Rattle.hx_demo.specs.DrawnPositions.{set_of}
+use Rattle.hx_demo.proofs.DrawnLists.{IsIn, AreDistinct}
+
+or_swap : (a b c : Bool) → (a || (b || c)) ≡ (b || (a || c))
+or_swap true true c = refl
+or_swap true false c = refl
+or_swap false b c = refl
+
+insert_swap : (set first second : ℕ) → insert (insert set first) second ≡ insert (insert set second) first
+insert_swap set first second = same_set _ _ (λ n.
+    has-insert (insert set first) second n ∙ ap (λ b. eqb n second || b) (has-insert set first n)
+    ∙ or_swap (eqb n second) (eqb n first) (has set n)
+    ∙ sym (has-insert (insert set second) first n ∙ ap (λ b. eqb n first || b) (has-insert set second n)))
+
+pub set_of-push : (cells : List ℕ) (cell : ℕ) → set_of (cells ++ cell ∷ []) ≡ insert (set_of cells) cell
+set_of-push [] cell = refl
+set_of-push (first ∷ cells) cell = ap (λ (set : ℕ). insert set first) (set_of-push cells cell) ∙ insert_swap (set_of cells) cell first
+
+pub set_of-in : (cells : List ℕ) (n : ℕ) → has (set_of cells) n ≡ true → IsIn n cells
+set_of-in [] n h = false≢true (sym (has-empty n) ∙ h)
+set_of-in (cell ∷ cells) n h = ⊎_elim inl (λ k. inr (set_of-in cells n k)) (has-insert_cases (set_of cells) cell n h)
+
+pub set_of-lacks : (cells : List ℕ) (n : ℕ) → (IsIn n cells → ⊥) → has (set_of cells) n ≡ false
+set_of-lacks cells n not_in = is_false _ (λ h. not_in (set_of-in cells n h))
+
+no_member-count : count_below 128 0 ≡ 0
+unfolding count_below has
+no_member-count = refl
+
+pub count-set_of : (cells : List ℕ) → AreDistinct cells → ((n : ℕ) → IsIn n cells → n < 128) → count_below 128 (set_of cells) ≡ length cells
+count-set_of [] distinct small = no_member-count
+count-set_of (cell ∷ cells) distinct small =
+    count_below-remove 128 (insert (set_of cells) cell) cell (has-insert_same (set_of cells) cell) (small cell (inl refl))
+    ∙ ap suc (ap (count_below 128) (remove-insert (set_of cells) cell (set_of-lacks cells cell distinct.0))
+    ∙ count-set_of cells distinct.1 (λ n h. small n (inr h)))

@@ -1,0 +1,6 @@
+pub mod WordLaws
+pub mod DrawnLists
+pub mod BoardCells
+pub mod DrawnSets
+pub mod DrawnStones
+pub mod DrawnBoards

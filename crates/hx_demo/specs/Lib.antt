@@ -1,0 +1,3 @@
+pub mod Generators
+pub mod DrawnPositions
+pub mod CellsLeft
