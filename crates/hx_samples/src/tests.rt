@@ -3,7 +3,7 @@
 ghost use Rattle.std.specs.Prelude.{◌≡◌};
 
 use super::*;
-use hx_board::{Colour, Groups, Position, Size, VERTICES, chain};
+use hx_board::{Colour, Groups, Mask, Position, Size, VERTICES, chain};
 use std::process::Abort;
 use std::test::Fail;
 
@@ -62,5 +62,28 @@ fn drawn_positions(rt: HostRuntime) -> Result<(), Fail> {
             compare(&rt, &position, Colour::White);
         }
     }
+    Ok(())
+}
+
+/// The words of seed 42, as the demonstration program of PCG32 prints them (Melissa O'Neill, pcg-random.org), modulo a million.
+#[test]
+fn draws_are_the_words_of_the_generator(rt: HostRuntime) {
+    let mut draws = Draws::new(42);
+    for word in [161_783, 313_097, 475_824, 639_955, 226_955, 331_566] {
+        assert_eq!(rt; draws.below(1_000_000), word);
+    }
+}
+
+/// Each of some cells is drawn in time, and no draw comes to nothing.
+#[test]
+fn each_cell_is_drawn(rt: HostRuntime) -> Result<(), Fail> {
+    let mut draws = Draws::new(2026);
+    let size = Size::new(3, 3).ok_or("size")?;
+    let mut drawn = Mask::empty();
+    for _ in 0..100 {
+        let cell = draws.cell(size, size.all()).ok_or("cell")?;
+        drawn = drawn.with(cell);
+    }
+    assert_eq!(rt; drawn, size.all());
     Ok(())
 }
