@@ -25,3 +25,4 @@ pub mod ChainListLaws
 pub mod LastStoneLaws
 pub mod FullListLaws
 pub mod FullLaws
+pub mod FullWithinLaws

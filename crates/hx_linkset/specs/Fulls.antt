@@ -5,7 +5,7 @@ use Rattle.std.specs.declared.alloc.Global.{Global}
 use Rattle.std.specs.declared.option.Option.TheVariants.{Some}
 use Rattle.hx_board.specs.declared.vertices.Vertex.{Vertex}
 use Rattle.hx_board.specs.declared.vertices.TheConstants.{VERTICES}
-use Rattle.hx_board.specs.Sets.{has, intersection}
+use Rattle.hx_board.specs.Sets.{has, intersection, IsSubset}
 use Rattle.hx_board.specs.VertexSets.{code_of, IsSomeVertex}
 use Rattle.hx_link.specs.declared.links.Kind.{Kind}
 use Rattle.hx_link.specs.declared.links.Kind.TheVariants.{Full, Semi}
@@ -28,6 +28,19 @@ pub record AreFullAt (set : Standing) (vertex : Vertex) (fulls : List FullLink) 
   pub rising : IsStrictlyIncreasing (map (λ (full : FullLink). full.index) fulls)
   pub each : All (IsFullAt set vertex) fulls
   pub all : (full : FullLink) → IsFullAt set vertex full → Contains fulls full
+
+-- such a link whose carrier has none but these cells, and whose other end is one of these vertices
+pub record IsFullWithin (set : Standing) (vertex : Vertex) (cells to : ℕ) (full : FullLink) : Type 0 where
+  pub full_at : IsFullAt set vertex full
+  pub inside : IsSubset full.carrier cells
+  pub leads_to : has to (code_of full.to) ≡ true
+
+-- the live Full links that end at the vertex, have carriers inside these cells and lead to one of these vertices, each once, in
+-- rising order of their indices
+pub record AreFullWithin (set : Standing) (vertex : Vertex) (cells to : ℕ) (fulls : List FullLink) : Type 0 where
+  pub rising : IsStrictlyIncreasing (map (λ (full : FullLink). full.index) fulls)
+  pub each : All (IsFullWithin set vertex cells to) fulls
+  pub all : (full : FullLink) → IsFullWithin set vertex cells to full → Contains fulls full
 
 -- ---- words for the functions inside the crate alone
 

@@ -7,7 +7,7 @@
 //! A link stands in the lists of its ends, live or not, for as long as it is held. Which of them are live is read off the
 //! entries as they are gone along.
 
-ghost use Rattle.std.specs.Prelude.{◌≡◌, ◌<◌, List, [], ◌∷◌, ◌++◌, length, slice_set, slice_index_or, IfOk, OnOk, OnErr};
+ghost use Rattle.std.specs.Prelude.{◌≡◌, ◌<◌, List, [], ◌∷◌, ◌++◌, length, filter, slice_set, slice_index_or, IfOk, OnOk, OnErr};
 ghost use Rattle.hx_board.specs.VertexSets.{IsSomeVertex};
 ghost use Rattle.hx_link.specs.declared.links.Link.{Link};
 ghost use Rattle.hx_linkset.specs.Fulls.{AreFullLists, fulls_of, is_live_from, live_from, live_at, without_last};
@@ -211,6 +211,18 @@ impl<'a> FullIter<'a> {
             rest,
             empties,
             ends,
+        }
+    }
+
+    /// Those of them that have carriers inside these cells and lead to one of these vertices. Each is tested once.
+    #[inline(always)]
+    pub(crate) fn within(self, cells: Mask, to: VertexSet) -> FullIter<'a>
+        ensures { result ≡ filter (is_live_from cells to) self.entry }
+    {
+        FullIter {
+            rest: self.rest,
+            empties: self.empties.meet(cells),
+            ends: self.ends.meet(to),
         }
     }
 }

@@ -43,6 +43,18 @@ pub(crate) fn is_live(liveness: &Liveness, link: &Link) -> bool
     link.carrier.inside(liveness.empties) && liveness.ends.has(link.a) && liveness.ends.has(link.b)
 }
 
+/// Whether a link that is live before a play is live after it. Where no end was taken, the carrier alone tells.
+#[inline(always)]
+fn stays(before: &Liveness, after: &Liveness, link: &Link) -> bool
+    ensures { (old new : Board) (player : Colour)
+        → Tells before.now old player → Tells after.now new player → IsLive old player link.now
+        → IsTrue result ↔ IsLive new player link.now }
+{
+    let (_a, _b) = (link.a.code(), link.b.code());
+    link.carrier.inside(after.empties)
+        && (before.ends == after.ends || (after.ends.has(link.a) && after.ends.has(link.b)))
+}
+
 /// Whether a link is live before a play and not after it.
 #[inline(always)]
 pub(crate) fn is_dropped(before: &Liveness, after: &Liveness, link: &Link) -> bool
@@ -53,5 +65,5 @@ pub(crate) fn is_dropped(before: &Liveness, after: &Liveness, link: &Link) -> bo
         → Tells before.now old player → Tells after.now new player
         → result ≡ false → IsLive old player link.now → IsLive new player link.now }
 {
-    !is_live(after, link) && is_live(before, link)
+    !stays(before, after, link) && is_live(before, link)
 }

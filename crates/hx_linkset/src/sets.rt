@@ -23,7 +23,7 @@ ghost use Rattle.hx_linkset.specs.Held.{IsHeadBetween};
 ghost use Rattle.hx_linkset.specs.LiveOf.{IsLiveOf, IsFirstFrom, ChainLists};
 ghost use Rattle.hx_linkset.specs.LivePairs.{AreLivePairs};
 ghost use Rattle.hx_linkset.specs.LastStones.{board_before, AreDropped};
-ghost use Rattle.hx_linkset.specs.Fulls.{AreFullAt};
+ghost use Rattle.hx_linkset.specs.Fulls.{AreFullAt, AreFullWithin};
 ghost use Rattle.hx_linkset.specs.Plays.{HasMore};
 ghost use Rattle.hx_linkset.specs.Derivations.{StandsIn, IsDerived};
 
@@ -34,7 +34,7 @@ use crate::liveness::{Liveness, is_live, liveness_of};
 use crate::pairs::{PairIter, in_order};
 use crate::passes::{cut_down, cut_fulls, drop_dead, put_back};
 use crate::plays::{Stage, before_last, can_put, logged_from, stage_of, with_all};
-use hx_board::{CELLS, Cell, Colour, Groups, Mask, Memory, Position, Vertex};
+use hx_board::{CELLS, Cell, Colour, Groups, Mask, Memory, Position, Vertex, VertexSet};
 use hx_link::{Kind, Link, Step, result_of};
 use std::alloc::Global;
 use std::marker::Model;
@@ -245,6 +245,15 @@ impl LinkSet {
     {
         let list = self.fulls.at(&vertex);
         FullIter::new(list, &vertex, self.liveness.empties, self.liveness.ends)
+    }
+
+    /// Those of the live Full links that end at a vertex whose carriers are inside `cells` and whose other ends are in `to`,
+    /// each once and in rising order of their indices.
+    #[inline(always)]
+    pub fn full_at_within(&self, vertex: Vertex, cells: Mask, to: VertexSet) -> FullIter<'_>
+        ensures { AreFullWithin self.now vertex cells to result }
+    {
+        self.full_at(vertex).within(cells, to)
     }
 
     /// The indices of the live links of these ends, in either order, each once and in rising order.

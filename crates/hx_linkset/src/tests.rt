@@ -8,7 +8,7 @@ ghost use Rattle.hx_linkset.specs.Derivations.{StandsIn};
 use super::*;
 use hx_board::Colour::{Black, White};
 use hx_board::Vertex::{First, Last};
-use hx_board::{Cell, Colour, Mask, Position, Size, Vertex};
+use hx_board::{Cell, Colour, Mask, Position, Size, Vertex, VertexSet};
 use hx_link::{Kind, Parts, Step};
 use smallvec::SmallVec;
 use std::alloc::{AllocError, Global};
@@ -115,10 +115,10 @@ fn a_stone_drops_links_and_gives_them_back(rt: HostRuntime) -> Result<(), Fail> 
     Ok(())
 }
 
-/// The indices of the live Full links at a vertex.
-fn full_indices(alloc: Global, set: &LinkSet, vertex: Vertex) -> Result<Vec<u32>, AllocError> {
+/// The indices of Full links.
+fn full_indices(alloc: Global, fulls: FullIter<'_>) -> Result<Vec<u32>, AllocError> {
     let mut indices = Vec::new(alloc);
-    for full in set.full_at(vertex) {
+    for full in fulls {
         indices.push(full.index)?;
     }
     Ok(indices)
@@ -137,13 +137,25 @@ fn the_stones_of_a_turn_are_one_play(rt: HostRuntime) -> Result<(), Fail> {
         (set.plays(), set.before_last_stones().empty_count()),
         (1, 4)
     );
-    let full = full_indices(rt.alloc(), &set, a2)?;
+    let full = full_indices(rt.alloc(), set.full_at(a2))?;
     assert_eq!(rt; full.as_slice(), [4].as_slice());
     set.undo();
-    let full = full_indices(rt.alloc(), &set, a2)?;
+    let full = full_indices(rt.alloc(), set.full_at(a2))?;
     assert_eq!(rt; full.as_slice(), [1, 4, 6].as_slice());
     assert_eq!(rt; (set.plays(), set.dropped().len()), (0, 0));
     assert!(rt; set.groups().joined(First, Last) == false);
+    Ok(())
+}
+
+/// Of the Full links 1, 4 and 6 at a2 the first leads to a1, and the carrier of the last has a1.
+#[test]
+fn full_links_within_some_cells(rt: HostRuntime) -> Result<(), Fail> {
+    let set = bridge(rt.alloc())?;
+    let (b1, a2) = (cell(0, 1)?, Vertex::Of(cell(1, 0)?));
+    let cells = Mask::empty().with(b1);
+    let to = VertexSet::of_cells(cells).with(First);
+    let within = full_indices(rt.alloc(), set.full_at_within(a2, cells, to))?;
+    assert_eq!(rt; within.as_slice(), [4].as_slice());
     Ok(())
 }
 

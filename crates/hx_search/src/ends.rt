@@ -14,6 +14,7 @@ use hx_linkset::LinkSet;
 pub(crate) struct Ends {
     reaches: [VertexSet; VERTICES],
     stones: Mask,
+    empties: Mask,
 
     /// The stones of the groups that have no side.
     inner: Mask,
@@ -28,6 +29,7 @@ impl Ends {
         Ends {
             reaches: [VertexSet::empty(); VERTICES],
             stones: Mask::empty(),
+            empties: Mask::empty(),
             inner: Mask::empty(),
             useful: VertexSet::empty(),
         }
@@ -36,12 +38,14 @@ impl Ends {
     pub(crate) fn of(set: &LinkSet) -> Ends {
         let position = set.position();
         let stones = position.stones(set.colour());
+        let empties = position.empties();
         let standing = standing_stones(position, set.groups(), stones);
         Ends {
             reaches: reaches_of(set.groups(), position),
             stones,
+            empties,
             inner: stones.minus(joined_with_sides(set.groups())),
-            useful: VertexSet::of_cells(position.empties().union(standing))
+            useful: VertexSet::of_cells(empties.union(standing))
                 .with(Vertex::First)
                 .with(Vertex::Last),
         }
@@ -65,6 +69,11 @@ impl Ends {
     /// The stones that stand for their groups.
     pub(crate) fn standing(&self) -> Mask {
         self.useful.cells().meet(self.stones)
+    }
+
+    /// The empty cells.
+    pub(crate) fn empties(&self) -> Mask {
+        self.empties
     }
 
     /// The stones of the groups that have no side.

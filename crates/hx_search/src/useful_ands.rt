@@ -10,8 +10,8 @@ use hx_linkset::{FullLink, LinkSet};
 /// The Full links with which one makes a useful And over one of its ends.
 #[derive(Clone, Copy)]
 struct Partners {
-    /// The cells that their carriers lack: those of its carrier, and its far end.
-    taken: Mask,
+    /// The cells that their carriers may have: the empty ones outside its carrier and its far end.
+    cells: Mask,
 
     /// Where they lead: to useful vertices outside its carrier, with which the far end is not
     /// joined yet.
@@ -21,12 +21,9 @@ struct Partners {
 impl Partners {
     /// The partners of a link over an own vertex, or over an empty cell. Over an own vertex two
     /// empty cells get no link.
-    fn of(ends: &Ends, empties: Mask, is_own: bool, link: &FullLink) -> Partners {
-        let taken = match link.to {
-            Vertex::Of(cell) => link.carrier.with(cell),
-            Vertex::First | Vertex::Last => link.carrier,
-        };
-        let empties = VertexSet::of_cells(empties);
+    fn of(ends: &Ends, is_own: bool, link: &FullLink) -> Partners {
+        let cells = ends.empties().minus(link.carrier);
+        let empties = VertexSet::of_cells(ends.empties());
         let mut out = ends
             .reach(&link.to)
             .union(VertexSet::of_cells(link.carrier));
@@ -34,14 +31,12 @@ impl Partners {
             out = out.union(empties);
         }
         Partners {
-            taken,
+            cells: match link.to {
+                Vertex::Of(cell) => cells.without(cell),
+                Vertex::First | Vertex::Last => cells,
+            },
             to: ends.useful().minus(out),
         }
-    }
-
-    #[inline(always)]
-    fn have(&self, other: &FullLink) -> bool {
-        self.to.has(other.to) && !other.carrier.meets(self.taken)
     }
 }
 
@@ -86,14 +81,12 @@ fn push_ands_at(
         return Ok(());
     }
     let over = empty_cell(ends, at);
-    let partners = Partners::of(ends, set.position().empties(), over.is_none(), link);
-    for other in set.full_at(*at) {
+    let partners = Partners::of(ends, over.is_none(), link);
+    for other in set.full_at_within(*at, partners.cells, partners.to) {
         if link.index <= other.index {
             break;
         }
-        if partners.have(&other) {
-            push_and(set, candidates, over, link, &other)?;
-        }
+        push_and(set, candidates, over, link, &other)?;
     }
     Ok(())
 }

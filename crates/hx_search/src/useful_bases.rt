@@ -87,7 +87,7 @@ pub(crate) fn push_bases(
     candidates: &mut Candidates,
     cells: Mask,
 ) -> Result<(), Memory> {
-    let empties = set.position().empties().meet(cells);
+    let empties = ends.empties().meet(cells);
     if ends.are_joined(&Vertex::First, &Vertex::Last) {
         push_base(set, candidates, &Vertex::First, &Vertex::Last)?;
     }

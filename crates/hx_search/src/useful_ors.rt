@@ -158,16 +158,14 @@ impl OrSearch {
                 break;
             }
             self.visits = self.visits.saturating_add(1);
-            let more = chosen.with(part);
-            if more.shared == chosen.shared {
-                continue;
-            }
-            self.choose(chosen.count, part);
-            if more.shared.is_empty() {
-                self.push(set, candidates, &more)?;
-            } else if left > 1 {
-                let rest = parts.get(place + 1..).unwrap_or(&[]);
-                self.widen(set, candidates, &more, rest, left - 1)?;
+            let rest = parts.get(place + 1..).unwrap_or(&[]);
+            let shared = chosen.shared.meet(part.carrier);
+            if shared.is_empty() {
+                self.choose(chosen.count, part);
+                self.push(set, candidates, &chosen.with(part))?;
+            } else if left > 1 && !rest.is_empty() && shared != chosen.shared {
+                self.choose(chosen.count, part);
+                self.widen(set, candidates, &chosen.with(part), rest, left - 1)?;
             }
         }
         Ok(())
