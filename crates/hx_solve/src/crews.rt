@@ -93,21 +93,8 @@ impl Crew<'_> {
             white,
         };
         let ended = work(rt, &mut job, gate);
-        let Job {
-            worker: _,
-            position: _,
-            to_move: _,
-            proofs,
-            counts: _,
-            seat,
-            hints: _,
-            black: _,
-            white: _,
-        } = job;
-        let Desk {
-            shared: _,
-            seat: book,
-        } = proofs;
+        let Job { proofs, seat, .. } = job;
+        let Desk { seat: book, .. } = proofs;
         Done {
             book,
             counts: seat,

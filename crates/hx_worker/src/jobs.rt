@@ -9,10 +9,10 @@ ghost use Rattle.hx_worker.specs.Sets.{AreOn};
 ghost use Rattle.hx_worker.specs.Keeps.{KeepsSeat};
 ghost use Rattle.hx_worker.specs.Ends.{IsEnded, IsTried, EndsSpent};
 
+use crate::closing::close_and_end;
 use crate::ended::Ended;
-use crate::opening::begin;
 use crate::rounds::search;
-use crate::workers::Worker;
+use crate::workers::{Worker, ask};
 use hx_board::{Colour, Position};
 use hx_book::Proofs;
 use hx_count::{CountSeat, Counts, Hints};
@@ -45,8 +45,8 @@ pub struct Job<'a, P: Proofs> {
 
 /// Searches until the position of the job is proved, or a unit, a slot or memory is wanting.
 ///
-/// The job's sets are closed at the job's position, and are never played on. Whatever the answer, the seat holds what it held,
-/// the sets stand at the job's position, and links that were live in them are.
+/// The job's sets are closed at the job's position where its units are spent, and are never played on. Whatever the answer, the
+/// seat holds what it held, the sets stand at the job's position, and links that were live in them are.
 pub fn work<P: Proofs, G: Gate, R: Wait>(rt: &R, job: &mut Job<'_, P>, gate: &G) -> Ended
     requires seat { job.old.seat.made ≡ job.old.counts.now }
     requires words { job.old.counts.now.limits.words ≡ 4096 }
@@ -64,7 +64,7 @@ pub fn work<P: Proofs, G: Gate, R: Wait>(rt: &R, job: &mut Job<'_, P>, gate: &G)
     ensures black { IsGrown job.old.black job.new.black }
     ensures white { IsGrown job.old.white job.new.white }
     ensures ended { IsEnded (P.list job.new.proofs) (P.slots job.new.proofs) job.new.seat job.old.position job.old.to_move result }
-    // A spent budget ends the work before the first turn, or after one that tried all that can be tried at once.
+    // A spent budget ends the work before the first turn, or after all was tried that can be tried at once.
     ensures tried { EndsSpent result → (own job.old.seat).granted < (own job.new.seat).granted
         → IsTried job.old.position job.old.to_move job.new.black job.new.white }
 {
@@ -74,20 +74,10 @@ pub fn work<P: Proofs, G: Gate, R: Wait>(rt: &R, job: &mut Job<'_, P>, gate: &G)
         counts: job.counts,
         hints: job.hints,
     };
-    let begun = begin(
-        rt,
-        &worker,
-        &mut job.proofs,
-        &mut job.seat,
-        &job.position,
-        job.to_move,
-        &mut job.black,
-        &mut job.white,
-    );
-    if let Some(ended) = begun {
-        return ended;
+    if let Err(spent) = ask(&worker, &mut job.seat) {
+        return Ended::Spent(spent);
     }
-    search(
+    let ended = search(
         rt,
         job.black.allocator(),
         &worker,
@@ -95,5 +85,17 @@ pub fn work<P: Proofs, G: Gate, R: Wait>(rt: &R, job: &mut Job<'_, P>, gate: &G)
         &mut job.seat,
         &job.position,
         job.to_move,
-    )
+    );
+    match ended {
+        Ended::Spent(spent) => close_and_end(
+            rt,
+            &mut job.proofs,
+            &job.position,
+            job.to_move,
+            &mut job.black,
+            &mut job.white,
+            spent,
+        ),
+        other => other,
+    }
 }

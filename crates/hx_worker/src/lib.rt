@@ -6,6 +6,7 @@
 #![tactic(auto)]
 
 mod children;
+mod closing;
 mod ended;
 mod first_numbers;
 mod focus;
@@ -13,7 +14,6 @@ mod jobs;
 mod looks;
 mod losses;
 mod marks;
-mod opening;
 mod orders;
 mod outcomes;
 mod proved_moves;

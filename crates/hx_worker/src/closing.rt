@@ -1,20 +1,21 @@
-//! The first turn, at the job's position, on the job's own sets, which are closed for it.
+//! The last look at the job's position, where a worker's units are spent: the job's own sets are closed for it.
+//!
+//! To close a set takes tens of milliseconds on a large board, and a search has no use for it, since it makes the useful links on
+//! sets of its own. So work that ends by a proof closes none.
 
 ghost use Rattle.std.specs.Prelude.{◌≡◌, ℕ, IfOk, IfSome};
 ghost use Rattle.hx_board.specs.Graph.{HasChain};
-ghost use Rattle.hx_count.specs.Seats.{Seat, own};
+ghost use Rattle.hx_count.specs.Seats.{Seat};
 ghost use Rattle.hx_tree.specs.Entries.{Extends};
 ghost use Rattle.hx_search.specs.Closed.{IsGrown};
 ghost use Rattle.hx_worker.specs.Sets.{AreOn};
-ghost use Rattle.hx_worker.specs.Keeps.{KeepsSeat};
+ghost use Rattle.hx_worker.specs.Keeps.{IsSpent};
 ghost use Rattle.hx_worker.specs.Ends.{IsEnded, IsTried, IsThrough, IsOpenSet, EndsSpent};
 
 use crate::ended::{Ended, ended_by, found_by};
-use crate::workers::{Worker, ask};
 use hx_board::{Colour, Memory, Position, chain};
 use hx_book::Proofs;
-use hx_count::CountSeat;
-use hx_io::Gate;
+use hx_count::Spent;
 use hx_linkset::LinkSet;
 use hx_nodes::{Stored, store_chain, store_links, store_turned};
 use hx_search::{Reached, close, decided};
@@ -138,31 +139,27 @@ fn decide<P: Proofs, R: Wait>(
     by_closed(rt, proofs, position, to_move, white)
 }
 
-/// The first turn. None where a unit was granted and the position is not decided.
-pub(crate) fn begin<P: Proofs, G: Gate, R: Wait>(
+/// The end of the work where no further unit was granted: by what decides the position after all, or by that refusal.
+pub(crate) fn close_and_end<P: Proofs, R: Wait>(
     rt: &R,
-    worker: &Worker<'_, G>,
     proofs: &mut P,
-    seat: &mut CountSeat,
     position: &Position,
     to_move: Colour,
     black: &mut LinkSet,
     white: &mut LinkSet,
-) -> Option<Ended>
-    requires seat { seat.old.made ≡ worker.now.counts.now }
-    requires sets { AreOn position.now black.old white.old }
+    spent: Spent,
+) -> Ended
+    requires { AreOn position.now black.old white.old }
     ensures slots { P.slots proofs.new ≡ P.slots proofs.old }
     ensures over { P.over proofs.new ≡ P.over proofs.old }
     ensures seen { Extends (P.list proofs.new) (P.list proofs.old) }
-    ensures seat { KeepsSeat seat.old seat.new }
     ensures black { IsGrown black.old black.new }
     ensures white { IsGrown white.old white.new }
-    ensures ended { IfSome result (IsEnded (P.list proofs.new) (P.slots proofs.new) seat.new position.now to_move) }
-    ensures not_granted { IfSome result (λ ended. EndsSpent ended → (own seat.new).granted ≡ (own seat.old).granted) }
-    ensures tried { result ≡ None → IsTried position.now to_move black.new white.new }
+    ensures ended { (seat : Seat) → IsSpent seat spent → IsEnded (P.list proofs.new) (P.slots proofs.new) seat position.now to_move result }
+    ensures tried { EndsSpent result → IsTried position.now to_move black.new white.new }
 {
-    if let Err(spent) = ask(worker, seat) {
-        return Some(Ended::Spent(spent));
+    match decide(rt, proofs, position, to_move, black, white) {
+        Some(ended) => ended,
+        None => Ended::Spent(spent),
     }
-    decide(rt, proofs, position, to_move, black, white)
 }

@@ -2,7 +2,7 @@ use Rattle.hx_board.specs.declared.colours.Colour.{Colour}
 use Rattle.hx_board.specs.declared.colours.Colour.TheVariants.{Black, White}
 use Rattle.hx_board.specs.Positions.{Board}
 use Rattle.hx_board.specs.Graph.{HasChain}
-use Rattle.hx_worker.proofs.opening.decide.Goals as goal
+use Rattle.hx_worker.proofs.closing.decide.Goals as goal
 
 no-chains : (board : Board) → (HasChain board Black → ⊥) → (HasChain board White → ⊥) → (player : Colour) → HasChain board player → ⊥
 no-chains board black white Black = black
