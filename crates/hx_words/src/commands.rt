@@ -15,6 +15,8 @@ pub enum Command {
     Check,
     /// Solve the position of a text.
     Solve(Settings),
+    /// Answer the lines of a session, and solve what they ask for.
+    Htp(Settings),
 }
 
 /// The command that the words are. The program's own name is not one of them.
@@ -34,6 +36,10 @@ pub fn command_of(words: &[String]) -> Option<Command>
         "solve" => {
             let settings = settings_in(rest)?;
             Some(Command::Solve(settings))
+        }
+        "htp" => {
+            let settings = settings_in(rest)?;
+            Some(Command::Htp(settings))
         }
         _ => None,
     }

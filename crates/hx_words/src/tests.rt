@@ -53,6 +53,19 @@ fn options_choose_settings(rt: HostRuntime) -> Result<(), Fail> {
 }
 
 #[test]
+fn a_session_has_the_options_of_a_search(rt: HostRuntime) -> Result<(), Fail> {
+    let line = "htp --budget 1099511627776 --proofs=1048576 --workers 64";
+    let words = words_in(rt.alloc(), line)?;
+    let settings = Settings {
+        workers: 64,
+        budget: 1_099_511_627_776,
+        slots: 1_048_576,
+    };
+    assert_eq!(rt; command_of(&words), Some(Command::Htp(settings)));
+    Ok(())
+}
+
+#[test]
 fn other_words_are_no_command(rt: HostRuntime) -> Result<(), Fail> {
     let lines = [
         "",
@@ -76,6 +89,12 @@ fn other_words_are_no_command(rt: HostRuntime) -> Result<(), Fail> {
         "solve --budget 1099511627777",
         "solve --budget 00000000000001",
         "solve --proofs 1048577",
+        "htp 5",
+        "htp --",
+        "htp --help",
+        "htp --budget 1 --budget=1",
+        "htp --budget -1",
+        "htp --proofs 1048577",
     ];
     for line in lines {
         let words = words_in(rt.alloc(), line)?;

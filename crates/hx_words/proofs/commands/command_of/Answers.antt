@@ -1,6 +1,6 @@
 use Rattle.std.proofs.Common.{◌≡◌, codes, sym, ap, ◌∙◌, string_bytes}
 use Rattle.hx_words.specs.Words.{words_of}
-use Rattle.hx_words.proofs.CommandWords.{Asks-solve}
+use Rattle.hx_words.proofs.CommandWords.{Asks-solve, Asks-htp}
 use Rattle.hx_words.proofs.Leads.{AreOptions-settings}
 use Rattle.hx_words.proofs.commands.command_of.Goals as goal
 
@@ -15,3 +15,15 @@ returns-in_err-settings-in-solve-clause-finds c =
 pub returns-in_ok-settings-in-solve-clause-limits : goal.returns-in_ok-settings-in-solve-clause-limits
 returns-in_ok-settings-in-solve-clause-limits c =
     AreOptions-settings (words_of c.in_ok-name.rest.now) c.in_ok-settings-in-solve.settings c.in_ok-settings-in-solve.ensures
+
+pub returns-in_err-settings-in-htp-clause-finds : goal.returns-in_err-settings-in-htp-clause-finds
+returns-in_err-settings-in-htp-clause-finds c =
+    let words = ap words_of c.in_ok-name.ensures.cases.0 in
+    let name : string_bytes c.in_ok-name.name.now ≡ codes "htp" = sym c.as_str.ensures.value ∙ c.in-htp.is in
+    rw c.from_residual-in_err-settings-in-htp.ensures
+    (Asks-htp (words_of c.args.words.now) (words_of c.in_ok-name.rest.now) (cc)
+    c.in_err-settings-in-htp.ensures)
+
+pub returns-in_ok-settings-in-htp-clause-limits : goal.returns-in_ok-settings-in-htp-clause-limits
+returns-in_ok-settings-in-htp-clause-limits c =
+    AreOptions-settings (words_of c.in_ok-name.rest.now) c.in_ok-settings-in-htp.settings c.in_ok-settings-in-htp.ensures
