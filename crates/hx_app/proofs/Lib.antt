@@ -2,4 +2,6 @@ pub mod NodesOut
 pub mod Positions
 pub mod SolvedTrees
 pub mod KeptPromises
+pub mod SearcherLaws
+pub mod SessionPromises
 pub mod RunClauses

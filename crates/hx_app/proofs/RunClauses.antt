@@ -2,26 +2,36 @@
 use Rattle.std.proofs.Common.{◌≡◌, ℕ, List, [], sym, subst}
 use Rattle.std.specs.Prelude.{Option}
 use Rattle.hx_solve.specs.declared.settings.Settings.{Settings}
-use Rattle.hx_words.specs.declared.commands.Command.TheVariants.{Check, Solve}
+use Rattle.hx_words.specs.declared.commands.Command.TheVariants.{Check, Solve, Htp}
 use Rattle.hx_words.specs.Commands.{Asks}
-use Rattle.hx_words.proofs.CommandWords.{check_is_not_solve, Asks-one}
+use Rattle.hx_words.proofs.CommandWords.{check_is_not_solve, check_is_not_htp, solve_is_not_htp, Asks-one}
 use Rattle.hx_check.specs.Judgements.{IsCheckRun}
 use Rattle.hx_check.specs.Promises.{KeepsPromises as ChecksAsPromised}
 use Rattle.hx_app.specs.declared.finishes.Finish.{Finish}
 use Rattle.hx_app.specs.Answers.{IsSolveRun}
 use Rattle.hx_app.specs.Promises.{KeepsPromises as SolvesAsPromised}
-use Rattle.hx_app.specs.Runs.{IsCheck, IsSolve, IsRun, Checked, Searched, CountsNothing}
+use Rattle.hx_app.specs.Sessions.{IsSessionRun, KeepsPromises as ServesAsPromised}
+use Rattle.hx_app.specs.Runs.{IsCheck, IsSolve, IsSession, IsRun, Checked, Searched, Served, CountsNothing}
 
-pub checked_not_solved : (words : List (List ℕ)) (settings : Settings) → Asks Check words → IsSolve settings words → ⊥
-checked_not_solved words settings check solve = check_is_not_solve words [] solve.0 check solve.1
+module _ (words : List (List ℕ)) where
+  pub checked_not_solved : (settings : Settings) → IsCheck words → IsSolve settings words → ⊥
+  checked_not_solved settings check solve = check_is_not_solve words [] solve.0 check solve.1
 
-pub solved_not_checked : (words : List (List ℕ)) (settings : Settings) → Asks (Solve settings) words → IsCheck words → ⊥
-solved_not_checked words settings solve check = checked_not_solved words settings check solve
+  pub checked_not_served : (settings : Settings) → IsCheck words → IsSession settings words → ⊥
+  checked_not_served settings check session = check_is_not_htp words [] session.0 check session.1
 
-same_settings : (words : List (List ℕ)) (a b : Settings) → IsSolve a words → IsSolve b words → a ≡ b
-same_settings words a b one other =
-    let same : Solve a ≡ Solve b = Asks-one words (Solve a) (Solve b) one other in
-    cc
+  pub solved_not_served : (one other : Settings) → IsSolve one words → IsSession other words → ⊥
+  solved_not_served one other solve session = solve_is_not_htp words solve.0 session.0 solve.1 session.1
+
+  same_solve : (a b : Settings) → IsSolve a words → IsSolve b words → a ≡ b
+  same_solve a b one other =
+      let same : Solve a ≡ Solve b = Asks-one words (Solve a) (Solve b) one other in
+      cc
+
+  same_session : (a b : Settings) → IsSession a words → IsSession b words → a ≡ b
+  same_session a b one other =
+      let same : Htp a ≡ Htp b = Asks-one words (Htp a) (Htp b) one other in
+      cc
 
 module _ (words : List (List ℕ)) (left left_now : Option (List ℕ)) (rose : Type 0) (before now : Option (List ℕ)) (sink_rose : Type 0) where
   pub checked_run : (status : ℕ) (finish : Finish) → Asks Check words → finish.status ≡ status → CountsNothing finish
@@ -33,6 +43,10 @@ module _ (words : List (List ℕ)) (left left_now : Option (List ℕ)) (rose : T
       → IsSolveRun settings left rose before now sink_rose finish → IsRun words left left_now rose before now sink_rose finish
   solved_run settings finish asks ran = Searched settings asks ran
 
+  pub served_run : (settings : Settings) (finish : Finish) → Asks (Htp settings) words
+      → IsSessionRun settings left left_now rose before now sink_rose finish → IsRun words left left_now rose before now sink_rose finish
+  served_run settings finish asks ran = Served settings asks ran
+
 module _ (left : Option (List ℕ)) (rose : Type 0) (before now : Option (List ℕ)) (sink_rose : Type 0) where
   pub checked_kept : (status : ℕ) (finish : Finish) → finish.status ≡ status → ChecksAsPromised left rose before now sink_rose status
       → ChecksAsPromised left rose before now sink_rose finish.status
@@ -41,4 +55,11 @@ module _ (left : Option (List ℕ)) (rose : Type 0) (before now : Option (List �
   pub solved_kept : (finish : Finish) (words : List (List ℕ)) (own settings : Settings) → Asks (Solve own) words → IsSolve settings words
       → SolvesAsPromised own left rose before now sink_rose finish → SolvesAsPromised settings left rose before now sink_rose finish
   solved_kept finish words own settings asks solve kept =
-      subst (λ (s : Settings). SolvesAsPromised s left rose before now sink_rose finish) (same_settings words own settings asks solve) kept
+      subst (λ (s : Settings). SolvesAsPromised s left rose before now sink_rose finish) (same_solve words own settings asks solve) kept
+
+  pub served_kept : (left_now : Option (List ℕ)) (finish : Finish) (words : List (List ℕ)) (own settings : Settings) → Asks (Htp own) words
+      → IsSession settings words → ServesAsPromised own left left_now rose before now sink_rose finish
+      → ServesAsPromised settings left left_now rose before now sink_rose finish
+  served_kept left_now finish words own settings asks session kept =
+      subst (λ (s : Settings). ServesAsPromised s left left_now rose before now sink_rose finish)
+      (same_session words own settings asks session) kept

@@ -3,12 +3,13 @@ use Rattle.std.specs.Prelude.{◌≡◌, ℕ, List, codes, Option}
 use Rattle.hx_solve.specs.declared.settings.Settings.{Settings}
 use Rattle.hx_solve.specs.Tallies.{tallied}
 use Rattle.hx_words.specs.declared.commands.Command.{Command}
-use Rattle.hx_words.specs.declared.commands.Command.TheVariants.{Check, Solve}
+use Rattle.hx_words.specs.declared.commands.Command.TheVariants.{Check, Solve, Htp}
 use Rattle.hx_words.specs.Commands.{Asks}
 use Rattle.hx_answers.specs.Endings.{IsWritten}
 use Rattle.hx_check.specs.Judgements.{IsCheckRun}
 use Rattle.hx_app.specs.declared.finishes.Finish.{Finish}
 use Rattle.hx_app.specs.Answers.{IsSolveRun}
+use Rattle.hx_app.specs.Sessions.{IsSessionRun}
 
 abbrev pub IsCheck : List (List ℕ) → Type 0
 IsCheck words = Asks Check words
@@ -16,6 +17,10 @@ IsCheck words = Asks Check words
 -- the words are `solve` with these settings
 abbrev pub IsSolve : Settings → List (List ℕ) → Type 0
 IsSolve settings words = Asks (Solve settings) words
+
+-- the words are `htp` with these settings
+abbrev pub IsSession : Settings → List (List ℕ) → Type 0
+IsSession settings words = Asks (Htp settings) words
 
 -- the words are a command
 abbrev pub IsCommand : List (List ℕ) → Type 0
@@ -40,4 +45,7 @@ pub data IsRun (words : List (List ℕ)) (left_before left_now : Option (List �
       → IsRun words left_before left_now source_rose taken_before taken_now sink_rose finish
   Searched : (settings : Settings) → IsSolve settings words
       → IsSolveRun settings left_before source_rose taken_before taken_now sink_rose finish
+      → IsRun words left_before left_now source_rose taken_before taken_now sink_rose finish
+  Served : (settings : Settings) → IsSession settings words
+      → IsSessionRun settings left_before left_now source_rose taken_before taken_now sink_rose finish
       → IsRun words left_before left_now source_rose taken_before taken_now sink_rose finish

@@ -7,9 +7,11 @@ ghost use Rattle.hx_words.specs.Words.{words_of};
 ghost use Rattle.hx_answers.specs.Endings.{IsWritten};
 ghost use Rattle.hx_check.specs.Promises.{KeepsPromises as ChecksAsPromised};
 ghost use Rattle.hx_app.specs.Promises.{KeepsPromises as SolvesAsPromised};
-ghost use Rattle.hx_app.specs.Runs.{IsCheck, IsSolve, IsCommand, IsRun, CountsNothing, bad_words_line};
+ghost use Rattle.hx_app.specs.Sessions.{KeepsPromises as ServesAsPromised};
+ghost use Rattle.hx_app.specs.Runs.{IsCheck, IsSolve, IsSession, IsCommand, IsRun, CountsNothing, bad_words_line};
 
 use crate::finishes::Finish;
+use crate::sessions::run_session;
 use crate::solving::run_solve;
 use hx_answers::WRITE_FAULT;
 use hx_check::run_check;
@@ -28,6 +30,7 @@ const BAD_WORDS: u8 = 2;
 /// `check` reads the text of a tree, judges its lines and nodes in their order and writes `yes` with the winner and the
 /// position of the root, or where the first fault is. `solve` reads the text of a position and writes the text of a tree
 /// that proves who wins it, or why there is none. Its workers call the gate at each of their turns; it may wait for them.
+/// `htp` answers the lines of a session, each before the next read; its workers call no gate.
 pub fn run<S: Source, K: Sink, G: Gate + Sync, R: Threads + Wait + Sync>(
     rt: &R,
     alloc: Global,
@@ -36,7 +39,8 @@ pub fn run<S: Source, K: Sink, G: Gate + Sync, R: Threads + Wait + Sync>(
     sink: &mut K,
     gate: &G,
 ) -> Finish
-    // Some answer is due, and it was written whole, or the sink failed before it took all of it.
+    // Some answer is due, and it was written whole, or the sink failed before it took all of it. A session has answered lines,
+    // and came to an end.
     ensures run { IsRun (words_of words.now)
         (S.left source.old) (S.left source.new) (Rose (S.faults source.old) (S.faults source.new))
         (K.taken sink.old) (K.taken sink.new) (Rose (K.faults sink.old) (K.faults sink.new))
@@ -57,6 +61,14 @@ pub fn run<S: Source, K: Sink, G: Gate + Sync, R: Threads + Wait + Sync>(
         (K.taken sink.old) (K.taken sink.new) (Rose (K.faults sink.old) (K.faults sink.new))
         result }
 
+    // `htp` keeps its promises: the output is the replies of a session to the lines of the input; a player that it names wins;
+    // `unknown` comes only where a refusal of a unit or of a slot was counted.
+    ensures htp { (settings : Bounds) → IsSession settings (words_of words.now)
+        → ServesAsPromised settings
+        (S.left source.old) (S.left source.new) (Rose (S.faults source.old) (S.faults source.new))
+        (K.taken sink.old) (K.taken sink.new) (Rose (K.faults sink.old) (K.faults sink.new))
+        result }
+
     // Whatever the words, the status of a failed write has its cause.
     ensures write_fault { result.status ≡ 6 → Rose (K.faults sink.old) (K.faults sink.new) }
 
@@ -67,6 +79,7 @@ pub fn run<S: Source, K: Sink, G: Gate + Sync, R: Threads + Wait + Sync>(
     match command_of(words) {
         Some(Command::Check) => uncounted(run_check(alloc, source, sink)),
         Some(Command::Solve(settings)) => run_solve(rt, alloc, settings, source, sink, gate),
+        Some(Command::Htp(settings)) => run_session(rt, alloc, settings, source, sink),
         None => uncounted(refuse(sink)),
     }
 }

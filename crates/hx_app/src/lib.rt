@@ -4,6 +4,8 @@
 mod answers;
 mod commands;
 mod finishes;
+mod searchers;
+mod sessions;
 mod solutions;
 mod solving;
 

@@ -1,6 +1,7 @@
 //! The top call over sources and sinks in memory.
 
 mod faults;
+mod sessions;
 mod solve;
 mod unknown;
 mod words;

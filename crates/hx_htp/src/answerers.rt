@@ -4,6 +4,7 @@
 //! how often it did: a contract that merely allowed an open question would be met by an answerer that never works.
 
 ghost use Rattle.std.specs.Prelude.{IfOk};
+ghost use Rattle.std.specs.Thread.{IsSync};
 ghost use Rattle.hx_htp.specs.Accounts.{Account, Continues, MayTell};
 
 use hx_board::{Colour, Memory, Position};
@@ -33,6 +34,8 @@ pub trait Answerer {
         position: &Position,
         to_move: Colour,
     ) -> Result<Told, Memory>
+        // The bound `Sync` again: inside a trait's method it is known only where a clause says it.
+        requires { IsSync R.row }
         // Budget and slots stay and no count falls, after want of memory too.
         ensures continues { Continues (account self.old) (account self.new) }
         // A winner that is named wins. What is told to be used up is what there was of it, its count rose in this call, and

@@ -1,5 +1,5 @@
 -- Counts of refusals.
-use Rattle.std.specs.Prelude.{◌≡◌, ℕ, ◌+◌, ◌-◌, ◌^◌, min}
+use Rattle.std.specs.Prelude.{◌≡◌, ℕ, ◌+◌, ◌-◌, ◌≤◌, ◌^◌, min}
 use Rattle.hx_solve.specs.declared.unsolved.Unsolved.{Unsolved}
 use Rattle.hx_solve.specs.declared.unsolved.Unsolved.TheVariants.{Budget, Slots, Memory}
 
@@ -22,6 +22,11 @@ abbrev pub counting : Unsolved → Tallied → Tallied
 counting (Budget taken) tally = record tally { budgets = one_more tally.budgets }
 counting (Slots refusal) tally = record tally { proofs = one_more tally.proofs }
 counting Memory tally = tally
+
+-- neither count is lower than before
+pub record NoCountFalls (before now : Tallied) : Type 0 where
+  pub budgets : before.budgets ≤ now.budgets
+  pub proofs : before.proofs ≤ now.proofs
 
 -- the refusal of a unit of the tally's budget, or of one of its slots
 abbrev pub IsCountedBy : Tallied → Unsolved → Type 0

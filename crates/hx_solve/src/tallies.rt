@@ -4,7 +4,7 @@
 //! that it counts, so each is counted once.
 
 ghost use Rattle.std.specs.Prelude.{◌≡◌};
-ghost use Rattle.hx_solve.specs.Tallies.{tallied, counting, IsCountedBy};
+ghost use Rattle.hx_solve.specs.Tallies.{tallied, counting, IsCountedBy, NoCountFalls};
 
 use crate::unsolved::Unsolved;
 use std::marker::Model;
@@ -42,7 +42,8 @@ impl Tally {
     /// Counts the refusal of a unit of this budget, or of one of these slots.
     pub fn add(&mut self, refusal: Unsolved)
         requires { IsCountedBy self.old refusal }
-        ensures { self.new ≡ counting refusal self.old }
+        ensures counted { self.new ≡ counting refusal self.old }
+        ensures later { NoCountFalls self.old self.new }
     {
         match refusal {
             Unsolved::Budget(_) => self.budgets = self.budgets.saturating_add(1),

@@ -1,5 +1,5 @@
-use Rattle.hx_words.specs.declared.commands.Command.TheVariants.{Check, Solve}
-use Rattle.hx_app.proofs.RunClauses.{checked_run, checked_kept, checked_not_solved, solved_not_checked, solved_run, solved_kept}
+use Rattle.hx_words.specs.declared.commands.Command.TheVariants.{Check, Solve, Htp}
+use Rattle.hx_app.proofs.RunClauses.{checked_run, checked_kept, checked_not_solved, checked_not_served, solved_run, solved_kept, solved_not_served, served_run, served_kept}
 use Rattle.hx_app.proofs.commands.run.Goals as goal
 
 pub returns-in-Some-Check-clause-run : goal.returns-in-Some-Check-clause-run
@@ -14,18 +14,42 @@ returns-in-Some-Check-clause-check g c = λ check.
 pub returns-in-Some-Check-clause-solve : goal.returns-in-Some-Check-clause-solve
 returns-in-Some-Check-clause-solve g c = λ settings solve. absurd (checked_not_solved _ settings (rw c.in-Some-Check.field-0-is at c.in-Some-Check.ensures.finds) solve)
 
+pub returns-in-Some-Check-clause-htp : goal.returns-in-Some-Check-clause-htp
+returns-in-Some-Check-clause-htp g c = λ settings session. absurd (checked_not_served _ settings (rw c.in-Some-Check.field-0-is at c.in-Some-Check.ensures.finds) session)
+
 pub returns-in-Some-Solve-clause-run : goal.returns-in-Some-Solve-clause-run
 returns-in-Some-Solve-clause-run g c = solved_run _ _ _ _ _ _ _ _ _ (rw (c.in-Some-Solve.field-0-is, c.in-Some-Solve.settings-is) at c.in-Some-Solve.ensures.finds) c.run_solve.ensures.run
 
 pub returns-in-Some-Solve-clause-check : goal.returns-in-Some-Solve-clause-check
-returns-in-Some-Solve-clause-check g c = λ check. absurd (solved_not_checked _ _ (rw (c.in-Some-Solve.field-0-is, c.in-Some-Solve.settings-is) at c.in-Some-Solve.ensures.finds) check)
+returns-in-Some-Solve-clause-check g c = λ check. absurd (checked_not_solved _ _ check (rw (c.in-Some-Solve.field-0-is, c.in-Some-Solve.settings-is) at c.in-Some-Solve.ensures.finds))
 
 pub returns-in-Some-Solve-clause-solve : goal.returns-in-Some-Solve-clause-solve
 returns-in-Some-Solve-clause-solve g c = λ settings solve.
     solved_kept _ _ _ _ _ _ _ _ settings (rw (c.in-Some-Solve.field-0-is, c.in-Some-Solve.settings-is) at c.in-Some-Solve.ensures.finds) solve c.run_solve.ensures.promises
+
+pub returns-in-Some-Solve-clause-htp : goal.returns-in-Some-Solve-clause-htp
+returns-in-Some-Solve-clause-htp g c = λ settings session.
+    absurd (solved_not_served _ _ settings (rw (c.in-Some-Solve.field-0-is, c.in-Some-Solve.settings-is) at c.in-Some-Solve.ensures.finds) session)
+
+pub returns-in-Some-Htp-clause-run : goal.returns-in-Some-Htp-clause-run
+returns-in-Some-Htp-clause-run g c = served_run _ _ _ _ _ _ _ _ _ (rw (c.in-Some-Htp.field-0-is, c.in-Some-Htp.settings-is) at c.in-Some-Htp.ensures.finds) c.run_session.ensures.run
+
+pub returns-in-Some-Htp-clause-check : goal.returns-in-Some-Htp-clause-check
+returns-in-Some-Htp-clause-check g c = λ check. absurd (checked_not_served _ _ check (rw (c.in-Some-Htp.field-0-is, c.in-Some-Htp.settings-is) at c.in-Some-Htp.ensures.finds))
+
+pub returns-in-Some-Htp-clause-solve : goal.returns-in-Some-Htp-clause-solve
+returns-in-Some-Htp-clause-solve g c = λ settings solve.
+    absurd (solved_not_served _ settings _ solve (rw (c.in-Some-Htp.field-0-is, c.in-Some-Htp.settings-is) at c.in-Some-Htp.ensures.finds))
+
+pub returns-in-Some-Htp-clause-htp : goal.returns-in-Some-Htp-clause-htp
+returns-in-Some-Htp-clause-htp g c = λ settings session.
+    served_kept _ _ _ _ _ _ _ _ _ settings (rw (c.in-Some-Htp.field-0-is, c.in-Some-Htp.settings-is) at c.in-Some-Htp.ensures.finds) session c.run_session.ensures.promises
 
 pub returns-in-None-clause-check : goal.returns-in-None-clause-check
 returns-in-None-clause-check g c = λ check. absurd (c.in-None.ensures.finds Check check)
 
 pub returns-in-None-clause-solve : goal.returns-in-None-clause-solve
 returns-in-None-clause-solve g c = λ settings solve. absurd (c.in-None.ensures.finds (Solve settings) solve)
+
+pub returns-in-None-clause-htp : goal.returns-in-None-clause-htp
+returns-in-None-clause-htp g c = λ settings session. absurd (c.in-None.ensures.finds (Htp settings) session)

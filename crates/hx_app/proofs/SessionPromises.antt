@@ -1,0 +1,151 @@
+-- What a run of `htp` says with each status, by how the session ended.
+use Rattle.std.proofs.Common.{◌≡◌, ℕ, ◌≤◌, ◌<◌, ◌^◌, inl, inr, List, length, refl, sym, subst, arith}
+use Rattle.std.specs.Prelude.{Option, None, Some, IfSome}
+use Rattle.hx_solve.specs.declared.settings.Settings.{Settings}
+use Rattle.hx_solve.specs.Tallies.{Tallied, tallied}
+use Rattle.hx_htp.specs.Accounts.{Account}
+use Rattle.hx_htp.specs.States.{fresh}
+use Rattle.hx_htp.specs.Sessions.{Moment, moment}
+use Rattle.hx_htp.specs.Runs.{Run, SessionRun, until_quit}
+use Rattle.hx_htp.specs.Laws.{IsCounted, NamesWinners}
+use Rattle.hx_serve.specs.declared.serving.Ended.{Ended}
+use Rattle.hx_serve.specs.declared.serving.Ended.TheVariants.{Done, ReadFault, WriteFault, TooLong}
+use Rattle.hx_serve.specs.Serving.{Ends, IsTooLong, IsWithinLimits, most_lines}
+use Rattle.hx_app.specs.declared.finishes.Finish.{Finish}
+use Rattle.hx_app.specs.Sessions.{account_of, start_of, status_of_end, EndHasCause, IsSessionRun, IsUnlessFault, EachRunNamesWinners, EachRunIsCounted, KeepsPromises}
+
+-- ---- how a session was served
+
+end_has_cause : (rose sink_rose : Type 0) (ended : Ended) → (ended ≡ ReadFault → rose) → (ended ≡ WriteFault → sink_rose)
+    → EndHasCause rose sink_rose ended
+end_has_cause rose sink_rose Done read write = tt
+end_has_cause rose sink_rose ReadFault read write = read refl
+end_has_cause rose sink_rose WriteFault read write = write refl
+end_has_cause rose sink_rose TooLong read write = tt
+
+pub session_ran : (settings : Settings) (left left_now : Option (List ℕ)) (rose : Type 0) (before now : Option (List ℕ)) (sink_rose : Type 0)
+    (ended : Ended) (fresh used : Tallied) (finish : Finish) → fresh ≡ tallied settings.budget settings.slots 0 0
+    → finish.tally ≡ used → finish.status ≡ status_of_end ended
+    → Ends (account_of fresh) (account_of used) left left_now before now ended
+    → (ended ≡ ReadFault → rose) → (ended ≡ WriteFault → sink_rose)
+    → IsSessionRun settings left left_now rose before now sink_rose finish
+session_ran settings left left_now rose before now sink_rose ended fresh used finish is_fresh is_used status ends read write =
+    let P : Tallied → Type 0 = λ t. Ends (account_of t) (account_of used) left left_now before now ended in
+    let Q : Tallied → Type 0 = λ t. Ends (start_of settings) (account_of t) left left_now before now ended in
+    record {
+      ended = ended;
+      ends = subst Q (sym is_used) (subst P is_fresh ends);
+      cause = end_has_cause rose sink_rose ended read write;
+      status = status;
+    }
+
+-- ---- what it is good for
+
+-- an input that is above a limit is not within the limits
+abbrev pub LimitsAreApart : Type 0
+LimitsAreApart = (start account : Account) (input : List ℕ) (taken now : Option (List ℕ))
+    → IsTooLong start account input taken now → ¬ IsWithinLimits input
+
+-- replies that name a limit are counted, where the counts begin at 0
+abbrev pub RepliesAreCounted : Type 0
+RepliesAreCounted = (before after : Account) (lines : List (List ℕ)) (replies : List ℕ) (run : SessionRun before lines replies after)
+    → before.budgets ≡ 0 → before.proofs ≡ 0 → length (until_quit lines) < 2 ^ 64 → IsCounted run
+
+-- each player whom a run names is a winner
+abbrev pub NamedPlayersWin : Type 0
+NamedPlayersWin = (before : Account) (after : Moment) (lines : List (List ℕ)) (replies : List ℕ)
+    (run : Run (moment fresh before) lines replies after) → NamesWinners run
+
+each_run_names_winners : (before after : Account) → NamedPlayersWin → EachRunNamesWinners before after
+each_run_names_winners before after law lines replies run = law before (moment run.state after) (until_quit lines) replies run.run
+
+each_run_is_counted : (settings : Settings) (after : Account) → RepliesAreCounted → EachRunIsCounted (start_of settings) after
+each_run_is_counted settings after law lines replies run few =
+    law (start_of settings) after lines replies run refl refl (omega (arith, few))
+
+-- a clause of an input holds where the source does not tell it
+of_told : (left : Option (List ℕ)) (Knows Says : List ℕ → Type 0) → IfSome left Knows → ((input : List ℕ) → Knows input → Says input)
+    → IfSome left Says
+of_told None Knows Says knows says = tt
+of_told (Some input) Knows Says knows says = says input knows
+
+of_any : (left : Option (List ℕ)) (Says : List ℕ → Type 0) → ((input : List ℕ) → Says input) → IfSome left Says
+of_any None Says says = tt
+of_any (Some input) Says says = says input
+
+module _ (settings : Settings) (left left_now : Option (List ℕ)) (rose : Type 0) (before now : Option (List ℕ)) (sink_rose : Type 0) (finish : Finish)
+    (apart : LimitsAreApart) (winners : EachRunNamesWinners (start_of settings) (account_of finish.tally))
+    (counted : EachRunIsCounted (start_of settings) (account_of finish.tally)) where
+  abbrev Kept : Type 0
+  Kept = KeepsPromises settings left left_now rose before now sink_rose finish
+
+  abbrev EndsAs : Ended → Type 0
+  EndsAs ended = Ends (start_of settings) (account_of finish.tally) left left_now before now ended
+
+  kept_done : EndsAs Done → finish.status ≡ 0 → Kept
+  kept_done ends zero = record {
+    replies = λ is. ends;
+    read_fault = λ five. absurd (omega (arith, zero, five));
+    write_fault = λ six. absurd (omega (arith, zero, six));
+    too_long = λ eight. absurd (omega (arith, zero, eight));
+    within = of_any left _ (λ input within. inl zero);
+    above = of_told left _ _ ends (λ input done above. absurd (above done.within));
+    winners = winners;
+    counted = counted;
+    none_else = inr (inl zero);
+  }
+
+  kept_read_fault : EndsAs ReadFault → rose → finish.status ≡ 5 → Kept
+  kept_read_fault ends cause five = record {
+    replies = λ zero. absurd (omega (arith, five, zero));
+    read_fault = λ is. (cause, ends);
+    write_fault = λ six. absurd (omega (arith, five, six));
+    too_long = λ eight. absurd (omega (arith, five, eight));
+    within = of_any left _ (λ input within. inr (inl five));
+    above = of_any left _ (λ input above. inr (inl five));
+    winners = winners;
+    counted = counted;
+    none_else = inr (inr (inl five));
+  }
+
+  kept_write_fault : EndsAs WriteFault → sink_rose → finish.status ≡ 6 → Kept
+  kept_write_fault ends cause six = record {
+    replies = λ zero. absurd (omega (arith, six, zero));
+    read_fault = λ five. absurd (omega (arith, six, five));
+    write_fault = λ is. (cause, ends);
+    too_long = λ eight. absurd (omega (arith, six, eight));
+    within = of_any left _ (λ input within. inr (inr six));
+    above = of_any left _ (λ input above. inr (inr six));
+    winners = winners;
+    counted = counted;
+    none_else = inr (inr (inr six));
+  }
+
+  kept_too_long : EndsAs TooLong → finish.status ≡ 8 → Kept
+  kept_too_long ends eight = record {
+    replies = λ zero. absurd (omega (arith, eight, zero));
+    read_fault = λ five. absurd (omega (arith, eight, five));
+    write_fault = λ six. absurd (omega (arith, eight, six));
+    too_long = λ is. ends;
+    within = of_told left _ _ ends (λ input long within. absurd (apart _ _ input before now long within));
+    above = of_any left _ (λ input above. inl eight);
+    winners = winners;
+    counted = counted;
+    none_else = inl eight;
+  }
+
+  kept_end : (ended : Ended) → EndsAs ended → EndHasCause rose sink_rose ended → finish.status ≡ status_of_end ended → Kept
+  kept_end Done ends cause same = kept_done ends same
+  kept_end ReadFault ends cause same = kept_read_fault ends cause same
+  kept_end WriteFault ends cause same = kept_write_fault ends cause same
+  kept_end TooLong ends cause same = kept_too_long ends same
+
+pub kept : (settings : Settings) (left left_now : Option (List ℕ)) (rose : Type 0) (before now : Option (List ℕ)) (sink_rose : Type 0)
+    (finish : Finish) → LimitsAreApart → NamedPlayersWin → RepliesAreCounted
+    → IsSessionRun settings left left_now rose before now sink_rose finish
+    → KeepsPromises settings left left_now rose before now sink_rose finish
+kept settings left left_now rose before now sink_rose finish apart named law ran =
+    kept_end settings left left_now rose before now sink_rose finish apart
+    (each_run_names_winners (start_of settings) (account_of finish.tally) named)
+    (each_run_is_counted settings (account_of finish.tally) law)
+    ran.ended ran.ends ran.cause ran.status

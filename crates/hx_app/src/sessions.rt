@@ -1,0 +1,76 @@
+//! The command `htp`: a session over the lines of the input, whose questions a search answers.
+
+ghost use Rattle.std.specs.Prelude.{◌≡◌};
+ghost use Rattle.hx_io.specs.Causes.{Rose};
+ghost use Rattle.hx_solve.specs.Settings.{AreSettings};
+ghost use Rattle.hx_app.specs.Sessions.{IsSessionRun, KeepsPromises, status_of_end};
+
+use crate::finishes::Finish;
+use crate::searchers::Searcher;
+use hx_answers::{READ_FAULT, WRITE_FAULT};
+use hx_htp::{named_players_win, open_questions_are_counted};
+use hx_io::{Sink, Source};
+use hx_serve::{Ended, only_lines_above_a_limit_are_too_long, serve};
+use hx_solve::Settings;
+use std::alloc::Global;
+use std::sync::Wait;
+use std::thread::Threads;
+
+/// Answers the lines of the input, each before the next read. Where an answer asks who wins a position, it is searched with
+/// these settings.
+pub(crate) fn run_session<S: Source, K: Sink, R: Threads + Wait + Sync>(
+    rt: &R,
+    alloc: Global,
+    settings: Settings,
+    source: &mut S,
+    sink: &mut K,
+) -> Finish
+    requires { AreSettings settings }
+    ensures run { IsSessionRun settings
+        (S.left source.old) (S.left source.new) (Rose (S.faults source.old) (S.faults source.new))
+        (K.taken sink.old) (K.taken sink.new) (Rose (K.faults sink.old) (K.faults sink.new))
+        result }
+    ensures promises { KeepsPromises settings
+        (S.left source.old) (S.left source.new) (Rose (S.faults source.old) (S.faults source.new))
+        (K.taken sink.old) (K.taken sink.new) (Rose (K.faults sink.old) (K.faults sink.new))
+        result }
+{
+    named_players_win();
+    open_questions_are_counted();
+    only_lines_above_a_limit_are_too_long();
+    serve_lines(rt, alloc, settings, source, sink)
+}
+
+/// Answers the lines of the input, and says how the session ended.
+fn serve_lines<S: Source, K: Sink, R: Threads + Wait + Sync>(
+    rt: &R,
+    alloc: Global,
+    settings: Settings,
+    source: &mut S,
+    sink: &mut K,
+) -> Finish
+    requires { AreSettings settings }
+    ensures { IsSessionRun settings
+        (S.left source.old) (S.left source.new) (Rose (S.faults source.old) (S.faults source.new))
+        (K.taken sink.old) (K.taken sink.new) (Rose (K.faults sink.old) (K.faults sink.new))
+        result }
+{
+    let mut searcher = Searcher::new(alloc, settings);
+    let ended = serve(rt, source, sink, &mut searcher);
+    Finish {
+        status: status_of(ended),
+        tally: searcher.into_tally(),
+    }
+}
+
+/// The exit status of an end.
+fn status_of(ended: Ended) -> u8
+    ensures { result ≡ status_of_end ended }
+{
+    match ended {
+        Ended::Done => 0,
+        Ended::ReadFault => READ_FAULT,
+        Ended::WriteFault => WRITE_FAULT,
+        Ended::TooLong => 8,
+    }
+}
