@@ -11,7 +11,8 @@ import sys
 from functools import partial
 from typing import NamedTuple
 
-MOST_BYTES = 16_777_216  # formats: Limits. Texts of more nodes than the limit on nodes are longer than this.
+LONGEST_LINE = 4096  # formats: Limits, bytes of a line without its LF
+MOST_NODES = 1_048_576  # formats: Limits
 WIDTH = 11  # formats: Texts, the index of a cell
 OTHER = {"black": "white", "white": "black"}
 FIRST, LAST = 121, 122  # definitions: What is joined, the code of a vertex
@@ -19,6 +20,9 @@ WAYS = (0, -1), (0, 1), (-1, 0), (1, 0), (-1, 1), (1, -1)  # definitions: The bo
 
 class Wrong(Exception):
     """The line that was asked for last is not of the grammar in its place."""
+
+class TooLong(Exception):
+    """A limit is passed at the line that was asked for last."""
 
 def require(is_so):
     if not is_so:
@@ -312,22 +316,26 @@ ENTRIES = {"links": (read_step,), "all": (read_step, partial(read_form, THREATS)
            "fill": (partial(read_form, FILLS),)}
 
 class Lines:
-    """The lines of some bytes, one after the other, and the number of the last one that was asked for."""
+    """The lines of a stream of bytes, one after the other, and the number of the last one that was asked for."""
 
-    def __init__(self, content):
-        self.rest = content.decode("latin-1")  # one character a byte
-        self.start, self.number = 0, 0
+    def __init__(self, source):
+        self.source, self.number = source, 0
+
+    def next_piece(self):
+        """The next line with its LF, the last bytes without one, or nothing."""
+        self.number += 1
+        piece = self.source.readline(LONGEST_LINE + 1)
+        if len(piece) > LONGEST_LINE and not piece.endswith(b"\n"):
+            raise TooLong
+        return piece
 
     def next_words(self):
-        self.number += 1
-        end = self.rest.find("\n", self.start)
-        require(end >= 0)  # formats: Where a text goes wrong, a line that is missing or not ended
-        line, self.start = self.rest[self.start:end], end + 1
-        return line.split(" ")
+        piece = self.next_piece()
+        require(piece.endswith(b"\n"))  # formats: Where a text goes wrong, a line that is missing or not ended
+        return piece[:-1].decode("latin-1").split(" ")  # one character a byte
 
     def end(self):
-        self.number += 1
-        require(self.start == len(self.rest))  # formats: Where a text goes wrong, a text that goes on
+        require(not self.next_piece())  # formats: Where a text goes wrong, a text that goes on
 
 def read_preamble(lines):
     version = lines.next_words()
@@ -337,10 +345,12 @@ def read_preamble(lines):
     rules = {name: form for name, form in RULES.items() if name != "turned" or version[1] == "2"}
     return rules, Size(*extent)
 
-def read_node(lines, words, rules, size):
+def read_node(lines, words, rules, size, is_full=False):
     _, (black, white, mover, winner) = read_form({"node": (mask, mask, colour, colour)}, words[:5], size)
     require(not black & white)  # formats: The text of a position, no cell is in both masks
     rule, values = read_form(rules, words[5:], size)
+    if is_full:
+        raise TooLong
     entries = [[read(lines.next_words(), size) for _ in range(count)]
                for read, count in zip(ENTRIES.get(rule, ()), values)]
     return Heading(Board(size, black, white), mover, winner), rule, values, entries
@@ -358,7 +368,8 @@ def judged(lines):
     rules, size = read_preamble(lines)
     judge = Judge()
     while (words := lines.next_words())[0] != "end" or not judge.headings:
-        heading, rule, values, entries = read_node(lines, words, rules, size)
+        is_full = len(judge.headings) == MOST_NODES
+        heading, rule, values, entries = read_node(lines, words, rules, size, is_full)
         if not getattr(judge, rule)(heading, values, *entries):
             return 1, f"no node {len(judge.headings)}\n"
         judge.headings.append(heading)
@@ -367,20 +378,20 @@ def judged(lines):
     lines.end()
     return 0, f"yes {root.winner}\n{position_text(root)}"
 
-def answer_to(content):
-    if len(content) > MOST_BYTES:
-        return 8, "too long\n"
-    lines = Lines(content)
+def answer_to(source):
+    lines = Lines(source)
     try:
         return judged(lines)
     except Wrong:
         return 1, f"no text {lines.number}\n"
+    except TooLong:
+        return 8, "too long\n"
 
 def run(words):
     if words != ["check"]:
         return 2, "bad words\n"
     try:
-        return answer_to(open(0, "rb").read(MOST_BYTES + 1))
+        return answer_to(open(0, "rb"))
     except OSError:
         return 5, "read fault\n"
     except MemoryError:

@@ -141,7 +141,7 @@ def numbers():
         ("number-too-large", "no text 4", "move a1 0", "move a1 4294967296"),
         ("number-of-eleven-digits", "no text 4", "move a1 0", "move a1 10000000000"),
         ("number-above-two-to-the-64", "no text 4", "move a1 0", "move a1 18446744073709551616"),
-        ("number-of-five-thousand-digits", "no text 4", "move a1 0", "move a1 " + "9" * 5000),
+        ("number-of-three-thousand-digits", "no text 4", "move a1 0", "move a1 " + "9" * 3000),
         ("nothing-for-a-number", "no text 4", "move a1 0", "move a1 "),
         ("tab-between-words", "no text 4", "move a1 0", "move a1\t0"),
     ])

@@ -1,5 +1,6 @@
 //! How long `find` and `put` of a book take, beside a HashMap of std's: the least of some rounds.
-//! How many entries a find visits.
+//! How many entries a find visits. How long `find_wider` takes on a book of entries that all have
+//! other stones of the winner.
 #![tactic(auto)]
 
 ghost use Rattle.std.specs.Prelude.{◌≡◌};
@@ -88,6 +89,29 @@ fn drawn(size: Size, number: u32, further: u128) -> Option<Asked> {
         Colour::White
     };
     Some(Asked { position, to_move })
+}
+
+/// Twenty digits tell Black's stones beside the column, and White has one stone at the most.
+fn drawn_wide(size: Size, number: u32, whites: u128) -> Option<Asked> {
+    let black = (spread(number / 2) << 33) | (spread(number / 2048) << 77) | COLUMN;
+    let position = Position::from_masks(size, Mask::of(black), Mask::of(whites))?;
+    let to_move = if number % 2 == 0 {
+        Colour::Black
+    } else {
+        Colour::White
+    };
+    Some(Asked { position, to_move })
+}
+
+/// So many of those, all different.
+fn list_wide(alloc: Global, size: Size, count: u32, whites: u128) -> Result<Vec<Asked>, AllocError> {
+    let mut list = Vec::with_capacity(alloc, count as usize)?;
+    for number in 0..count {
+        if let Some(one) = drawn_wide(size, number, whites) {
+            list.push(one)?;
+        }
+    }
+    Ok(list)
 }
 
 /// So many of them, all different.
@@ -222,6 +246,16 @@ fn find_all(book: &Book, list: &[Asked]) -> u64 {
     for one in list {
         if let Some(found) = book.find(&one.position, one.to_move) {
             sum = sum.wrapping_add(u64::from(found.index));
+        }
+    }
+    sum
+}
+
+fn find_all_wider(book: &Book, list: &[Asked]) -> u64 {
+    let mut sum = 0u64;
+    for one in list {
+        if let Some(wider) = book.find_wider(&one.position, one.to_move, Colour::Black) {
+            sum = sum.wrapping_add(u64::from(wider.found.index));
         }
     }
     sum
@@ -392,6 +426,35 @@ fn measure(rt: &HostRuntime, size: Size, count: u32, buckets: u32) -> io::Result
     least.print(rt, u64::from(count))
 }
 
+/// Each entry has a white stone that a hit lacks; a miss has another one.
+fn measure_wider(rt: &HostRuntime, size: Size, count: u32) -> io::Result<()> {
+    if count > 1048576 || count == 0 {
+        return Ok(());
+    }
+    let puts = list_wide(rt.alloc(), size, count, 1 << 55)?;
+    let hits = mixed(rt.alloc(), &list_wide(rt.alloc(), size, count, 0)?)?;
+    let misses = mixed(rt.alloc(), &list_wide(rt.alloc(), size, count, 1 << 56)?)?;
+    let Ok(mut book) = Book::with_buckets(rt.alloc(), count, count) else {
+        return Ok(());
+    };
+    let mut sum = put_all(&mut book, &puts);
+    let (mut hit, mut miss) = (u64::MAX, u64::MAX);
+    for _ in 0..ROUNDS {
+        let start = Instant::now(rt)?;
+        sum = sum.wrapping_add(find_all_wider(&book, &hits));
+        hit = hit.min(since(rt, start)?);
+        let start = Instant::now(rt)?;
+        sum = sum.wrapping_add(find_all_wider(&book, &misses));
+        miss = miss.min(since(rt, start)?);
+    }
+    let each = u64::from(count);
+    println!(rt;
+        "{count} entries, wider: hit {} ns, miss {} ns, sum {sum}",
+        hit / each,
+        miss / each
+    )
+}
+
 fn main(rt: HostRuntime) -> io::Result<()> {
     let Some(size) = Size::new(11, 11) else {
         return Ok(());
@@ -404,6 +467,7 @@ fn main(rt: HostRuntime) -> io::Result<()> {
     for count in [1048576u32, 65536] {
         measure(&rt, size, count, count)?;
         measure(&rt, size, count, 2 * count)?;
+        measure_wider(&rt, size, count)?;
     }
     Ok(())
 }

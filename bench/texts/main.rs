@@ -3,7 +3,7 @@
 #![tactic(auto)]
 
 use hx_io::{MemorySink, Sink};
-use hx_text::{Fed, TreeReader, cut, write_end, write_heading, write_node};
+use hx_text::{Fed, TreeReader, cut, version_of, write_end, write_heading, write_node};
 use hx_tree::{Node, Rule};
 use std::alloc::{AllocError, Global};
 use std::io;
@@ -61,14 +61,14 @@ fn is_written<K: Sink>(sink: &mut K, node: &Node) -> bool {
                 && lines.items().len() <= 121
                 && write_node(sink, node).is_ok()
         }
-        Rule::Links { .. } => false,
+        Rule::Links { .. } | Rule::Fill { .. } => false,
         _ => write_node(sink, node).is_ok(),
     }
 }
 
 fn write<K: Sink>(sink: &mut K, nodes: &[Node]) {
     if let (Some(root), Ok(count)) = (nodes.last(), u32::try_from(nodes.len())) {
-        let _ = write_heading(sink, root.heading.position.size());
+        let _ = write_heading(sink, version_of(nodes), root.heading.position.size());
         for node in nodes {
             let _ = is_written(sink, node);
         }

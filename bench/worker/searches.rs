@@ -10,7 +10,7 @@ use hx_book::Book;
 use hx_count::{CountSeat, Counts, Hints};
 use hx_io::RealGate;
 use hx_linkset::LinkSet;
-use hx_worker::{Ended, Job, work};
+use hx_worker::{Ended, Job, Replies, work};
 use std::alloc::Global;
 use std::sync::Wait;
 
@@ -51,6 +51,7 @@ pub(crate) fn search<R: Wait>(
     let (counts, seat) = counted(alloc, budget)?;
     let black = LinkSet::new(alloc, position, Colour::Black)?;
     let white = LinkSet::new(alloc, position, Colour::White)?;
+    let replies = Replies::new(alloc)?;
     let mut job = Job {
         worker: 0,
         position: *position,
@@ -59,6 +60,7 @@ pub(crate) fn search<R: Wait>(
         counts: &counts,
         seat,
         hints,
+        replies: &replies,
         black,
         white,
     };

@@ -2,6 +2,7 @@
 
 The text is read by checkers/check.py, and what link a step gives is taken from there.
 """
+import io
 import pathlib
 import sys
 
@@ -18,7 +19,7 @@ class NoTree(Exception):
 
 def read_nodes(content):
     """The nodes of a text, each as the checker reads it."""
-    lines = check.Lines(content)
+    lines = check.Lines(io.BytesIO(content))
     try:
         rules, size = check.read_preamble(lines)
         nodes = []
@@ -26,7 +27,7 @@ def read_nodes(content):
             nodes.append(check.read_node(lines, words, rules, size))
         check.require(words == ["end", str(len(nodes)), nodes[-1][0].winner])
         lines.end()
-    except check.Wrong:
+    except (check.Wrong, check.TooLong):
         raise NoTree(f"line {lines.number} is not of the text of a tree") from None
     return nodes
 

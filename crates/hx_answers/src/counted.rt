@@ -1,11 +1,25 @@
-//! A line that ends with a number.
+//! Words with a number behind them, and a line that ends so.
 
 ghost use Rattle.hx_io.specs.Causes.{HasCause};
 ghost use Rattle.hx_io.specs.Sinks.{TakesAll};
-ghost use Rattle.hx_answers.specs.Texts.{counted_text};
+ghost use Rattle.hx_answers.specs.Texts.{counted_text, numbered_text};
 
 use hx_io::{Failed, Sink, write_all};
 use itoa::Buffer;
+
+/// Writes some words and a number.
+#[tactic(auto, using(hx_io::proofs::SinkLaws::several_writes))]
+pub fn write_numbered<K: Sink>(sink: &mut K, words: &[u8], n: u64) -> Result<(), Failed>
+    ensures bytes { TakesAll (K.taken sink.old) (K.taken sink.new) result
+        (numbered_text words.now n) }
+    ensures cause { HasCause (K.faults sink.old) (K.faults sink.new) result }
+{
+    let mut buffer = Buffer::new();
+    match write_all(sink, words) {
+        Ok(()) => write_all(sink, buffer.format(n).as_bytes()),
+        Err(Failed) => Err(Failed),
+    }
+}
 
 /// Writes some words, a number and an LF.
 #[tactic(auto, using(hx_io::proofs::SinkLaws::several_writes))]
@@ -14,12 +28,7 @@ pub fn write_counted<K: Sink>(sink: &mut K, words: &[u8], n: u64) -> Result<(), 
         (counted_text words.now n) }
     ensures cause { HasCause (K.faults sink.old) (K.faults sink.new) result }
 {
-    let mut buffer = Buffer::new();
-    match write_all(sink, words) {
-        Ok(()) => {}
-        Err(Failed) => return Err(Failed),
-    }
-    match write_all(sink, buffer.format(n).as_bytes()) {
+    match write_numbered(sink, words, n) {
         Ok(()) => write_all(sink, b"\n"),
         Err(Failed) => Err(Failed),
     }

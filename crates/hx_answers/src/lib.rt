@@ -6,7 +6,7 @@ mod counted;
 mod input;
 mod statuses;
 
-pub use counted::write_counted;
+pub use counted::{write_counted, write_numbered};
 pub use input::{Unread, read_all};
 pub use statuses::{OUT_OF_MEMORY, READ_FAULT, WRITE_FAULT};
 

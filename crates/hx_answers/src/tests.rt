@@ -23,7 +23,8 @@ fn an_input_is_read_up_to_its_limit(rt: HostRuntime) -> Result<(), Fail> {
 #[test]
 fn words_and_a_number_are_a_line(rt: HostRuntime) -> Result<(), Fail> {
     let mut sink = MemorySink::new(rt.alloc(), 64, 7, Vec::new(rt.alloc()))?;
-    assert!(rt; write_counted(&mut sink, b"no text ", 12).is_ok());
-    assert_eq!(rt; sink.bytes(), b"no text 12\n".as_slice());
+    assert!(rt; write_numbered(&mut sink, b"demo ", 7).is_ok());
+    assert!(rt; write_counted(&mut sink, b" black ", 12).is_ok());
+    assert_eq!(rt; sink.bytes(), b"demo 7 black 12\n".as_slice());
     Ok(())
 }

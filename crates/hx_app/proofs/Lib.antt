@@ -4,4 +4,6 @@ pub mod SolvedTrees
 pub mod KeptPromises
 pub mod SearcherLaws
 pub mod SessionPromises
+pub mod DrawnWins
+pub mod DemoPromises
 pub mod RunClauses

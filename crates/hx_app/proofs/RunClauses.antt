@@ -1,17 +1,20 @@
--- What a run promises by the command that its words are. Words are one command at most, with one choice of settings.
+-- What a run promises by the command that its words are. Words are one command at most, with one seed and one choice of settings.
 use Rattle.std.proofs.Common.{◌≡◌, ℕ, List, [], sym, subst}
 use Rattle.std.specs.Prelude.{Option}
 use Rattle.hx_solve.specs.declared.settings.Settings.{Settings}
-use Rattle.hx_words.specs.declared.commands.Command.TheVariants.{Check, Solve, Htp}
+use Rattle.hx_words.specs.declared.commands.Command.{Command}
+use Rattle.hx_words.specs.declared.commands.Command.TheVariants.{Check, Solve, Htp, Demo}
 use Rattle.hx_words.specs.Commands.{Asks}
-use Rattle.hx_words.proofs.CommandWords.{check_is_not_solve, check_is_not_htp, solve_is_not_htp, Asks-one}
+use Rattle.hx_words.proofs.CommandWords.{check_is_not_solve, check_is_not_htp, check_is_not_demo, solve_is_not_htp, solve_is_not_demo, htp_is_not_demo, Asks-one}
 use Rattle.hx_check.specs.Judgements.{IsCheckRun}
 use Rattle.hx_check.specs.Promises.{KeepsPromises as ChecksAsPromised}
 use Rattle.hx_app.specs.declared.finishes.Finish.{Finish}
 use Rattle.hx_app.specs.Answers.{IsSolveRun}
 use Rattle.hx_app.specs.Promises.{KeepsPromises as SolvesAsPromised}
 use Rattle.hx_app.specs.Sessions.{IsSessionRun, KeepsPromises as ServesAsPromised}
-use Rattle.hx_app.specs.Runs.{IsCheck, IsSolve, IsSession, IsRun, Checked, Searched, Served, CountsNothing}
+use Rattle.hx_app.specs.DemoAnswers.{IsDemoRun}
+use Rattle.hx_app.specs.DemoPromises.{KeepsPromises as DrawsAsPromised}
+use Rattle.hx_app.specs.Runs.{IsCheck, IsSolve, IsSession, IsDraw, IsRun, Checked, Searched, Served, Drew, CountsNothing}
 
 module _ (words : List (List ℕ)) where
   pub checked_not_solved : (settings : Settings) → IsCheck words → IsSolve settings words → ⊥
@@ -22,6 +25,15 @@ module _ (words : List (List ℕ)) where
 
   pub solved_not_served : (one other : Settings) → IsSolve one words → IsSession other words → ⊥
   solved_not_served one other solve session = solve_is_not_htp words solve.0 session.0 solve.1 session.1
+
+  pub checked_not_drawn : (seed : ℕ) (settings : Settings) → IsCheck words → IsDraw seed settings words → ⊥
+  checked_not_drawn seed settings check draw = check_is_not_demo words [] draw.0 check draw.1
+
+  pub solved_not_drawn : (seed : ℕ) (one other : Settings) → IsSolve one words → IsDraw seed other words → ⊥
+  solved_not_drawn seed one other solve draw = solve_is_not_demo words solve.0 draw.0 solve.1 draw.1
+
+  pub served_not_drawn : (seed : ℕ) (one other : Settings) → IsSession one words → IsDraw seed other words → ⊥
+  served_not_drawn seed one other session draw = htp_is_not_demo words session.0 draw.0 session.1 draw.1
 
   same_solve : (a b : Settings) → IsSolve a words → IsSolve b words → a ≡ b
   same_solve a b one other =
@@ -35,22 +47,26 @@ module _ (words : List (List ℕ)) where
 
 module _ (words : List (List ℕ)) (left left_now : Option (List ℕ)) (rose : Type 0) (before now : Option (List ℕ)) (sink_rose : Type 0) where
   pub checked_run : (status : ℕ) (finish : Finish) → Asks Check words → finish.status ≡ status → CountsNothing finish
-      → IsCheckRun left rose before now sink_rose status → IsRun words left left_now rose before now sink_rose finish
+      → IsCheckRun left left_now rose before now sink_rose status → IsRun words left left_now rose before now sink_rose finish
   checked_run status finish asks same none ran =
-      Checked asks none (subst (IsCheckRun left rose before now sink_rose) (sym same) ran)
+      Checked asks none (subst (IsCheckRun left left_now rose before now sink_rose) (sym same) ran)
 
   pub solved_run : (settings : Settings) (finish : Finish) → Asks (Solve settings) words
       → IsSolveRun settings left rose before now sink_rose finish → IsRun words left left_now rose before now sink_rose finish
   solved_run settings finish asks ran = Searched settings asks ran
+
+  pub drew_run : (seed : ℕ) (settings : Settings) (finish : Finish) → Asks (Demo seed settings) words → left_now ≡ left
+      → IsDemoRun seed settings before now sink_rose finish → IsRun words left left_now rose before now sink_rose finish
+  drew_run seed settings finish asks same ran = Drew seed settings asks same ran
 
   pub served_run : (settings : Settings) (finish : Finish) → Asks (Htp settings) words
       → IsSessionRun settings left left_now rose before now sink_rose finish → IsRun words left left_now rose before now sink_rose finish
   served_run settings finish asks ran = Served settings asks ran
 
 module _ (left : Option (List ℕ)) (rose : Type 0) (before now : Option (List ℕ)) (sink_rose : Type 0) where
-  pub checked_kept : (status : ℕ) (finish : Finish) → finish.status ≡ status → ChecksAsPromised left rose before now sink_rose status
-      → ChecksAsPromised left rose before now sink_rose finish.status
-  checked_kept status finish same kept = subst (ChecksAsPromised left rose before now sink_rose) (sym same) kept
+  pub checked_kept : (left_now : Option (List ℕ)) (status : ℕ) (finish : Finish) → finish.status ≡ status
+      → ChecksAsPromised left left_now rose before now sink_rose status → ChecksAsPromised left left_now rose before now sink_rose finish.status
+  checked_kept left_now status finish same kept = subst (ChecksAsPromised left left_now rose before now sink_rose) (sym same) kept
 
   pub solved_kept : (finish : Finish) (words : List (List ℕ)) (own settings : Settings) → Asks (Solve own) words → IsSolve settings words
       → SolvesAsPromised own left rose before now sink_rose finish → SolvesAsPromised settings left rose before now sink_rose finish
@@ -63,3 +79,16 @@ module _ (left : Option (List ℕ)) (rose : Type 0) (before now : Option (List �
   served_kept left_now finish words own settings asks session kept =
       subst (λ (s : Settings). ServesAsPromised s left left_now rose before now sink_rose finish)
       (same_session words own settings asks session) kept
+
+module _ (before now : Option (List ℕ)) (sink_rose : Type 0) (finish : Finish) where
+  -- what is promised of `demo`, by its command
+  abbrev AsPromised : Command → Type 0
+  AsPromised Check = Unit {0}
+  AsPromised (Solve settings) = Unit {0}
+  AsPromised (Htp settings) = Unit {0}
+  AsPromised (Demo seed settings) = DrawsAsPromised seed settings before now sink_rose finish
+
+  pub drew_kept : (words : List (List ℕ)) (own seed : ℕ) (of settings : Settings) → Asks (Demo own of) words → IsDraw seed settings words
+      → DrawsAsPromised own of before now sink_rose finish → DrawsAsPromised seed settings before now sink_rose finish
+  drew_kept words own seed of settings asks draw kept =
+      subst AsPromised (Asks-one words (Demo own of) (Demo seed settings) asks draw) kept

@@ -2,5 +2,8 @@ pub mod Limits
 pub mod Positions
 pub mod Answers
 pub mod Promises
+pub mod Roots
+pub mod DemoAnswers
+pub mod DemoPromises
 pub mod Sessions
 pub mod Runs

@@ -3,13 +3,14 @@ use Rattle.std.specs.Prelude.{◌≡◌, ℕ, List, codes, Option}
 use Rattle.hx_solve.specs.declared.settings.Settings.{Settings}
 use Rattle.hx_solve.specs.Tallies.{tallied}
 use Rattle.hx_words.specs.declared.commands.Command.{Command}
-use Rattle.hx_words.specs.declared.commands.Command.TheVariants.{Check, Solve, Htp}
+use Rattle.hx_words.specs.declared.commands.Command.TheVariants.{Check, Solve, Htp, Demo}
 use Rattle.hx_words.specs.Commands.{Asks}
 use Rattle.hx_answers.specs.Endings.{IsWritten}
 use Rattle.hx_check.specs.Judgements.{IsCheckRun}
 use Rattle.hx_app.specs.declared.finishes.Finish.{Finish}
 use Rattle.hx_app.specs.Answers.{IsSolveRun}
 use Rattle.hx_app.specs.Sessions.{IsSessionRun}
+use Rattle.hx_app.specs.DemoAnswers.{IsDemoRun}
 
 abbrev pub IsCheck : List (List ℕ) → Type 0
 IsCheck words = Asks Check words
@@ -21,6 +22,10 @@ IsSolve settings words = Asks (Solve settings) words
 -- the words are `htp` with these settings
 abbrev pub IsSession : Settings → List (List ℕ) → Type 0
 IsSession settings words = Asks (Htp settings) words
+
+-- the words are `demo` with this seed and these settings
+abbrev pub IsDraw : ℕ → Settings → List (List ℕ) → Type 0
+IsDraw seed settings words = Asks (Demo seed settings) words
 
 -- the words are a command
 abbrev pub IsCommand : List (List ℕ) → Type 0
@@ -34,18 +39,22 @@ bad_words_line = codes "bad words\n"
 abbrev pub CountsNothing : Finish → Type 0
 CountsNothing finish = finish.tally ≡ tallied 0 0 0 0
 
--- A run: words that are no command are told so, and then the source is left as it was; or they are one, and it ran.
+-- A run: words that are no command are told so, and then the source is left as it was; or they are one, and it ran. `demo` leaves
+-- the source as it was too.
 pub data IsRun (words : List (List ℕ)) (left_before left_now : Option (List ℕ)) (source_rose : Type 0)
     (taken_before taken_now : Option (List ℕ)) (sink_rose : Type 0) (finish : Finish) : Type 0 where
   Refused : (IsCommand words → ⊥) → left_now ≡ left_before → CountsNothing finish
       → IsWritten taken_before taken_now sink_rose bad_words_line 2 finish.status
       → IsRun words left_before left_now source_rose taken_before taken_now sink_rose finish
   Checked : IsCheck words → CountsNothing finish
-      → IsCheckRun left_before source_rose taken_before taken_now sink_rose finish.status
+      → IsCheckRun left_before left_now source_rose taken_before taken_now sink_rose finish.status
       → IsRun words left_before left_now source_rose taken_before taken_now sink_rose finish
   Searched : (settings : Settings) → IsSolve settings words
       → IsSolveRun settings left_before source_rose taken_before taken_now sink_rose finish
       → IsRun words left_before left_now source_rose taken_before taken_now sink_rose finish
   Served : (settings : Settings) → IsSession settings words
       → IsSessionRun settings left_before left_now source_rose taken_before taken_now sink_rose finish
+      → IsRun words left_before left_now source_rose taken_before taken_now sink_rose finish
+  Drew : (seed : ℕ) (settings : Settings) → IsDraw seed settings words → left_now ≡ left_before
+      → IsDemoRun seed settings taken_before taken_now sink_rose finish
       → IsRun words left_before left_now source_rose taken_before taken_now sink_rose finish

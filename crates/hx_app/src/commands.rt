@@ -1,6 +1,6 @@
 //! The top call: from the words of the command line to the exit status.
 
-ghost use Rattle.std.specs.Prelude.{◌≡◌, ◌⊎◌};
+ghost use Rattle.std.specs.Prelude.{◌≡◌, ◌⊎◌, ℕ};
 ghost use Rattle.hx_io.specs.Causes.{Rose};
 ghost use Rattle.hx_solve.specs.declared.settings.Settings.{Settings as Bounds};
 ghost use Rattle.hx_words.specs.Words.{words_of};
@@ -8,8 +8,10 @@ ghost use Rattle.hx_answers.specs.Endings.{IsWritten};
 ghost use Rattle.hx_check.specs.Promises.{KeepsPromises as ChecksAsPromised};
 ghost use Rattle.hx_app.specs.Promises.{KeepsPromises as SolvesAsPromised};
 ghost use Rattle.hx_app.specs.Sessions.{KeepsPromises as ServesAsPromised};
-ghost use Rattle.hx_app.specs.Runs.{IsCheck, IsSolve, IsSession, IsCommand, IsRun, CountsNothing, bad_words_line};
+ghost use Rattle.hx_app.specs.DemoPromises.{KeepsPromises as DrawsAsPromised};
+ghost use Rattle.hx_app.specs.Runs.{IsCheck, IsSolve, IsSession, IsDraw, IsCommand, IsRun, CountsNothing, bad_words_line};
 
+use crate::demos::run_demo;
 use crate::finishes::Finish;
 use crate::sessions::run_session;
 use crate::solving::run_solve;
@@ -30,7 +32,9 @@ const BAD_WORDS: u8 = 2;
 /// `check` reads the text of a tree, judges its lines and nodes in their order and writes `yes` with the winner and the
 /// position of the root, or where the first fault is. `solve` reads the text of a position and writes the text of a tree
 /// that proves who wins it, or why there is none. Its workers call the gate at each of their turns; it may wait for them.
-/// `htp` answers the lines of a session, each before the next read; its workers call no gate.
+/// `htp` answers the lines of a session, each before the next read; its workers call no gate. `demo` reads nothing: it draws
+/// positions with a seed, solves them, checks their trees and writes how many each player wins; its workers call the gate, and
+/// it may wait for them.
 pub fn run<S: Source, K: Sink, G: Gate + Sync, R: Threads + Wait + Sync>(
     rt: &R,
     alloc: Global,
@@ -47,9 +51,9 @@ pub fn run<S: Source, K: Sink, G: Gate + Sync, R: Threads + Wait + Sync>(
         result }
 
     // `check` keeps its promises: with status 0 the input is the text of a valid tree, which the output says, and the player that
-    // it names wins and the other does not; it accepts exactly the valid trees.
+    // it names wins and the other does not; it accepts exactly the valid trees, however long they are.
     ensures check { IsCheck (words_of words.now) → ChecksAsPromised
-        (S.left source.old) (Rose (S.faults source.old) (S.faults source.new))
+        (S.left source.old) (S.left source.new) (Rose (S.faults source.old) (S.faults source.new))
         (K.taken sink.old) (K.taken sink.new) (Rose (K.faults sink.old) (K.faults sink.new))
         result.status }
 
@@ -69,6 +73,17 @@ pub fn run<S: Source, K: Sink, G: Gate + Sync, R: Threads + Wait + Sync>(
         (K.taken sink.old) (K.taken sink.new) (Rose (K.faults sink.old) (K.faults sink.new))
         result }
 
+    // `demo` keeps its promises: with status 0 the output is how many of the positions that the seed draws each player wins;
+    // `unknown` comes only with a budget below 986,410, and only where a refusal of a unit or of a slot was counted.
+    ensures demo { (seed : ℕ) (settings : Bounds) → IsDraw seed settings (words_of words.now)
+        → DrawsAsPromised seed settings
+        (K.taken sink.old) (K.taken sink.new) (Rose (K.faults sink.old) (K.faults sink.new))
+        result }
+
+    // It reads nothing.
+    ensures unread { (seed : ℕ) (settings : Bounds) → IsDraw seed settings (words_of words.now)
+        → source.new ≡ source.old }
+
     // Whatever the words, the status of a failed write has its cause.
     ensures write_fault { result.status ≡ 6 → Rose (K.faults sink.old) (K.faults sink.new) }
 
@@ -80,6 +95,7 @@ pub fn run<S: Source, K: Sink, G: Gate + Sync, R: Threads + Wait + Sync>(
         Some(Command::Check) => uncounted(run_check(alloc, source, sink)),
         Some(Command::Solve(settings)) => run_solve(rt, alloc, settings, source, sink, gate),
         Some(Command::Htp(settings)) => run_session(rt, alloc, settings, source, sink),
+        Some(Command::Demo { seed, settings }) => run_demo(rt, alloc, seed, settings, sink, gate),
         None => uncounted(refuse(sink)),
     }
 }

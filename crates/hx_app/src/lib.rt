@@ -3,7 +3,11 @@
 
 mod answers;
 mod commands;
+mod demo_answers;
+mod demos;
 mod finishes;
+mod laws;
+mod roots;
 mod searchers;
 mod sessions;
 mod solutions;
@@ -11,7 +15,9 @@ mod solving;
 
 pub use answers::Answer;
 pub use commands::run;
+pub use demo_answers::{DemoAnswer, WinCounts};
 pub use finishes::Finish;
+pub use laws::check_accepts_what_solve_writes;
 pub use solutions::Solution;
 
 #[cfg(test)]

@@ -5,20 +5,16 @@
 //! type parameter.
 
 ghost use Rattle.std.specs.Prelude.{◌≡◌};
-ghost use Rattle.hx_tree.specs.declared.nodes.Node.{Node as TreeNode};
-ghost use Rattle.hx_tree.specs.Trees.{IsValidTree, IsRoot};
-ghost use Rattle.hx_board.specs.Game.{Wins};
 ghost use Rattle.hx_solve.specs.Settings.{AreSettings};
 ghost use Rattle.hx_solve.specs.Tallies.{tallied, counting, NoCountFalls};
 ghost use Rattle.hx_solve.specs.Causes.{HasCause};
 ghost use Rattle.hx_app.specs.Sessions.{account_of, IsOfSettings, TellsWhy};
 
+use crate::roots::root_winner;
 use hx_board::{Colour, Memory, Position};
 use hx_htp::{Answerer, Told};
 use hx_io::RealGate;
-use hx_proof::tree_sound;
 use hx_solve::{Settings, Tally, Unsolved, solve};
-use hx_tree::Node;
 use std::alloc::Global;
 use std::sync::Wait;
 use std::thread::Threads;
@@ -72,19 +68,6 @@ impl Answerer for Searcher {
             Ok(nodes) => Ok(Told::Winner(root_winner(&nodes))),
             Err(why) => left_open(self.settings, &mut self.tally, why),
         }
-    }
-}
-
-/// The winner of the last node, who wins.
-fn root_winner(nodes: &[Node]) -> Colour
-    requires { IsValidTree nodes.now }
-    ensures { (root : TreeNode) → IsRoot nodes.now root
-        → Wins result root.heading.position root.heading.to_move }
-{
-    tree_sound(nodes);
-    match nodes.last() {
-        Some(root) => root.heading.winner,
-        None => unreachable!(),
     }
 }
 

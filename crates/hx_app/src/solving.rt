@@ -1,9 +1,9 @@
 //! The command `solve`: a position is read, workers search it, and the tree that they come to is written, or why there is none.
 
-ghost use Rattle.std.specs.Prelude.{◌≡◌, ◌≢◌, []};
+ghost use Rattle.std.specs.Prelude.{◌≡◌};
 ghost use Rattle.hx_io.specs.Causes.{Rose};
 ghost use Rattle.hx_tree.specs.declared.nodes.Node.{Node as TreeNode};
-ghost use Rattle.hx_tree.specs.Trees.{IsRoot};
+ghost use Rattle.hx_tree.specs.Trees.{IsValidTree, IsRoot};
 ghost use Rattle.hx_solve.specs.Settings.{AreSettings};
 ghost use Rattle.hx_solve.specs.Tallies.{tallied};
 ghost use Rattle.hx_solve.specs.Causes.{HasCause};
@@ -13,9 +13,10 @@ ghost use Rattle.hx_app.specs.Promises.{KeepsPromises};
 
 use crate::answers::{Answer, write_answer};
 use crate::finishes::Finish;
+use crate::roots::root_winner;
 use crate::solutions::Solution;
 use hx_answers::{Unread, WRITE_FAULT, read_all};
-use hx_board::{Colour, Position};
+use hx_board::Position;
 use hx_io::{Failed, Gate, Sink, Source};
 use hx_solve::{Settings, Tally, Unsolved, solve};
 use hx_text::{read_position, version_of};
@@ -132,7 +133,7 @@ fn found<G: Gate + Sync, R: Threads + Wait + Sync>(
 
 /// The solution that these nodes are.
 fn solution_of(position: &Position, nodes: Vec<Node>) -> Solution
-    requires { nodes.items ≢ [] }
+    requires { IsValidTree nodes.items }
     ensures nodes { result.nodes.items ≡ nodes.items }
     ensures size { result.size ≡ position.now.size }
     ensures version { IsVersionOf result.version nodes.items }
@@ -143,17 +144,6 @@ fn solution_of(position: &Position, nodes: Vec<Node>) -> Solution
         size: position.size(),
         winner: root_winner(&nodes),
         nodes,
-    }
-}
-
-/// The winner in the last node's heading.
-fn root_winner(nodes: &[Node]) -> Colour
-    requires { nodes.now ≢ [] }
-    ensures { (root : TreeNode) → IsRoot nodes.now root → result ≡ root.heading.winner }
-{
-    match nodes.last() {
-        Some(root) => root.heading.winner,
-        None => unreachable!(),
     }
 }
 

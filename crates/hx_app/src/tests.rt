@@ -1,6 +1,6 @@
 //! The top call over sources and sinks in memory.
 
-mod faults;
+mod demos;
 mod sessions;
 mod solve;
 mod unknown;
@@ -54,7 +54,6 @@ struct Outcome {
     refusals: (u64, u64),
     output: Vec<u8>,
     reads: u64,
-    writes: u64,
 }
 
 /// A command over this input, where no call fails.
@@ -97,7 +96,6 @@ fn outcome_of<R: Threads + Wait + Sync>(
         refusals: (finish.tally.budgets(), finish.tally.proofs()),
         output: sink.bytes().to_vec(alloc)?,
         reads: source.calls(),
-        writes: sink.calls(),
     })
 }
 

@@ -14,7 +14,8 @@ unfoldable pub empty_below : ℕ → Board → ℕ
 empty_below zero board = 0
 empty_below (suc bound) board = (if is_empty board bound then 1 else 0) + empty_below bound board
 
--- how many cells of the board are empty; each cell of a board is below 121
+-- how many cells of the board are empty; each cell of a board is below 121, the number that `CELLS` computes to, with which
+-- proofs go on
 unfoldable pub empty_count : Board → ℕ
 empty_count board = empty_below 121 board
 

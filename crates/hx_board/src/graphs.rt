@@ -143,6 +143,7 @@ fn last_line(size: Size, player: Colour) -> Mask
 fn own_vertices(position: &Position, player: Colour) -> VertexSet
     ensures { IsSetOf position.now.size (IsOwn position.now player) result }
 {
+    // The proof takes from here that the size is one of a board.
     let _rows = position.size().rows();
     VertexSet::of(position.stones(player))
         .with(Vertex::First)

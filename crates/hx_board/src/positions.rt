@@ -66,6 +66,7 @@ impl Position {
         ensures valid { IsBoard self.now }
     {
         let size = self.size;
+        // The proof takes from here that the size is one of a board.
         let _rows = size.rows();
         size
     }
@@ -94,6 +95,7 @@ impl Position {
         ensures value { result ≡ empty_count self.now }
         ensures small { result ≤ CELLS }
     {
+        // The proof takes from here that the board is one, which has at most 121 cells.
         let _size = self.size();
         self.empties().count()
     }

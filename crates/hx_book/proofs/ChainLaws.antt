@@ -1,97 +1,76 @@
--- The chain of a bucket, walked from its head: below the link that was reached stands what was not looked at yet. A node more
--- becomes the newest of its bucket, and the other chains stay as they are.
-use Rattle.std.proofs.Common.{◌≡◌, ◌≢◌, ℕ, ◌-◌, ◌<◌, ◌≤◌, List, length, get_or, refl, sym, ap, ◌∙◌, subst, ⊎_elim, arith}
+-- The chain of a bucket, walked from its head: below the link that was reached stands what was not looked at yet. What is
+-- looked for is a property of nodes, and each node that has it is in the bucket.
+use Rattle.std.proofs.Common.{◌≡◌, ◌≢◌, ℕ, ◌-◌, ◌<◌, ◌≤◌, List, length, get_or, refl, sym, ap, ◌∙◌, subst, ⊎_elim, arith, Some}
+use Rattle.std.specs.Prelude.{slice_get, slice_index}
 use Rattle.std.proofs.lemmas.Bool.{cases_lt, cases_eq}
 use Rattle.hx_board.proofs.ListLaws.{get-lt, read-get, read-index, same_some}
-use Rattle.hx_board.specs.declared.colours.Colour.{Colour}
-use Rattle.hx_board.specs.Positions.{Board}
 use Rattle.hx_tree.specs.declared.nodes.Node.{Node}
-use Rattle.hx_tree.specs.Entries.{IsEntry, HasNoEntry, AreDistinctEntries, IsFirstFound}
-use Rattle.hx_book.specs.Buckets.{bucket_of, IsIn, IsNewestBelow, AreChains}
+use Rattle.hx_book.specs.Chains.{IsIn, IsNewestBelow, AreChains}
 
--- how far a search in a bucket has come: entries of the position and mover stand below the link alone
-pub record IsReached (buckets : ℕ) (nodes : List Node) (bucket : ℕ) (board : Board) (mover : Colour) (link : ℕ) : Type 0 where
+-- how far a search in a bucket has come: nodes with the property stand below the link alone
+pub record IsReached (key : Node → ℕ) (nodes : List Node) (bucket : ℕ) (Has : Node → Type 0) (link : ℕ) : Type 0 where
   pub within : link ≤ length nodes
-  pub is_in : 0 < link → IsIn buckets nodes bucket (link - 1)
-  pub none : (place : ℕ) → link ≤ place → IsEntry nodes board mover place → ⊥
+  pub is_in : 0 < link → IsIn key nodes bucket (link - 1)
+  pub none : (place : ℕ) → link ≤ place → (node : Node) → slice_get nodes place ≡ Some node → Has node → ⊥
 
--- ---- what was read
+-- the node that was read lacks the property, and so does the one that stands there
+other-read : (nodes : List Node) (Has : Node → Type 0) (place : ℕ) (node : Node) → place < length nodes → node ≡ get_or nodes place node
+    → (Has node → ⊥) → (there : Node) → slice_get nodes place ≡ Some there → Has there → ⊥
+other-read nodes Has place node inside read lacks there stands has =
+    let same : there ≡ node = same_some there node (sym stands ∙ read-get nodes place node inside read) in
+    lacks (subst Has same has)
 
--- the node that was read is of the position and mover, where its heading is
-pub entry-read : (nodes : List Node) (board : Board) (mover : Colour) (place : ℕ) (node : Node) → place < length nodes → node ≡ get_or nodes place node
-    → (node.heading.position ≡ board) × (node.heading.to_move ≡ mover) → IsEntry nodes board mover place
-entry-read nodes board mover place node inside read is = record { node = node; there = read-get nodes place node inside read; is_of = record { same_position = is.0; same_mover = is.1 } }
+module _ (key : ℕ → Node → ℕ) (nodes : List Node) (heads next : List ℕ) (chains : AreChains key nodes heads next) (Has : Node → Type 0)
+    (bucket : ℕ) (has_bucket : (node : Node) → Has node → key (length heads) node ≡ bucket) where
+  abbrev own : Node → ℕ
+  own = key (length heads)
 
-pub other-read : (nodes : List Node) (board : Board) (mover : Colour) (place : ℕ) (node : Node) → place < length nodes → node ≡ get_or nodes place node
-    → ((node.heading.position ≡ board) × (node.heading.to_move ≡ mover) → ⊥) → IsEntry nodes board mover place → ⊥
-other-read nodes board mover place node inside read is_not entry =
-    let same : entry.node ≡ node = same_some entry.node node (sym entry.there ∙ read-get nodes place node inside read) in
-    is_not (ap (λ (n : Node). n.heading.position) (sym same) ∙ entry.is_of.same_position, ap (λ (n : Node). n.heading.to_move) (sym same) ∙ entry.is_of.same_mover)
+  has-in : (place : ℕ) (node : Node) → slice_get nodes place ≡ Some node → Has node → IsIn own nodes bucket place
+  has-in place node there has = record { node = node; there = there; same_bucket = has_bucket node has }
 
--- ---- the walk
-
-module _ (nodes : List Node) (heads next : List ℕ) (chains : AreChains nodes heads next) (board : Board) (mover : Colour)
-    (bucket : ℕ) (is_bucket : bucket ≡ bucket_of (length heads) board mover) where
-  abbrev buckets : ℕ
-  buckets = length heads
-
-  -- an entry of the position and mover is in their bucket
-  entry-in : (place : ℕ) → IsEntry nodes board mover place → IsIn buckets nodes bucket place
-  entry-in place entry = record {
-    node = entry.node;
-    there = entry.there;
-    same_bucket = ap (λ (b : Board). bucket_of buckets b entry.node.heading.to_move) entry.is_of.same_position
-        ∙ ap (λ (m : Colour). bucket_of buckets board m) entry.is_of.same_mover ∙ sym is_bucket;
-  }
-
-  pub reached-begun : (link : ℕ) → bucket < buckets → link ≡ get_or heads bucket link → IsReached buckets nodes bucket board mover link
+  pub reached-begun : (link : ℕ) → bucket < length heads → link ≡ slice_index heads bucket → IsReached own nodes bucket Has link
   reached-begun link below read =
-      let first : IsNewestBelow buckets nodes bucket (length nodes) link = rw (read-index heads bucket link below read) (chains.heads_lead bucket below) in
+      let first : IsNewestBelow own nodes bucket (length nodes) link = rw read (chains.heads_lead bucket below) in
       record {
         within = first.within;
         is_in = first.is_in;
-        none = λ place from entry. first.newest place from (get-lt nodes place entry.node entry.there) (entry-in place entry);
+        none = λ place from node there has. first.newest place from (get-lt nodes place node there) (has-in place node there has);
       }
 
-  module _ (link : ℕ) (some : link ≢ 0) (reached : IsReached buckets nodes bucket board mover link) (node : Node) (node_read : node ≡ get_or nodes (link - 1) node) where
+  module _ (link : ℕ) (some : link ≢ 0) (reached : IsReached own nodes bucket Has link) (node : Node) (node_read : node ≡ get_or nodes (link - 1) node) where
     inside : link - 1 < length nodes
     inside = omega (arith, reached.within, some)
 
-    pub reached-found : AreDistinctEntries nodes → (node.heading.position ≡ board) × (node.heading.to_move ≡ mover)
-        → IsFirstFound nodes board mover (record { index = link - 1; winner = node.heading.winner })
-    unfolding entry-read
-    reached-found distinct is = record {
-      first = record {
-        entry = entry-read nodes board mover (link - 1) node inside node_read is;
-        first = λ earlier less other.
-            omega (arith, less, distinct board mover earlier (link - 1) other (entry-read nodes board mover (link - 1) node inside node_read is));
-      };
-      same_winner = refl;
-    }
-
-    module _ (other : (node.heading.position ≡ board) × (node.heading.to_move ≡ mover) → ⊥) (older : ℕ) (read : older ≡ get_or next (link - 1) older) where
-      is_older : IsNewestBelow buckets nodes bucket (link - 1) older
+    module _ (lacks : Has node → ⊥) (older : ℕ) (read : older ≡ slice_index next (link - 1)) where
+      is_older : IsNewestBelow own nodes bucket (link - 1) older
       is_older =
-          let inside_next : link - 1 < length next = omega (arith, inside, chains.long) in
           let positive : 0 < link = omega (arith, some) in
-          rw (read-index next (link - 1) older inside_next read) (chains.next_lead bucket (link - 1) (reached.is_in positive))
+          rw read (chains.next_lead bucket (link - 1) (reached.is_in positive))
 
       pub older-less : older < link
       older-less = omega (arith, is_older.within, some)
 
-      pub reached-more : IsReached buckets nodes bucket board mover older
+      pub reached-more : IsReached own nodes bucket Has older
       reached-more = record {
         within = omega (arith, is_older.within, reached.within);
         is_in = is_older.is_in;
-        none = λ place from entry. ⊎_elim
-            (λ below. is_older.newest place from below (entry-in place entry))
+        none = λ place from found there has. ⊎_elim
+            (λ below. is_older.newest place from below (has-in place found there has))
             (λ above. ⊎_elim
-            (λ (same : place ≡ link - 1). other-read nodes board mover (link - 1) node inside node_read other (subst (λ (p : ℕ). IsEntry nodes board mover p) same entry))
-            (λ (different : place ≡ link - 1 → ⊥). reached.none place (omega (arith, above, different)) entry)
+            (λ (same : place ≡ link - 1). other-read nodes Has (link - 1) node inside node_read lacks found (subst (λ (p : ℕ). slice_get nodes p ≡ Some found) same there) has)
+            (λ (different : place ≡ link - 1 → ⊥). reached.none place (omega (arith, above, different)) found there has)
             (cases_eq place (link - 1)))
             (cases_lt place (link - 1));
       }
 
-  -- at the end of the chain there is nothing below
-  pub reached-end : (link : ℕ) → link ≡ 0 → IsReached buckets nodes bucket board mover link → HasNoEntry nodes board mover
-  reached-end link end reached place entry = reached.none place (omega (arith, end)) entry
+-- the node that is read stands one below the link
+pub reached-there : (key : Node → ℕ) (nodes : List Node) (bucket : ℕ) (Has : Node → Type 0) (link : ℕ) → link ≢ 0 → IsReached key nodes bucket Has link
+    → (node : Node) → node ≡ get_or nodes (link - 1) node → slice_get nodes (link - 1) ≡ Some node
+reached-there key nodes bucket Has link some reached node read =
+    let inside : link - 1 < length nodes = omega (arith, reached.within, some) in
+    read-get nodes (link - 1) node inside read
+
+-- at the end of the chain there is nothing below
+pub reached-end : (key : Node → ℕ) (nodes : List Node) (bucket : ℕ) (Has : Node → Type 0) (link : ℕ) → link ≡ 0 → IsReached key nodes bucket Has link
+    → (place : ℕ) (node : Node) → slice_get nodes place ≡ Some node → Has node → ⊥
+reached-end key nodes bucket Has link end reached place node there has = reached.none place (omega (arith, end)) node there has

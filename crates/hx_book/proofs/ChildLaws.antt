@@ -47,7 +47,7 @@ line-size before heading links threats lines (Child cell own) child right names 
     (size-put heading.position (other_of heading.winner) cell))
 line-size before heading links threats lines (Under cell better kill) child right names = absurd names
 
-rule-size : (before : List Heading) (heading : Heading) (rule : Rule) (child : ℕ) → IsRightRule before heading rule → Names rule child
+pub rule-size : (before : List Heading) (heading : Heading) (rule : Rule) (child : ℕ) → IsRightRule before heading rule → Names rule child
     → HasSize before heading.position.size child
 rule-size before heading Chain child right names = absurd names
 rule-size before heading (Links steps) child right names = absurd names

@@ -1,4 +1,6 @@
+pub mod AloneLaws
 pub mod ChainLaws
+pub mod FoundLaws
 pub mod GrowthLaws
 pub mod MarkLaws
 pub mod ChildLaws

@@ -1,20 +1,23 @@
 //! A book of proofs.
 //!
 //! The nodes stand in the order in which they came. So that a position is found fast, each node has a bucket, computed from
-//! its position and mover; the entries of a bucket are chained by their places, the newest first. What a book answers does
-//! not depend on its buckets. All memory is taken at the start.
+//! its position and mover, and a second one, from its winner's stones and mover; the entries of a bucket are chained. What
+//! `find` answers does not depend on the buckets, nor does whether `find_wider` answers. All memory is taken at the start.
 
 ghost use Rattle.std.specs.Prelude.{◌≡◌, ◌≢◌, ◌<◌, ◌≤◌, ◌↔◌, IsTrue, [], length, IfOk};
 ghost use Rattle.hx_tree.specs.Rules.{IsRightNode};
 ghost use Rattle.hx_tree.specs.Trees.{headings_of, IsValidTree};
 ghost use Rattle.hx_tree.specs.Entries.{FindsFirst};
 ghost use Rattle.hx_book.specs.Entries.{contents, IsBook};
+ghost use Rattle.hx_book.specs.WiderEntry.{FindsWider};
 ghost use Rattle.hx_book.specs.Puts.{Puts};
 ghost use Rattle.hx_book.specs.Trees.{IsTreeOf};
 
-use crate::buckets::bucket;
+use crate::buckets::{bucket, stones_bucket};
+use crate::chains::Chains;
 use crate::refusals::NoSlot;
 use crate::trees::tree_of;
+use crate::wider::{Wider, is_wider};
 use hx_board::{Colour, Memory, Position};
 use hx_tree::{Found, Heading, Node};
 use std::alloc::Global;
@@ -32,11 +35,11 @@ pub const MOST_BUCKETS: u32 = 2097152;
 pub struct Book {
     nodes: Vec<Node>,
 
-    /// For each bucket the link to its newest entry: one more than the entry's index, or 0 where there is none.
-    heads: Vec<u32>,
+    /// The entries, chained by their position and mover.
+    by_position: Chains,
 
-    /// For each entry the link to the next older one of its bucket.
-    next: Vec<u32>,
+    /// The entries, chained by their winner's stones and mover.
+    by_stones: Chains,
     slots: u32,
 }
 
@@ -51,7 +54,7 @@ impl Model for Book {
 
     ghost view = { λ b. contents b.slots b.nodes.items };
 
-    ghost invariant = { λ b. FieldsKeep b.slots b.nodes.items b.heads.items b.next.items (vec_capacity b.nodes) (vec_capacity b.next) };
+    ghost invariant = { λ b. FieldsKeep b.slots b.nodes.items b.by_position b.by_stones (vec_capacity b.nodes) };
 }
 
 impl Book {
@@ -63,7 +66,8 @@ impl Book {
         Book::with_buckets(alloc, slots, slots.next_power_of_two())
     }
 
-    /// The same, with a number of buckets of the caller's choice, from 1 to 2,097,152. More buckets make shorter chains.
+    /// The same, with a number of buckets of the caller's choice, from 1 to 2,097,152, by position and as many by stones. More
+    /// buckets make shorter chains.
     pub fn with_buckets(alloc: Global, slots: u32, buckets: u32) -> Result<Book, Memory>
         requires slots { slots ≤ MOST_SLOTS }
         requires some { 0 < buckets }
@@ -73,16 +77,12 @@ impl Book {
         let Ok(nodes) = Vec::with_capacity(alloc, slots as usize) else {
             return Err(Memory);
         };
-        let Ok(heads) = vec![in alloc; 0u32; buckets as usize] else {
-            return Err(Memory);
-        };
-        let Ok(next) = Vec::with_capacity(alloc, slots as usize) else {
-            return Err(Memory);
-        };
+        let by_position = Chains::with_buckets(alloc, slots, buckets)?;
+        let by_stones = Chains::with_buckets(alloc, slots, buckets)?;
         Ok(Book {
             nodes,
-            heads,
-            next,
+            by_position,
+            by_stones,
             slots,
         })
     }
@@ -113,8 +113,8 @@ impl Book {
     pub fn find(&self, position: &Position, to_move: Colour) -> Option<Found>
         ensures { FindsFirst self.now.nodes position.now to_move result }
     {
-        let number = bucket(self.heads.len(), position, to_move);
-        let mut link = self.heads[number];
+        let number = bucket(self.by_position.buckets(), position, to_move);
+        let mut link = self.by_position.newest(number);
         while link != 0 {
             let index = link - 1;
             let heading = &self.nodes[index as usize].heading;
@@ -122,7 +122,27 @@ impl Book {
                 let winner = heading.winner;
                 return Some(Found { index, winner });
             }
-            link = self.next[index as usize];
+            link = self.by_position.older(index);
+        }
+        None
+    }
+
+    /// An entry of this mover and winner that serves the position: its winner has the same stones, and the opponent's stones of
+    /// the position are all in the entry's. None exactly where there is no such entry.
+    pub fn find_wider(&self, position: &Position, to_move: Colour, winner: Colour) -> Option<Wider>
+        ensures { FindsWider self.now.nodes position.now to_move winner result }
+    {
+        let number = stones_bucket(self.by_stones.buckets(), position, to_move, winner);
+        let mut link = self.by_stones.newest(number);
+        while link != 0 {
+            let index = link - 1;
+            let heading = &self.nodes[index as usize].heading;
+            if is_wider(heading, position, to_move, winner) {
+                let position = heading.position;
+                let found = Found { index, winner };
+                return Some(Wider { found, position });
+            }
+            link = self.by_stones.older(index);
         }
         None
     }
@@ -141,13 +161,20 @@ impl Book {
         if held == self.slots {
             return Err(NoSlot::new(held, node));
         }
-        let number = bucket(
-            self.heads.len(),
-            &node.heading.position,
-            node.heading.to_move,
+        let heading = node.heading;
+        let place = bucket(
+            self.by_position.buckets(),
+            &heading.position,
+            heading.to_move,
         );
-        self.next.push_reserved(self.heads[number]);
-        self.heads[number] = held + 1;
+        self.by_position.add(place);
+        let stones = stones_bucket(
+            self.by_stones.buckets(),
+            &heading.position,
+            heading.to_move,
+            heading.winner,
+        );
+        self.by_stones.add(stones);
         self.nodes.push_reserved(node);
         Ok(held)
     }

@@ -7,9 +7,11 @@ ghost use Rattle.hx_tree.specs.Rules.{IsRightNode};
 ghost use Rattle.hx_tree.specs.Trees.{headings_of};
 ghost use Rattle.hx_tree.specs.Entries.{Extends, FindsFirst};
 ghost use Rattle.hx_book.specs.Puts.{PutsLater};
+ghost use Rattle.hx_book.specs.WiderEntry.{FindsWider};
 
 use crate::books::Book;
 use crate::refusals::NoSlot;
+use crate::wider::Wider;
 use hx_board::{Colour, Position};
 use hx_tree::{Found, Node};
 use std::sync::Wait;
@@ -33,6 +35,20 @@ pub trait Proofs {
         ensures seen { Extends (list self.new) (list self.old) }
         ensures found { FindsFirst (list self.new) position.now to_move result };
 
+    /// An entry of this mover and winner that serves the position, of the nodes that are now seen: its winner has the same
+    /// stones, and the opponent's stones of the position are all in the entry's. None exactly where there is none.
+    fn look_wider<R: Wait>(
+        &mut self,
+        rt: &R,
+        position: &Position,
+        to_move: Colour,
+        winner: Colour,
+    ) -> Option<Wider>
+        ensures slots { slots self.new ≡ slots self.old }
+        ensures over { over self.new ≡ over self.old }
+        ensures seen { Extends (list self.new) (list self.old) }
+        ensures found { FindsWider (list self.new) position.now to_move winner result };
+
     /// Stores a node that is right after those that were seen. The index of the entry of its position and mover, of the nodes
     /// that are now seen. The node comes back exactly where there is no such entry and each slot is taken.
     fn store<R: Wait>(&mut self, rt: &R, node: Node) -> Result<u32, NoSlot>
@@ -54,6 +70,16 @@ impl Proofs for Book {
 
     fn look<R: Wait>(&mut self, _rt: &R, position: &Position, to_move: Colour) -> Option<Found> {
         self.find(position, to_move)
+    }
+
+    fn look_wider<R: Wait>(
+        &mut self,
+        _rt: &R,
+        position: &Position,
+        to_move: Colour,
+        winner: Colour,
+    ) -> Option<Wider> {
+        self.find_wider(position, to_move, winner)
     }
 
     fn store<R: Wait>(&mut self, _rt: &R, node: Node) -> Result<u32, NoSlot> {

@@ -3,16 +3,20 @@
 
 mod books;
 mod buckets;
+mod chains;
 mod either;
 mod growing;
 mod refusals;
 mod trees;
+mod wider;
 
 pub use books::{Book, MOST_BUCKETS, MOST_SLOTS};
 pub use either::{Either, look_either};
 pub use growing::Proofs;
 pub use hx_tree::Found;
 pub use refusals::NoSlot;
+pub use trees::renamed;
+pub use wider::Wider;
 
 #[cfg(test)]
 mod tests;

@@ -176,3 +176,18 @@ fn finds_what_was_turned(rt: HostRuntime) -> Result<(), Fail> {
     assert!(rt; tree.as_slice() == expected.as_slice());
     Ok(())
 }
+
+/// Black's a1 and a2 are a chain on two rows. White's b1 stands in the entry's position, and not in one that it serves.
+#[test]
+fn a_wider_entry_serves(rt: HostRuntime) -> Result<(), Fail> {
+    let size = Size::new(2, 2).ok_or("size")?;
+    let left = Mask::of(0x801);
+    let wide = Position::from_masks(size, left, Mask::of(0x2)).ok_or("wide")?;
+    let asked = Position::from_masks(size, left, Mask::empty()).ok_or("asked")?;
+    let mut book = Book::with_slots(rt.alloc(), 2).or(Err("memory"))?;
+    store_chain(&rt, &mut book, &wide, White, Black).ok_or("chain")?;
+    let wider = book.look_wider(&rt, &asked, White, Black);
+    assert!(rt; wider.is_some_and(|it| it.position == wide));
+    assert!(rt; book.find_wider(&asked, Black, Black).is_none());
+    Ok(())
+}

@@ -125,7 +125,7 @@ fn renamed_lines(lines: Lines, names: &[u32]) -> Lines
 }
 
 /// A node with the new numbers of its children.
-fn renamed(node: Node, names: &[u32]) -> Node
+pub fn renamed(node: Node, names: &[u32]) -> Node
     requires { (place : ℕ) → Names node.rule place → place < length names.now }
     ensures { result ≡ renamed_node (λ (place : ℕ). slice_index names.now place) node }
 {

@@ -1,8 +1,11 @@
 -- The end of a judgement: the root after the last line of a text is the last heading that was kept, and nothing may
 -- follow that line.
-use Rattle.std.proofs.Common.{◌≡◌, ◌≢◌, ℕ, ◌+◌, ◌-◌, ◌<◌, ◌≤◌, ◌^◌, List, [], ◌∷◌, ◌++◌, length, refl, sym, ap, ◌∙◌, subst, arith, length-append, Some, None}
+use Rattle.std.proofs.Common.{◌≡◌, ◌≢◌, ℕ, ◌+◌, ◌-◌, Bool, List, [], ◌∷◌, ◌++◌, length, refl, sym, ap, ◌∙◌, subst, arith, length-append, Option, Some, None}
 use Rattle.std.proofs.lemmas.List.{append-nil, length-map}
-use Rattle.std.specs.Prelude.{slice_get}
+use Rattle.std.specs.Prelude.{slice_get, IfSome}
+use Rattle.hx_lines.specs.declared.cutters.Cut.TheVariants.{Line, Over}
+use Rattle.hx_lines.specs.Cutters.{Cutter, CutsLine, IsCut}
+use Rattle.hx_lines.proofs.StreamParts.{TellsStream}
 use Rattle.hx_board.specs.declared.colours.Colour.{Colour}
 use Rattle.hx_text.specs.declared.versions.Preamble.{Preamble}
 use Rattle.hx_text.specs.TreeTexts.{AreTreeLinesOf}
@@ -10,20 +13,18 @@ use Rattle.hx_tree.specs.declared.nodes.Heading.{Heading}
 use Rattle.hx_tree.specs.declared.nodes.Node.{Node}
 use Rattle.hx_tree.specs.Trees.{headings_of, IsRoot}
 use Rattle.hx_tree.proofs.TreeGrowth.{valid_tree}
-use Rattle.hx_check.specs.declared.judgements.Judgement.{Judgement}
-use Rattle.hx_check.specs.declared.judgements.Judgement.TheVariants.{NoText}
 use Rattle.hx_text.specs.declared.places.Place.{Place}
 use Rattle.hx_text.specs.declared.places.Place.TheVariants.{After}
 use Rattle.hx_text.specs.declared.reader.TreeReader.{TreeReader}
 use Rattle.hx_text.specs.Grammars.{text_of}
 use Rattle.hx_text.specs.Places.{Stands}
 use Rattle.hx_text.specs.Reader.{HasRead, lines_fed}
-use Rattle.hx_check.specs.Limits.{most_bytes}
-use Rattle.hx_check.specs.Judging.{IsYes, IsNoText, IsJudged, JudgedUpTo, HasReadAll}
+use Rattle.hx_check.specs.Judging.{IsYes, IsNoText}
+use Rattle.hx_check.specs.Standings.{JudgedUpTo, HasReadAll}
 use Rattle.hx_text.proofs.Ends.{push-some}
 use Rattle.hx_text.proofs.Steps.{end_wrong}
 use Rattle.hx_check.proofs.Standings.{ended_in}
-use Rattle.hx_check.proofs.JudgedNodes.{fed_small}
+use Rattle.hx_check.proofs.DueAnswers.{says_of, none_of, told_of, cut_some, cut_not_long}
 use Rattle.hx_text.proofs.Completions.{Begins-stands}
 use Rattle.hx_text.proofs.Faults.{surplus}
 
@@ -54,46 +55,58 @@ ends : (reader : TreeReader) (nodes : List Node) (lines : List (List ℕ)) → H
     → Stands (After all.0) nodes lines
 ends reader nodes lines read all = subst (λ (p : Place). Stands p nodes lines) all.1 read
 
-module _ (input : List ℕ) (reader : TreeReader) (headings : List Heading) (later : List ℕ)
-    (upto : JudgedUpTo input reader headings later) (all : HasReadAll reader) where
-  are : Stands (After all.0) upto.nodes upto.lines
-  are = ends reader upto.nodes upto.lines upto.read all
+module _ (before : Option (List ℕ)) (reader : TreeReader) (headings : List Heading) (old new : Cutter) (left then_left : Option (List ℕ))
+    (upto : JudgedUpTo before reader headings old.held left) (all : HasReadAll reader) where
+  are : Stands (After all.0) upto.judged.nodes upto.judged.lines
+  are = ends reader upto.judged.nodes upto.judged.lines upto.judged.read all
 
-  pub judged_yes : (root : Heading) → Some root ≡ slice_get headings (length headings - 1) → later ≡ [] → IsYes input root
+  -- nothing follows
+  pub yes_answer : (root : Heading) → Some root ≡ slice_get headings (length headings - 1) → IsCut old new left then_left Over
+      → IfSome before (λ input. IsYes input root)
   unfolding are
-  judged_yes root is none = record {
-    nodes = upto.nodes;
-    root = are.1.root.root;
-    text = record {
-      preamble = all.0;
-      winner = are.0;
-      lines = upto.lines;
-      are = are.1;
-      same = upto.parts ∙ ap
-          (λ (t : List ℕ). text_of upto.lines ++ t) none ∙ append-nil (text_of upto.lines);
-    };
-    few = upto.few;
-    valid = valid_tree upto.nodes (some_nodes upto.nodes are.1.root.root are.1.root.last) upto.right;
-    last = are.1.root.last;
-    same = root_heading headings upto.nodes are.1.root.root root upto.same are.1.root.last is;
-  }
+  yes_answer root is cut =
+      says_of before (text_of upto.judged.lines) old.held left (λ input. IsYes input root) upto.parts
+      (λ input rest told parts.
+      let none : old.held ++ rest ≡ [] = none_of old new rest then_left (told_of old new left then_left Over rest told cut) in
+      record {
+        nodes = upto.judged.nodes;
+        root = are.1.root.root;
+        text = record {
+          preamble = all.0;
+          winner = are.0;
+          lines = upto.judged.lines;
+          are = are.1;
+          same = parts ∙ ap (λ (t : List ℕ). text_of upto.judged.lines ++ t) none ∙ append-nil (text_of upto.judged.lines);
+        };
+        few = upto.judged.few;
+        valid = valid_tree upto.judged.nodes (some_nodes upto.judged.nodes are.1.root.root are.1.root.last) upto.judged.right;
+        last = are.1.root.last;
+        same = root_heading headings upto.judged.nodes are.1.root.root root upto.judged.same are.1.root.last is;
+      })
 
-  pub judged_surplus : (line : ℕ) → later ≢ [] → line ≡ lines_fed reader + 1 → IsNoText input line
+  -- a line follows, which no text has
+  pub surplus_answer : (ended : Bool) (number : ℕ) → CutsLine old new left then_left ended → number ≡ lines_fed reader + 1
+      → IfSome before (λ input. IsNoText input number)
   unfolding are
-  judged_surplus line some is = record {
-    fault = surplus input upto.lines later line upto.parts (is ∙ ap (λ (n : ℕ). n + 1) upto.counted)
-        (Begins-stands reader.place upto.nodes upto.lines upto.read) some
-        (λ next begins. end_wrong all.0 are.0 upto.nodes upto.lines next are.1 begins);
-    nodes = upto.nodes;
-    ended = ended_in reader.place upto.nodes upto.lines upto.read upto.few;
-    right = upto.right;
-  }
+  surplus_answer ended number cut is =
+      says_of before (text_of upto.judged.lines) old.held left (λ input. IsNoText input number) upto.parts
+      (λ input rest left_is parts.
+      let told : TellsStream old new rest then_left (Line ended) = told_of old new left then_left (Line ended) rest left_is cut in
+      record {
+        fault = surplus input upto.judged.lines (old.held ++ rest) number parts (is ∙ ap (λ (n : ℕ). n + 1) upto.judged.counted)
+            (Begins-stands reader.place upto.judged.nodes upto.judged.lines upto.judged.read) (cut_some ended old new rest then_left told)
+            (λ next begins. end_wrong all.0 are.0 upto.judged.nodes upto.judged.lines next are.1 begins);
+        nodes = upto.judged.nodes;
+        ended = ended_in reader.place upto.judged.nodes upto.judged.lines upto.judged.read upto.judged.few;
+        right = upto.judged.right;
+        short = cut_not_long ended old new rest then_left told;
+      })
 
   -- a whole text has a node
   pub judged_some : None ≡ slice_get headings (length headings - 1) → ⊥
   unfolding are
   judged_some none =
-      let whole : headings ≡ headings_of (are.1.root.last.front ++ are.1.root.root ∷ []) = upto.same
+      let whole : headings ≡ headings_of (are.1.root.last.front ++ are.1.root.root ∷ []) = upto.judged.same
       ∙ ap headings_of are.1.root.last.same in
       let found : None ≡ Some are.1.root.root.heading = none ∙ ap (λ (hs : List Heading). slice_get hs (length hs - 1)) whole
       ∙ last_heading are.1.root.last.front are.1.root.root in
@@ -109,10 +122,3 @@ pub nothing_whole : (reader : TreeReader) → HasRead reader [] [] → HasReadAl
 nothing_whole reader read all =
     let whole : Stands (After all.0) [] [] = ends reader [] [] read all in
     push-some whole.1.root.last.front whole.1.root.root (sym whole.1.root.last.same)
-
-pub surplus_answer : (input : List ℕ) (reader : TreeReader) (headings : List Heading) (later : List ℕ) (answer : Judgement)
-    → length input ≤ most_bytes → JudgedUpTo input reader headings later → HasReadAll reader → later ≢ []
-    → (lines_fed reader < 2 ^ 64 - 1 → answer ≡ NoText (lines_fed reader + 1)) → IsJudged input answer
-surplus_answer input reader headings later answer few upto all some says =
-    subst (IsJudged input) (sym (says (fed_small input reader headings later few upto)))
-    (judged_surplus input reader headings later upto all (lines_fed reader + 1) some refl)

@@ -1,187 +1,117 @@
--- Judging a text line by line: what is known of the lines and nodes before a line holds again after it, or the answer is
--- the right one.
-use Rattle.std.proofs.Common.{◌≡◌, ℕ, ◌+◌, ◌-◌, ◌<◌, ◌≤◌, ◌^◌, List, [], ◌∷◌, ◌++◌, length, refl, sym, ap, ◌∙◌, subst, arith, length-append, Option, Some, None}
+-- Judging a text line by line: what is known of the lines and nodes before a line holds again after it.
+use Rattle.std.proofs.Common.{◌≡◌, ℕ, ◌+◌, ◌<◌, ◌^◌, List, [], ◌∷◌, ◌++◌, length, sym, ap, ◌∙◌, arith, length-append, Option}
 use Rattle.std.proofs.lemmas.List.{length-map}
-use Rattle.std.specs.Prelude.{flat_map, MatchOption}
+use Rattle.hx_io.specs.Sources.{prepend}
+use Rattle.hx_io.proofs.SourceLaws.{prepend-nil}
+use Rattle.hx_lines.specs.Cutters.{Cutter, CutsLine}
+use Rattle.hx_lines.proofs.StreamParts.{parts-lost}
+use Rattle.std.specs.Prelude.{true}
 use Rattle.hx_tree.specs.declared.nodes.Heading.{Heading}
 use Rattle.hx_tree.specs.declared.nodes.Node.{Node}
 use Rattle.hx_tree.specs.Rules.{IsRightNode}
-use Rattle.hx_tree.proofs.TreeGrowth.{one_more_right, least_wrong-last, headings_of-append}
-use Rattle.hx_check.specs.declared.judgements.Judgement.{Judgement}
-use Rattle.hx_check.specs.declared.judgements.Judgement.TheVariants.{Yes, NoText, NoNode, ReadFault, OutOfMemory, TooLong}
-use Rattle.hx_text.specs.declared.places.Place.{Place}
+use Rattle.hx_tree.proofs.TreeGrowth.{one_more_right, headings_of-append}
 use Rattle.hx_text.specs.declared.reader.TreeReader.{TreeReader}
-use Rattle.hx_text.specs.Words.{Lacks}
-use Rattle.hx_text.specs.Grammars.{text_of, Begins}
-use Rattle.hx_text.specs.TreeTexts.{AreTreeLines, front_lines, node_lines, head_line}
-use Rattle.hx_text.specs.Places.{Stands, StandsSoFar, most_nodes, IsNextNode}
+use Rattle.hx_text.specs.Grammars.{text_of}
+use Rattle.hx_text.specs.Places.{most_nodes}
 use Rattle.hx_text.specs.Reader.{HasRead, lines_fed, one_more}
-use Rattle.hx_check.specs.Limits.{most_bytes}
-use Rattle.hx_check.specs.Judging.{IsNoText, IsNoNode, IsTooManyNodes, IsJudged, JudgedUpTo, HasReadAll, AnswersNode}
-use Rattle.hx_check.proofs.Standings.{ended_in, few_nodes, not_whole}
-use Rattle.hx_text.proofs.BegunNodes.{node_of_head}
 use Rattle.hx_text.proofs.Completions.{Begins-stands}
-use Rattle.hx_text.proofs.Cuts.{text_of-push, length-text_of}
-use Rattle.hx_text.proofs.Faults.{missing, wrong_line}
+use Rattle.hx_text.proofs.Cuts.{text_of-append}
+use Rattle.hx_check.specs.Judging.{AreFaultless}
+use Rattle.hx_check.specs.Standings.{HasJudged, JudgedUpTo, HasReadAll}
+use Rattle.hx_check.proofs.LineCounts.{ended_few}
+use Rattle.hx_check.proofs.Standings.{ended_in, few_nodes}
 
 -- before the first line
-pub judged_nothing : (input : List ℕ) (reader : TreeReader) (headings : List Heading) → HasRead reader [] []
-    → lines_fed reader ≡ 0 → headings ≡ [] → JudgedUpTo input reader headings input
+pub judged_nothing : (before : Option (List ℕ)) (reader : TreeReader) (headings : List Heading) (held : List ℕ) → HasRead reader [] []
+    → lines_fed reader ≡ 0 → headings ≡ [] → held ≡ [] → JudgedUpTo before reader headings held before
 unfolding text_of
-judged_nothing input reader headings read none empty = record {
-  nodes = [];
-  lines = [];
-  read = read;
-  counted = none;
-  parts = refl;
-  few = omega arith;
-  right = λ k. tt;
-  same = empty;
+judged_nothing before reader headings held read none empty nothing = record {
+  judged = record {
+    nodes = [];
+    lines = [];
+    read = read;
+    counted = none;
+    few = omega arith;
+    right = λ k. tt;
+    same = empty;
+  };
+  parts = sym (prepend-nil before) ∙ ap (λ bytes. prepend bytes before) (sym nothing);
 }
 
-module _ (input : List ℕ) (few : length input ≤ most_bytes) where
-  -- how many lines there are
-  pub lines_few : (lines : List (List ℕ)) (rest : List ℕ) → input ≡ text_of lines ++ rest → length lines ≤ most_bytes
-  lines_few lines rest parts = omega (arith, few, ap length parts, length-append (text_of lines) rest, length-text_of lines)
+-- the lines so far have no fault, and they are few
+pub faultless : (reader : TreeReader) (headings : List Heading) (judged : HasJudged reader headings) → AreFaultless judged.lines
+faultless reader headings judged = record {
+  begin = Begins-stands reader.place judged.nodes judged.lines judged.read;
+  nodes = judged.nodes;
+  ended = ended_in reader.place judged.nodes judged.lines judged.read judged.few;
+  right = judged.right;
+}
 
-  counted_more : (fed now : ℕ) (lines : List (List ℕ)) (line rest : List ℕ) → input ≡ text_of lines ++ rest → fed ≡ length lines
-      → now ≡ one_more fed → now ≡ length lines + 1
-  counted_more fed now lines line rest parts counted is = omega (arith, lines_few lines rest parts, is)
+pub few_fed : (reader : TreeReader) (headings : List Heading) → HasJudged reader headings → lines_fed reader < 2 ^ 63
+few_fed reader headings judged =
+    omega (arith, judged.counted, ended_few judged.lines judged.nodes (ended_in reader.place judged.nodes judged.lines judged.read judged.few))
 
-  pub judged_missing : (reader : TreeReader) (headings : List Heading) (rest : List ℕ) (line : ℕ)
-      → JudgedUpTo input reader headings rest → (HasReadAll reader → ⊥) → Lacks 10 rest → line ≡ lines_fed reader + 1
-      → IsNoText input line
-  judged_missing reader headings rest line upto unended lacks is = record {
-    fault = missing input upto.lines rest line upto.parts (is ∙ ap (λ (n : ℕ). n + 1) upto.counted)
-        (Begins-stands reader.place upto.nodes upto.lines upto.read)
-        (not_whole reader.place upto.nodes upto.lines unended upto.read) lacks;
-    nodes = upto.nodes;
-    ended = ended_in reader.place upto.nodes upto.lines upto.read upto.few;
-    right = upto.right;
-  }
+pub count_more : (reader : TreeReader) (headings : List Heading) (now : ℕ) (judged : HasJudged reader headings) → now ≡ one_more (lines_fed reader) → now ≡ length judged.lines + 1
+count_more reader headings now judged is = omega (arith, is, few_fed reader headings judged, judged.counted)
 
-  -- one more line that is no node's
-  pub judged_more : (reader new : TreeReader) (headings : List Heading) (line later : List ℕ)
-      → JudgedUpTo input reader headings (line ++ 10 ∷ later) → lines_fed new ≡ one_more (lines_fed reader)
-      → ((nodes : List Node) (lines : List (List ℕ)) → HasRead reader nodes lines → HasRead new nodes (lines ++ line ∷ []))
-      → JudgedUpTo input new headings later
-  judged_more reader new headings line later upto counts reads = record {
-    nodes = upto.nodes;
-    lines = upto.lines ++ line ∷ [];
-    read = reads upto.nodes upto.lines upto.read;
-    counted = counted_more _ _ upto.lines line _ upto.parts upto.counted counts ∙ sym (length-append upto.lines (line ∷ []));
-    parts = upto.parts ∙ sym (text_of-push upto.lines line later);
-    few = upto.few;
-    right = upto.right;
-    same = upto.same;
+count_with : (reader : TreeReader) (headings : List Heading) (now : ℕ) (line : List ℕ) (judged : HasJudged reader headings) → now ≡ one_more (lines_fed reader)
+    → now ≡ length (judged.lines ++ line ∷ [])
+count_with reader headings now line judged is = count_more reader headings now judged is ∙ sym (length-append judged.lines (line ∷ []))
+
+-- the bytes behind one more line
+text_with : (lines : List (List ℕ)) (line held : List ℕ) → text_of (lines ++ line ∷ []) ≡ text_of lines ++ (line ++ 10 ∷ [])
+unfolding text_of
+text_with lines line held = text_of-append lines (line ∷ [])
+
+module _ (before : Option (List ℕ)) (reader new_reader : TreeReader) (headings : List Heading) (old new : Cutter) (left then_left : Option (List ℕ))
+    (upto : JudgedUpTo before reader headings old.held left) (cut : CutsLine old new left then_left true)
+    (counts : lines_fed new_reader ≡ one_more (lines_fed reader)) where
+  with_line : before ≡ prepend (text_of (upto.judged.lines ++ new.line ∷ []) ++ new.held) then_left
+  with_line =
+      parts-lost before (text_of upto.judged.lines) old.held new.held (new.line ++ 10 ∷ []) left then_left upto.parts cut.loses
+      ∙ ap (λ bytes. prepend (bytes ++ new.held) then_left) (sym (text_with upto.judged.lines new.line new.held))
+
+  -- one more line that is no node's last
+  pub judged_more : HasRead new_reader upto.judged.nodes (upto.judged.lines ++ new.line ∷ []) → JudgedUpTo before new_reader headings new.held then_left
+  judged_more reads = record {
+    judged = record {
+      nodes = upto.judged.nodes;
+      lines = upto.judged.lines ++ new.line ∷ [];
+      read = reads;
+      counted = count_with reader headings (lines_fed new_reader) new.line upto.judged counts;
+      few = upto.judged.few;
+      right = upto.judged.right;
+      same = upto.judged.same;
+    };
+    parts = with_line;
   }
 
   -- one more line, with which a right node ends
-  pub judged_node : (reader new : TreeReader) (headings now : List Heading) (node : Node) (line later : List ℕ)
-      → JudgedUpTo input reader headings (line ++ 10 ∷ later) → lines_fed new ≡ one_more (lines_fed reader)
-      → ((nodes : List Node) (lines : List (List ℕ)) → HasRead reader nodes lines → (HasReadAll new → ⊥) × HasRead new
-      (nodes ++ node ∷ []) (lines ++ line ∷ []))
-      → IsRightNode headings node → now ≡ headings ++ node.heading ∷ [] → JudgedUpTo input new now later
-  judged_node reader new headings now node line later upto counts reads right added = record {
-    nodes = upto.nodes ++ node ∷ [];
-    lines = upto.lines ++ line ∷ [];
-    read = (reads upto.nodes upto.lines upto.read).1;
-    counted = counted_more _ _ upto.lines line _ upto.parts upto.counted counts ∙ sym (length-append upto.lines (line ∷ []));
-    parts = upto.parts ∙ sym (text_of-push upto.lines line later);
-    few = let read = reads upto.nodes upto.lines upto.read in few_nodes new.place (upto.nodes ++ node ∷ []) (upto.lines ++ line ∷ []) read.0 read.1;
-    right = one_more_right upto.nodes node upto.right (rw upto.same at right);
-    same = added ∙ ap (λ (hs : List Heading). hs ++ node.heading ∷ []) upto.same
-        ∙ sym (headings_of-append upto.nodes (node ∷ []));
+  pub judged_node : (now : List Heading) (node : Node) → ¬ HasReadAll new_reader
+      → HasRead new_reader (upto.judged.nodes ++ node ∷ []) (upto.judged.lines ++ new.line ∷ []) → IsRightNode headings node
+      → now ≡ headings ++ node.heading ∷ [] → JudgedUpTo before new_reader now new.held then_left
+  judged_node now node unended reads right added = record {
+    judged = record {
+      nodes = upto.judged.nodes ++ node ∷ [];
+      lines = upto.judged.lines ++ new.line ∷ [];
+      read = reads;
+      counted = count_with reader headings (lines_fed new_reader) new.line upto.judged counts;
+      few = few_nodes new_reader.place (upto.judged.nodes ++ node ∷ []) (upto.judged.lines ++ new.line ∷ []) unended reads;
+      right = one_more_right upto.judged.nodes node upto.judged.right (rw upto.judged.same at right);
+      same = added ∙ ap (λ (hs : List Heading). hs ++ node.heading ∷ []) upto.judged.same
+          ∙ sym (headings_of-append upto.judged.nodes (node ∷ []));
+    };
+    parts = with_line;
   }
 
-  pub judged_wrong_node : (reader new : TreeReader) (headings : List Heading) (node : Node) (line later : List ℕ) (k : ℕ)
-      → JudgedUpTo input reader headings (line ++ 10 ∷ later)
-      → ((nodes : List Node) (lines : List (List ℕ)) → HasRead reader nodes lines → (HasReadAll new → ⊥) × HasRead new
-      (nodes ++ node ∷ []) (lines ++ line ∷ []))
-      → (IsRightNode headings node → ⊥) → k ≡ length headings → IsNoNode input k
-  judged_wrong_node reader new headings node line later k upto reads wrong place =
-      let count : k ≡ length upto.nodes = place ∙ ap length upto.same ∙ length-map upto.nodes (λ (n : Node). n.heading) in
-      record {
-        lines = upto.lines ++ line ∷ [];
-        rest = later;
-        parts = upto.parts ∙ sym (text_of-push upto.lines line later);
-        right = Begins-stands new.place (upto.nodes ++ node ∷ []) (upto.lines ++ line ∷ []) (reads upto.nodes upto.lines upto.read).1;
-        nodes = upto.nodes ++ node ∷ [];
-        ended =
-            let read = reads upto.nodes upto.lines upto.read in
-            ended_in new.place (upto.nodes ++ node ∷ []) (upto.lines ++ line ∷ []) read.1
-            (few_nodes new.place (upto.nodes ++ node ∷ []) (upto.lines ++ line ∷ []) read.0 read.1);
-        last = length-append upto.nodes (node ∷ []) ∙ ap (λ (n : ℕ). n + 1) (sym count);
-        wrong = rw count (least_wrong-last upto.nodes node upto.right (rw (← upto.same) wrong));
-      }
-
-  -- a line that is not of the grammar in its place
-  pub judged_wrong_line : (reader : TreeReader) (headings : List Heading) (line later : List ℕ) (fed number : ℕ)
-      → JudgedUpTo input reader headings (line ++ 10 ∷ later) → Lacks 10 line → fed ≡ one_more (lines_fed reader)
-      → ((nodes : List Node) (lines : List (List ℕ)) → HasRead reader nodes lines → (number ≡ fed) × (Begins AreTreeLines (lines ++ line ∷ []) → ⊥))
-      → IsNoText input number
-  judged_wrong_line reader headings line later fed number upto lacks counts wrong =
-      let told = wrong upto.nodes upto.lines upto.read in
-      record {
-        fault =
-            wrong_line input upto.lines line later number upto.parts
-            (told.0 ∙ counted_more _ _ upto.lines line _ upto.parts upto.counted counts)
-            (Begins-stands reader.place upto.nodes upto.lines upto.read) lacks told.1;
-        nodes = upto.nodes;
-        ended = ended_in reader.place upto.nodes upto.lines upto.read upto.few;
-        right = upto.right;
-      }
-
-  -- the first line of one node too many
-  pub judged_too_many : (reader : TreeReader) (headings : List Heading) (line later : List ℕ)
-      → JudgedUpTo input reader headings (line ++ 10 ∷ later)
-      → ((nodes : List Node) (lines : List (List ℕ)) → HasRead reader nodes lines → (length nodes ≡ most_nodes) × IsNextNode reader.place line)
-      → IsTooManyNodes input
-  judged_too_many reader headings line later upto many =
-      let told = many upto.nodes upto.lines upto.read in
-      let next : IsNextNode reader.place line = told.1 in
-      let whole = node_of_head next.so_far.preamble next.head (subst (λ (p : Place). Stands p upto.nodes upto.lines) next.is upto.read).is_size next.fits in
-      let stands : StandsSoFar next.so_far upto.nodes upto.lines = subst (λ (p : Place). Stands p upto.nodes upto.lines) next.is upto.read in
-      record {
-        preamble = next.so_far.preamble;
-        is_size = stands.is_size;
-        nodes = upto.nodes;
-        each = stands.each;
-        right = upto.right;
-        full = told.0;
-        next = whole.0;
-        next_fits = whole.1;
-        rest = later;
-        parts = upto.parts ∙ sym (text_of-push upto.lines line later)
-            ∙ ap (λ (ls : List (List ℕ)). text_of (ls ++ line ∷ []) ++ later) stands.same
-            ∙ ap (λ (l : List ℕ). text_of ((front_lines next.so_far.preamble ++ flat_map node_lines upto.nodes) ++ l ∷ []) ++ later) (next.same ∙ ap head_line (sym whole.2));
-      }
-
--- what judging a node's line answers
-pub judged_answer : (input : List ℕ) → length input ≤ most_bytes
-    → (reader new : TreeReader) (headings now : List Heading) (node : Node) (line later : List ℕ) (answer : Option Judgement)
-    → JudgedUpTo input reader headings (line ++ 10 ∷ later) → lines_fed new ≡ one_more (lines_fed reader)
-    → ((nodes : List Node) (lines : List (List ℕ)) → HasRead reader nodes lines → (HasReadAll new → ⊥) × HasRead new
-    (nodes ++ node ∷ []) (lines ++ line ∷ []))
-    → AnswersNode headings node now answer
-    → MatchOption answer (JudgedUpTo input new now later × (HasReadAll new → ⊥)) (IsJudged input)
-judged_answer input few reader new headings now node line later None upto counts reads says =
-    (judged_node input few reader new headings now node line later upto counts reads says.0 says.1, (reads upto.nodes upto.lines upto.read).0)
-judged_answer input few reader new headings now node line later (Some (NoNode k)) upto counts reads says =
-    judged_wrong_node input few reader new headings node line later k upto reads says.0 says.1
-judged_answer input few reader new headings now node line later (Some OutOfMemory) upto counts reads says = tt
-judged_answer input few reader new headings now node line later (Some (Yes root)) upto counts reads says = absurd says
-judged_answer input few reader new headings now node line later (Some (NoText l)) upto counts reads says = absurd says
-judged_answer input few reader new headings now node line later (Some ReadFault) upto counts reads says = absurd says
-judged_answer input few reader new headings now node line later (Some TooLong) upto counts reads says = absurd says
-
-pub fed_small : (input : List ℕ) (reader : TreeReader) (headings : List Heading) (rest : List ℕ) → length input ≤ most_bytes
-    → JudgedUpTo input reader headings rest → lines_fed reader < 2 ^ 64 - 1
-fed_small input reader headings rest few upto = omega (arith, lines_few input few upto.lines rest upto.parts, upto.counted)
-
-pub missing_answer : (input : List ℕ) (reader : TreeReader) (headings : List Heading) (rest : List ℕ) (answer : Judgement)
-    → length input ≤ most_bytes → JudgedUpTo input reader headings rest → (HasReadAll reader → ⊥) → Lacks 10 rest
-    → (lines_fed reader < 2 ^ 64 - 1 → answer ≡ NoText (lines_fed reader + 1)) → IsJudged input answer
-missing_answer input reader headings rest answer few upto unended lacks says =
-    subst (IsJudged input) (sym (says (fed_small input reader headings rest few upto)))
-    (judged_missing input few reader headings rest (lines_fed reader + 1) upto unended lacks refl)
+-- a further node may be judged
+pub room_for_one : (reader new_reader : TreeReader) (headings : List Heading) (node : Node) (lines : List (List ℕ)) (judged : HasJudged reader headings) → ¬ HasReadAll new_reader
+    → HasRead new_reader (judged.nodes ++ node ∷ []) lines → length headings < most_nodes
+room_for_one reader new_reader headings node lines judged unended reads =
+    omega (
+      arith,
+      few_nodes new_reader.place (judged.nodes ++ node ∷ []) lines unended reads,
+      length-append judged.nodes (node ∷ []),
+      ap length judged.same,
+      length-map judged.nodes (λ (n : Node). n.heading),
+    )

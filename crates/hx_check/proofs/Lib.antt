@@ -1,7 +1,10 @@
 pub mod Standings
+pub mod LineCounts
 pub mod JudgedNodes
-pub mod Endings
 pub mod Readings
 pub mod OneAnswer
+pub mod LongLines
+pub mod DueAnswers
+pub mod Endings
 pub mod OneFault
 pub mod KeptPromises

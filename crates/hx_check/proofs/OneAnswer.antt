@@ -123,7 +123,7 @@ not_shorter lines more a b form_a form_b longer =
     (append_cancel_left flat_b form_b.tail (node_lines longer.next ++ later) (sym tails ∙ split))
 
 -- the nodes that ended in some lines are the first ones of those that ended in more lines
-front_nodes : (lines more : List (List ℕ)) (a b : List Node) → EndedIn lines a → EndedIn (lines ++ more) b → Begins AreTreeLines (lines ++ more) → GoOn a b
+pub front_nodes : (lines more : List (List ℕ)) (a b : List Node) → EndedIn lines a → EndedIn (lines ++ more) b → Begins AreTreeLines (lines ++ more) → GoOn a b
 front_nodes lines more a b ended_a ended_b begins =
     let whole : AreTreeLinesOf begins.1.preamble begins.1.nodes begins.1.winner (lines ++ (more ++ begins.0)) =
     subst (AreTreeLinesOf begins.1.preamble begins.1.nodes begins.1.winner) (append_assoc lines more begins.0) begins.1.are in

@@ -20,6 +20,7 @@ use Rattle.hx_text.proofs.NodeInjective.{head_not_end}
 use Rattle.hx_text.proofs.Steps.{flat_map-push, EachNodeFits-push}
 use Rattle.hx_text.proofs.Completions.{whole_are_of}
 use Rattle.hx_text.proofs.Cuts.{Agree, Second_goes_on, First_goes_on, agree, AllLack, ended-some, AllLack-front}
+use Rattle.hx_text.proofs.ShortLines.{AllShort, AllShort-front, AllShort-tree_lines}
 use Rattle.hx_text.proofs.TreeLacks.{AllLack-tree_lines, AllLack-begun}
 
 -- the nodes that ended in some lines are the first ones of each text that begins with these lines
@@ -162,10 +163,16 @@ many_whole many =
     subst (AreTreeLinesOf many.preamble (all_of many) many.next.heading.winner) (sym (many_are many))
     (whole_are_of many.preamble many.nodes many.next many.is_size many.each many.next_fits (omega (arith, many.full)))
 
-AllLack-many_lines : {input : List ℕ} (many : IsTooManyNodes input) → AllLack (many_lines many)
+pub AllLack-many_lines : {input : List ℕ} (many : IsTooManyNodes input) → AllLack (many_lines many)
 AllLack-many_lines many =
     AllLack-front (many_lines many) (many_rest many)
     (AllLack-tree_lines _
+    (record { preamble = many.preamble; nodes = all_of many; winner = many.next.heading.winner; are = many_whole many }))
+
+pub AllShort-many_lines : {input : List ℕ} (many : IsTooManyNodes input) → AllShort (many_lines many)
+AllShort-many_lines many =
+    AllShort-front (many_lines many) (many_rest many)
+    (AllShort-tree_lines _
     (record { preamble = many.preamble; nodes = all_of many; winner = many.next.heading.winner; are = many_whole many }))
 
 no_end_yet : {input : List ℕ} (many : IsTooManyNodes input) (more : List Node) (rest : List (List ℕ)) (count : ℕ) (winner : Colour) → IsNumber count
@@ -194,7 +201,7 @@ long_many many lines more is =
     omega (arith, ap length is, length-append (many_lines many) more, length-append (flat_map node_lines many.nodes) (head_line (head_of many.next) ∷ []))
 
 -- more nodes than a text may have
-too_many : {input : List ℕ} (many : IsTooManyNodes input) (lines more : List (List ℕ)) (nodes : List Node)
+pub too_many : {input : List ℕ} (many : IsTooManyNodes input) (lines more : List (List ℕ)) (nodes : List Node)
     → lines ≡ many_lines many ++ more → EndedIn lines nodes → ⊥
 too_many many lines more nodes is ended =
     let whole : Completed lines = completed lines nodes (long_many many lines more is) ended in

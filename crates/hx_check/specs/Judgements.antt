@@ -1,5 +1,5 @@
 -- What is said of an input, and when.
-use Rattle.std.specs.Prelude.{◌≡◌, ◌⊎◌, ℕ, ◌<◌, ◌≤◌, List, [], ◌∷◌, ◌++◌, length, codes, Option, IfSome}
+use Rattle.std.specs.Prelude.{◌⊎◌, ℕ, ◌≤◌, List, [], ◌∷◌, ◌++◌, codes, Option, IfSome}
 use Rattle.hx_board.specs.declared.colours.Colour.{Colour}
 use Rattle.hx_tree.specs.declared.nodes.Heading.{Heading}
 use Rattle.hx_text.specs.Words.{colour_word}
@@ -8,8 +8,7 @@ use Rattle.hx_answers.specs.Texts.{counted_text}
 use Rattle.hx_answers.specs.Endings.{IsWritten}
 use Rattle.hx_check.specs.declared.judgements.Judgement.{Judgement}
 use Rattle.hx_check.specs.declared.judgements.Judgement.TheVariants.{Yes, NoText, NoNode, ReadFault, OutOfMemory, TooLong}
-use Rattle.hx_check.specs.Limits.{most_bytes}
-use Rattle.hx_check.specs.Judging.{IsYes, IsNoText, IsNoNode, IsTooManyNodes}
+use Rattle.hx_check.specs.Judging.{IsYes, IsNoText, IsNoNode, IsLongLine, IsTooManyNodes, ReadsNoFault}
 
 -- the line that names a winner
 abbrev pub yes_line : Colour → List ℕ
@@ -45,30 +44,27 @@ status_of ReadFault = 5
 status_of OutOfMemory = 7
 status_of TooLong = 8
 
--- the input is above a limit: it has more bytes than are read, or more nodes than a text may have
+-- the input is above a limit before its first fault: a line has more bytes than a line may have, or there are more nodes than a
+-- text may have
 abbrev pub IsLong : List ℕ → Type 0
-IsLong input = (most_bytes < length input) ⊎ IsTooManyNodes input
+IsLong input = IsLongLine input ⊎ IsTooManyNodes input
 
--- the whole input, which has no more bytes than are read
-abbrev pub WithinLimit : Option (List ℕ) → (List ℕ → Type 0) → Type 0
-WithinLimit left says = IfSome left (λ input. (length input ≤ most_bytes) × says input)
-
--- When each judgement comes: what the source had left before, and whether its faults rose.
-abbrev pub IsDue : Option (List ℕ) → Type 0 → Judgement → Type 0
-IsDue before rose (Yes root) = WithinLimit before (λ input. IsYes input root)
-IsDue before rose (NoText line) = WithinLimit before (λ input. IsNoText input line)
-IsDue before rose (NoNode node) = WithinLimit before (λ input. IsNoNode input node)
-IsDue before rose ReadFault = rose
-IsDue before rose OutOfMemory = Unit {0}
-IsDue before rose TooLong = IfSome before IsLong
+-- When each judgement comes: what the source had left before and has left, and whether its faults rose.
+abbrev pub IsDue : Option (List ℕ) → Option (List ℕ) → Type 0 → Judgement → Type 0
+IsDue before after rose (Yes root) = IfSome before (λ input. IsYes input root)
+IsDue before after rose (NoText line) = IfSome before (λ input. IsNoText input line)
+IsDue before after rose (NoNode node) = IfSome before (λ input. IsNoNode input node)
+IsDue before after rose ReadFault = rose × ReadsNoFault before after
+IsDue before after rose OutOfMemory = Unit {0}
+IsDue before after rose TooLong = IfSome before IsLong
 
 -- a status of the command
 abbrev pub IsCheckStatus : ℕ → Type 0
 IsCheckStatus status = (status ≤ 1) ⊎ ((5 ≤ status) × (status ≤ 8))
 
 -- A run of the command: some judgement is due, and it was written.
-pub record IsCheckRun (left_before : Option (List ℕ)) (source_rose : Type 0)
+pub record IsCheckRun (left_before left_now : Option (List ℕ)) (source_rose : Type 0)
     (taken_before taken_now : Option (List ℕ)) (sink_rose : Type 0) (status : ℕ) : Type 0 where
   pub judgement : Judgement
-  pub due : IsDue left_before source_rose judgement
+  pub due : IsDue left_before left_now source_rose judgement
   pub written : IsWritten taken_before taken_now sink_rose (judgement_text judgement) (status_of judgement) status

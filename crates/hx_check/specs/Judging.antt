@@ -1,21 +1,17 @@
 -- What is said of an input: that it is the text of a valid tree, or which of its lines or nodes is the first fault.
-use Rattle.std.specs.Prelude.{◌≡◌, ◌≢◌, ℕ, ◌+◌, ◌<◌, ◌≤◌, List, [], ◌∷◌, ◌++◌, length, flat_map}
-use Rattle.std.specs.declared.option.Option.{Option}
-use Rattle.std.specs.declared.option.Option.TheVariants.{None, Some}
+use Rattle.std.specs.Prelude.{◌≡◌, ◌≢◌, ℕ, ◌+◌, ◌<◌, ◌≤◌, List, [], ◌∷◌, ◌++◌, length, flat_map, Option}
 use Rattle.hx_board.specs.declared.colours.Colour.{Colour}
 use Rattle.hx_board.specs.Cells.{IsExtent}
+use Rattle.hx_io.specs.Sources.{prepend}
+use Rattle.hx_lines.specs.Lines.{HasLf, longest}
 use Rattle.hx_tree.specs.declared.nodes.Heading.{Heading}
 use Rattle.hx_tree.specs.declared.nodes.Node.{Node}
-use Rattle.hx_tree.specs.Rules.{IsRightNode}
-use Rattle.hx_tree.specs.Trees.{AreRight, IsValidTree, IsRoot, IsLeastWrong, headings_of}
-use Rattle.hx_check.specs.declared.judgements.Judgement.{Judgement}
-use Rattle.hx_check.specs.declared.judgements.Judgement.TheVariants.{Yes, NoText, NoNode, ReadFault, OutOfMemory, TooLong}
+use Rattle.hx_tree.specs.Trees.{AreRight, IsValidTree, IsRoot, IsLeastWrong}
 use Rattle.hx_text.specs.declared.versions.Preamble.{Preamble}
-use Rattle.hx_text.specs.declared.reader.TreeReader.{TreeReader}
 use Rattle.hx_text.specs.Grammars.{text_of, Begins, IsFaultyLine}
 use Rattle.hx_text.specs.TreeTexts.{AreTreeLines, AreTreeLinesOf, IsTreeText, NodeFits, EachNodeFits, head_of, head_line, node_lines, front_lines}
-use Rattle.hx_text.specs.Places.{most_nodes, IsAfter}
-use Rattle.hx_text.specs.Reader.{HasRead, lines_fed}
+use Rattle.hx_text.specs.Places.{most_nodes}
+use Rattle.hx_check.specs.Limits.{BeginsLong}
 
 -- the nodes that ended in these lines, with which the text of a tree begins that has no more nodes than a text may have
 pub data EndedIn (lines : List (List ℕ)) (nodes : List Node) : Type 0 where
@@ -39,12 +35,14 @@ pub record IsYes (input : List ℕ) (heading : Heading) : Type 0 where
   pub last : IsRoot nodes root
   pub same : heading ≡ root.heading
 
--- this line is the first that is not of the grammar in its place, and each node that ended before it is right
+-- this line is the first that is not of the grammar in its place, it is no longer than a line may be, and each node that ended
+-- before it is right
 pub record IsNoText (input : List ℕ) (line : ℕ) : Type 0 where
   pub fault : IsFaultyLine AreTreeLines input line
   pub nodes : List Node
   pub ended : EndedIn fault.before nodes
   pub right : AreRight nodes
+  pub short : ¬ BeginsLong fault.rest
 
 -- this node, counted from 0, is the least that is not right, and the lines up to its end are of the grammar
 pub record IsNoNode (input : List ℕ) (k : ℕ) : Type 0 where
@@ -70,36 +68,26 @@ pub record IsTooManyNodes (input : List ℕ) : Type 0 where
   pub rest : List ℕ
   pub parts : input ≡ text_of (front_lines preamble ++ flat_map node_lines nodes ++ head_line (head_of next) ∷ []) ++ rest
 
--- what each answer says of the input
-abbrev pub IsJudged : List ℕ → Judgement → Type 0
-IsJudged input (Yes root) = IsYes input root
-IsJudged input (NoText line) = IsNoText input line
-IsJudged input (NoNode node) = IsNoNode input node
-IsJudged input ReadFault = ⊥
-IsJudged input OutOfMemory = Unit {0}
-IsJudged input TooLong = IsTooManyNodes input
-
--- The lines before the rest were read, the nodes that ended in them are right, and these are their headings.
-pub record JudgedUpTo (input : List ℕ) (reader : TreeReader) (headings : List Heading) (rest : List ℕ) : Type 0 where
+-- these lines have no fault: they begin the text of a tree, and the nodes that ended in them are right
+pub record AreFaultless (lines : List (List ℕ)) : Type 0 where
+  pub begin : Begins AreTreeLines lines
   pub nodes : List Node
-  pub lines : List (List ℕ)
-  pub read : HasRead reader nodes lines
-  pub counted : lines_fed reader ≡ length lines
-  pub parts : input ≡ text_of lines ++ rest
-  pub few : length nodes ≤ most_nodes
+  pub ended : EndedIn lines nodes
   pub right : AreRight nodes
-  pub same : headings ≡ headings_of nodes
 
--- whether the reader has read the last line of a text
-abbrev pub HasReadAll : TreeReader → Type 0
-HasReadAll reader = IsAfter reader.place
+-- a line with more bytes than a line may have, before which nothing is at fault
+pub record IsLongLine (input : List ℕ) : Type 0 where
+  pub lines : List (List ℕ)
+  pub rest : List ℕ
+  pub parts : input ≡ text_of lines ++ rest
+  pub faultless : AreFaultless lines
+  pub long : BeginsLong rest
 
--- what judging one more node answers: nothing where it is right and its heading was kept
-abbrev pub AnswersNode : List Heading → Node → List Heading → Option Judgement → Type 0
-AnswersNode before node now None = IsRightNode before node × (now ≡ before ++ node.heading ∷ [])
-AnswersNode before node now (Some (Yes root)) = ⊥
-AnswersNode before node now (Some (NoText line)) = ⊥
-AnswersNode before node now (Some (NoNode k)) = (IsRightNode before node → ⊥) × (k ≡ length before)
-AnswersNode before node now (Some ReadFault) = ⊥
-AnswersNode before node now (Some OutOfMemory) = Unit {0}
-AnswersNode before node now (Some TooLong) = ⊥
+-- What was read has no fault: its lines have none, and the bytes behind them have no LF and may begin a short line.
+pub record ReadsNoFault (before after : Option (List ℕ)) : Type 0 where
+  pub lines : List (List ℕ)
+  pub held : List ℕ
+  pub parts : before ≡ prepend (text_of lines ++ held) after
+  pub faultless : AreFaultless lines
+  pub plain : ¬ HasLf held
+  pub short : length held ≤ longest

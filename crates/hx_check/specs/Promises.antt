@@ -7,8 +7,7 @@ use Rattle.hx_text.specs.TreeTexts.{IsTreeText}
 use Rattle.hx_text.specs.Places.{most_nodes}
 use Rattle.hx_proof.specs.Winners.{OnlyWinner}
 use Rattle.hx_answers.specs.Endings.{IsUnlessStopped, AnswersUnlessStopped}
-use Rattle.hx_check.specs.Limits.{most_bytes}
-use Rattle.hx_check.specs.Judging.{IsNoText, IsNoNode, IsTooManyNodes}
+use Rattle.hx_check.specs.Judging.{IsNoText, IsNoNode, ReadsNoFault}
 use Rattle.hx_check.specs.Judgements.{IsCheckStatus, IsLong, yes_text, no_text_line, no_node_line}
 
 -- The input is the text of a valid tree, the output names the root's winner and its position, and that player wins and
@@ -33,27 +32,27 @@ pub record IsProof (input : List ℕ) : Type 0 where
 abbrev pub IsNoProof : List ℕ → Type 0
 IsNoProof input = (nodes : List Node) → IsTreeText input nodes → IsValidTree nodes → ⊥
 
--- The promises of `check`, by what the source had left, whether its faults rose, what the sink had taken and has taken, whether
--- its faults rose, and the exit status. What is said of an input is said of sources that tell what they have left.
-pub record KeepsPromises (left : Option (List ℕ)) (rose : Type 0) (before now : Option (List ℕ)) (sink_rose : Type 0) (status : ℕ) : Type 0 where
+-- The promises of `check`, by what the source had left and has left, whether its faults rose, what the sink had taken and has
+-- taken, whether its faults rose, and the exit status. What is said of an input is said of sources that tell what they have left.
+pub record KeepsPromises (left left_now : Option (List ℕ)) (rose : Type 0) (before now : Option (List ℕ)) (sink_rose : Type 0) (status : ℕ) : Type 0 where
   -- with status 0 the input is the text of a valid tree, the output says so, and the player that it names wins and the other
   -- does not
   pub yes : status ≡ 0 → IfSome left (λ input. SaysYes input before now)
-  -- a text within the limits is answered with 0 where it is that of a valid tree, and else with 1
-  pub proof : IfSome left (λ input. length input ≤ most_bytes → IsProof input → IsUnlessStopped status 0)
-  pub no_proof : IfSome left
-      (λ input. length input ≤ most_bytes → (IsTooManyNodes input → ⊥) → IsNoProof input → IsUnlessStopped status 1)
+  -- the text of a valid tree is answered with 0, however long it is, and what is no such text and within the limits with 1
+  pub proof : IfSome left (λ input. IsProof input → IsUnlessStopped status 0)
+  pub no_proof : IfSome left (λ input. ¬ IsLong input → IsNoProof input → IsUnlessStopped status 1)
   -- and 1 comes for no text of a valid tree
   pub wrong : status ≡ 1 → IfSome left IsNoProof
   -- the line or the node that is named is the first that is at fault
-  pub no_text : IfSome left (λ input. (line : ℕ) → length input ≤ most_bytes → IsNoText input line
+  pub no_text : IfSome left (λ input. (line : ℕ) → IsNoText input line
       → AnswersUnlessStopped (no_text_line line) 1 before now status)
-  pub no_node : IfSome left (λ input. (node : ℕ) → length input ≤ most_bytes → IsNoNode input node
+  pub no_node : IfSome left (λ input. (node : ℕ) → IsNoNode input node
       → AnswersUnlessStopped (no_node_line node) 1 before now status)
-  -- what is above a limit is answered with 8, and nothing else
+  -- what is above a limit before its first fault is answered with 8, and nothing else
   pub long : IfSome left (λ input. IsLong input → IsUnlessStopped status 8)
   pub too_long : status ≡ 8 → IfSome left IsLong
-  -- each fault has its cause, and no other status comes
-  pub read_fault : status ≡ 5 → rose
+  -- a read fault is answered where it was met before any other fault
+  pub read_fault : status ≡ 5 → rose × ReadsNoFault left left_now
+  -- each fault of a write has its cause, and no other status comes
   pub write_fault : status ≡ 6 → sink_rose
   pub none_else : IsCheckStatus status

@@ -1,120 +1,117 @@
-//! Judging the text of a tree: its lines and nodes in their order, up to the first fault. A node is judged when its
-//! last line was read, and only its heading is kept, since a later node refers to no more than that.
+//! Judging the text of a tree while it is read: its lines and nodes in their order, up to the first fault. A node is judged when
+//! its last line was read, and only its heading is kept, since a later node refers to no more than that.
 
-ghost use Rattle.std.specs.Prelude.{◌≡◌, ◌+◌, ◌-◌, ◌^◌, ◌<◌, ◌≤◌, ◌++◌, ◌∷◌, [], ℕ, List, length, OnOk, OnErr, IsErrOf, MatchOption};
-ghost use Rattle.hx_tree.specs.Rules.{IsRightNode};
-ghost use Rattle.hx_text.specs.Words.{Lacks};
-ghost use Rattle.hx_check.specs.Limits.{most_bytes};
-ghost use Rattle.hx_text.specs.Reader.{lines_fed};
-ghost use Rattle.hx_check.specs.Judging.{IsJudged, JudgedUpTo, AnswersNode, HasReadAll};
+ghost use Rattle.std.specs.Prelude.{◌≡◌, ◌+◌, ◌-◌, ◌^◌, ◌<◌, ◌≤◌, ℕ, true, List, Option, length, MatchOption};
+ghost use Rattle.std.specs.Option.{IfNone};
+ghost use Rattle.hx_io.specs.Causes.{Rose};
+ghost use Rattle.hx_io.specs.Sources.{IsAtEnd};
+ghost use Rattle.hx_text.specs.Places.{most_nodes};
+ghost use Rattle.hx_text.specs.Reader.{lines_fed, one_more};
+ghost use Rattle.hx_check.specs.Judgements.{IsDue};
+ghost use Rattle.hx_check.specs.Standings.{HasJudged, JudgedUpTo, HasReadAll, AnswersNode};
 
 use crate::judgements::Judgement;
 use hx_board::Memory;
-use hx_text::{Fed, TreeFault, TreeReader, cut};
-use hx_tree::{Heading, Node, check_node};
+use hx_io::{Failed, Source};
+use hx_lines::{Cut, LineCutter};
+use hx_text::{Fed, TreeFault, TreeReader};
+use hx_tree::{Checker, Node};
 use std::alloc::Global;
 
-/// Why a node's heading is not kept.
-#[derive(Clone, Copy, Debug, PartialEq, Eq)]
-enum NodeFault {
-    NotRight,
-    Memory,
-}
-
-/// What is to be said of an input.
-pub(crate) fn judge(alloc: Global, input: &[u8]) -> Judgement
-    requires { length input.now ≤ most_bytes }
-    ensures { IsJudged input.now result }
+/// What is to be said of the input that a source gives.
+pub(crate) fn judge<S: Source>(alloc: Global, source: &mut S) -> Judgement
+    ensures { IsDue (S.left source.old) (S.left source.new)
+        (Rose (S.faults source.old) (S.faults source.new)) result }
 {
+    let mut cutter = LineCutter::new();
     let mut reader = TreeReader::new(alloc);
-    let mut headings = Vec::new(alloc);
-    let mut rest = input;
-    while let Some((line, later)) = cut(rest, b'\n') {
-        if let Some(answer) = judge_line(&mut reader, &mut headings, line, later) {
-            return answer;
+    let mut checker = Checker::new(alloc);
+    for _ in 0..u64::MAX {
+        if let Some(judgement) = judge_line(&mut cutter, source, &mut reader, &mut checker) {
+            return judgement;
         }
-        rest = later;
     }
-    next_line_is_wrong(&reader)
+    // No text that has as many nodes as a text may have has so many lines.
+    unreachable!()
 }
 
-/// Judges one more line, and gives the answer where the line decides it.
-fn judge_line(
+/// Judges the next line, and gives the answer where it is decided.
+fn judge_line<S: Source>(
+    cutter: &mut LineCutter,
+    source: &mut S,
     reader: &mut TreeReader,
-    headings: &mut Vec<Heading>,
-    line: &[u8],
-    later: &[u8],
+    checker: &mut Checker,
 ) -> Option<Judgement>
-    requires { Lacks 10 line.now }
-    ensures { (input : List ℕ) → length input ≤ most_bytes
-        → JudgedUpTo input reader.old headings.old.items (line.now ++ 10 ∷ later.now)
+    requires met_end { cutter.old.met_end ≡ true → IsAtEnd (S.left source.old) }
+    requires judged { HasJudged reader.old checker.old }
+    requires unended { ¬ HasReadAll reader.old }
+    ensures met_end { cutter.new.met_end ≡ true → IsAtEnd (S.left source.new) }
+    ensures step { (before : Option (List ℕ))
+        → JudgedUpTo before reader.old checker.old cutter.old.held (S.left source.old)
         → MatchOption result
-        (JudgedUpTo input reader.new headings.new.items later.now × (HasReadAll reader.new → ⊥))
-        (IsJudged input) }
+        (JudgedUpTo before reader.new checker.new cutter.new.held (S.left source.new))
+        (IsDue before (S.left source.new) (Rose (S.faults source.old) (S.faults source.new))) }
+    ensures unended { IfNone result (¬ HasReadAll reader.new) }
+    ensures counted { IfNone result (lines_fed reader.new ≡ one_more (lines_fed reader.old)) }
+    ensures later { S.faults source.old ≤ S.faults source.new }
 {
-    match reader.feed(line, true) {
-        Ok(Fed::More) => None,
-        Ok(Fed::Node(node)) => judge_node(headings, &node),
-        Ok(Fed::End(_)) => Some(at_end(reader, headings, later)),
-        Err(TreeFault::Text { line }) => Some(Judgement::NoText { line }),
-        Err(TreeFault::TooMany { .. }) => Some(Judgement::TooLong),
-        Err(TreeFault::Memory) => Some(Judgement::OutOfMemory),
+    match cutter.next(source) {
+        Ok(Cut::Line { ended }) => match reader.feed(cutter.line(), ended) {
+            Ok(Fed::More) => None,
+            Ok(Fed::Node(node)) => judge_node(checker, node),
+            Ok(Fed::End(_)) => Some(at_end(cutter, source, reader, checker)),
+            Err(TreeFault::Text { line }) => Some(Judgement::NoText { line }),
+            Err(TreeFault::TooMany { .. }) => Some(Judgement::TooLong),
+            Err(TreeFault::Memory) => Some(Judgement::OutOfMemory),
+        },
+        Ok(Cut::TooLong) => Some(Judgement::TooLong),
+        Ok(Cut::Over) => Some(next_line_is_wrong(reader)),
+        Err(Failed) => Some(Judgement::ReadFault),
     }
 }
 
-/// Judges a node and keeps its heading, or gives the answer where it is not kept.
-fn judge_node(headings: &mut Vec<Heading>, node: &Node) -> Option<Judgement>
-    ensures { AnswersNode headings.old.items node.now headings.new.items result }
+/// Judges a node, whose heading is kept, or gives the answer where it is not.
+fn judge_node(checker: &mut Checker, node: Node) -> Option<Judgement>
+    requires { length checker.old < most_nodes }
+    ensures { AnswersNode checker.old node checker.new result }
 {
-    match add_node(headings, node) {
-        Ok(()) => None,
-        Err(NodeFault::NotRight) => Some(Judgement::NoNode {
-            node: headings.len() as u64,
+    match checker.take(node) {
+        Ok(true) => None,
+        Ok(false) => Some(Judgement::NoNode {
+            node: checker.held() as u64,
         }),
-        Err(NodeFault::Memory) => Some(Judgement::OutOfMemory),
-    }
-}
-
-/// Judges a node, and adds its heading to those before it where it is right.
-fn add_node(headings: &mut Vec<Heading>, node: &Node) -> Result<(), NodeFault>
-    ensures right { OnOk result (IsRightNode headings.old.items node.now) }
-    ensures added { OnOk result (headings.new.items ≡ headings.old.items ++ node.now.heading ∷ []) }
-    ensures not_right { IsErrOf result NodeFault.NotRight
-        → IsRightNode headings.old.items node.now → ⊥ }
-    ensures unchanged { OnErr result (headings.new.items ≡ headings.old.items) }
-{
-    let alloc = *headings.allocator();
-    match check_node(alloc, headings.as_slice(), node) {
-        Ok(true) => {}
-        Ok(false) => return Err(NodeFault::NotRight),
-        Err(Memory) => return Err(NodeFault::Memory),
-    }
-    match headings.push(node.heading) {
-        Ok(()) => Ok(()),
-        Err(_) => Err(NodeFault::Memory),
+        Err(Memory) => Some(Judgement::OutOfMemory),
     }
 }
 
 /// The answer after the last line of a text, which nothing may follow.
-fn at_end(reader: &TreeReader, headings: &[Heading], later: &[u8]) -> Judgement
-    ensures { (input : List ℕ) → length input ≤ most_bytes
-        → JudgedUpTo input reader.now headings.now later.now → HasReadAll reader.now
-        → IsJudged input result }
+fn at_end<S: Source>(
+    cutter: &mut LineCutter,
+    source: &mut S,
+    reader: &TreeReader,
+    checker: &Checker,
+) -> Judgement
+    requires met_end { cutter.old.met_end ≡ true → IsAtEnd (S.left source.old) }
+    ensures met_end { cutter.new.met_end ≡ true → IsAtEnd (S.left source.new) }
+    ensures due { (before : Option (List ℕ))
+        → JudgedUpTo before reader.now checker.now cutter.old.held (S.left source.old)
+        → HasReadAll reader.now
+        → IsDue before (S.left source.new) (Rose (S.faults source.old) (S.faults source.new)) result }
+    ensures later { S.faults source.old ≤ S.faults source.new }
 {
-    match headings.last() {
-        Some(root) => {
-            if later.is_empty() {
-                Judgement::Yes { root: *root }
-            } else {
-                next_line_is_wrong(reader)
-            }
-        }
-        // A whole text has a node.
-        None => next_line_is_wrong(reader),
+    match cutter.next(source) {
+        Ok(Cut::Over) => match checker.root() {
+            Some(root) => Judgement::Yes { root },
+            // A whole text has a node.
+            None => next_line_is_wrong(reader),
+        },
+        Ok(Cut::Line { .. }) => next_line_is_wrong(reader),
+        Ok(Cut::TooLong) => Judgement::TooLong,
+        Err(Failed) => Judgement::ReadFault,
     }
 }
 
-/// The answer where the line after those that were read is missing, is not ended or may not stand there.
+/// The answer where the line after those that were read is missing or may not stand there.
 fn next_line_is_wrong(reader: &TreeReader) -> Judgement
     ensures { (lines_fed reader.now < 2 ^ 64 - 1)
         → result ≡ Judgement.NoText (lines_fed reader.now + 1) }

@@ -1,6 +1,6 @@
 //! The command `check`: whether the text of a tree proves who wins the position of its root.
 //!
-//! The lines and nodes are judged in their order, up to the first fault. First it is settled what is to be said, and then all of
+//! The lines and nodes are judged in their order while they are read, up to the first fault. It is settled what is to be said before any of
 //! it is written, so that a fault of the sink never changes what is said.
 #![tactic(auto)]
 

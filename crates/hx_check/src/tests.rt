@@ -2,6 +2,7 @@
 
 mod damage;
 mod faults;
+mod limits;
 mod rules;
 
 use crate::{one_fault, run_check};

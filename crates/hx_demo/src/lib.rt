@@ -2,8 +2,10 @@
 #![tactic(auto)]
 
 mod draws;
+mod laws;
 
 pub use draws::Draw;
+pub use laws::one_count;
 
 #[cfg(test)]
 mod tests;

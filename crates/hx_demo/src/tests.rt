@@ -68,3 +68,8 @@ fn draws_the_published_positions(rt: HostRuntime) {
         assert_eq!(rt; position.stones(Colour::White).bits(), white);
     }
 }
+
+#[test]
+fn the_law_is_there() {
+    one_count();
+}

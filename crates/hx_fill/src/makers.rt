@@ -70,6 +70,7 @@ fn narrowed_by(view: &View, makers: &Makers, around: VertexSet) -> Makers
     requires makers { (n : ℕ) → has makers.now.cells n ≡ true → OnBoard view.now.board.size n }
     ensures { AreNarrowed view.now.board view.now.player around 0 makers.now result }
 {
+    // The proof takes from here that the position's board is one.
     let _size = view.position().size();
     let mut found = *makers;
     let mut left = around;
@@ -91,6 +92,7 @@ fn narrowed(view: &View, makers: &Makers, around: VertexSet, vertex: Vertex) -> 
     requires makers { (n : ℕ) → has makers.now.cells n ≡ true → OnBoard view.now.board.size n }
     ensures { IsNarrowed view.now.board view.now.player around vertex makers.now result }
 {
+    // The proof takes from here that the position's board is one.
     let _size = view.position().size();
     let joined = view.joined_with(vertex);
     if around.inside(joined) {

@@ -1,4 +1,5 @@
-//! What a player's opponent must answer.
+//! What a player's opponent must answer. It stands apart from `must`, since the prover makes a file of each name and does not
+//! tell them apart by case.
 
 use hx_board::Mask;
 use hx_tree::{Lines, Threats};

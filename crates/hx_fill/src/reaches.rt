@@ -19,6 +19,7 @@ pub(crate) fn reached_around(view: &View, around: VertexSet) -> VertexSet
     ensures { (vertex : Vertex) → IsAmong view.now.board.size around vertex
         → HoldsJoined view.now.board view.now.player vertex result }
 {
+    // The proof takes from here that the position's board is one.
     let _size = view.position().size();
     let mut found = VertexSet::empty();
     let mut left = around;

@@ -26,6 +26,7 @@ pub fn fill_in(alloc: Global, position: &Position) -> Result<Filled, Memory>
         steps: Vec::new(alloc),
     };
     loop {
+        // The proof takes from here that the position's board is one.
         let _size = filled.position.size();
         let before = filled.steps.len();
         fill_round(&mut filled, Colour::Black)?;

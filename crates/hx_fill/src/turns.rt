@@ -53,6 +53,7 @@ impl Turn {
         ensures { (better : ℕ) → IsDominated self.now.position self.now.mover better cell ByDead
             → has result better ≡ true }
     {
+        // The proof takes from here that the position's board is one.
         let _size = self.position.size();
         let others = View::of(&self.position, self.mover.other(), &self.others);
         let makers = makers_of(&others, cell, around, Mask::empty());
@@ -72,6 +73,7 @@ impl Turn {
             → IsDominated self.now.position self.now.mover better cell (ByPair partner)
             → has result better ≡ true }
     {
+        // The proof takes from here that the position's board is one.
         let _size = self.position.size();
         let own = View::of(&self.position, self.mover, &self.own);
         let makers = makers_of(&own, cell, around, self.position.empties());
@@ -104,6 +106,7 @@ impl Turn {
         ensures { IsTrue result
             ↔ IsDominated self.now.position self.now.mover better worse ByDead }
     {
+        // The proof takes from here that the position's board is one.
         let _size = self.position.size();
         let other = self.mover.other();
         let others = View::after(&self.position, other, &self.others, self.mover, better);

@@ -15,6 +15,7 @@ use hx_board::{Cell, Colour, Groups, Position};
 pub fn dead(position: &Position, colour: Colour, cell: Cell) -> bool
     ensures { IsTrue result ↔ IsDead position.now colour cell }
 {
+    // The proof takes from here that the position's board is one.
     let _size = position.size();
     let is_empty = position.empties().has(cell);
     if !is_empty {

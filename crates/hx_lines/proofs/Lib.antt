@@ -1,2 +1,3 @@
 pub mod CutterLaws
 pub mod LineLaws
+pub mod StreamParts

@@ -87,7 +87,7 @@ some_injective : (a b : List ℕ) → Some a ≡ Some b → a ≡ b
 some_injective a b e = cc
 
 -- what is held and left, before and after
-stream-loses : (bytes held_before held_after left_before left_after : List ℕ) → Loses bytes held_before held_after (Some left_before) (Some left_after)
+pub stream-loses : (bytes held_before held_after left_before left_after : List ℕ) → Loses bytes held_before held_after (Some left_before) (Some left_after)
     → held_before ++ left_before ≡ bytes ++ (held_after ++ left_after)
 stream-loses bytes held_before held_after left_before left_after loses =
     ap (λ left. held_before ++ left) (some_injective left_before (loses.read ++ left_after) loses.took)

@@ -8,6 +8,7 @@ ghost use Rattle.hx_io.specs.Sources.{IsAtEnd, ReadTakes};
 ghost use Rattle.hx_lines.specs.Lines.{HasLf, longest};
 
 use hx_io::{Failed, Source};
+use memchr::memchr;
 use std::marker::Model;
 
 /// The most bytes of a line.
@@ -119,7 +120,7 @@ impl LineCutter {
     fn is_settled(&self) -> bool
         ensures { IsTrue result ↔ IsSettled self.now }
     {
-        self.met_end || self.held().len() > LONGEST || self.held().contains(&b'\n')
+        self.met_end || self.held().len() > LONGEST || find_lf(self.held()).is_some()
     }
 
     /// Reads once.
@@ -218,10 +219,5 @@ fn find_lf(bytes: &[u8]) -> Option<usize>
     ensures { MatchOption result (¬ HasLf bytes.now)
         (λ place. (place < length bytes.now) × (slice_index bytes.now place ≡ 10) × ¬ HasLf (take place bytes.now)) }
 {
-    for (place, byte) in bytes.iter().enumerate() {
-        if *byte == b'\n' {
-            return Some(place);
-        }
-    }
-    None
+    memchr(b'\n', bytes)
 }

@@ -30,6 +30,7 @@ pub(crate) fn drop_dead(
         chains.old chains.new log.old.items log.new.items }
     ensures room { vec_capacity log.new ≡ vec_capacity log.old }
 {
+    // The proof takes from here that the position's board is one.
     let _size = before.size();
     let live = liveness_of(before, player);
     let kept = liveness_of(after, player);

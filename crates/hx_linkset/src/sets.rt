@@ -123,6 +123,7 @@ impl LinkSet {
         let Ok(fulls) = FullLists::new(alloc) else {
             return Err(Memory);
         };
+        // The proof takes from here that the position's board is one.
         let _size = position.size();
         Ok(LinkSet {
             position: *position,
@@ -179,6 +180,7 @@ impl LinkSet {
         ensures right { IsRight self.now.player self.now.present }
         ensures few { length self.now.present.links ≤ MOST_LINKS }
     {
+        // To read a field brings the type's invariant to the proof.
         let _colour = self.colour;
     }
 
@@ -454,6 +456,7 @@ impl LinkSet {
     fn given(&self, step: &Step) -> Option<Link>
         ensures { Finds result (Gives self.now step.now) }
     {
+        // The proof takes from here that the position's board is one.
         let _size = self.position.size();
         let Some(link) = result_of(
             &self.position,

@@ -8,3 +8,5 @@ pub mod MoveNodes
 pub mod FillNodes
 pub mod LinkNodes
 pub mod AllNodes
+pub mod KnownEntries
+pub mod WideLaws

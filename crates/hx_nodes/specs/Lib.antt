@@ -1,3 +1,4 @@
 pub mod Stored
 pub mod Missing
 pub mod Lines
+pub mod Wide

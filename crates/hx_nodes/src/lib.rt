@@ -7,11 +7,21 @@
 mod answers;
 mod chains;
 mod fills;
+mod known;
 mod lines;
 mod links;
 mod moves;
 mod stored;
 mod turns;
+mod wide_answers;
+mod wide_chains;
+mod wide_fills;
+mod wide_lines;
+mod wide_links;
+mod wide_moves;
+mod wide_turns;
+mod widened;
+mod wider;
 
 pub use answers::store_all;
 pub use chains::store_chain;
@@ -20,6 +30,13 @@ pub use links::store_links;
 pub use moves::store_move;
 pub use stored::Stored;
 pub use turns::store_turned;
+pub use wide_answers::widen_all;
+pub use wide_chains::widen_chain;
+pub use wide_fills::widen_fill;
+pub use wide_links::widen_links;
+pub use wide_moves::widen_move;
+pub use wide_turns::widen_turned;
+pub use wider::{look_wider_either, store_wider};
 
 #[cfg(test)]
 mod tests;

@@ -234,3 +234,24 @@ fn threats_alone(rt: HostRuntime) -> Result<(), Fail> {
     );
     Ok(())
 }
+
+/// Black's chain on the left column serves the position where White has not moved yet.
+#[test]
+fn a_wider_entry_serves(rt: HostRuntime) -> Result<(), Fail> {
+    let position = board(2, 2, 0x801)?;
+    let mut book = Book::with_slots(rt.alloc(), 2).or(Err("memory"))?;
+    let missing = store_wider(&rt, rt.alloc(), &mut book, &position, White, Black);
+    assert!(rt; is_missing(missing));
+    if !chain(&position, Black) {
+        return Err("no chain".into());
+    }
+    assert!(rt; is_done(widen_chain(&rt, &mut book, &position, White, Black)));
+    assert!(rt; book.find(&position, White).is_none());
+    let stored = store_wider(&rt, rt.alloc(), &mut book, &position, White, Black);
+    assert!(rt; is_done(stored));
+    assert_eq!(rt;
+        verdict_of(rt.alloc(), book, &position, White)?,
+        Verdict::Yes
+    );
+    Ok(())
+}

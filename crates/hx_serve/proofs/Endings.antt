@@ -26,7 +26,8 @@ use Rattle.hx_serve.specs.Serving.AreDue.{No_words, Of_fault, Of_limit}
 use Rattle.hx_serve.specs.Standings.{Stands, SaysLast}
 use Rattle.hx_serve.specs.Standings.SaysLast.{Whole, Front}
 use Rattle.hx_serve.proofs.QuitLaws.{until_quit-append, until_quit-all, until_quit-last, until_quit-quits, passed-push}
-use Rattle.hx_serve.proofs.StreamLaws.{ended_lines-push, parts-lost, parts-stay, TellsNext, tells_next}
+use Rattle.hx_lines.proofs.StreamParts.{parts-lost, parts-stay}
+use Rattle.hx_serve.proofs.StreamLaws.{ended_lines-push, TellsNext, tells_next}
 use Rattle.std.proofs.lemmas.List.Elements.{All-push, All-tail}
 
 -- ---- runs

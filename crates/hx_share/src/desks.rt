@@ -5,7 +5,7 @@ ghost use Rattle.std.specs.Prelude.{◌≡◌};
 use crate::readers::BookSeat;
 use crate::shared::Shared;
 use hx_board::{Colour, Position};
-use hx_book::{NoSlot, Proofs};
+use hx_book::{NoSlot, Proofs, Wider};
 use hx_tree::{Found, Node};
 use std::sync::Wait;
 
@@ -28,6 +28,17 @@ impl<'a> Proofs for Desk<'a> {
 
     fn look<R: Wait>(&mut self, rt: &R, position: &Position, to_move: Colour) -> Option<Found> {
         self.shared.look(rt, &mut self.seat, position, to_move)
+    }
+
+    fn look_wider<R: Wait>(
+        &mut self,
+        rt: &R,
+        position: &Position,
+        to_move: Colour,
+        winner: Colour,
+    ) -> Option<Wider> {
+        self.shared
+            .look_wider(rt, &mut self.seat, position, to_move, winner)
     }
 
     fn store<R: Wait>(&mut self, rt: &R, node: Node) -> Result<u32, NoSlot> {

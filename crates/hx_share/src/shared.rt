@@ -10,6 +10,7 @@ ghost use Rattle.hx_tree.specs.Rules.{IsRightNode};
 ghost use Rattle.hx_tree.specs.Trees.{headings_of};
 ghost use Rattle.hx_tree.specs.Entries.{Extends, FindsFirst, HasNoEntry, IsFirstEntry};
 ghost use Rattle.hx_book.specs.Puts.{PutsLater};
+ghost use Rattle.hx_book.specs.WiderEntry.{FindsWider};
 ghost use Rattle.hx_share.specs.declared.views.Role.TheVariants.{Note, Waiting};
 ghost use Rattle.hx_share.specs.Fronts.{AreFronts, longer};
 ghost use Rattle.hx_share.specs.OneList.{view, first_view, has_turn, alone, acting, first_part};
@@ -21,7 +22,7 @@ use crate::views::{Limits, View};
 use atomic_table::{Refused, Seat, Table};
 use crossbeam_utils::Backoff;
 use hx_board::{Colour, Memory, Position};
-use hx_book::{Book, NoSlot};
+use hx_book::{Book, NoSlot, Wider};
 use hx_tree::{Found, Node};
 use std::alloc::Global;
 use std::marker::Model;
@@ -114,6 +115,30 @@ impl Shared {
         seat.seen = book.held();
         self.give_back(&mut seat.seat, book);
         found
+    }
+
+    /// An entry of this mover and winner that serves the position, of the nodes that the seat has then seen, which are all that
+    /// the book holds: its winner has the same stones, and the opponent's stones of the position are all in the entry's. None
+    /// exactly where there is none. It may wait for the turn.
+    pub fn look_wider<R: Wait>(
+        &self,
+        rt: &R,
+        seat: &mut BookSeat,
+        position: &Position,
+        to_move: Colour,
+        winner: Colour,
+    ) -> Option<Wider>
+        requires { seat.old.made ≡ self.now.made }
+        ensures made { seat.new.made ≡ seat.old.made }
+        ensures seen { Extends seat.new.seen seat.old.seen }
+        ensures found { FindsWider seat.new.seen position.now to_move winner result }
+    {
+        let book = self.take_turn(rt, &mut seat.seat);
+        book.keeps();
+        let wider = book.find_wider(position, to_move, winner);
+        seat.seen = book.held();
+        self.give_back(&mut seat.seat, book);
+        wider
     }
 
     /// Stores a node that is right after those that the seat has seen. The index of the entry of its position and mover, of the

@@ -326,6 +326,8 @@ fn two_threads_fill_a_book(rt: HostRuntime) -> Result<(), Fail> {
     let refused = store_chain(&rt, &shared, &mut second, &bare).ok_or("no chain")?;
     let refusal = refused.err().ok_or("a slot was left")?;
     assert_eq!(rt; refusal.held(), 110);
+    let wider = shared.look_wider(&rt, &mut second, &bare, White, Black);
+    assert!(rt; wider.is_some());
     let book = close_two(rt.alloc(), shared, first, second)?;
     assert_eq!(rt; book.held(), 110);
     Ok(())

@@ -15,7 +15,7 @@ use hx_count::{CountSeat, Counts, Hints};
 use hx_io::Gate;
 use hx_linkset::LinkSet;
 use hx_share::{BookSeat, Desk, Shared};
-use hx_worker::{Ended, Job, work};
+use hx_worker::{Ended, Job, Replies, work};
 use std::alloc::Global;
 use std::sync::Wait;
 use std::thread;
@@ -29,6 +29,7 @@ pub(crate) struct Crew<'a> {
     pub(crate) shared: &'a Shared,
     pub(crate) counts: &'a Counts,
     pub(crate) hints: &'a Hints,
+    pub(crate) replies: &'a Replies,
 }
 
 /// A worker's seats, and how its work ended.
@@ -89,17 +90,12 @@ impl Crew<'_> {
             counts: self.counts,
             seat: counts,
             hints: self.hints,
+            replies: self.replies,
             black,
             white,
         };
         let ended = work(rt, &mut job, gate);
-        let Job { proofs, seat, .. } = job;
-        let Desk { seat: book, .. } = proofs;
-        Done {
-            book,
-            counts: seat,
-            ended,
-        }
+        seats_back(job, ended)
     }
 
     /// Sets of links of both players, Black's first, with no link yet.
@@ -109,5 +105,20 @@ impl Crew<'_> {
         let black = LinkSet::new(alloc, &self.position, Colour::Black)?;
         let white = LinkSet::new(alloc, &self.position, Colour::White)?;
         Ok((black, white))
+    }
+}
+
+/// The seats of a job that has ended come back.
+fn seats_back(job: Job<'_, Desk<'_>>, ended: Ended) -> Done
+    ensures book { result.book ≡ job.entry.proofs.seat }
+    ensures counts { result.counts ≡ job.entry.seat }
+    ensures ended { result.ended ≡ ended }
+{
+    let Job { proofs, seat, .. } = job;
+    let Desk { seat: book, .. } = proofs;
+    Done {
+        book,
+        counts: seat,
+        ended,
     }
 }

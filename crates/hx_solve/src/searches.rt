@@ -14,7 +14,7 @@ use hx_book::Book;
 use hx_count::{Counts, Hints, Totals};
 use hx_io::Gate;
 use hx_share::Shared;
-use hx_worker::Ended;
+use hx_worker::{Ended, Replies};
 use std::alloc::Global;
 use std::sync::Wait;
 use std::thread::Threads;
@@ -47,6 +47,7 @@ pub(crate) fn search<G: Gate + Sync, R: Threads + Wait + Sync>(
     let (counts, count_seats) = Counts::start(alloc, settings.budget, LOSS_WORDS, workers)?;
     let words = hint_words(settings.budget, position.empty_count());
     let hints = Hints::with_words(alloc, words)?;
+    let replies = Replies::new(alloc)?;
     let room = Parts::with_room(alloc, workers)?;
     let crew = Crew {
         position: *position,
@@ -54,6 +55,7 @@ pub(crate) fn search<G: Gate + Sync, R: Threads + Wait + Sync>(
         shared: &shared,
         counts: &counts,
         hints: &hints,
+        replies: &replies,
     };
     let seats = crew.deal(alloc, books, count_seats)?;
     let dones = crew.work_all(rt, alloc, gate, seats)?;

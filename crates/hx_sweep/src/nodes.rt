@@ -108,7 +108,8 @@ fn answers(
     let mut left = position.empties();
     while let Some(cell) = left.least(size) {
         let child = after(nodes, position, winner.other(), cell, winner)?;
-        // A slice of one line: the prover does not follow a `push` of it, since this crate names no line but Child.
+        // A slice of one line: the prover does not follow a `push` of a value that may hold a `Kill` of hx_inferior, since this
+        // crate names no line but Child.
         let line = [Line::Child { cell, child }];
         lines.extend_from_slice(&line).map_err(|_| Memory)?;
         left = left.without(cell);

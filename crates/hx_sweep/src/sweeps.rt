@@ -19,6 +19,7 @@ pub fn sweep(alloc: Global, position: &Position, to_move: Colour) -> Result<Vec<
     requires { empty_count position.now ≤ 9 }
     ensures { IfOk result (λ nodes. IsSweep position.now to_move nodes.items) }
 {
+    // The proof takes from here that the position's board is one.
     let _size = position.size();
     let mut played = *position;
     let won_by = winner(&mut played, to_move);

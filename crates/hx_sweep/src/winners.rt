@@ -17,6 +17,7 @@ pub(crate) fn winner(position: &mut Position, to_move: Colour) -> Colour
     ensures kept { position.new ≡ position.old }
     ensures wins { Wins result position.old to_move }
 {
+    // The proof takes from here that the position's board is one.
     let _size = position.size();
     if chain(position, Colour::Black) {
         return Colour::Black;

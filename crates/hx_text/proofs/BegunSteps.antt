@@ -18,10 +18,10 @@ use Rattle.hx_text.specs.declared.begun_nodes.Begun.{Begun}
 use Rattle.hx_text.specs.declared.places.Step.{Step}
 use Rattle.hx_text.specs.declared.places.SoFar.{SoFar}
 use Rattle.hx_text.specs.declared.places.Place.TheVariants.{Between, Inside}
-use Rattle.hx_text.specs.Entries.{entry_line, kind_of, EachEntryFits, IsEntryLine, entries_of, steps_told, threats_told, answers_told, fills_told, entries_told, kind_at, rule_for}
+use Rattle.hx_text.specs.Entries.{entry_line, kind_of, EntryFits, EachEntryFits, IsEntryLine, entries_of, steps_told, threats_told, answers_told, fills_told, entries_told, kind_at, rule_for}
 use Rattle.hx_text.specs.StepTexts.{BeginsLongOr}
 use Rattle.hx_text.specs.TreeTexts.{HeadFits, NodeFits, head_of, head_line, node_lines}
-use Rattle.hx_text.specs.Places.{most_nodes, StandsSoFar, entries_in, IsInOrder, HasRoomForAll, StandsBegun, StandsInside, kind_due, IsAdded, IsFull, HasSameRoom, IsWithEntry, SettlesNode, EndsNode, Brings, IsNextNode, TakesMemory, ForEntries, ForParts}
+use Rattle.hx_text.specs.Places.{most_nodes, StandsSoFar, entries_in, IsInOrder, HasRoomForAll, StandsBegun, StandsInside, kind_due, IsAdded, IsFull, HasSameRoom, IsWithEntry, GoesOn, SettlesNode, EndsNode, Brings, IsNextNode, TakesMemory, ForEntries, ForParts}
 use Rattle.hx_text.proofs.EntryLists.{nil_of_length, zero_unless_some, EachEntryFits-append, length-entries_for, entries_same, kind_among_step, kind_among_threat, kind_among_answer, kind_among_fill, steps_more, threats_more, answers_more, fills_more, opening_of-rule_for, entries_of-rule_for}
 
 -- ---- which kind is due
@@ -284,6 +284,22 @@ stands_with_entry old new entry nodes lines now stands fits =
           ∙ ap (λ (es : List Entry). so.before ++ head_line old.head ∷ map entry_line es) (sym are)
           ∙ ap (λ (h : Head). so.before ++ head_line h ∷ map entry_line (entries_in new)) (sym now.same_head);
     }
+
+-- the line of an entry that is due, where more entries follow
+pub went_on : (old new : Begun) (entry : Entry) (line : List ℕ) → 1 < old.missing → EntryFits old.so_far.preamble.size entry → kind_due old ≡ kind_of entry
+    → line ≡ entry_line entry → IsWithEntry old entry new → GoesOn (Inside old) line (Inside new)
+went_on old new entry line more fits due is now = (
+  old,
+  refl,
+  λ nodes lines stands. (
+    (λ e. cc),
+    rw is
+        (record {
+          begun_so = stands_with_entry old new entry nodes lines now stands (fits, sym due);
+          lacks = omega (arith, now.missing, more);
+        }),
+  ),
+)
 
 -- where a step is due, a line that begins as that of a long Or takes memory
 pub long_or_takes_memory : (begun : Begun) (line : List ℕ) → kind_due begun ≡ Step_kind → BeginsLongOr line → TakesMemory (Inside begun) line

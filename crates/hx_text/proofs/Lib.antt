@@ -38,3 +38,4 @@ pub mod WholeTrees
 pub mod FillCounts
 pub mod ValidTrees
 pub mod OneFault
+pub mod ShortLines

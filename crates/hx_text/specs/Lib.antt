@@ -10,3 +10,4 @@ pub mod Versions
 pub mod TreeTexts
 pub mod Places
 pub mod Reader
+pub mod Lengths

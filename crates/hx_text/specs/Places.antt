@@ -21,7 +21,7 @@ use Rattle.hx_text.specs.declared.places.Fed.TheVariants.{More, Node as Whole, E
 use Rattle.hx_text.specs.declared.places.Place.{Place}
 use Rattle.hx_text.specs.declared.places.Place.TheVariants.{Title, Size, Between, Inside, After, Failed}
 use Rattle.hx_text.specs.declared.places.Step.{Step}
-use Rattle.hx_text.specs.declared.places.TheConstants.{MOST_NODES}
+use Rattle.hx_tree.specs.declared.checkers.TheConstants.{MOST_NODES}
 use Rattle.hx_text.specs.declared.places.TreeFault.{TreeFault}
 use Rattle.hx_text.specs.declared.places.TreeFault.TheVariants.{Text, TooMany as TooManyNodes, Memory as NoMemory}
 use Rattle.hx_text.specs.declared.places.Stop.{Stop}

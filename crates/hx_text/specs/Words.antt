@@ -42,7 +42,8 @@ Lacks mark (byte ∷ bytes) = (byte ≢ mark) × Lacks mark bytes
 abbrev pub IsCut : ℕ → List ℕ → List ℕ → List ℕ → Type 0
 IsCut mark bytes before after = Lacks mark before × (bytes ≡ before ++ mark ∷ after)
 
--- what a reader of a text answers: the value that is spelled so; and nothing only where no value is
+-- what a reader of a text answers: the value that is spelled so; and nothing only where no value is. Fit and spelling are two
+-- premises, as proofs take them, and no `Finds` of both
 abbrev pub Reads : {V X : Type 0} → (V → X) → (V → Type 0) → X → Option V → Type 0
 Reads spelling Fits text (Some value) = Fits value × (text ≡ spelling value)
 Reads {V} spelling Fits text None = (value : V) → Fits value → text ≡ spelling value → ⊥
@@ -77,7 +78,7 @@ words_left true rest = words_in rest
 words_left false rest = []
 
 -- what a reader of the first of some words answers: the value whose word it is, before the words that are left; and nothing
--- only where it is no value's word
+-- only where it is no value's word; with two premises, as `Reads` has
 abbrev pub Takes : {V : Type 0} → (V → List ℕ) → (V → Type 0) → List (List ℕ) → Option V → List (List ℕ) → Type 0
 Takes spelling Fits old (Some value) new = Fits value × (old ≡ spelling value ∷ new)
 Takes {V} spelling Fits old None new = (value : V) (rest : List (List ℕ)) → Fits value → old ≡ spelling value ∷ rest → ⊥

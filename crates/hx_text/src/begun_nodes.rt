@@ -5,9 +5,12 @@ ghost use Rattle.std.specs.Prelude.{◌≡◌, ◌↔◌, ◌<◌, ◌≤◌, []
 ghost use Rattle.hx_text.specs.Entries.{rule_for};
 ghost use Rattle.hx_text.specs.Places.{Goes, GoesOn, BeginsNode, EndsNode, AddsEntry, SettlesNode, IsWithEntry, IsFull, kind_due};
 
+use crate::answer_lines::read_answer;
 use crate::entries::{Entry, EntryKind, read_entry};
+use crate::fill_lines::read_fill;
 use crate::node_lines::{Head, Opening};
 use crate::places::{Fed, Place, SoFar, Step, Stop};
+use crate::step_lines::{read_step, read_threat};
 use hx_board::{Memory, Size};
 use hx_inferior::FillStep;
 use hx_link::Step as LinkStep;
@@ -190,9 +193,66 @@ pub(crate) fn goes_on(alloc: Global, begun: &mut Begun, line: &[u8]) -> bool
     if begun.missing < 2 {
         return false;
     }
-    match read_entry(alloc, begun.size(), begun.kind_due(), line) {
-        Ok(Some(entry)) => begun.takes(entry),
+    match begun.kind_due() {
+        EntryKind::Step => step_goes_on(alloc, begun, line),
+        EntryKind::Threat => threat_goes_on(begun, line),
+        EntryKind::Answer => answer_goes_on(begun, line),
+        EntryKind::Fill => fill_goes_on(begun, line),
+    }
+}
+
+// Most lines of a text are entries that more entries follow. Each kind has a function of its own, since an entry of any kind
+// would be handed over through memory.
+
+/// Takes the line of a step, where one is due and more entries follow.
+fn step_goes_on(alloc: Global, begun: &mut Begun, line: &[u8]) -> bool
+    requires more { 1 < begun.old.missing }
+    requires due { kind_due begun.old ≡ EntryKind.Step }
+    ensures yes { IsTrue result → GoesOn (Place.Inside begun.old) line.now (Place.Inside begun.new) }
+    ensures no { result ≡ false → begun.new ≡ begun.old }
+{
+    match read_step(alloc, begun.size(), line) {
+        Ok(Some(step)) => begun.takes(Entry::Step(step)),
         Ok(None) | Err(Memory) => false,
+    }
+}
+
+/// Takes the line of a threat, where one is due and more entries follow.
+fn threat_goes_on(begun: &mut Begun, line: &[u8]) -> bool
+    requires more { 1 < begun.old.missing }
+    requires due { kind_due begun.old ≡ EntryKind.Threat }
+    ensures yes { IsTrue result → GoesOn (Place.Inside begun.old) line.now (Place.Inside begun.new) }
+    ensures no { result ≡ false → begun.new ≡ begun.old }
+{
+    match read_threat(line) {
+        Some(place) => begun.takes(Entry::Threat(place)),
+        None => false,
+    }
+}
+
+/// Takes the line of an answer, where one is due and more entries follow.
+fn answer_goes_on(begun: &mut Begun, line: &[u8]) -> bool
+    requires more { 1 < begun.old.missing }
+    requires due { kind_due begun.old ≡ EntryKind.Answer }
+    ensures yes { IsTrue result → GoesOn (Place.Inside begun.old) line.now (Place.Inside begun.new) }
+    ensures no { result ≡ false → begun.new ≡ begun.old }
+{
+    match read_answer(begun.size(), line) {
+        Some(answer) => begun.takes(Entry::Answer(answer)),
+        None => false,
+    }
+}
+
+/// Takes the line of a fill step, where one is due and more entries follow.
+fn fill_goes_on(begun: &mut Begun, line: &[u8]) -> bool
+    requires more { 1 < begun.old.missing }
+    requires due { kind_due begun.old ≡ EntryKind.Fill }
+    ensures yes { IsTrue result → GoesOn (Place.Inside begun.old) line.now (Place.Inside begun.new) }
+    ensures no { result ≡ false → begun.new ≡ begun.old }
+{
+    match read_fill(begun.size(), line) {
+        Some(fill) => begun.takes(Entry::Fill(fill)),
+        None => false,
     }
 }
 

@@ -35,8 +35,6 @@ pub enum Entry {
 }
 
 /// The line of an entry of this kind. It takes memory for the parts of an Or alone, where they are more than eight.
-// Most lines of a text are entries. Put in place, the entry is not handed over through memory.
-#[inline(always)]
 pub(crate) fn read_entry(
     alloc: Global,
     size: Size,

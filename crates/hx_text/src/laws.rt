@@ -10,6 +10,7 @@ ghost use Rattle.hx_text.specs.Words.{IsNumber};
 ghost use Rattle.hx_text.specs.Grammars.{IsFaultyLine};
 ghost use Rattle.hx_text.specs.PositionTexts.{ArePositionLines, position_text};
 ghost use Rattle.hx_text.specs.TreeTexts.{AreTreeLines, IsTreeText, EachNodeFits, IsRootWinner, written_tree};
+ghost use Rattle.hx_text.specs.Lengths.{AreShortLines};
 
 /// A text tells its position and the player to move: two of them with the same text are the same.
 pub fn text_tells_position()
@@ -42,4 +43,9 @@ pub fn one_faulty_line()
         → IsFaultyLine AreTreeLines bytes b → a ≡ b }
     ensures positions { (bytes : List ℕ) (a b : ℕ) → IsFaultyLine ArePositionLines bytes a
         → IsFaultyLine ArePositionLines bytes b → a ≡ b }
+{}
+
+/// No line of a tree's text has more than 1,410 bytes, whatever the tree.
+pub fn lines_are_short()
+    ensures { (lines : List (List ℕ)) → AreTreeLines lines → AreShortLines lines }
 {}

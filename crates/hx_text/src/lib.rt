@@ -20,9 +20,12 @@ mod versions;
 mod words;
 mod writer;
 
-pub use laws::{one_faulty_line, text_tells_nodes, text_tells_position, written_is_text};
+pub use hx_tree::MOST_NODES;
+pub use laws::{
+    lines_are_short, one_faulty_line, text_tells_nodes, text_tells_position, written_is_text,
+};
 pub use marks::cut;
-pub use places::{Fed, MOST_NODES, TreeFault};
+pub use places::{Fed, TreeFault};
 pub use positions::{TextFault, read_position};
 pub use reader::TreeReader;
 pub use texts::{TEXT_ROOM, Text};

@@ -8,7 +8,7 @@ use crate::begun_nodes::{self, Begun};
 use crate::versions::{Preamble, Version};
 use crate::{lines, node_lines};
 use hx_board::{Colour, Size};
-use hx_tree::Node;
+use hx_tree::{MOST_NODES, Node};
 use std::alloc::Global;
 use thiserror::Error;
 
@@ -98,9 +98,6 @@ pub enum Stop {
     /// Memory was wanting.
     Memory,
 }
-
-/// The most nodes of a text.
-pub const MOST_NODES: u32 = 1_048_576;
 
 /// Takes one more line, without its LF.
 pub(crate) fn advance(alloc: Global, place: Place, line: &[u8]) -> Result<Step, Stop>

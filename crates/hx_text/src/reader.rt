@@ -7,8 +7,9 @@ ghost use Rattle.hx_text.specs.declared.places.TreeFault.{TreeFault as Fault};
 ghost use Rattle.hx_text.specs.Places.{Stands, Told, IsFailed, fault_of_stop, version_at};
 ghost use Rattle.hx_text.specs.Reader.{HasRead, HasFailed, Says, IsVersionIn, version_read, lines_fed, one_more};
 
-use crate::places::{self, Fed, MOST_NODES, Place, Step, Stop, TreeFault};
+use crate::places::{self, Fed, Place, Step, Stop, TreeFault};
 use crate::versions::Version;
+use hx_tree::MOST_NODES;
 use std::alloc::Global;
 use std::mem;
 
@@ -73,6 +74,20 @@ impl TreeReader {
         if ended && places::goes_on(self.alloc, &mut self.place, line) {
             return Ok(Fed::More);
         }
+        self.step_on(line, ended)
+    }
+
+    /// Takes the line that was counted last, at which the place may change.
+    // Put in place in `feed`, its room on the stack would be cleared for each line inside a node too.
+    #[inline(never)]
+    fn step_on(&mut self, line: &[u8], ended: bool) -> Result<Fed, TreeFault>
+        ensures count { lines_fed self.new ≡ lines_fed self.old }
+        ensures says { (nodes : List TreeNode) (lines : List (List ℕ)) → HasRead self.old nodes lines
+            → Says self.old self.new nodes lines line.now ended result }
+        ensures failed { IfErr result (λ fault. HasFailed self.new fault) }
+        ensures version { IfErr result (λ _. version_read self.new ≡ version_read self.old) }
+        ensures again { (fault : Fault) → HasFailed self.old fault → result ≡ Err fault }
+    {
         let place = mem::replace(&mut self.place, Place::Title);
         let Taken { told, place } = take_line(self.alloc, place, line, ended, self.fed);
         self.place = place;

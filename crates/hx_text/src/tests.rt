@@ -1,13 +1,12 @@
-//! Texts as the formats show them: each is read as what it tells of, and what it tells of is written as the same bytes.
+//! Texts as the formats show them: each is read as what it tells of, and what it tells of is written as the same bytes. What
+//! wrong lines are answered with is held against plain programs in hx_trials_texts.
 
 mod trees;
-mod versions;
 
-use crate::{Text, TextFault, read_digits, read_number, read_position, write_position};
+use crate::{Text, read_digits, read_number, read_position, write_position};
 use hx_board::Colour::White;
 use hx_board::{Cell, Mask, Position, Size};
 use hx_io::MemorySink;
-use std::alloc::Global;
 use std::test::Fail;
 
 /// Two black stones and one white one on three rows and four columns.
@@ -32,12 +31,6 @@ fn position() -> Result<Position, Fail> {
     Ok(Position::from_masks(size, black, white).ok_or("stones")?)
 }
 
-/// The text with the first of these words in place of its first `old`.
-fn changed(alloc: Global, text: &str, old: &str, new: &str) -> Result<String, Fail> {
-    let (before, after) = text.split_once(old).ok_or("not in the text")?;
-    Ok(format!(in alloc; "{before}{new}{after}")?)
-}
-
 #[test]
 fn a_position_is_read_and_written(rt: HostRuntime) -> Result<(), Fail> {
     let position = position()?;
@@ -45,31 +38,6 @@ fn a_position_is_read_and_written(rt: HostRuntime) -> Result<(), Fail> {
     let mut sink = MemorySink::new(rt.alloc(), 128, 7, Vec::new(rt.alloc()))?;
     assert_eq!(rt; write_position(&mut sink, &position, White), Ok(()));
     assert_eq!(rt; sink.bytes(), POSITION.as_bytes());
-    Ok(())
-}
-
-/// What stands in that text, what is put in its first place there, and the line that is wrong then.
-const CHANGES: [(&str, &str, u64); 8] = [
-    ("hexpos 1", "hexpos 2", 1),
-    ("size 3 4", "size  3 4", 2),
-    ("size 3 4", "size 3 12", 2),
-    ("1002", "1012", 3),
-    ("1002", "100A", 3),
-    ("1000000\nm", "1000002\nm", 4),
-    ("move white\n", "move white", 5),
-    ("move white\n", "move white\n\n", 6),
-];
-
-#[test]
-fn each_wrong_line_of_a_position_is_named(rt: HostRuntime) -> Result<(), Fail> {
-    for (old, new, line) in CHANGES {
-        let text = changed(rt.alloc(), POSITION, old, new)?;
-        assert_eq!(rt;
-            read_position(text.as_bytes()),
-            Err(TextFault { line }),
-            "{text}"
-        );
-    }
     Ok(())
 }
 

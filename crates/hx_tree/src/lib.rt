@@ -2,6 +2,7 @@
 #![tactic(auto)]
 
 mod answers;
+mod checkers;
 mod entries;
 mod fills;
 mod headings;
@@ -12,6 +13,7 @@ mod steps;
 mod trees;
 mod turns;
 
+pub use checkers::{Checker, MOST_NODES};
 pub use entries::Found;
 pub use hx_link::Steps;
 pub use lists::{FillSteps, Lines, Threats};

@@ -19,6 +19,7 @@ pub fn check_node(alloc: Global, before: &[Heading], node: &Node) -> Result<bool
     ensures right { IfOk result (λ answer. IsTrue answer ↔ IsRightNode before.now node.now) }
 {
     let heading = &node.heading;
+    // The proof takes from here that the position's board is one.
     let _size = heading.position.size();
     match &node.rule {
         Rule::Chain => Ok(chain(&heading.position, heading.winner)),

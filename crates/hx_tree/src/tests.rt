@@ -120,6 +120,21 @@ fn judges_one_node(rt: HostRuntime) -> Result<(), Fail> {
 }
 
 #[test]
+fn a_checker_keeps_the_headings_of_right_nodes(rt: HostRuntime) -> Result<(), Fail> {
+    let won = heading(board(1, 1, 1, 0)?, White, Black);
+    let start = heading(board(1, 1, 0, 0)?, Black, Black);
+    let a1 = cell(0, 0)?;
+    let mut checker = Checker::new(rt.alloc());
+    assert_eq!(rt; checker.root(), None);
+    assert!(rt; !checker.take(by_move(start, a1, 0))?);
+    assert!(rt; checker.take(by_chain(won))?);
+    assert!(rt; checker.take(by_move(start, a1, 0))?);
+    assert_eq!(rt; checker.held(), 2);
+    assert_eq!(rt; checker.root(), Some(start));
+    Ok(())
+}
+
+#[test]
 fn judges_many_nodes(rt: HostRuntime) -> Result<(), Fail> {
     let won = heading(board(1, 1, 1, 0)?, White, Black);
     let mut nodes = Vec::new(rt.alloc());

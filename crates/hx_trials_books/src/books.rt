@@ -30,7 +30,7 @@ fn plain_find(held: &[Place], place: &Place) -> Option<u32> {
     None
 }
 
-fn by_chain(position: Position, to_move: Colour, winner: Colour) -> Node
+pub(crate) fn by_chain(position: Position, to_move: Colour, winner: Colour) -> Node
     ensures { result ≡ record {
       heading = record { position = position; to_move = to_move; winner = winner };
       rule = Chain;

@@ -14,3 +14,5 @@ mod counts;
 mod numbers;
 #[cfg(test)]
 mod states;
+#[cfg(test)]
+mod wider;

@@ -1,4 +1,5 @@
 pub mod Names
 pub mod Spellings
 pub mod Leads
+pub mod SeedWords
 pub mod CommandWords

@@ -3,22 +3,29 @@ use Rattle.std.specs.Prelude.{◌≡◌, ℕ, List, [], ◌∷◌, codes}
 use Rattle.hx_solve.specs.declared.settings.Settings.{Settings}
 use Rattle.hx_solve.specs.Settings.{AreSettings}
 use Rattle.hx_words.specs.declared.commands.Command.{Command}
-use Rattle.hx_words.specs.declared.commands.Command.TheVariants.{Check, Solve, Htp}
+use Rattle.hx_words.specs.declared.commands.Command.TheVariants.{Check, Solve, Htp, Demo}
 use Rattle.hx_words.specs.Choices.{AreOptions}
+use Rattle.hx_words.specs.Seeds.{SeedAndOptions}
 
 -- the words are this name and then options that choose the settings
 abbrev pub NameAndOptions : List ℕ → Settings → List (List ℕ) → Type 0
 NameAndOptions name settings words =
     (options : List (List ℕ)) × (words ≡ name ∷ options) × AreOptions options settings
 
+-- the words are `demo`, a seed and then options
+abbrev pub IsDemo : ℕ → Settings → List (List ℕ) → Type 0
+IsDemo seed settings words = (rest : List (List ℕ)) × (words ≡ codes "demo" ∷ rest) × SeedAndOptions seed settings rest
+
 -- the words are this command
 abbrev pub Asks : Command → List (List ℕ) → Type 0
 Asks Check words = words ≡ codes "check" ∷ []
 Asks (Solve settings) words = NameAndOptions (codes "solve") settings words
 Asks (Htp settings) words = NameAndOptions (codes "htp") settings words
+Asks (Demo seed settings) words = IsDemo seed settings words
 
 -- the settings of the command, if it has any, are those that a search may have
 abbrev pub IsWithinLimits : Command → Type 0
 IsWithinLimits Check = Unit {0}
 IsWithinLimits (Solve settings) = AreSettings settings
 IsWithinLimits (Htp settings) = AreSettings settings
+IsWithinLimits (Demo seed settings) = AreSettings settings

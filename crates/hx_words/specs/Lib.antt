@@ -2,4 +2,5 @@ pub mod Words
 pub mod Settings
 pub mod Options
 pub mod Choices
+pub mod Seeds
 pub mod Commands

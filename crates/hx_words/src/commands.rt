@@ -6,6 +6,7 @@ ghost use Rattle.hx_words.specs.Words.{words_of};
 ghost use Rattle.hx_words.specs.Commands.{Asks, IsWithinLimits};
 
 use crate::choices::settings_in;
+use crate::seeds::seed_and_settings_in;
 use hx_solve::Settings;
 
 /// A command of the program, with its settings.
@@ -17,6 +18,8 @@ pub enum Command {
     Solve(Settings),
     /// Answer the lines of a session, and solve what they ask for.
     Htp(Settings),
+    /// Draw positions with the seed, and solve each of them.
+    Demo { seed: u64, settings: Settings },
 }
 
 /// The command that the words are. The program's own name is not one of them.
@@ -40,6 +43,10 @@ pub fn command_of(words: &[String]) -> Option<Command>
         "htp" => {
             let settings = settings_in(rest)?;
             Some(Command::Htp(settings))
+        }
+        "demo" => {
+            let (seed, settings) = seed_and_settings_in(rest)?;
+            Some(Command::Demo { seed, settings })
         }
         _ => None,
     }

@@ -1,7 +1,7 @@
 //! The words of the command line: which command they are, with which settings.
 //!
-//! A command is its name, and for one that searches its options, in any order and each at most once. Words that are
-//! spelled in any other way are no command.
+//! A command is its name, for `demo` a seed, and for one that searches its options, in any order and each at most once.
+//! Words that are spelled in any other way are no command.
 #![tactic(auto)]
 
 mod choices;
@@ -9,6 +9,7 @@ mod commands;
 mod laws;
 mod numbers;
 mod options;
+mod seeds;
 mod settings;
 
 pub use commands::{Command, command_of};

@@ -66,6 +66,30 @@ fn a_session_has_the_options_of_a_search(rt: HostRuntime) -> Result<(), Fail> {
 }
 
 #[test]
+fn a_seed_follows_demo(rt: HostRuntime) -> Result<(), Fail> {
+    let lines = [
+        ("demo 7", 7, 1),
+        ("demo 007 --workers 4", 7, 4),
+        ("demo 00000000000000000000", 0, 1),
+        ("demo 18446744073709551615 --workers=2", u64::MAX, 2),
+    ];
+    for (line, seed, workers) in lines {
+        let words = words_in(rt.alloc(), line)?;
+        let settings = Settings {
+            workers,
+            budget: 1_000_000,
+            slots: 65_536,
+        };
+        assert_eq!(rt;
+            command_of(&words),
+            Some(Command::Demo { seed, settings }),
+            "{line}"
+        );
+    }
+    Ok(())
+}
+
+#[test]
 fn other_words_are_no_command(rt: HostRuntime) -> Result<(), Fail> {
     let lines = [
         "",
@@ -95,6 +119,14 @@ fn other_words_are_no_command(rt: HostRuntime) -> Result<(), Fail> {
         "htp --budget 1 --budget=1",
         "htp --budget -1",
         "htp --proofs 1048577",
+        "demo",
+        "demo x",
+        "demo +7",
+        "demo 18446744073709551616",
+        "demo 000000000000000000007",
+        "demo 7 8",
+        "demo --budget 1 7",
+        "demo 7 --budget",
     ];
     for line in lines {
         let words = words_in(rt.alloc(), line)?;

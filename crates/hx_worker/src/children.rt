@@ -5,9 +5,10 @@ ghost use Rattle.hx_pn.specs.Numbers.{IsNumbers};
 use crate::first_numbers::first_numbers;
 use crate::marks::hinted_or;
 use crate::orders::in_order;
+use crate::replies::Replies;
 use crate::starts::Turn;
 use crate::stones::after;
-use hx_board::{Cell, Memory};
+use hx_board::{CELLS, Cell, Mask, Memory};
 use hx_count::Hints;
 use hx_fill::must;
 use hx_linkset::LinkSet;
@@ -41,11 +42,13 @@ impl Moves {
     /// is better.
     pub(crate) fn of(
         hints: &Hints,
+        replies: &Replies,
         own: &LinkSet,
         others: &LinkSet,
         turn: &Turn,
     ) -> Result<Moves, Memory> {
-        let order = in_order(own, others)?;
+        let earlier = replies.earlier(turn, own.position().empties());
+        let order = in_order(own, others, &earlier)?;
         let must = must(others, order.as_slice())?;
         let mut tried = must.cells;
         for line in must.under.items() {
@@ -66,6 +69,23 @@ impl Moves {
     pub(crate) fn leave_out(&mut self, place: usize) {
         if place < self.children.len() {
             self.children.remove(place);
+        }
+    }
+
+    /// The moves to these cells are known to lose.
+    pub(crate) fn leave_out_all(&mut self, cells: Mask) {
+        let mut left = self.children.len();
+        for _ in 0..CELLS {
+            if left == 0 {
+                break;
+            }
+            left -= 1;
+            let Some(child) = self.children.get(left).copied() else {
+                break;
+            };
+            if cells.has(child.cell) {
+                self.leave_out(left);
+            }
         }
     }
 

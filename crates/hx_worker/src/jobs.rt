@@ -11,6 +11,7 @@ ghost use Rattle.hx_worker.specs.Ends.{IsEnded, IsTried, EndsSpent};
 
 use crate::closing::close_and_end;
 use crate::ended::Ended;
+use crate::replies::Replies;
 use crate::rounds::search;
 use crate::workers::{Worker, ask};
 use hx_board::{Colour, Position};
@@ -37,6 +38,7 @@ pub struct Job<'a, P: Proofs> {
 
     /// What workers leave for one another.
     pub hints: &'a Hints,
+    pub replies: &'a Replies,
 
     /// The links of both players at the position.
     pub black: LinkSet,
@@ -57,6 +59,7 @@ pub fn work<P: Proofs, G: Gate, R: Wait>(rt: &R, job: &mut Job<'_, P>, gate: &G)
     ensures to_move { job.new.to_move ≡ job.old.to_move }
     ensures counts { job.new.counts.now ≡ job.old.counts.now }
     ensures hints { job.new.hints.now ≡ job.old.hints.now }
+    ensures replies { job.new.replies.now ≡ job.old.replies.now }
     ensures slots { P.slots job.new.proofs ≡ P.slots job.old.proofs }
     ensures over { P.over job.new.proofs ≡ P.over job.old.proofs }
     ensures seen { Extends (P.list job.new.proofs) (P.list job.old.proofs) }
@@ -73,6 +76,7 @@ pub fn work<P: Proofs, G: Gate, R: Wait>(rt: &R, job: &mut Job<'_, P>, gate: &G)
         gate,
         counts: job.counts,
         hints: job.hints,
+        replies: job.replies,
     };
     if let Err(spent) = ask(&worker, &mut job.seat) {
         return Ended::Spent(spent);

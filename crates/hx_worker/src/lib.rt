@@ -17,15 +17,19 @@ mod marks;
 mod orders;
 mod outcomes;
 mod proved_moves;
+mod replies;
+mod roots;
 mod rounds;
 mod sets;
 mod starts;
 mod stones;
 mod turns;
+mod wide_moves;
 mod workers;
 
 pub use ended::Ended;
 pub use jobs::{Job, work};
+pub use replies::Replies;
 
 #[cfg(test)]
 mod tests;

@@ -11,7 +11,7 @@ use crate::starts::Turn;
 use hx_board::{Colour, Memory, Position, chain};
 use hx_book::Proofs;
 use hx_linkset::LinkSet;
-use hx_nodes::{store_chain, store_links, store_turned};
+use hx_nodes::{widen_chain, widen_links, widen_turned};
 use hx_search::{Reached, Workspace, reach_with};
 use std::sync::Wait;
 
@@ -27,15 +27,15 @@ pub(crate) fn look_up<P: Proofs, R: Wait>(
     ensures seen { Extends (P.list proofs.new) (P.list proofs.old) }
     ensures outcome { (seat : Seat) → IfSome result (IsOutcome (P.list proofs.new) (P.slots proofs.new) seat) }
 {
-    let known = outcome_of(store_turned(rt, proofs, position, to_move));
+    let known = outcome_of(widen_turned(rt, proofs, position, to_move));
     if known.is_some() {
         return known;
     }
     if chain(position, Colour::Black) {
-        return outcome_of(store_chain(rt, proofs, position, to_move, Colour::Black));
+        return outcome_of(widen_chain(rt, proofs, position, to_move, Colour::Black));
     }
     if chain(position, Colour::White) {
-        return outcome_of(store_chain(rt, proofs, position, to_move, Colour::White));
+        return outcome_of(widen_chain(rt, proofs, position, to_move, Colour::White));
     }
     None
 }
@@ -72,7 +72,7 @@ pub(crate) fn by_links<P: Proofs, R: Wait>(
     ensures outcome { (seat : Seat) → IfSome result (IsOutcome (P.list proofs.new) (P.slots proofs.new) seat) }
 {
     match reach_with(workspace, set, to_move) {
-        Ok(Reached::Decided(index)) => outcome_of(store_links(rt, proofs, set, to_move, index)),
+        Ok(Reached::Decided(index)) => outcome_of(widen_links(rt, proofs, set, to_move, index)),
         Ok(Reached::Open) => None,
         Err(Memory) => Some(Outcome::Memory),
     }

@@ -1,4 +1,5 @@
-//! The order in which moves are tried: by the sum of both players' distances to their sides, and then from the centre.
+//! The order in which moves are tried: by the sum of both players' distances to their sides, less what a move's wins as a reply
+//! take off it, and then from the centre.
 //!
 //! A cell is one step from what it is joined with and from what a Full link leads to. Of all that was tried nothing counts for
 //! more: in cell order the openings of 6 by 6 take more than fifteen times the units, and from the centre alone one and a half
@@ -6,6 +7,7 @@
 
 ghost use Rattle.hx_board.specs.Graph.{IsVertex};
 
+use crate::replies::MOST;
 use hx_board::{CELLS, Cell, Mask, Memory, Position, Size, Vertex, VertexSet};
 use hx_linkset::LinkSet;
 use std::alloc::Global;
@@ -115,8 +117,12 @@ fn list(alloc: Global, size: Size, cells: Mask) -> Result<Vec<Cell>, Memory> {
     Ok(found)
 }
 
-/// The empty cells, the best ones first.
-pub(crate) fn in_order(own: &LinkSet, others: &LinkSet) -> Result<Vec<Cell>, Memory> {
+/// The empty cells, the best ones first; each as much earlier as `earlier` says, in thousandths of a distance.
+pub(crate) fn in_order(
+    own: &LinkSet,
+    others: &LinkSet,
+    earlier: &[u32; CELLS],
+) -> Result<Vec<Cell>, Memory> {
     let position = own.position();
     let size = position.size();
     let mut sums = [0u32; CELLS];
@@ -128,9 +134,12 @@ pub(crate) fn in_order(own: &LinkSet, others: &LinkSet) -> Result<Vec<Cell>, Mem
     let mut found = list(own.allocator(), size, position.empties())?;
     found
         .sort_by_key(|cell: &Cell| {
-            let sum = sums[cell.index() as usize];
-            sum.wrapping_mul(1000)
+            let place = cell.index() as usize;
+            sums[place]
+                .wrapping_mul(1000)
+                .wrapping_add(MOST)
                 .wrapping_add(from_centre(size, *cell))
+                .wrapping_sub(earlier[place])
         })
         .map_err(|_| Memory)?;
     Ok(found)

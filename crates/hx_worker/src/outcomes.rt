@@ -5,7 +5,7 @@ ghost use Rattle.hx_board.specs.declared.colours.Colour.{Colour};
 ghost use Rattle.hx_board.specs.Positions.{Board};
 ghost use Rattle.hx_tree.specs.declared.nodes.Node.{Node as Proof};
 ghost use Rattle.hx_count.specs.Seats.{Seat};
-ghost use Rattle.hx_nodes.specs.Stored.{IsStored};
+ghost use Rattle.hx_nodes.specs.Wide.{IsStoredWide};
 ghost use Rattle.hx_worker.specs.Outcomes.{IsOutcome};
 
 use hx_book::NoSlot;
@@ -35,7 +35,7 @@ pub(crate) enum Outcome {
 /// The end of a turn by what became of a proof. None where there is no such proof yet.
 pub(crate) fn outcome_of(stored: Stored) -> Option<Outcome>
     ensures { (list : List Proof) (slots : ℕ) (board : Board) (mover : Colour) (seat : Seat)
-        → IsStored list slots board mover stored → IfSome result (IsOutcome list slots seat) }
+        → IsStoredWide list slots board mover stored → IfSome result (IsOutcome list slots seat) }
 {
     match stored {
         Stored::Done => Some(Outcome::Proved),

@@ -10,13 +10,17 @@ use crate::first_numbers::first_numbers;
 use crate::focus::{Down, in_focus};
 use crate::marks::{is_marked, leave_open, open};
 use crate::outcomes::{Outcome, outcome_of};
+use crate::replies::Replies;
 use crate::starts::Turn;
 use crate::stones::after;
+use crate::wide_moves::leave_out_siblings;
+use hx_board::Cell;
 use hx_book::Proofs;
 use hx_count::Hints;
 use hx_linkset::LinkSet;
-use hx_nodes::{Stored, store_all, store_move, store_turned};
+use hx_nodes::{Stored, widen_all, widen_move, widen_turned};
 use hx_pn::{INF, Numbers};
+use std::alloc::Global;
 use std::sync::Wait;
 
 /// The numbers of a turn whose moves all lose.
@@ -26,6 +30,7 @@ const LOST: Numbers = Numbers { phi: INF, delta: 0 };
 /// them since. Some where that ends the turn.
 pub(crate) fn look_again<P: Proofs, R: Wait>(
     rt: &R,
+    alloc: Global,
     proofs: &mut P,
     hints: &Hints,
     turn: &Turn,
@@ -40,7 +45,7 @@ pub(crate) fn look_again<P: Proofs, R: Wait>(
         return Some(outcome);
     }
     let count = in_focus(moves).len();
-    look_at_marked(rt, proofs, hints, turn, moves, count)
+    look_at_marked(rt, alloc, proofs, hints, turn, moves, count)
 }
 
 /// Looks for the turn's own position, where it is marked. A mark of which the proofs know nothing was another position's, and
@@ -61,7 +66,7 @@ fn look_at_own<P: Proofs, R: Wait>(
         return None;
     }
     let position = turn.filled.position();
-    let known = outcome_of(store_turned(rt, proofs, position, turn.to_move));
+    let known = outcome_of(widen_turned(rt, proofs, position, turn.to_move));
     if known.is_none() {
         leave_open(hints, number, first_numbers(position));
     }
@@ -71,6 +76,7 @@ fn look_at_own<P: Proofs, R: Wait>(
 /// Looks for the marked ones among the first so many moves, the last one first. Some where that ends the turn.
 pub(crate) fn look_at_marked<P: Proofs, R: Wait>(
     rt: &R,
+    alloc: Global,
     proofs: &mut P,
     hints: &Hints,
     turn: &Turn,
@@ -85,7 +91,7 @@ pub(crate) fn look_at_marked<P: Proofs, R: Wait>(
     let mut left = count;
     while left > 0 {
         left -= 1;
-        if let Some(outcome) = look_at(rt, proofs, hints, turn, moves, left) {
+        if let Some(outcome) = look_at(rt, alloc, proofs, hints, turn, moves, left) {
             return Some(outcome);
         }
     }
@@ -96,6 +102,7 @@ pub(crate) fn look_at_marked<P: Proofs, R: Wait>(
 /// written anew.
 fn look_at<P: Proofs, R: Wait>(
     rt: &R,
+    alloc: Global,
     proofs: &mut P,
     hints: &Hints,
     turn: &Turn,
@@ -116,8 +123,8 @@ fn look_at<P: Proofs, R: Wait>(
     let Some(there) = after(&turn.filled, turn.to_move, child.cell) else {
         return None;
     };
-    match store_turned(rt, proofs, there.position(), turn.to_move.other()) {
-        Stored::Done => by_move(rt, proofs, turn, moves, place, &child),
+    match widen_turned(rt, proofs, there.position(), turn.to_move.other()) {
+        Stored::Done => by_move(rt, alloc, proofs, turn, moves, place, &child),
         Stored::Refused(refusal) => Some(Outcome::NoSlots(refusal)),
         Stored::Missing => {
             leave_open(hints, child.number, child.numbers);
@@ -128,8 +135,9 @@ fn look_at<P: Proofs, R: Wait>(
 }
 
 /// The proofs say who wins after a move. Where the mover does, the turn ends by it; else the move is left out.
-fn by_move<P: Proofs, R: Wait>(
+pub(crate) fn by_move<P: Proofs, R: Wait>(
     rt: &R,
+    alloc: Global,
     proofs: &mut P,
     turn: &Turn,
     moves: &mut Moves,
@@ -144,18 +152,21 @@ fn by_move<P: Proofs, R: Wait>(
     let position = turn.filled.position();
     let is_empty = position.empties().has(child.cell);
     if is_empty {
-        let won = outcome_of(store_move(rt, proofs, position, turn.to_move, child.cell));
+        let won = outcome_of(widen_move(rt, alloc, proofs, position, turn.to_move, child.cell));
         if won.is_some() {
             return won;
         }
     }
     moves.leave_out(place);
+    leave_out_siblings(rt, proofs, turn, moves, child.cell);
     None
 }
 
 /// What the turn after a move tells of the turn itself. None where it goes on.
 pub(crate) fn take_in<P: Proofs, R: Wait>(
     rt: &R,
+    alloc: Global,
+    replies: &Replies,
     proofs: &mut P,
     turn: &Turn,
     moves: &mut Moves,
@@ -169,12 +180,23 @@ pub(crate) fn take_in<P: Proofs, R: Wait>(
         → IfSome result (IsOutcome (P.list proofs.new) (P.slots proofs.new) seat) }
 {
     match outcome {
-        Outcome::Proved => by_move(rt, proofs, turn, moves, down.place, &down.child),
+        Outcome::Proved => {
+            let known = by_move(rt, alloc, proofs, turn, moves, down.place, &down.child);
+            note_reply(replies, turn, down.child.cell, &known);
+            known
+        }
         Outcome::Open(numbers) => {
             moves.note(down.place, &down.child, open(numbers));
             None
         }
         other => Some(other),
+    }
+}
+
+/// Counts a move that a search found to win.
+fn note_reply(replies: &Replies, turn: &Turn, cell: Cell, known: &Option<Outcome>) {
+    if let Some(Outcome::Proved) = known {
+        replies.note(turn, cell);
     }
 }
 
@@ -190,7 +212,7 @@ pub(crate) fn all_lose<P: Proofs, R: Wait>(
     ensures seen { Extends (P.list proofs.new) (P.list proofs.old) }
     ensures outcome { (seat : Seat) → IsOutcome (P.list proofs.new) (P.slots proofs.new) seat result }
 {
-    match outcome_of(store_all(rt, proofs, others, moves.order.as_slice())) {
+    match outcome_of(widen_all(rt, proofs, others, moves.order.as_slice())) {
         Some(outcome) => outcome,
         None => Outcome::Open(LOST),
     }

@@ -4,7 +4,7 @@
 ghost use Rattle.std.specs.Prelude.{◌≡◌, ◌+◌, ◌<◌, IfSome};
 ghost use Rattle.hx_board.specs.Positions.{Board};
 ghost use Rattle.hx_count.specs.Machine.{held_in_all};
-ghost use Rattle.hx_count.specs.Seats.{own as own_account};
+ghost use Rattle.hx_count.specs.Seats.{Seat, own as own_account};
 ghost use Rattle.hx_tree.specs.Entries.{Extends};
 ghost use Rattle.hx_worker.specs.Keeps.{KeepsSeat};
 ghost use Rattle.hx_worker.specs.Ends.{IsEnded};
@@ -12,6 +12,7 @@ ghost use Rattle.hx_worker.specs.Ends.{IsEnded};
 use crate::ended::{Ended, found_by};
 use crate::losses::WORDS;
 use crate::outcomes::Outcome;
+use crate::roots::store_root;
 use crate::starts::Start;
 use crate::turns::visit;
 use crate::workers::{Worker, ask};
@@ -20,6 +21,7 @@ use hx_book::Proofs;
 use hx_count::CountSeat;
 use hx_io::Gate;
 use hx_linkset::LinkSet;
+use hx_nodes::{Stored, look_wider_either};
 use hx_pn::{INF, Numbers};
 use hx_search::Workspace;
 use hx_turn::Orientations;
@@ -34,6 +36,30 @@ const NO_LIMIT: Numbers = Numbers {
 
 /// A board has no more cells, so no more moves are made.
 const DEPTH: u32 = CELLS as u32;
+
+/// The end of the work where an entry serves the position. Then an entry of the position itself is stored, for which a tree asks.
+fn settle<P: Proofs, R: Wait>(
+    rt: &R,
+    alloc: Global,
+    proofs: &mut P,
+    position: &Position,
+    to_move: Colour,
+) -> Option<Ended>
+    ensures slots { P.slots proofs.new ≡ P.slots proofs.old }
+    ensures over { P.over proofs.new ≡ P.over proofs.old }
+    ensures seen { Extends (P.list proofs.new) (P.list proofs.old) }
+    ensures ended { (seat : Seat) → IfSome result (IsEnded (P.list proofs.new) (P.slots proofs.new) seat position.now to_move) }
+{
+    let Some(wider) = look_wider_either(rt, proofs, position, to_move) else {
+        return None;
+    };
+    match store_root(rt, alloc, proofs, position, to_move, wider.found.winner) {
+        Stored::Done => found_by(rt, proofs, position, to_move),
+        Stored::Refused(refusal) => Some(Ended::NoSlots(refusal)),
+        Stored::Missing => None,
+        Stored::Memory => Some(Ended::Memory),
+    }
+}
 
 /// A round with the unit that was granted, and the next unit. None where that was granted too.
 fn round<P: Proofs, G: Gate, R: Wait>(
@@ -64,7 +90,8 @@ fn round<P: Proofs, G: Gate, R: Wait>(
         Outcome::NoSlots(refusal) => return Some(Ended::NoSlots(refusal)),
         Outcome::Memory => return Some(Ended::Memory),
     }
-    if let Some(ended) = found_by(rt, proofs, start.here.position(), start.to_move) {
+    let alloc = own.allocator();
+    if let Some(ended) = settle(rt, alloc, proofs, start.here.position(), start.to_move) {
         return Some(ended);
     }
     if let Err(spent) = ask(worker, seat) {

@@ -29,6 +29,9 @@ pub(crate) struct Start {
 pub(crate) struct Turn {
     pub(crate) filled: Orientations,
     pub(crate) to_move: Colour,
+
+    /// The move that led to the position.
+    pub(crate) moved: Option<Cell>,
     pub(crate) limit: Numbers,
 
     /// Whether anything was filled.
@@ -45,6 +48,7 @@ impl Turn {
         Ok(Turn {
             filled: Orientations::of(&filled.position),
             to_move: start.to_move,
+            moved: start.moved,
             limit: start.limit,
             is_filled: !filled.steps.is_empty(),
             stones: stones_of(alloc, start, filled)?,

@@ -21,13 +21,14 @@ use crate::outcomes::{Outcome, outcome_of};
 use crate::proved_moves::{all_lose, look_again, look_at_marked, take_in};
 use crate::sets::{put, serves, take_back};
 use crate::starts::{Start, Turn};
+use crate::wide_moves::look_at_all;
 use crate::workers::{Worker, ask};
 use hx_book::Proofs;
 use hx_count::{CountSeat, Hints};
 use hx_fill::{Filled, fill_in};
 use hx_io::Gate;
 use hx_linkset::LinkSet;
-use hx_nodes::store_fill;
+use hx_nodes::widen_fill;
 use hx_search::Workspace;
 use std::alloc::Global;
 use std::sync::Wait;
@@ -225,16 +226,19 @@ fn expand<P: Proofs, G: Gate, R: Wait>(
         return outcome;
     }
     let alloc = own.allocator();
-    let Ok(mut moves) = Moves::of(worker.hints, own, others, turn) else {
+    let Ok(mut moves) = Moves::of(worker.hints, worker.replies, own, others, turn) else {
         return Outcome::Memory;
     };
+    if let Some(outcome) = look_at_all(rt, alloc, proofs, turn, &mut moves) {
+        return outcome;
+    }
     let all = moves.children.len();
-    if let Some(outcome) = look_at_marked(rt, proofs, worker.hints, turn, &mut moves, all) {
+    if let Some(outcome) = look_at_marked(rt, alloc, proofs, worker.hints, turn, &mut moves, all) {
         return outcome;
     }
     // Hints may change at any time, so nothing says how many rounds there are.
     for _ in 0..u64::MAX {
-        if let Some(outcome) = look_again(rt, proofs, worker.hints, turn, &mut moves) {
+        if let Some(outcome) = look_again(rt, alloc, proofs, worker.hints, turn, &mut moves) {
             return outcome;
         }
         let down = match choose(worker, seat, alloc, turn, &moves) {
@@ -246,7 +250,16 @@ fn expand<P: Proofs, G: Gate, R: Wait>(
         let outcome = descend(
             rt, worker, proofs, seat, workspace, own, others, &down, depth,
         );
-        if let Some(outcome) = take_in(rt, proofs, turn, &mut moves, &down, outcome) {
+        if let Some(outcome) = take_in(
+            rt,
+            alloc,
+            worker.replies,
+            proofs,
+            turn,
+            &mut moves,
+            &down,
+            outcome,
+        ) {
             return outcome;
         }
     }
@@ -338,7 +351,7 @@ fn after_fill<P: Proofs, R: Wait>(
     match outcome {
         Outcome::Proved => {
             let position = start.here.position();
-            match outcome_of(store_fill(rt, alloc, proofs, position, start.to_move, filled)) {
+            match outcome_of(widen_fill(rt, alloc, proofs, position, start.to_move, filled)) {
                 Some(outcome) => outcome,
                 None => Outcome::Proved,
             }

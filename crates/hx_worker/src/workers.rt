@@ -4,6 +4,7 @@ ghost use Rattle.std.specs.Prelude.{◌≡◌, IfErr};
 ghost use Rattle.hx_count.specs.Seats.{own, after_spend};
 ghost use Rattle.hx_worker.specs.Keeps.{KeepsSeat, IsSpent};
 
+use crate::replies::Replies;
 use hx_count::{CountSeat, Counts, Hints, Spent};
 use hx_io::Gate;
 
@@ -14,6 +15,7 @@ pub(crate) struct Worker<'a, G> {
     pub(crate) gate: &'a G,
     pub(crate) counts: &'a Counts,
     pub(crate) hints: &'a Hints,
+    pub(crate) replies: &'a Replies,
 }
 
 /// Calls the gate and asks for a unit.

@@ -1,6 +1,6 @@
 //! Runs of `htp`, whose questions a search answers.
 
-use super::{Trial, assert_answer, outcome_of, trial_of};
+use super::{Trial, assert_answer, trial_of};
 use std::test::Fail;
 
 /// The example in `examples/session.htp`, and the replies to it.
@@ -106,24 +106,5 @@ fn nothing_is_read_behind_quit(rt: HostRuntime) -> Result<(), Fail> {
     };
     let outcome = assert_answer(&rt, rt.alloc(), trial, 0, "= \n\n")?;
     assert_eq!(rt; outcome.reads, 1);
-    Ok(())
-}
-
-#[test]
-fn a_fault_ends_a_session(rt: HostRuntime) -> Result<(), Fail> {
-    let trial = trial_of(&["htp"], "name\nversion\n");
-    let unread = Trial {
-        failing_read: Some(1),
-        ..trial
-    };
-    let replies = "= hx\n\n= 1\n\n? read fault\n\n";
-    let _outcome = assert_answer(&rt, rt.alloc(), unread, 5, replies)?;
-    let unwritten = Trial {
-        failing_write: Some(1),
-        ..trial
-    };
-    let cut = outcome_of(&rt, rt.alloc(), unwritten)?;
-    assert_eq!(rt; cut.status, 6);
-    assert_eq!(rt; cut.output.as_slice(), b"= hx\n\n".as_slice());
     Ok(())
 }

@@ -1,5 +1,6 @@
-use Rattle.hx_words.specs.declared.commands.Command.TheVariants.{Check, Solve, Htp}
-use Rattle.hx_app.proofs.RunClauses.{checked_run, checked_kept, checked_not_solved, checked_not_served, solved_run, solved_kept, solved_not_served, served_run, served_kept}
+use Rattle.std.proofs.Common.{refl}
+use Rattle.hx_words.specs.declared.commands.Command.TheVariants.{Check, Solve, Htp, Demo}
+use Rattle.hx_app.proofs.RunClauses.{checked_run, checked_kept, checked_not_solved, checked_not_served, checked_not_drawn, solved_run, solved_kept, solved_not_served, solved_not_drawn, served_run, served_kept, served_not_drawn, drew_run, drew_kept}
 use Rattle.hx_app.proofs.commands.run.Goals as goal
 
 pub returns-in-Some-Check-clause-run : goal.returns-in-Some-Check-clause-run
@@ -9,7 +10,7 @@ returns-in-Some-Check-clause-run g c =
 
 pub returns-in-Some-Check-clause-check : goal.returns-in-Some-Check-clause-check
 returns-in-Some-Check-clause-check g c = λ check.
-    checked_kept _ _ _ _ _ c.run_check.result c.uncounted.result c.uncounted.ensures.status c.run_check.ensures.promises
+    checked_kept _ _ _ _ _ _ c.run_check.result c.uncounted.result c.uncounted.ensures.status c.run_check.ensures.promises
 
 pub returns-in-Some-Check-clause-solve : goal.returns-in-Some-Check-clause-solve
 returns-in-Some-Check-clause-solve g c = λ settings solve. absurd (checked_not_solved _ settings (rw c.in-Some-Check.field-0-is at c.in-Some-Check.ensures.finds) solve)
@@ -53,3 +54,49 @@ returns-in-None-clause-solve g c = λ settings solve. absurd (c.in-None.ensures.
 
 pub returns-in-None-clause-htp : goal.returns-in-None-clause-htp
 returns-in-None-clause-htp g c = λ settings session. absurd (c.in-None.ensures.finds (Htp settings) session)
+
+pub returns-in-Some-Check-clause-demo : goal.returns-in-Some-Check-clause-demo
+returns-in-Some-Check-clause-demo g c = λ seed settings draw. absurd (checked_not_drawn _ seed settings (rw c.in-Some-Check.field-0-is at c.in-Some-Check.ensures.finds) draw)
+
+pub returns-in-Some-Solve-clause-demo : goal.returns-in-Some-Solve-clause-demo
+returns-in-Some-Solve-clause-demo g c = λ seed settings draw.
+    absurd (solved_not_drawn _ seed _ settings (rw (c.in-Some-Solve.field-0-is, c.in-Some-Solve.settings-is) at c.in-Some-Solve.ensures.finds) draw)
+
+pub returns-in-Some-Htp-clause-demo : goal.returns-in-Some-Htp-clause-demo
+returns-in-Some-Htp-clause-demo g c = λ seed settings draw.
+    absurd (served_not_drawn _ seed _ settings (rw (c.in-Some-Htp.field-0-is, c.in-Some-Htp.settings-is) at c.in-Some-Htp.ensures.finds) draw)
+
+pub returns-in-None-clause-demo : goal.returns-in-None-clause-demo
+returns-in-None-clause-demo g c = λ seed settings draw. absurd (c.in-None.ensures.finds (Demo seed settings) draw)
+
+pub returns-in-Some-Check-clause-unread : goal.returns-in-Some-Check-clause-unread
+returns-in-Some-Check-clause-unread g c = λ seed settings draw. absurd (checked_not_drawn _ seed settings (rw c.in-Some-Check.field-0-is at c.in-Some-Check.ensures.finds) draw)
+
+pub returns-in-Some-Solve-clause-unread : goal.returns-in-Some-Solve-clause-unread
+returns-in-Some-Solve-clause-unread g c = λ seed settings draw.
+    absurd (solved_not_drawn _ seed _ settings (rw (c.in-Some-Solve.field-0-is, c.in-Some-Solve.settings-is) at c.in-Some-Solve.ensures.finds) draw)
+
+pub returns-in-Some-Htp-clause-unread : goal.returns-in-Some-Htp-clause-unread
+returns-in-Some-Htp-clause-unread g c = λ seed settings draw.
+    absurd (served_not_drawn _ seed _ settings (rw (c.in-Some-Htp.field-0-is, c.in-Some-Htp.settings-is) at c.in-Some-Htp.ensures.finds) draw)
+
+pub returns-in-None-clause-unread : goal.returns-in-None-clause-unread
+returns-in-None-clause-unread g c = λ seed settings draw. absurd (c.in-None.ensures.finds (Demo seed settings) draw)
+
+pub returns-in-Some-Demo-clause-run : goal.returns-in-Some-Demo-clause-run
+returns-in-Some-Demo-clause-run g c = drew_run _ _ _ _ _ _ _ _ _ _ (rw (c.in-Some-Demo.field-0-is, c.in-Some-Demo.seed-is, c.in-Some-Demo.settings-is) at c.in-Some-Demo.ensures.finds) refl c.run_demo.ensures.run
+
+pub returns-in-Some-Demo-clause-check : goal.returns-in-Some-Demo-clause-check
+returns-in-Some-Demo-clause-check g c = λ check. absurd (checked_not_drawn _ _ _ check (rw (c.in-Some-Demo.field-0-is, c.in-Some-Demo.seed-is, c.in-Some-Demo.settings-is) at c.in-Some-Demo.ensures.finds))
+
+pub returns-in-Some-Demo-clause-solve : goal.returns-in-Some-Demo-clause-solve
+returns-in-Some-Demo-clause-solve g c = λ settings solve.
+    absurd (solved_not_drawn _ _ settings _ solve (rw (c.in-Some-Demo.field-0-is, c.in-Some-Demo.seed-is, c.in-Some-Demo.settings-is) at c.in-Some-Demo.ensures.finds))
+
+pub returns-in-Some-Demo-clause-htp : goal.returns-in-Some-Demo-clause-htp
+returns-in-Some-Demo-clause-htp g c = λ settings session.
+    absurd (served_not_drawn _ _ settings _ session (rw (c.in-Some-Demo.field-0-is, c.in-Some-Demo.seed-is, c.in-Some-Demo.settings-is) at c.in-Some-Demo.ensures.finds))
+
+pub returns-in-Some-Demo-clause-demo : goal.returns-in-Some-Demo-clause-demo
+returns-in-Some-Demo-clause-demo g c = λ seed settings draw.
+    drew_kept _ _ _ _ _ _ seed _ settings (rw (c.in-Some-Demo.field-0-is, c.in-Some-Demo.seed-is, c.in-Some-Demo.settings-is) at c.in-Some-Demo.ensures.finds) draw c.run_demo.ensures.promises

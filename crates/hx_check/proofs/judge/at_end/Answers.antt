@@ -1,17 +1,33 @@
-use Rattle.std.proofs.Common.{sym, ◌∙◌, ap, eqb-true, eq-eqb, length}
-use Rattle.std.proofs.lemmas.Bool.{false≢true}
-use Rattle.std.proofs.lemmas.List.{nil_from_length}
-use Rattle.hx_check.proofs.Endings.{judged_yes, judged_some, surplus_answer}
+use Rattle.std.proofs.Common.{refl, subst}
+use Rattle.hx_lines.specs.declared.cutters.Cut.{Cut}
+use Rattle.hx_lines.specs.declared.cutters.Cut.TheVariants.{Line, TooLong, Over}
+use Rattle.hx_lines.specs.Cutters.{IsCut}
+use Rattle.hx_check.proofs.DueAnswers.{long_answer, fault_answer, due_next}
+use Rattle.hx_check.proofs.Endings.{yes_answer, surplus_answer, judged_some}
 use Rattle.hx_check.proofs.judge.at_end.Goals as goal
 
-pub returns-then-is_empty : goal.returns-then-is_empty
-returns-then-is_empty c =
-    λ input few upto all. judged_yes input _ _ _ upto all _ c.in-Some.ensures.value
-    (nil_from_length _ (eqb-true _ _ (sym c.if-is_empty.ensures)))
+pub returns-in-Some-clause-due : goal.returns-in-Some-clause-due
+returns-in-Some-clause-due g c = λ before upto all.
+    let P : Cut → Type 0 = IsCut c.args.cutter.now c.next.new.self (g.S.Source.left c.args.source.now) (g.S.Source.left c.next.new.source) in
+    let cut : P Over = subst P c.in-Ok-Over.field-0-is c.in-Ok-Over.ensures.cut in
+    yes_answer before _ _ c.args.cutter.now c.next.new.self _ _ upto all _ c.in-Some.ensures cut
 
-pub returns-else-is_empty : goal.returns-else-is_empty
-returns-else-is_empty c = λ input few upto all.
-    surplus_answer input _ _ _ _ few upto all (λ none. false≢true (c.if-is_empty.ensures ∙ eq-eqb _ _ (ap length none))) c.next_line_is_wrong.ensures
+pub returns-in-None-clause-due : goal.returns-in-None-clause-due
+returns-in-None-clause-due g c = λ before upto all. absurd (judged_some before _ _ c.args.cutter.now c.next.new.self _ (g.S.Source.left c.next.new.source) upto all c.in-None.ensures)
 
-pub returns-in-None : goal.returns-in-None
-returns-in-None c = λ input few upto all. absurd (judged_some input _ _ _ upto all c.in-None.ensures.value)
+pub returns-in-Ok-Line-clause-due : goal.returns-in-Ok-Line-clause-due
+returns-in-Ok-Line-clause-due g c = λ before upto all.
+    let P : Cut → Type 0 = IsCut c.args.cutter.now c.next.new.self (g.S.Source.left c.args.source.now) (g.S.Source.left c.next.new.source) in
+    let cut : P (Line c.in-Ok-Line.field-0-0) = subst P c.in-Ok-Line.field-0-is c.in-Ok-Line.ensures.cut in
+    due_next before _ _ _ _ _ upto.judged c.next_line_is_wrong-in-Ok-Line.ensures
+    (surplus_answer before _ _ c.args.cutter.now c.next.new.self _ _ upto all c.in-Ok-Line.field-0-0 _ cut refl)
+
+pub returns-in-Ok-TooLong-clause-due : goal.returns-in-Ok-TooLong-clause-due
+returns-in-Ok-TooLong-clause-due g c = λ before upto all.
+    let P : Cut → Type 0 = IsCut c.args.cutter.now c.next.new.self (g.S.Source.left c.args.source.now) (g.S.Source.left c.next.new.source) in
+    let cut : P TooLong = subst P c.in-Ok-TooLong.field-0-is c.in-Ok-TooLong.ensures.cut in
+    long_answer before _ _ c.args.cutter.now c.next.new.self _ _ upto cut
+
+pub returns-in-Err-clause-due : goal.returns-in-Err-clause-due
+returns-in-Err-clause-due g c = λ before upto all.
+    (c.in-Err.ensures.cause.failed, fault_answer before _ _ c.args.cutter.now c.next.new.self _ _ upto c.in-Err.ensures.failed c.in-Err.ensures.plain c.in-Err.ensures.short)

@@ -1,12 +1,14 @@
-use Rattle.std.proofs.Common.{length}
-use Rattle.hx_check.specs.Judging.{JudgedUpTo, HasReadAll}
+use Rattle.std.proofs.Common.{◌≡◌, ◌≤◌, true}
+use Rattle.hx_io.specs.Sources.{IsAtEnd}
+use Rattle.hx_text.specs.Reader.{lines_fed}
+use Rattle.hx_check.specs.Standings.{JudgedUpTo, HasReadAll}
 use Rattle.hx_check.proofs.judge.judge.Given as goal
 
-abbrev pub invariant-loop-line : goal.invariant-loop-line
-invariant-loop-line l = record {
-  upto : JudgedUpTo l.input l.reader l.headings.items l.rest;
-  unfinished : HasReadAll l.reader → ⊥;
+abbrev pub invariant-loop : goal.invariant-loop
+invariant-loop g l = record {
+  upto : JudgedUpTo (g.S.Source.left l.fn.source) l.reader l.checker l.cutter.held (g.S.Source.left l.source);
+  unended : ¬ HasReadAll l.reader;
+  counted : lines_fed l.reader ≡ l.counter;
+  met_end : l.cutter.met_end ≡ true → IsAtEnd (g.S.Source.left l.source);
+  reads : g.S.Source.faults l.fn.source ≤ g.S.Source.faults l.source;
 }
-
-abbrev pub decreases-loop-line : goal.decreases-loop-line
-decreases-loop-line l = length l.rest

@@ -1,37 +1,70 @@
-use Rattle.std.proofs.Common.{refl}
-use Rattle.hx_check.proofs.JudgedNodes.{judged_more, judged_answer, judged_wrong_line, judged_too_many}
+use Rattle.std.proofs.Common.{refl, subst}
+use Rattle.hx_lines.specs.declared.cutters.Cut.{Cut}
+use Rattle.hx_lines.specs.declared.cutters.Cut.TheVariants.{Line, TooLong, Over}
+use Rattle.hx_lines.specs.Cutters.{IsCut}
+use Rattle.hx_check.proofs.JudgedNodes.{judged_more}
+use Rattle.hx_check.proofs.DueAnswers.{ended_cut, long_answer, fault_answer, missing_answer, wrong_answer, many_answer, node_answer, due_next, due_later, rose_from}
 use Rattle.hx_check.proofs.Endings.{judged_end}
 use Rattle.hx_check.proofs.judge.judge_line.Goals as goal
 
-pub returns-in-Ok-More : goal.returns-in-Ok-More
-returns-in-Ok-More c = λ input few upto.
-    let told = rw c.in-Ok-More.field-0-is at c.in-Ok-More.ensures.says in (
-      judged_more input few _ c.feed.new.self _ _ _ upto c.in-Ok-More.ensures.count (λ nodes lines read. (told nodes lines read).1.1),
-      (told upto.nodes upto.lines upto.read).1.0,
-    )
+pub returns-in-Ok-More-clause-step : goal.returns-in-Ok-More-clause-step
+returns-in-Ok-More-clause-step g c = λ before upto.
+    let P : Cut → Type 0 = IsCut c.args.cutter.now c.next.new.self (g.S.Source.left c.args.source.now) (g.S.Source.left c.next.new.source) in
+    let cut : P (Line c.in-Ok-Line.ended) = subst P c.in-Ok-Line.field-0-is c.in-Ok-Line.ensures.cut in
+    let says = rw (c.in-Ok-More.field-0-is, c.line.ensures.bytes) at c.in-Ok-More.ensures.says in
+    let told = says upto.judged.nodes upto.judged.lines upto.judged.read in
+    judged_more before _ c.feed.new.self _ c.args.cutter.now c.next.new.self _ _ upto (ended_cut c.in-Ok-Line.ended _ _ _ _ told.0 cut) c.in-Ok-More.ensures.count told.1.1
 
-pub returns-in-Ok-Node : goal.returns-in-Ok-Node
-returns-in-Ok-Node c = λ input few upto.
-    let told = rw (c.in-Ok-Node.field-0-is, c.in-Ok-Node.node-is) at c.in-Ok-Node.ensures.says in
-    judged_answer input few _ c.feed.new.self _ _ _ _ _ c.judge_node.result upto c.in-Ok-Node.ensures.count (λ nodes lines read. (told nodes lines read).1)
-    c.judge_node.ensures
+pub returns-in-Ok-Node-clause-step : goal.returns-in-Ok-Node-clause-step
+returns-in-Ok-Node-clause-step g c = λ before upto.
+    let P : Cut → Type 0 = IsCut c.args.cutter.now c.next.new.self (g.S.Source.left c.args.source.now) (g.S.Source.left c.next.new.source) in
+    let cut : P (Line c.in-Ok-Line.ended) = subst P c.in-Ok-Line.field-0-is c.in-Ok-Line.ensures.cut in
+    let says = rw (c.in-Ok-Node.field-0-is, c.in-Ok-Node.node-is, c.line.ensures.bytes) at c.in-Ok-Node.ensures.says in
+    let told = says upto.judged.nodes upto.judged.lines upto.judged.read in
+    node_answer before _ _ c.args.cutter.now c.next.new.self _ _ upto _ c.feed.new.self _ _ c.judge_node.result
+    (ended_cut c.in-Ok-Line.ended _ _ _ _ told.0 cut) c.in-Ok-Node.ensures.count told.1.0 told.1.1 c.judge_node.ensures
 
-pub returns-in-Ok-End : goal.returns-in-Ok-End
-returns-in-Ok-End c = λ input few upto.
-    let told = rw c.in-Ok-End.field-0-is at c.in-Ok-End.ensures.says in
-    c.at_end.ensures input few
-    (rw c.deref.ensures.value
-    (judged_more input few _ c.feed.new.self _ _ _ upto c.in-Ok-End.ensures.count
-    (λ nodes lines read. judged_end c.feed.new.self nodes _ _ (told nodes lines read).1)))
-    ((told upto.nodes upto.lines upto.read).1.0, (told upto.nodes upto.lines upto.read).1.1)
+pub returns-in-Ok-End-clause-step : goal.returns-in-Ok-End-clause-step
+returns-in-Ok-End-clause-step g c = λ before upto.
+    let P : Cut → Type 0 = IsCut c.args.cutter.now c.next.new.self (g.S.Source.left c.args.source.now) (g.S.Source.left c.next.new.source) in
+    let cut : P (Line c.in-Ok-Line.ended) = subst P c.in-Ok-Line.field-0-is c.in-Ok-Line.ensures.cut in
+    let says = rw (c.in-Ok-End.field-0-is, c.line.ensures.bytes) at c.in-Ok-End.ensures.says in
+    let told = says upto.judged.nodes upto.judged.lines upto.judged.read in
+    due_later before _ _ _ c.at_end.result (rose_from _ _ _ c.in-Ok-Line.ensures.cause.later)
+    (c.at_end.ensures.due before
+    (judged_more before _ c.feed.new.self _ c.args.cutter.now c.next.new.self _ _ upto (ended_cut c.in-Ok-Line.ended _ _ _ _ told.0 cut) c.in-Ok-End.ensures.count
+    (judged_end c.feed.new.self upto.judged.nodes _ _ told.1))
+    (told.1.0, told.1.1))
 
-pub returns-in-Err-Text : goal.returns-in-Err-Text
-returns-in-Err-Text c = λ input few upto.
-    let told = rw c.in-Err-Text.field-0-is at c.in-Err-Text.ensures.says in
-    judged_wrong_line input few _ _ _ _ c.feed.new.self.fed _ upto c.requires c.in-Err-Text.ensures.count
-    (λ nodes lines read. ((told nodes lines read).0, (told nodes lines read).1 refl))
+pub returns-in-Err-Text-clause-step : goal.returns-in-Err-Text-clause-step
+returns-in-Err-Text-clause-step g c = λ before upto.
+    let P : Cut → Type 0 = IsCut c.args.cutter.now c.next.new.self (g.S.Source.left c.args.source.now) (g.S.Source.left c.next.new.source) in
+    let cut : P (Line c.in-Ok-Line.ended) = subst P c.in-Ok-Line.field-0-is c.in-Ok-Line.ensures.cut in
+    let says = rw (c.in-Err-Text.field-0-is, c.line.ensures.bytes) at c.in-Err-Text.ensures.says in
+    let told = says upto.judged.nodes upto.judged.lines upto.judged.read in
+    wrong_answer before _ _ c.args.cutter.now c.next.new.self _ _ upto c.in-Ok-Line.ended c.feed.new.self.fed _ cut c.requires.unended c.in-Err-Text.ensures.count told
 
-pub returns-in-Err-TooMany : goal.returns-in-Err-TooMany
-returns-in-Err-TooMany c = λ input few upto.
-    let told = rw c.in-Err-TooMany.field-0-is at c.in-Err-TooMany.ensures.says in
-    judged_too_many input few _ _ _ _ upto (λ nodes lines read. ((told nodes lines read).2, (told nodes lines read).3))
+pub returns-in-Err-TooMany-clause-step : goal.returns-in-Err-TooMany-clause-step
+returns-in-Err-TooMany-clause-step g c = λ before upto.
+    let P : Cut → Type 0 = IsCut c.args.cutter.now c.next.new.self (g.S.Source.left c.args.source.now) (g.S.Source.left c.next.new.source) in
+    let cut : P (Line c.in-Ok-Line.ended) = subst P c.in-Ok-Line.field-0-is c.in-Ok-Line.ensures.cut in
+    let says = rw (c.in-Err-TooMany.field-0-is, c.line.ensures.bytes) at c.in-Err-TooMany.ensures.says in
+    let told = says upto.judged.nodes upto.judged.lines upto.judged.read in
+    many_answer before _ _ c.args.cutter.now c.next.new.self _ _ upto (ended_cut c.in-Ok-Line.ended _ _ _ _ told.0 cut) (told.2, told.3)
+
+pub returns-in-Ok-TooLong-clause-step : goal.returns-in-Ok-TooLong-clause-step
+returns-in-Ok-TooLong-clause-step g c = λ before upto.
+    let P : Cut → Type 0 = IsCut c.args.cutter.now c.next.new.self (g.S.Source.left c.args.source.now) (g.S.Source.left c.next.new.source) in
+    let cut : P TooLong = subst P c.in-Ok-TooLong.field-0-is c.in-Ok-TooLong.ensures.cut in
+    long_answer before _ _ c.args.cutter.now c.next.new.self _ _ upto cut
+
+pub returns-in-Ok-Over-clause-step : goal.returns-in-Ok-Over-clause-step
+returns-in-Ok-Over-clause-step g c = λ before upto.
+    let P : Cut → Type 0 = IsCut c.args.cutter.now c.next.new.self (g.S.Source.left c.args.source.now) (g.S.Source.left c.next.new.source) in
+    let cut : P Over = subst P c.in-Ok-Over.field-0-is c.in-Ok-Over.ensures.cut in
+    due_next before _ _ _ _ _ upto.judged c.next_line_is_wrong.ensures
+    (missing_answer before _ _ c.args.cutter.now c.next.new.self _ _ upto _ cut c.requires.unended refl)
+
+pub returns-in-Err-clause-step : goal.returns-in-Err-clause-step
+returns-in-Err-clause-step g c = λ before upto.
+    (c.in-Err.ensures.cause.failed, fault_answer before _ _ c.args.cutter.now c.next.new.self _ _ upto c.in-Err.ensures.failed c.in-Err.ensures.plain c.in-Err.ensures.short)

@@ -3,4 +3,4 @@ use Rattle.hx_check.proofs.OneFault.{one_fault}
 use Rattle.hx_check.proofs.laws.one_fault.Goals as goal
 
 pub returns : goal.returns
-returns c = λ input before now. one_fault input (Rose before now)
+returns c = λ input left other_left before now. one_fault input (Rose before now) left other_left

@@ -1,7 +1,8 @@
 use Rattle.std.proofs.Common.{◌≡◌, codes, sym, ap, ◌∙◌, string_bytes}
 use Rattle.hx_words.specs.Words.{words_of}
-use Rattle.hx_words.proofs.CommandWords.{Asks-solve, Asks-htp}
+use Rattle.hx_words.proofs.CommandWords.{Asks-solve, Asks-htp, Asks-demo}
 use Rattle.hx_words.proofs.Leads.{AreOptions-settings}
+use Rattle.hx_words.proofs.SeedWords.{SeedAndOptions-limits}
 use Rattle.hx_words.proofs.commands.command_of.Goals as goal
 
 pub returns-in_err-settings-in-solve-clause-finds : goal.returns-in_err-settings-in-solve-clause-finds
@@ -27,3 +28,15 @@ returns-in_err-settings-in-htp-clause-finds c =
 pub returns-in_ok-settings-in-htp-clause-limits : goal.returns-in_ok-settings-in-htp-clause-limits
 returns-in_ok-settings-in-htp-clause-limits c =
     AreOptions-settings (words_of c.in_ok-name.rest.now) c.in_ok-settings-in-htp.settings c.in_ok-settings-in-htp.ensures
+
+pub returns-in_err-seed-in-demo-clause-finds : goal.returns-in_err-seed-in-demo-clause-finds
+returns-in_err-seed-in-demo-clause-finds c =
+    let words = ap words_of c.in_ok-name.ensures.cases.0 in
+    let name : string_bytes c.in_ok-name.name.now ≡ codes "demo" = sym c.as_str.ensures.value ∙ c.in-demo.is in
+    rw c.from_residual-in_err-seed-in-demo.ensures
+    (Asks-demo (words_of c.args.words.now) (words_of c.in_ok-name.rest.now) (cc)
+    c.in_err-seed-in-demo.ensures)
+
+pub returns-in_ok-seed-in-demo-clause-limits : goal.returns-in_ok-seed-in-demo-clause-limits
+returns-in_ok-seed-in-demo-clause-limits c =
+    SeedAndOptions-limits (words_of c.in_ok-name.rest.now) c.in_ok-seed-in-demo.seed c.in_ok-seed-in-demo.settings c.in_ok-seed-in-demo.ensures

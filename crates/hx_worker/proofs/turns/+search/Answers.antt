@@ -39,6 +39,9 @@ descend-returns-clause-seat g t c =
 pub expand-returns-in-Some-clause-outcome : goal.expand-returns-in-Some-clause-outcome
 expand-returns-in-Some-clause-outcome g t c = c.in-Some.ensures.outcome c.args.seat.now
 
+pub expand-returns-in-Some-look_at_all-clause-outcome : goal.expand-returns-in-Some-look_at_all-clause-outcome
+expand-returns-in-Some-look_at_all-clause-outcome g t c = c.in-Some-look_at_all.ensures.outcome c.args.seat.now
+
 pub expand-returns-in-Some-look_at_marked-clause-outcome : goal.expand-returns-in-Some-look_at_marked-clause-outcome
 expand-returns-in-Some-look_at_marked-clause-outcome g t c = c.in-Some-look_at_marked.ensures.outcome c.args.seat.now
 

@@ -1,14 +1,17 @@
-use Rattle.std.proofs.Common.{◌≡◌, ◌≢◌, length, vec_capacity, arith}
-use Rattle.hx_book.specs.Buckets.{bucket_of}
+use Rattle.std.proofs.Common.{◌≡◌, ◌≢◌, ◌<◌, length, vec_capacity, sym, arith}
+use Rattle.hx_book.specs.Buckets.{position_key, stones_key}
 use Rattle.hx_book.proofs.GrowthLaws.{fields-more}
 use Rattle.hx_book.proofs.books.Book.put.Goals as goal
 
 pub invariant_of-self : goal.invariant_of-self
 invariant_of-self c =
-    let many : c.len.result ≡ length c.self.inside.heads.items = omega (arith, c.len.ensures, c.self.inside.heads.ok) in
     let held : c.len-held.result ≡ length c.self.inside.nodes.items = omega (arith, c.len-held.ensures, c.self.inside.nodes.ok) in
-    let number : c.bucket-number.result ≡ bucket_of (length c.self.inside.heads.items) c.args.node.heading.position c.args.node.heading.to_move = rw many at c.bucket-number.ensures.value in
     let room_left : length c.self.inside.nodes.items ≢ c.self.inside.slots = omega (arith, held, c.if-held-self.false) in
-    rw (held, c.push_reserved-2.ensures.items, c.push_reserved.ensures.items, c.push_reserved-2.ensures.capacity, c.push_reserved.ensures.capacity)
-    (fields-more c.self.inside.slots c.self.inside.nodes.items c.self.inside.heads.items c.self.inside.next.items (vec_capacity c.self.inside.nodes) (vec_capacity c.self.inside.next) c.args.node c.self.invariant c.bucket-number.result number
-    (omega (arith, many, c.bucket-number.ensures.below)) c.index.result.now c.index.ensures room_left (rw (← c.self.view_is) at c.requires) (rw (← c.self.view_is) at c.in_default.ensures))
+    let by_place : c.bucket-place.result ≡ position_key (length c.self.inside.by_position.heads) c.args.node = rw c.buckets.ensures at c.bucket-place.ensures.value in
+    let by_stones : c.stones_bucket-stones.result ≡ stones_key (length c.self.inside.by_stones.heads) c.args.node = rw c.buckets-2.ensures at c.stones_bucket-stones.ensures.value in
+    let place_below : c.bucket-place.result < length c.self.inside.by_position.heads = omega (arith, c.buckets.ensures, c.bucket-place.ensures.below) in
+    let stones_below : c.stones_bucket-stones.result < length c.self.inside.by_stones.heads = omega (arith, c.buckets-2.ensures, c.stones_bucket-stones.ensures.below) in
+    rw (c.push_reserved.ensures.items, c.push_reserved.ensures.capacity)
+    (fields-more c.self.inside.slots c.self.inside.nodes.items c.self.inside.by_position c.self.inside.by_stones (vec_capacity c.self.inside.nodes) c.args.node c.self.invariant
+    c.bucket-place.result c.stones_bucket-stones.result by_place by_stones place_below stones_below c.add.new.self c.add-2.new.self c.add.ensures c.add-2.ensures
+    room_left (rw (← c.self.view_is) at c.requires) (rw (← c.self.view_is) at c.in_default.ensures))

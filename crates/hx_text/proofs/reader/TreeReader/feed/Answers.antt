@@ -11,4 +11,4 @@ returns-clause-again c = λ fault failed.
       | else-ended-via-then-ended+else-goes_on w ↦ ap (λ (reader : TreeReader). reader.place) w.self-is ∙ w.goes_on.ensures.no w.if-goes_on.false
       | else-ended-via-else-ended w ↦ ap (λ (reader : TreeReader). reader.place) w.self-is
     ] in
-    c.take_line-told.ensures.again fault (failed.0, c.replace-place.ensures.value ∙ same ∙ failed.1)
+    c.step_on.ensures.again fault (failed.0, same ∙ failed.1)

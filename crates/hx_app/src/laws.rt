@@ -1,0 +1,16 @@
+//! What follows from the promises of two commands. The call does nothing; what it says stands in its contract.
+
+ghost use Rattle.std.specs.Prelude.{ℕ, List, Option, Some};
+ghost use Rattle.hx_io.specs.Causes.{Rose};
+ghost use Rattle.hx_answers.specs.Endings.{IsUnlessStopped};
+ghost use Rattle.hx_check.specs.Promises.{KeepsPromises as ChecksAsPromised};
+ghost use Rattle.hx_app.specs.Promises.{SaysSolved};
+
+/// `check` answers 0 to each tree that `solve` wrote with status 0, however long it is, unless a fault or want of memory comes in
+/// its place.
+pub fn check_accepts_what_solve_writes()
+    ensures { (input : List ℕ) (taken taken_now : Option (List ℕ)) (solved : SaysSolved input taken taken_now)
+        (left before now : Option (List ℕ)) (reads reads_now writes writes_now status : ℕ)
+        → ChecksAsPromised (Some solved.tree) left (Rose reads reads_now) before now (Rose writes writes_now) status
+        → IsUnlessStopped status 0 }
+{}

@@ -1,0 +1,5 @@
+use Rattle.hx_nodes.proofs.WideLaws.{stored_wide}
+use Rattle.hx_nodes.proofs.wide_fills.widen_fill.Goals as goal
+
+pub returns-clause-stored : goal.returns-clause-stored
+returns-clause-stored g c = stored_wide _ _ _ _ _ c.store_fill.ensures.stored

@@ -1,0 +1,4 @@
+use Rattle.hx_worker.proofs.wide_moves.won_by.Goals as goal
+
+pub returns-clause-outcome : goal.returns-clause-outcome
+returns-clause-outcome g c = λ seat. c.outcome_of.ensures _ _ _ _ seat c.widen_move.ensures.stored

@@ -1,0 +1,95 @@
+//! The proof of the job's own position, which is the root of a tree.
+//!
+//! An entry that serves the position proves it by fill steps, and names no move. So where the mover wins by a move, a node by that
+//! move is stored for the position itself: then the last node of a tree names it.
+
+ghost use Rattle.std.specs.Prelude.{◌≡◌, IfSome};
+ghost use Rattle.hx_board.specs.Positions.{IsEmpty};
+ghost use Rattle.hx_tree.specs.Entries.{Extends};
+ghost use Rattle.hx_nodes.specs.Stored.{IsStored};
+
+use hx_board::{CELLS, Cell, Colour, Position};
+use hx_book::Proofs;
+use hx_nodes::{Stored, store_move, store_wider};
+use std::alloc::Global;
+use std::sync::Wait;
+
+/// Stores who wins the position, where an entry that serves it names this winner: by a move, or else by fill steps.
+pub(crate) fn store_root<P: Proofs, R: Wait>(
+    rt: &R,
+    alloc: Global,
+    proofs: &mut P,
+    position: &Position,
+    to_move: Colour,
+    winner: Colour,
+) -> Stored
+    ensures slots { P.slots proofs.new ≡ P.slots proofs.old }
+    ensures over { P.over proofs.new ≡ P.over proofs.old }
+    ensures seen { Extends (P.list proofs.new) (P.list proofs.old) }
+    ensures stored { IsStored (P.list proofs.new) (P.slots proofs.new) position.now to_move result }
+{
+    let stored = by_some_move(rt, alloc, proofs, position, to_move, winner);
+    if let Some(Stored::Done) = stored {
+        return Stored::Done;
+    }
+    store_wider(rt, alloc, proofs, position, to_move, winner)
+}
+
+/// Stores that the mover wins by a move, where an entry serves the position after one. None where none does, or the other player
+/// wins.
+fn by_some_move<P: Proofs, R: Wait>(
+    rt: &R,
+    alloc: Global,
+    proofs: &mut P,
+    position: &Position,
+    to_move: Colour,
+    winner: Colour,
+) -> Option<Stored>
+    ensures slots { P.slots proofs.new ≡ P.slots proofs.old }
+    ensures over { P.over proofs.new ≡ P.over proofs.old }
+    ensures seen { Extends (P.list proofs.new) (P.list proofs.old) }
+    ensures stored { IfSome result (IsStored (P.list proofs.new) (P.slots proofs.new) position.now to_move) }
+{
+    if winner != to_move {
+        return None;
+    }
+    let Some(cell) = winning_cell(rt, proofs, position, to_move) else {
+        return None;
+    };
+    let next = position.with(to_move, cell);
+    match store_wider(rt, alloc, proofs, &next, to_move.other(), to_move) {
+        Stored::Done => Some(store_move(rt, proofs, position, to_move, cell)),
+        _ => None,
+    }
+}
+
+/// The first cell after a move to which an entry says that the mover wins. None where there is none.
+fn winning_cell<P: Proofs, R: Wait>(
+    rt: &R,
+    proofs: &mut P,
+    position: &Position,
+    to_move: Colour,
+) -> Option<Cell>
+    ensures slots { P.slots proofs.new ≡ P.slots proofs.old }
+    ensures over { P.over proofs.new ≡ P.over proofs.old }
+    ensures seen { Extends (P.list proofs.new) (P.list proofs.old) }
+    ensures empty { IfSome result (IsEmpty position.now) }
+{
+    let size = position.size();
+    let mut left = position.empties();
+    for _ in 0..CELLS {
+        let Some(cell) = left.least(size) else {
+            break;
+        };
+        left = left.without(cell);
+        let is_empty = position.empties().has(cell);
+        if !is_empty {
+            break;
+        }
+        let next = position.with(to_move, cell);
+        if let Some(_wider) = proofs.look_wider(rt, &next, to_move.other(), to_move) {
+            return Some(cell);
+        }
+    }
+    None
+}
