@@ -5,7 +5,7 @@ use Rattle.hx_text.specs.declared.node_lines.Head.{Head}
 use Rattle.hx_text.specs.declared.entries.Entry.{Entry}
 use Rattle.hx_text.specs.declared.places.SoFar.{SoFar}
 use Rattle.hx_text.specs.Entries.{EachEntryFits, entries_of, entry_line}
-use Rattle.hx_text.specs.TreeTexts.{HeadFits, NodeFits, head_of, head_line, node_lines}
+use Rattle.hx_text.specs.TreeTexts.{HeadFits, NodeFits, head_line, node_lines}
 use Rattle.hx_text.specs.Places.{most_nodes, StandsSoFar, IsWhole, HasOneMore}
 use Rattle.hx_text.proofs.Steps.{stands_more}
 
