@@ -67,7 +67,7 @@ abbrev pub AllHigh : List (List ℕ) → Type 0
 AllHigh [] = Unit {0}
 AllHigh (word ∷ words) = IsHigh word × AllHigh words
 
-Lacks-high : (mark : ℕ) (bytes : List ℕ) → mark < 48 → IsHigh bytes → Lacks mark bytes
+pub Lacks-high : (mark : ℕ) (bytes : List ℕ) → mark < 48 → IsHigh bytes → Lacks mark bytes
 Lacks-high mark [] low high = tt
 Lacks-high mark (byte ∷ bytes) low high = (λ e. absurd (omega arith), Lacks-high mark bytes low high.1)
 

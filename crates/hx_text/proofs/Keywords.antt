@@ -1,5 +1,5 @@
 -- The first word of some bytes is a given one exactly where they begin with it, and then end or have a mark next.
-use Rattle.std.proofs.Common.{◌≡◌, ◌≢◌, ℕ, List, [], ◌∷◌, ◌++◌, length, take, drop, refl, sym, ap, ◌∙◌, ◌⊎◌, inl, inr, arith, Bool, true, false, eqb, cond}
+use Rattle.std.proofs.Common.{◌≡◌, ◌≢◌, ℕ, List, [], ◌∷◌, ◌++◌, length, length-append, ◌≤◌, take, drop, refl, sym, ap, ◌∙◌, ◌⊎◌, inl, inr, arith, Bool, true, false, eqb, cond}
 use Rattle.std.specs.Prelude.{nat_eq}
 use Rattle.std.specs.Cmp.Lexicographic.{pointwise, same_text, other_text}
 use Rattle.std.proofs.lemmas.Bool.{false≢true, eqb-true}
@@ -47,6 +47,20 @@ first_word mark [] word words e =
     record { after = []; parts = ap (λ (t : List ℕ). t ++ []) none; ended = inl refl }
 first_word mark (byte ∷ bytes) word words e =
     by_test mark byte bytes word words (eqb byte mark) refl e (λ first rest f. first_word mark bytes first rest f)
+
+-- the first word that a cursor has left stands in front
+pub front_is_first : (more : Bool) (bytes word : List ℕ) (words : List (List ℕ)) → words_left more bytes ≡ word ∷ words
+    → take (length word) bytes ≡ word
+front_is_first true bytes word words e =
+    let found = first_word 32 bytes word words e in ap (take (length word)) found.parts ∙ take-append_seam word found.after
+front_is_first false bytes word words e = cc
+
+-- and there is room for it
+pub first_fits : (more : Bool) (bytes word : List ℕ) (words : List (List ℕ)) → words_left more bytes ≡ word ∷ words
+    → length word ≤ length bytes
+first_fits true bytes word words e =
+    let found = first_word 32 bytes word words e in rw found.parts (omega (arith, length-append word found.after))
+first_fits false bytes word words e = cc
 
 -- the bytes begin with the word
 pub prefix_parts : (bytes word after : List ℕ) → pointwise nat_eq (take (length word) bytes) word ≡ true → after ≡ drop (length word) bytes

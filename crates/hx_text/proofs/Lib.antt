@@ -31,6 +31,7 @@ pub mod TreeLacks
 pub mod Faults
 pub mod PositionLines
 pub mod PositionFaults
+pub mod WholeNodes
 pub mod WholePositions
 pub mod Spelled
 pub mod Pieces

@@ -1,7 +1,7 @@
 -- The lines of a tree's text are short. A line is no longer than its words with a space after each, and each word but those of
 -- an Or is short and stands among few.
-use Rattle.std.proofs.Common.{◌≡◌, ℕ, suc, zero, ◌+◌, ◌*◌, ◌/◌, ◌<◌, ◌≤◌, List, [], ◌∷◌, ◌++◌, length, map, get_or, refl, sym, subst, arith, length-append}
-use Rattle.std.specs.Prelude.{codes, flat_map, All}
+use Rattle.std.proofs.Common.{ℕ, suc, zero, ◌+◌, ◌*◌, ◌/◌, ◌<◌, ◌≤◌, List, [], ◌∷◌, ◌++◌, length, map, get_or, sym, subst, arith, length-append}
+use Rattle.std.specs.Prelude.{flat_map}
 use Rattle.std.specs.Fmt.{decimal}
 use Rattle.std.proofs.lemmas.Fmt.{length-decimal-le}
 use Rattle.hx_board.specs.declared.colours.Colour.{Colour}
@@ -26,13 +26,10 @@ use Rattle.hx_text.specs.declared.node_lines.Head.{Head}
 use Rattle.hx_text.specs.declared.versions.Version.{Version}
 use Rattle.hx_text.specs.declared.versions.Version.TheVariants.{One, Two}
 use Rattle.hx_text.specs.declared.versions.Preamble.{Preamble}
-use Rattle.hx_text.specs.Words.{spaced, cell_word, colour_word, mask_word, IsNumber}
-use Rattle.hx_text.specs.Versions.{version_word}
+use Rattle.hx_text.specs.Words.{spaced, cell_word, IsNumber}
 use Rattle.hx_text.specs.StepTexts.{vertex_word, step_words, AreNumbers, StepFits}
 use Rattle.hx_text.specs.FillTexts.{fill_words, FillFits}
 use Rattle.hx_text.specs.Entries.{reason_words, answer_words, ReasonFits, AnswerFits, entry_line, EntryFits, EachEntryFits, entries_of}
-use Rattle.hx_text.specs.Grammars.{Begins}
-use Rattle.hx_text.specs.PositionTexts.{size_line}
 use Rattle.hx_text.specs.TreeTexts.{AreTreeLines, EachNodeFits, NodeFits, OpeningFits, head_of, head_words, opening_words, node_lines, front_lines, tree_lines, title_line, end_line}
 use Rattle.hx_text.specs.Lengths.{longest_line, AreShortLines}
 use Rattle.hx_text.proofs.Masks.{length-hex}

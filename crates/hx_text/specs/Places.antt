@@ -1,5 +1,5 @@
 -- The places in a tree's text: what each says of the lines and nodes before it, and what one more line does there.
-use Rattle.std.specs.Prelude.{◌≡◌, ◌≢◌, ℕ, ◌+◌, ◌-◌, ◌<◌, ◌≤◌, nat_lt, if◌then◌else◌, List, [], ◌∷◌, ◌++◌, length, map, flat_map, Bool, IsTrue, vec_capacity}
+use Rattle.std.specs.Prelude.{◌≡◌, ℕ, ◌+◌, ◌-◌, ◌<◌, ◌≤◌, nat_lt, if◌then◌else◌, List, [], ◌∷◌, ◌++◌, length, map, flat_map, Bool, IsTrue, vec_capacity}
 use Rattle.std.specs.declared.option.Option.{Option}
 use Rattle.std.specs.declared.option.Option.TheVariants.{None, Some}
 use Rattle.std.specs.declared.result.Result.{Result}
@@ -27,9 +27,9 @@ use Rattle.hx_text.specs.declared.places.TreeFault.TheVariants.{Text, TooMany as
 use Rattle.hx_text.specs.declared.places.Stop.{Stop}
 use Rattle.hx_text.specs.declared.places.Stop.TheVariants.{Wrong, TooMany, Memory}
 use Rattle.hx_text.specs.Grammars.{Begins}
-use Rattle.hx_text.specs.Entries.{EachEntryFits, IsEntryLine, entries_for, entry_line, steps_told, threats_told, answers_told, fills_told, entries_told}
+use Rattle.hx_text.specs.Entries.{EachEntryFits, IsEntryLine, entries_for, entries_of, entry_line, steps_told, threats_told, answers_told, fills_told, entries_told}
 use Rattle.hx_text.specs.StepTexts.{BeginsLongOr}
-use Rattle.hx_text.specs.TreeTexts.{AreTreeLines, AreTreeLinesOf, EachNodeFits, NodeFits, IsRootWinner, HeadFits, title_line, front_lines, head_line, node_lines}
+use Rattle.hx_text.specs.TreeTexts.{AreTreeLines, AreTreeLinesOf, EachNodeFits, NodeFits, IsRootWinner, HeadFits, title_line, front_lines, head_of, head_line, node_lines}
 
 -- the most nodes of a text
 abbrev pub most_nodes : ℕ
@@ -156,6 +156,14 @@ Told old line ended number nodes lines new (Err NoMemory) = IsTrue ended × Take
 
 -- ---- words for the functions inside the crate alone
 
+-- the node with this first line, which has no entry
+abbrev pub IsWhole : Head → Node → Type 0
+IsWhole head node = (head_of node ≡ head) × (entries_of node.rule ≡ [])
+
+-- what the nodes have said, one more with them
+abbrev pub HasOneMore : SoFar → Node → SoFar → Type 0
+HasOneMore old node new = new ≡ record { preamble = old.preamble; count = old.count + 1; winner = Some node.heading.winner }
+
 -- what a step over a line says: the place and the nodes before the line, the line, the lines with it
 abbrev pub Follows : Place → List Node → List ℕ → List (List ℕ) → Result Step Stop → Type 0
 Follows old nodes line lines (Ok step) = Brings step.fed step.place nodes lines
@@ -170,6 +178,10 @@ Goes old line result = (nodes : List Node) (lines : List (List ℕ)) → Stands 
 -- the line is one of a node that more lines of it follow
 abbrev pub GoesOn : Place → List ℕ → Place → Type 0
 GoesOn old line new = (begun : Begun) × (old ≡ Inside begun) × Goes old line (Ok (record { fed = More; place = new }))
+
+-- the line is that of a node which is whole with it
+abbrev pub TakesNode : SoFar → List ℕ → SoFar → Node → Type 0
+TakesNode old line new node = Goes (Between old) line (Ok (record { fed = Whole node; place = Between new }))
 
 -- the line is no first line of a node of such a text
 abbrev pub IsNoHead : Preamble → List ℕ → Type 0

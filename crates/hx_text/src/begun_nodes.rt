@@ -11,6 +11,7 @@ use crate::fill_lines::read_fill;
 use crate::node_lines::{Head, Opening};
 use crate::places::{Fed, Place, SoFar, Step, Stop};
 use crate::step_lines::{read_step, read_threat};
+use crate::whole_nodes::whole_node;
 use hx_board::{Memory, Size};
 use hx_inferior::FillStep;
 use hx_link::Step as LinkStep;
@@ -96,44 +97,13 @@ impl Begun {
     }
 }
 
-/// The step over a node's first line. Most nodes have no entry, and are whole at once.
+/// The step over a node's first line.
 pub(crate) fn begin(alloc: Global, so_far: SoFar, head: Head) -> Result<Step, Stop>
     ensures { BeginsNode so_far head result }
 {
-    let Head { heading, opening } = head;
-    match opening {
-        Opening::Chain => {
-            let rule = Rule::Chain;
-            Ok(with_node(so_far, Node { heading, rule }))
-        }
-        Opening::Move { cell, child } => {
-            let rule = Rule::Move { cell, child };
-            Ok(with_node(so_far, Node { heading, rule }))
-        }
-        Opening::Turned { child } => {
-            let rule = Rule::Turned { child };
-            Ok(with_node(so_far, Node { heading, rule }))
-        }
-        Opening::Links { steps } => {
-            let opening = Opening::Links { steps };
-            begin_lists(alloc, so_far, Head { heading, opening })
-        }
-        Opening::All {
-            steps,
-            threats,
-            lines,
-        } => {
-            let opening = Opening::All {
-                steps,
-                threats,
-                lines,
-            };
-            begin_lists(alloc, so_far, Head { heading, opening })
-        }
-        Opening::Fill { fills, child } => {
-            let opening = Opening::Fill { fills, child };
-            begin_lists(alloc, so_far, Head { heading, opening })
-        }
+    match whole_node(&head) {
+        Some(node) => Ok(with_node(so_far, node)),
+        None => begin_lists(alloc, so_far, head),
     }
 }
 

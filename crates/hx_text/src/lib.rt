@@ -17,6 +17,7 @@ mod step_lines;
 mod texts;
 mod values;
 mod versions;
+mod whole_nodes;
 mod words;
 mod writer;
 

@@ -1,12 +1,13 @@
 //! The places in the text of a tree, and what one more line does at each. A place holds all that the next line is
 //! judged by, so no earlier line is read again.
 
-ghost use Rattle.std.specs.Prelude.{◌≡◌, ◌↔◌, IsTrue, false};
-ghost use Rattle.hx_text.specs.Places.{Goes, GoesOn, IsNoHead, version_at};
+ghost use Rattle.std.specs.Prelude.{◌≡◌, ◌↔◌, IsTrue, IfSome, IfNone, false};
+ghost use Rattle.hx_text.specs.declared.places.TreeFault.{TreeFault as Fault};
+ghost use Rattle.hx_text.specs.Places.{Goes, IsFailed, IsNoHead, version_at};
 
 use crate::begun_nodes::{self, Begun};
 use crate::versions::{Preamble, Version};
-use crate::{lines, node_lines};
+use crate::{lines, node_lines, whole_nodes};
 use hx_board::{Colour, Size};
 use hx_tree::{MOST_NODES, Node};
 use std::alloc::Global;
@@ -113,14 +114,26 @@ pub(crate) fn advance(alloc: Global, place: Place, line: &[u8]) -> Result<Step, 
     }
 }
 
-/// Takes a line of a node that more lines of it follow, and says whether it did. Where it did not, the place is as it was.
-pub(crate) fn goes_on(alloc: Global, place: &mut Place, line: &[u8]) -> bool
-    ensures yes { IsTrue result → GoesOn place.old line.now place.new }
-    ensures no { result ≡ false → place.new ≡ place.old }
+/// Takes a line that changes little, so that the place can stay where it is: one of a node that more lines of it follow, or a node
+/// of one line. What it brought. None where it is another line; then the place is as it was.
+pub(crate) fn take_in_place(alloc: Global, place: &mut Place, line: &[u8]) -> Option<Fed>
+    ensures yes { IfSome result (λ fed. Goes place.old line.now (Ok (record { fed = fed; place = place.new }))) }
+    ensures no { IfNone result (place.new ≡ place.old) }
+    ensures failed { (fault : Fault) → IsFailed place.old fault → result ≡ None }
 {
     match place {
-        Place::Inside(begun) => begun_nodes::goes_on(alloc, begun, line),
-        _ => false,
+        Place::Inside(begun) => {
+            if begun_nodes::goes_on(alloc, begun, line) {
+                Some(Fed::More)
+            } else {
+                None
+            }
+        }
+        Place::Between(so_far) => match whole_nodes::take_node(so_far, line) {
+            Some(node) => Some(Fed::Node(node)),
+            None => None,
+        },
+        _ => None,
     }
 }
 

@@ -70,11 +70,14 @@ impl TreeReader {
         ensures again { (fault : Fault) → HasFailed self.old fault → result ≡ Err fault }
     {
         self.fed = self.fed.saturating_add(1);
-        // Most lines stand inside nodes. There the node stays where it is.
-        if ended && places::goes_on(self.alloc, &mut self.place, line) {
-            return Ok(Fed::More);
+        if !ended {
+            return self.step_on(line, ended);
         }
-        self.step_on(line, ended)
+        // Most lines are entries that more entries follow, or nodes of one line.
+        match places::take_in_place(self.alloc, &mut self.place, line) {
+            Some(fed) => Ok(fed),
+            None => self.step_on(line, ended),
+        }
     }
 
     /// Takes the line that was counted last, at which the place may change.

@@ -97,17 +97,6 @@ fn hex_value(byte: u8) -> u8
     }
 }
 
-/// A player.
-pub(crate) fn colour(word: &[u8]) -> Option<Colour>
-    ensures { Reads colour_word (λ _. Unit {0}) word.now result }
-{
-    match word {
-        b"black" => Some(Colour::Black),
-        b"white" => Some(Colour::White),
-        _ => None,
-    }
-}
-
 /// The word of a player.
 pub(crate) fn colour_word(colour: Colour) -> &'static [u8]
     ensures { result.now ≡ colour_word colour }

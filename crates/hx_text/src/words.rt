@@ -13,6 +13,9 @@ use crate::values;
 use hx_board::{Cell, Colour, Mask, Size, Vertex};
 use std::marker::Model;
 
+/// How many bytes the word of a set of cells has.
+const MASK: usize = 32;
+
 /// The words of a line that are still to be taken, seen as a list of words.
 ///
 /// Where the next word is not of the kind asked for, the line is of no use any more, unless the call says otherwise.
@@ -114,16 +117,30 @@ impl<'a> Words<'a> {
     pub(crate) fn mask(&mut self) -> Option<Mask>
         ensures { Takes mask_word IsSet self.old result self.new }
     {
-        let word = self.next()?;
-        values::mask(word)
+        // Its length is known, so no end is looked for.
+        let Some((word, _)) = self.rest.split_at_checked(MASK) else {
+            return None;
+        };
+        let Some(mask) = values::mask(word) else {
+            return None;
+        };
+        match self.keyword(word) {
+            Some(()) => Some(mask),
+            None => None,
+        }
     }
 
     /// Takes a player.
     pub(crate) fn colour(&mut self) -> Option<Colour>
         ensures { Takes colour_word (λ _. Unit {0}) self.old result self.new }
     {
-        let word = self.next()?;
-        values::colour(word)
+        match self.keyword(b"black") {
+            Some(()) => Some(Colour::Black),
+            None => match self.keyword(b"white") {
+                Some(()) => Some(Colour::White),
+                None => None,
+            },
+        }
     }
 
     /// Takes a cell of a board of this size.

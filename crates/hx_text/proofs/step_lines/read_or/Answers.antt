@@ -1,7 +1,7 @@
 use Rattle.std.proofs.Common.{◌≡◌, ◌∙◌, ◌<◌, ◌≤◌, length, sym, arith, true, false, ⊎_elim, Result, Ok, Err}
 use Rattle.std.proofs.lemmas.Bool.{false≢true, cases_lt}
 use Rattle.std.specs.Result.{OnOk, OnErr, IsOk, is_ok}
-use Rattle.hx_text.specs.StepTexts.{parts_in_place, BeginWithManyParts}
+use Rattle.hx_text.specs.StepTexts.{parts_in_place}
 use Rattle.hx_text.proofs.Cursors.{ends_here, goes_on_here}
 use Rattle.hx_text.proofs.OrWords.{no_parts_taken, part_taken, many_parts, all_parts_taken, no_part_next, too_many_parts}
 use Rattle.hx_text.proofs.step_lines.read_or.Goals as goal

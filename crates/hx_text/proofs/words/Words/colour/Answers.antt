@@ -1,8 +1,16 @@
-use Rattle.hx_text.proofs.Cursors.{takes_by_word, takes_at_end}
+use Rattle.std.proofs.Common.{◌≡◌, List, ℕ, ◌∷◌, ◌∙◌}
+use Rattle.hx_board.specs.declared.colours.Colour.{Colour}
+use Rattle.hx_board.specs.declared.colours.Colour.TheVariants.{Black, White}
+use Rattle.hx_text.specs.Words.{colour_word}
 use Rattle.hx_text.proofs.words.Words.colour.Goals as goal
 
-pub returns-in_err-word : goal.returns-in_err-word
-returns-in_err-word c = rw c.from_residual.ensures (takes_at_end _ _ _ c.next.new.self c.in_err-word.ensures)
+-- a word that is neither is no colour's
+neither : (words : List (List ℕ)) → ((rest : List (List ℕ)) → words ≡ colour_word Black ∷ rest → ⊥)
+    → ((rest : List (List ℕ)) → words ≡ colour_word White ∷ rest → ⊥) → (colour : Colour) (rest : List (List ℕ)) → words ≡ colour_word colour ∷ rest → ⊥
+neither words black white Black rest e = black rest e
+neither words black white White rest e = white rest e
 
-pub returns : goal.returns
-returns c = takes_by_word _ _ _ _ _ _ c.in_ok-word.ensures c.colour.ensures
+pub returns-in-None-keyword : goal.returns-in-None-keyword
+returns-in-None-keyword c = λ colour rest u e.
+    neither c.args.self.now (λ words same. c.in-None.ensures.takes tt words tt same)
+    (λ words same. c.in-None-keyword.ensures.takes tt words tt (c.in-None.ensures.same ∙ same)) colour rest e
