@@ -1,9 +1,9 @@
 //! The time that has passed.
 
 use std::io;
-use std::time::Instant;
+use std::time::{Clock, Instant};
 
 /// The nanoseconds since a moment.
-pub(crate) fn since(rt: &HostRuntime, start: Instant) -> io::Result<u64> {
+pub(crate) fn since<R: Clock>(rt: &R, start: Instant) -> io::Result<u64> {
     Ok(u64::try_from(start.elapsed(rt)?.as_nanos()).unwrap_or(u64::MAX))
 }

@@ -1,5 +1,5 @@
 //! How long `find` and `put` of a book take, beside a HashMap of std's: the least of some rounds.
-//! How many entries a find visits. How long `find_wider` takes on a book of entries that all have
+//! How long `look_either` takes. How many entries a find visits. How long `find_wider` takes on a book of entries that all have
 //! other stones of the winner.
 #![tactic(auto)]
 
@@ -11,13 +11,15 @@ mod clock;
 
 use crate::clock::since;
 use hx_board::{Colour, Mask, Position, Size, chain};
-use hx_book::{Book, Found};
+use hx_book::{Book, Found, look_either};
 use hx_tree::{Heading, Node, Rule};
+use hx_turn::turned;
 use std::alloc::{AllocError, Global};
 use std::collections::HashMap;
 use std::io;
 use std::mem::size_of;
-use std::time::Instant;
+use std::sync::Wait;
+use std::time::{Clock, Instant};
 
 const ROUNDS: u32 = 7;
 
@@ -104,7 +106,12 @@ fn drawn_wide(size: Size, number: u32, whites: u128) -> Option<Asked> {
 }
 
 /// So many of those, all different.
-fn list_wide(alloc: Global, size: Size, count: u32, whites: u128) -> Result<Vec<Asked>, AllocError> {
+fn list_wide(
+    alloc: Global,
+    size: Size,
+    count: u32,
+    whites: u128,
+) -> Result<Vec<Asked>, AllocError> {
     let mut list = Vec::with_capacity(alloc, count as usize)?;
     for number in 0..count {
         if let Some(one) = drawn_wide(size, number, whites) {
@@ -426,6 +433,79 @@ fn measure(rt: &HostRuntime, size: Size, count: u32, buckets: u32) -> io::Result
     least.print(rt, u64::from(count))
 }
 
+/// The same positions turned, of which none is in the book.
+fn each_turned(alloc: Global, list: &[Asked]) -> Result<Vec<Asked>, AllocError> {
+    let mut each = Vec::with_capacity(alloc, list.len())?;
+    for one in list {
+        let position = turned(&one.position);
+        let to_move = one.to_move;
+        each.push(Asked { position, to_move })?;
+    }
+    Ok(each)
+}
+
+/// Looks each position up, and where it has no entry the turned one. The nanoseconds, and the sum of what was found.
+fn look_at_either<R: Wait + Clock>(
+    rt: &R,
+    book: &mut Book,
+    list: &[Asked],
+) -> io::Result<(u64, u64)> {
+    let start = Instant::now(rt)?;
+    let mut sum = 0u64;
+    for one in list {
+        if let Some(either) = look_either(rt, book, &one.position, one.to_move) {
+            sum = sum.wrapping_add(u64::from(either.found.index));
+        }
+    }
+    Ok((since(rt, start)?, sum))
+}
+
+/// The least nanoseconds of looks by `look_either`.
+#[derive(Clone, Copy)]
+struct EitherTimes {
+    hit: u64,
+    turned_hit: u64,
+    miss: u64,
+    sum: u64,
+}
+
+fn time_either<R: Wait + Clock>(
+    rt: &R,
+    alloc: Global,
+    size: Size,
+    count: u32,
+) -> io::Result<EitherTimes> {
+    let mut least = EitherTimes {
+        hit: u64::MAX,
+        turned_hit: u64::MAX,
+        miss: u64::MAX,
+        sum: 0,
+    };
+    if count > 1048576 || count == 0 {
+        return Ok(least);
+    }
+    let puts = list(alloc, size, count, 0)?;
+    let hits = mixed(alloc, &puts)?;
+    let turned_hits = each_turned(alloc, &hits)?;
+    let misses = mixed(alloc, &list(alloc, size, count, 1 << 55)?)?;
+    let Ok(mut book) = Book::with_buckets(alloc, count, count) else {
+        return Ok(least);
+    };
+    let _put = put_all(&mut book, &puts);
+    for _ in 0..ROUNDS {
+        let (hit, found) = look_at_either(rt, &mut book, &hits)?;
+        let (turned_hit, turned_found) = look_at_either(rt, &mut book, &turned_hits)?;
+        let (miss, wrong) = look_at_either(rt, &mut book, &misses)?;
+        least = EitherTimes {
+            hit: least.hit.min(hit),
+            turned_hit: least.turned_hit.min(turned_hit),
+            miss: least.miss.min(miss),
+            sum: found.wrapping_sub(turned_found).wrapping_add(wrong),
+        };
+    }
+    Ok(least)
+}
+
 /// Each entry has a white stone that a hit lacks; a miss has another one.
 fn measure_wider(rt: &HostRuntime, size: Size, count: u32) -> io::Result<()> {
     if count > 1048576 || count == 0 {
@@ -468,6 +548,15 @@ fn main(rt: HostRuntime) -> io::Result<()> {
         measure(&rt, size, count, count)?;
         measure(&rt, size, count, 2 * count)?;
         measure_wider(&rt, size, count)?;
+        let either = time_either(&rt, rt.alloc(), size, count)?;
+        let each = u64::from(count).max(1);
+        println!(rt;
+            "{count} entries, look_either: hit {} ns, hit of the turned position {} ns, miss {} ns, difference of sums {}",
+            either.hit / each,
+            either.turned_hit / each,
+            either.miss / each,
+            either.sum
+        )?;
     }
     Ok(())
 }
