@@ -106,6 +106,7 @@ impl Book {
         ensures book { IsBook self.now }
         ensures tree { self.now.nodes ≢ [] → IsValidTree self.now.nodes }
     {
+        // To read a field brings the type's invariant to the proof.
         let _slots = self.slots;
     }
 

@@ -202,6 +202,7 @@ impl Session {
         requires { IsEmpty (board_of self.old) cell }
         ensures { self.new ≡ with_move self.old (record { colour = colour; cell = cell }) }
     {
+        // The proof takes from here that the position's board is one.
         let _size = self.position.size();
         self.position.play(colour, cell);
         self.moves.push(Move { colour, cell });

@@ -180,6 +180,7 @@ impl Text {
         ensures short { length self.new ≤ length self.old + 54 }
     {
         let size = position.size();
+        // The proof takes from here how many rows there can be.
         let _rows = size.rows();
         for _ in 0..row {
             self.put_byte(b' ');

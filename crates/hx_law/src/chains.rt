@@ -22,6 +22,7 @@ pub fn winner_of_full(position: &Position) -> Colour
 pub fn never_both(position: &Position)
     ensures { NeverBoth position.now }
 {
+    // The proof takes from here that the position's board is one.
     let _size = position.size();
 }
 
@@ -30,5 +31,6 @@ pub fn always_one(position: &Position)
     requires { IsFull position.now }
     ensures { AlwaysOne position.now }
 {
+    // The proof takes from here that the position's board is one.
     let _size = position.size();
 }

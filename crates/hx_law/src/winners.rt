@@ -20,5 +20,6 @@ pub fn extra_move(position: &Position, colour: Colour)
 pub fn one_winner(position: &Position, to_move: Colour)
     ensures { OneWinner position.now to_move }
 {
+    // The proof takes from here that the position's board is one.
     let _size = position.size();
 }

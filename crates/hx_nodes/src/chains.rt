@@ -27,6 +27,7 @@ pub fn store_chain<P: Proofs, R: Wait>(
     ensures answered { IsAnswered result }
     ensures memory { HadMemory result }
 {
+    // The proof takes from here that the position's board is one.
     let _size = position.size();
     let heading = Heading {
         position: *position,

@@ -32,6 +32,7 @@ pub fn store_fill<P: Proofs, R: Wait>(
     ensures missing { MissingFor (LacksFill (P.list proofs.old) (P.list proofs.new)
         filled.now.steps.items filled.now.position to_move) result }
 {
+    // The proof takes from here that the position's board is one.
     let _size = position.size();
     if filled.steps.is_empty() {
         return Stored::Missing;

@@ -30,6 +30,7 @@ pub fn store_move<P: Proofs, R: Wait>(
         position.now to_move cell) result }
     ensures memory { HadMemory result }
 {
+    // The proof takes from here that the position's board is one.
     let _size = position.size();
     let next = position.with(to_move, cell);
     let Some(found) = proofs.look(rt, &next, to_move.other()) else {

@@ -27,6 +27,7 @@ pub fn store_turned<P: Proofs, R: Wait>(
         position.now to_move) result }
     ensures memory { HadMemory result }
 {
+    // The proof takes from here that the position's board is one.
     let _size = position.size();
     let Some(either) = look_either(rt, proofs, position, to_move) else {
         return Stored::Missing;

@@ -44,6 +44,7 @@ fn know_next<P: Proofs, R: Wait>(
     ensures seen { Extends (P.list proofs.new) (P.list proofs.old) }
     ensures known { IfSome result (λ _. AreKnown (P.list proofs.new) known.new.headings.items known.new.places.items) }
 {
+    // The proof takes from here that the next position's board is one.
     let _size = next.size();
     let _stored = store_wider(rt, alloc, proofs, next, winner, winner);
     let Some(found) = proofs.look(rt, next, winner) else {

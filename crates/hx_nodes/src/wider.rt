@@ -92,6 +92,7 @@ pub fn store_wider<P: Proofs, R: Wait>(
     ensures seen { Extends (P.list proofs.new) (P.list proofs.old) }
     ensures stored { IsStored (P.list proofs.new) (P.slots proofs.new) position.now to_move result }
 {
+    // The proof takes from here that the position's board is one.
     let _size = position.size();
     if let Some(_found) = proofs.look(rt, position, to_move) {
         return Stored::Done;
@@ -126,6 +127,7 @@ pub(crate) fn fill_to<P: Proofs, R: Wait>(
     ensures seen { Extends (P.list proofs.new) (P.list proofs.old) }
     ensures stored { IfSome result (IsStored (P.list proofs.new) (P.slots proofs.new) position.now to_move) }
 {
+    // The proof takes from here that the position's board is one.
     let _size = position.size();
     let winner = wider.found.winner;
     let mut known = Known::new(alloc);

@@ -14,5 +14,6 @@ pub fn under_sound(position: &Position, mover: Colour, better: Cell, worse: Cell
     ensures { Wins (other_of mover) (put position.now mover better) (other_of mover)
         → Wins (other_of mover) (put position.now mover worse) (other_of mover) }
 {
+    // The proof takes from here that the position's board is one.
     let _size = position.size();
 }

@@ -12,5 +12,6 @@ pub fn fill_sound(position: &Position, colour: Colour, step: FillStep)
     requires { MayFill position.now colour step }
     ensures { (mover : Colour) → Wins colour (filled position.now colour step) mover → Wins colour position.now mover }
 {
+    // The proof takes from here that the position's board is one.
     let _size = position.size();
 }

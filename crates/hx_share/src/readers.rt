@@ -81,6 +81,7 @@ impl BookSeat {
     pub fn keeps(&self)
         ensures { IsBook (contents self.now.made.slots self.now.seen) }
     {
+        // To read a field brings the type's invariant to the proof.
         let _seen = self.seen;
     }
 }

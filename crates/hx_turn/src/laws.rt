@@ -12,6 +12,7 @@ use hx_board::{Colour, Position};
 pub fn turned_joins(position: &Position, colour: Colour)
     ensures { (turned : Board) → IsTurned position.now turned → KeepsJoined position.now colour turned }
 {
+    // The proof takes from here that the position's board is one.
     let _size = position.size();
 }
 
@@ -20,6 +21,7 @@ pub fn turned_joins(position: &Position, colour: Colour)
 pub fn turned_keeps(position: &Position, to_move: Colour, colour: Colour)
     ensures { (turned : Board) → IsTurned position.now turned → KeepsWinner position.now to_move colour turned }
 {
+    // The proof takes from here that the position's board is one.
     let _size = position.size();
 }
 
@@ -28,5 +30,6 @@ pub fn one_number(position: &Position, to_move: Colour)
     ensures { (turned : Board) → IsTurned position.now turned
         → number_of turned to_move ≡ number_of position.now to_move }
 {
+    // The proof takes from here that the position's board is one.
     let _size = position.size();
 }

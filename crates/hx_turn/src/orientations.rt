@@ -42,6 +42,7 @@ impl Orientations {
     pub fn of(position: &Position) -> Orientations
         ensures { result ≡ position.now }
     {
+        // The proof takes from here that the position's board is one.
         let _size = position.size();
         Orientations {
             position: *position,
@@ -60,6 +61,7 @@ impl Orientations {
     pub fn turned(&self) -> &Position
         ensures { IsTurned self.now result.now }
     {
+        // The proof takes from here that the position's board is one.
         let _size = self.position.size();
         &self.turned
     }
