@@ -2,7 +2,7 @@
 //! last cut, which its caller may still be reading, for as many bytes of the next line as a line may have, and for some more
 //! at each read. Before a read, and only then, these two lines are moved to its front.
 
-ghost use Rattle.std.specs.Prelude.{◌≡◌, ◌+◌, ◌-◌, ◌<◌, ◌≤◌, ◌↔◌, ◌⊎◌, ℕ, [], ◌∷◌, ◌++◌, true, false, List, Option, take, drop, length, slice_index, IsTrue, IsOk, IfOk, OnOk, OnErr, MatchOption};
+ghost use Rattle.std.specs.Prelude.{◌≡◌, ◌+◌, ◌-◌, ◌<◌, ◌≤◌, ◌⊎◌, ℕ, [], ◌∷◌, ◌++◌, true, false, List, Option, take, drop, length, slice_index, IsOk, IfOk, IfSome, IfNone, OnOk, OnErr, MatchOption};
 ghost use Rattle.hx_io.specs.Causes.{HasCause};
 ghost use Rattle.hx_io.specs.Sources.{IsAtEnd, ReadTakes};
 ghost use Rattle.hx_lines.specs.Lines.{HasLf, longest};
@@ -102,10 +102,12 @@ impl LineCutter {
         ensures reads { IsSettled self.old → source.new ≡ source.old }
         ensures sure { IsSettled self.old → IsOk result }
     {
-        while !self.is_settled() {
+        loop {
+            if let Some(cut) = self.cut() {
+                return Ok(cut);
+            }
             self.refill(source)?;
         }
-        Ok(self.cut())
     }
 
     /// The bytes that were read and not cut.
@@ -114,13 +116,6 @@ impl LineCutter {
         ensures room { length result.now ≤ 12288 }
     {
         &self.buffer[self.start..self.end]
-    }
-
-    /// Whether what is held tells the answer.
-    fn is_settled(&self) -> bool
-        ensures { IsTrue result ↔ IsSettled self.now }
-    {
-        self.met_end || self.held().len() > LONGEST || find_lf(self.held()).is_some()
     }
 
     /// Reads once.
@@ -142,11 +137,12 @@ impl LineCutter {
         Ok(())
     }
 
-    /// Cuts the next line off what is held.
-    fn cut(&mut self) -> Cut
-        requires { IsSettled self.old }
-        ensures cut { (left : Option (List ℕ)) → (self.old.met_end ≡ true → IsAtEnd left)
-            → IsCut self.old self.new left left result }
+    /// Cuts the next line off what is held. None only where that does not tell the answer, and then all is as it was.
+    fn cut(&mut self) -> Option<Cut>
+        ensures cut { IfSome result (λ cut. (left : Option (List ℕ)) → (self.old.met_end ≡ true → IsAtEnd left)
+            → IsCut self.old self.new left left cut) }
+        ensures unsettled { IfNone result (¬ IsSettled self.old) }
+        ensures same { IfNone result (self.new ≡ self.old) }
         ensures met_end { self.new.met_end ≡ self.old.met_end }
     {
         let held = self.held();
@@ -154,14 +150,15 @@ impl LineCutter {
         match find_lf(held) {
             Some(place) if place <= LONGEST => {
                 self.take_ended(place);
-                Cut::Line { ended: true }
+                Some(Cut::Line { ended: true })
             }
-            Some(_) => Cut::TooLong,
-            None if len > LONGEST => Cut::TooLong,
-            None if len == 0 => Cut::Over,
+            Some(_) => Some(Cut::TooLong),
+            None if len > LONGEST => Some(Cut::TooLong),
+            None if !self.met_end => None,
+            None if len == 0 => Some(Cut::Over),
             None => {
                 self.take_rest();
-                Cut::Line { ended: false }
+                Some(Cut::Line { ended: false })
             }
         }
     }

@@ -1,21 +1,20 @@
-use Rattle.std.proofs.Common.{◌∙◌, sym, arith, subst}
-use Rattle.std.proofs.lemmas.Bool.{false≢true}
-use Rattle.hx_lines.specs.Cutters.{IsSettled}
+use Rattle.std.proofs.Common.{◌≡◌, arith, subst, sym}
+use Rattle.hx_lines.specs.Cutters.{Cutter, IsSettled, Stays}
 use Rattle.hx_lines.proofs.CutterLaws.{stays_then, is_cut_then}
 use Rattle.hx_lines.proofs.cutters.LineCutter.next.Goals as goal
 
-pub loop-self-preserved : goal.loop-self-preserved
-loop-self-preserved g c =
-    let going : ¬ IsSettled c.args.self.now = λ settled.
-    false≢true (sym c.loop-self-test.true ∙ c.is_settled.ensures.1 (subst IsSettled (sym (c.loop-self.invariant.same settled)) settled)) in
+pub loop-cut-preserved : goal.loop-cut-preserved
+loop-cut-preserved g c =
+    let same : c.cut.new.self ≡ c.loop-cut.self = c.in_default.ensures.same in
+    let going : ¬ IsSettled c.args.self.now = λ settled. c.in_default.ensures.unsettled (subst IsSettled (sym (c.loop-cut.invariant.same settled)) settled) in
     record {
-      stays = stays_then c.args.self.now c.loop-self.self c.refill.new.self _ _ _ c.loop-self.invariant.stays c.in_ok-refill.ensures.stays;
+      stays = stays_then c.args.self.now c.loop-cut.self c.refill.new.self _ _ _ c.loop-cut.invariant.stays (subst (λ (v : Cutter). Stays v c.refill.new.self (g.S.Source.left c.loop-cut.source) (g.S.Source.left c.refill.new.source)) same c.in_ok-refill.ensures.stays);
       met_end = c.in_ok-refill.ensures.met_end;
-      later = omega (arith, c.in_ok-refill.ensures.cause.later, c.loop-self.invariant.later);
+      later = omega (arith, c.in_ok-refill.ensures.cause.later, c.loop-cut.invariant.later);
       reads = λ settled. absurd (going settled);
       same = λ settled. absurd (going settled);
     }
 
-pub returns-clause-cut : goal.returns-clause-cut
-returns-clause-cut g c =
-    is_cut_then c.args.self.now c.loop-self.self c.cut.new.self _ _ c.cut.result c.loop-self.invariant.stays (c.cut.ensures.cut _ c.loop-self.invariant.met_end)
+pub returns-in-Some-clause-cut : goal.returns-in-Some-clause-cut
+returns-in-Some-clause-cut g c =
+    is_cut_then c.args.self.now c.loop-cut.self c.cut.new.self _ _ c.in-Some.cut c.loop-cut.invariant.stays (c.in-Some.ensures.cut _ c.loop-cut.invariant.met_end)

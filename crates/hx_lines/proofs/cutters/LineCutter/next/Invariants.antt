@@ -3,8 +3,8 @@ use Rattle.hx_io.specs.Sources.{IsAtEnd}
 use Rattle.hx_lines.specs.Cutters.{IsSettled, Stays}
 use Rattle.hx_lines.proofs.cutters.LineCutter.next.Given as goal
 
-abbrev pub invariant-loop-self : goal.invariant-loop-self
-invariant-loop-self g l = record {
+abbrev pub invariant-loop-cut : goal.invariant-loop-cut
+invariant-loop-cut g l = record {
   stays : Stays l.initial.self l.self (g.S.Source.left l.initial.source) (g.S.Source.left l.source);
   met_end : l.self.met_end ≡ true → IsAtEnd (g.S.Source.left l.source);
   later : g.S.Source.faults l.initial.source ≤ g.S.Source.faults l.source;
@@ -12,5 +12,5 @@ invariant-loop-self g l = record {
   same : IsSettled l.initial.self → l.self ≡ l.initial.self;
 }
 
-abbrev pub decreases-loop-self : goal.decreases-loop-self
-decreases-loop-self g l = if l.self.met_end then 0 else 4098 - length l.self.held
+abbrev pub decreases-loop-cut : goal.decreases-loop-cut
+decreases-loop-cut g l = if l.self.met_end then 0 else 4098 - length l.self.held
