@@ -8,11 +8,10 @@ use super::*;
 use hx_board::Colour::{Black, White};
 use hx_board::Vertex::{First, Last};
 use hx_board::{Colour, Mask, Position, Size, Vertex};
-use hx_inferior::{FillStep, Kill};
+use hx_inferior::FillStep;
 use hx_link::{Parts, Step};
 use hx_linkset::{Added, LinkSet};
 use hx_samples::{Draws, numbered, wins};
-use hx_tree::Line;
 use smallvec::SmallVec;
 use std::alloc::{AllocError, Global};
 use std::process::Abort;
@@ -22,8 +21,6 @@ use std::test::Fail;
 const A1: u128 = 1;
 
 const B1: u128 = 1 << 1;
-
-const A2: u128 = 1 << 11;
 
 fn filled_in(alloc: Global, position: &Position) -> Result<Filled, Fail>
     ensures { IfOk result (λ filled. AreDeadOrPairs filled.steps.items) }
@@ -159,60 +156,6 @@ fn planned(rt: &impl Abort, alloc: Global, size: Size, plans: &[Plan]) -> Result
         assert_eq!(rt; added, Added::New(place));
     }
     Ok(set)
-}
-
-/// Links 8 and 14 join the two sides, on a1, b1 and a2, and on b1, a2 and b2.
-fn plans(size: Size) -> Result<[Plan; 15], Fail> {
-    let a1 = Vertex::Of(size.cell(0, 0).ok_or("a1")?);
-    let b1 = Vertex::Of(size.cell(0, 1).ok_or("b1")?);
-    let a2 = Vertex::Of(size.cell(1, 0).ok_or("a2")?);
-    let b2 = Vertex::Of(size.cell(1, 1).ok_or("b2")?);
-    Ok([
-        Plan::Base(First, a1),
-        Plan::Base(a1, a2),
-        Plan::Cell(0, 1),
-        Plan::Base(First, b1),
-        Plan::Base(b1, a2),
-        Plan::Cell(3, 4),
-        Plan::Or(2, 5),
-        Plan::Base(a2, Last),
-        Plan::Cell(6, 7),
-        Plan::Base(b2, Last),
-        Plan::Base(b1, b2),
-        Plan::Cell(9, 10),
-        Plan::Cell(4, 7),
-        Plan::Or(11, 12),
-        Plan::Cell(3, 13),
-    ])
-}
-
-/// Two links between the sides share b1 and a2, of which either is better than the other: once White has a2, b1 is a pair with
-/// b2, and once he has b1, a2 is a pair with a1. The one that comes first in the order needs no line.
-#[test]
-fn threats_that_overlap(rt: HostRuntime) -> Result<(), Fail> {
-    let size = Size::new(2, 2).ok_or("size")?;
-    let set = planned(&rt, rt.alloc(), size, &plans(size)?)?;
-    let a1 = size.cell(0, 0).ok_or("a1")?;
-    let b1 = size.cell(0, 1).ok_or("b1")?;
-    let a2 = size.cell(1, 0).ok_or("a2")?;
-    let b2 = size.cell(1, 1).ok_or("b2")?;
-    let found = must(&set, &[b2, a2, b1]).map_err(|_| "memory")?;
-    assert_eq!(rt; found.threats.items(), [8, 14].as_slice());
-    assert_eq!(rt; found.cells, Mask::of(B1 | A2));
-    let by_a2 = Line::Under {
-        cell: b1,
-        better: a2,
-        kill: Kill::ByPair(b2),
-    };
-    assert_eq!(rt; found.under.items(), [by_a2].as_slice());
-    let in_cell_order = must(&set, &[]).map_err(|_| "memory")?;
-    let by_b1 = Line::Under {
-        cell: a2,
-        better: b1,
-        kill: Kill::ByPair(a1),
-    };
-    assert_eq!(rt; in_cell_order.under.items(), [by_b1].as_slice());
-    Ok(())
 }
 
 /// Link 8 joins the two sides on a1, b1 and c1, and link 10 on a1, which takes all other cells away. So the earlier link is no

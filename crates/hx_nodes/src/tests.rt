@@ -142,19 +142,6 @@ fn a_turned_position(rt: HostRuntime) -> Result<(), Fail> {
     Ok(())
 }
 
-#[test]
-fn no_slot(rt: HostRuntime) -> Result<(), Fail> {
-    let position = board(2, 2, 0x801)?;
-    let mut book = Book::with_slots(rt.alloc(), 0).or(Err("memory"))?;
-    let stored = chained(&rt, &mut book, &position, White, Black)?;
-    let Stored::Refused(refusal) = stored else {
-        return Err("not refused".into());
-    };
-    assert_eq!(rt; refusal.held(), 0);
-    assert!(rt; refusal.into_node().heading.position == position);
-    Ok(())
-}
-
 /// With a black stone on b1 the cells of the row below are a captured pair of Black's, and then a1 is dead.
 #[test]
 fn a_fill_and_a_move(rt: HostRuntime) -> Result<(), Fail> {

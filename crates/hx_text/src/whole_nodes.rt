@@ -1,5 +1,5 @@
-//! Nodes that are whole with their first line, as most are. The reader takes such a line where it stands and changes two numbers of
-//! its place: to move the place out and back takes longer than all else.
+//! Nodes that are whole with their first line: those by the rules chain, move and turned. The reader takes such a line where it stands
+//! and changes two numbers of its place: to move the place out and back took more than a quarter of the time.
 
 ghost use Rattle.std.specs.Prelude.{◌≡◌, ◌<◌, IfSome, IfNone};
 ghost use Rattle.hx_text.specs.Places.{most_nodes, HasOneMore, IsWhole, TakesNode};
@@ -8,7 +8,8 @@ use crate::node_lines::{Head, Opening, read_head};
 use crate::places::SoFar;
 use hx_tree::{MOST_NODES, Node, Rule};
 
-/// Where the word of the rule begins in a node's first line.
+/// Where the word of the rule begins in a node's first line: behind `node`, two masks and two players, whose words have five letters
+/// each.
 const RULE: usize = 83;
 
 /// The node that a first line tells whole. None where entries may follow.

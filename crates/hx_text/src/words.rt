@@ -9,12 +9,9 @@ ghost use Rattle.hx_text.specs.StepTexts.{vertex_word};
 ghost use Rattle.hx_text.specs.Words.{Takes, IsNumber, IsSet, Lacks, words_in, mask_word, colour_word, cell_word};
 
 use crate::marks::cut;
-use crate::values;
+use crate::values::{self, MASK};
 use hx_board::{Cell, Colour, Mask, Size, Vertex};
 use std::marker::Model;
-
-/// How many bytes the word of a set of cells has.
-const MASK: usize = 32;
 
 /// The words of a line that are still to be taken, seen as a list of words.
 ///

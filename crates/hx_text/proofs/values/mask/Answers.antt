@@ -2,8 +2,8 @@ use Rattle.std.proofs.Common.{arith, length, ap, sym, ◌∙◌, ◌/◌, ◌%�
 use Rattle.hx_text.proofs.Masks.{length-hex, whole_mask, high_half, low_half}
 use Rattle.hx_text.proofs.values.mask.Goals as goal
 
-pub returns-then-word-ne32 : goal.returns-then-word-ne32
-returns-then-word-ne32 c = λ n small e. c.if-word-ne32.true (ap length e ∙ length-hex 32 n)
+pub returns-then-word-ne-MASK : goal.returns-then-word-ne-MASK
+returns-then-word-ne-MASK c = λ n small e. c.if-word-ne-MASK.true (ap length e ∙ length-hex 32 n)
 
 pub returns-in_err-high : goal.returns-in_err-high
 returns-in_err-high c =
