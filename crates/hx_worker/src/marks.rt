@@ -2,8 +2,8 @@
 //!
 //! Each position and mover has a word of hints, which the turned position shares. A turn that ends open leaves its numbers
 //! there. A turn that ends with a proof leaves a mark, and whoever comes to the position again looks among the proofs at
-//! once, with no unit: on 7 by 7 that takes off three units of ten. To look up each move, marked or not, brings no more and
-//! takes four to six times the looks.
+//! once, with no unit: on 7 by 7 that takes off three units of ten. To look for an entry of the position after each move,
+//! marked or not, brings no more and takes four to six times the looks.
 //!
 //! A hint may be of another position. So a mark is no proof, and one that proves to be wrong is written anew.
 
