@@ -1,5 +1,5 @@
 -- What a proof lacks in a list, where the list is taken from earlier on, or until later.
-use Rattle.std.proofs.Common.{◌≡◌, ℕ, List, [], ◌⊎◌, inl, inr, ⊎_elim, subst, sym}
+use Rattle.std.proofs.Common.{ℕ, List, inl, inr, ⊎_elim, subst, sym}
 use Rattle.hx_board.specs.declared.colours.Colour.{Colour}
 use Rattle.hx_board.specs.Colours.{other_of}
 use Rattle.hx_board.specs.Positions.{Board, put}
@@ -9,7 +9,7 @@ use Rattle.hx_tree.specs.Entries.{Extends}
 use Rattle.hx_book.specs.WiderEntry.{HasNoWider}
 use Rattle.hx_linkset.specs.States.{Standing}
 use Rattle.hx_fill.specs.declared.fills.Fill.{Fill}
-use Rattle.hx_nodes.specs.Missing.{WasUnserved, WasUnservedByEach, WasNotWon, LacksMove, LacksServedMove, LacksFill, HasUnanswered, LacksAnswers}
+use Rattle.hx_nodes.specs.Missing.{WasUnserved, WasUnservedByEach, LacksMove, LacksServedMove, LacksFill, LacksAnswers}
 use Rattle.hx_nodes.proofs.GrowingLists.{extends-same, extends-on}
 use Rattle.hx_nodes.proofs.FoundEntries.{not_won-earlier}
 

@@ -1,5 +1,5 @@
 -- The opponent's stones that a position lacks of a wider one come one after the other, on empty cells, and lead to the wider one.
-use Rattle.std.proofs.Common.{◌≡◌, ◌≢◌, ℕ, List, [], ◌∷◌, ◌++◌, Bool, true, false, ◌||◌, ◌&&◌, not, eqb, eqb-true, length, arith, refl, sym, ap, ◌∙◌, subst, ⊎_elim, ◌↔◌}
+use Rattle.std.proofs.Common.{◌≡◌, ℕ, List, [], ◌∷◌, ◌++◌, Bool, true, false, ◌||◌, ◌&&◌, not, eqb, eqb-true, length, arith, refl, sym, ap, ◌∙◌, subst, ⊎_elim, ◌↔◌}
 use Rattle.std.proofs.lemmas.Bool.{false≢true}
 use Rattle.hx_board.specs.declared.colours.Colour.{Colour}
 use Rattle.hx_board.specs.declared.colours.Colour.TheVariants.{Black, White}
@@ -92,7 +92,7 @@ module _ (board : Board) (winner : Colour) (cells : ℕ) where
   none_left left steps is none =
       let mid : Board = filled_all board winner steps in
       let on_board : (n : ℕ) → has left n ≡ true → OnBoard board.size n =
-          λ n member. subst (λ (size : Extent). OnBoard size n) (size-filled_all board winner steps) (is.empty n member).on_board in
+      λ n member. subst (λ (size : Extent). OnBoard size n) (size-filled_all board winner steps) (is.empty n member).on_board in
       let zero : left ≡ 0 = same_set left 0 (λ n. is_false _ (λ member. false≢true (sym (none n (on_board n member)) ∙ member)) ∙ sym (has-empty n)) in
       record {
         right = is.right;
@@ -150,7 +150,7 @@ module _ (board there : Board) (winner : Colour) (is : IsBoard there) (size : th
   is_missing n stone lacks =
       let on : OnBoard board.size n = subst (λ (s : Extent). OnBoard s n) size (stone-on_board there is (other_of winner) n stone) in
       let not_own : has (stones_of board winner) n ≡ false =
-          is_false _ (λ mine. false≢true (sym (apart there winner n is (ap (λ (s : ℕ). has s n) own ∙ mine)) ∙ stone)) in
+      is_false _ (λ mine. false≢true (sym (apart there winner n is (ap (λ (s : ℕ). has s n) own ∙ mine)) ∙ stone)) in
       has-difference_both here_empties there_empties n ((here n).1 (empty_of board winner n on not_own lacks))
       (is_false _ (λ member. false≢true (sym (no_stone there (other_of winner) n ((after n).0 member)) ∙ stone)))
 
@@ -163,8 +163,8 @@ module _ (board there : Board) (winner : Colour) (is : IsBoard there) (size : th
   others = same_set _ _ (λ n. same_test _ _
       (λ member. ⊎_elim (inside n) (was_missing n) (has-union_cases (stones_of board (other_of winner)) (difference here_empties there_empties) n member))
       (λ stone. by_member (stones_of board (other_of winner)) n
-          (λ member. has-union_left (stones_of board (other_of winner)) (difference here_empties there_empties) n member)
-          (λ lacks. has-union_right (stones_of board (other_of winner)) (difference here_empties there_empties) n (is_missing n stone lacks))))
+      (λ member. has-union_left (stones_of board (other_of winner)) (difference here_empties there_empties) n member)
+      (λ lacks. has-union_right (stones_of board (other_of winner)) (difference here_empties there_empties) n (is_missing n stone lacks))))
 
   pub put_missing : put_all board (other_of winner) (difference here_empties there_empties) ≡ there
   put_missing = same_board _ _ (put_all-size board (other_of winner) (difference here_empties there_empties) ∙ sym size) (λ player.

@@ -1,6 +1,6 @@
 -- An entry of a position turned back serves whatever the entry of the position serves turned. And where two entries of positions that
 -- are turned into one another name different winners, they clash.
-use Rattle.std.proofs.Common.{◌≡◌, ◌≢◌, ℕ, List, [], ◌∷◌, ◌++◌, zero, suc, Bool, true, false, refl, sym, ap, ◌∙◌, subst, Some, ◌↔◌}
+use Rattle.std.proofs.Common.{◌≡◌, ℕ, List, [], ◌∷◌, ◌++◌, zero, suc, Bool, true, false, refl, sym, ap, ◌∙◌, subst, Some}
 use Rattle.std.proofs.lemmas.Bool.{false≢true}
 use Rattle.std.specs.Prelude.{slice_get}
 use Rattle.hx_board.specs.declared.colours.Colour.{Colour}
@@ -90,7 +90,7 @@ module _ (old : List Node) (board other : Board) (mover : Colour) (wider : Wider
   either_there new wide grown back neither =
       let same : neither.turned ≡ wider.position = back neither.turned neither.is_turned in
       neither.none wider.found.index (subst (λ (b : Board). IsEntry new b mover wider.found.index) (sym same)
-          (entry-grown new old wider.position mover wider.found.index grown own_entry))
+      (entry-grown new old wider.position mover wider.found.index grown own_entry))
 
   -- where the wide position has an entry, and yet the board was not served, the two entries clash
   pub clash : (mid new : List Node) (wide : Board) → IsBoard board → IsTurned board other → IsTurned wider.position wide → Extends mid old → Extends new mid

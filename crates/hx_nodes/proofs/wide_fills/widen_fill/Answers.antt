@@ -1,4 +1,3 @@
-use Rattle.std.proofs.Common.{◌≡◌}
 use Rattle.hx_tree.specs.Entries.{Extends}
 use Rattle.hx_nodes.specs.Missing.{LacksFill}
 use Rattle.hx_nodes.proofs.GrowingLists.{extends-on, missing-too}

@@ -1,4 +1,4 @@
-use Rattle.std.proofs.Common.{◌≡◌, inl, inr, ⊎_elim, subst}
+use Rattle.std.proofs.Common.{inl, inr, ⊎_elim, subst}
 use Rattle.hx_tree.specs.Entries.{Extends}
 use Rattle.hx_book.specs.EitherEntry.{IsNeitherFound}
 use Rattle.hx_book.specs.WiderEntry.{IsWiderFound}
@@ -35,7 +35,7 @@ unreachable-requires g c =
     let Cause : Type 0 = IsNeitherFound list new wide c.args.to_move in
     ⊎_elim
     (λ missing. either_there list c.args.position.now c.turned-other.result c.args.to_move wider found new wide c.store_turned.ensures.seen c.turned-wide.ensures.back
-        (subst (λ (stored : Stored). MissingFor Cause stored) missing c.store_turned.ensures.missing))
+    (subst (λ (stored : Stored). MissingFor Cause stored) missing c.store_turned.ensures.missing))
     (λ memory. subst (λ (stored : Stored). HadMemory stored) memory c.store_turned.ensures.memory)
     c.in-Missing.is
 

@@ -1,4 +1,3 @@
-use Rattle.std.proofs.Common.{sym}
 use Rattle.hx_book.specs.WiderEntry.{HasNoWider}
 use Rattle.hx_nodes.proofs.LackingLaws.{unserved-twice}
 use Rattle.hx_nodes.proofs.wider.look_wider_either.Goals as goal

@@ -1,4 +1,4 @@
-use Rattle.std.proofs.Common.{◌≡◌, sym, subst}
+use Rattle.std.proofs.Common.{sym, subst}
 use Rattle.hx_board.specs.declared.colours.Colour.{Colour}
 use Rattle.hx_book.specs.WiderEntry.{IsWiderFound}
 use Rattle.hx_nodes.proofs.GrowingLists.{extends-on}
