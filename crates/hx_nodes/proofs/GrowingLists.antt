@@ -26,3 +26,10 @@ answered-missing Cause Done is = tt
 answered-missing Cause (Refused refusal) is = tt
 answered-missing Cause Missing is = absurd is
 answered-missing Cause Memory is = tt
+
+-- what is missing for one cause is so for each that follows from it
+pub missing-too : (Cause Other : Type 0) (stored : Stored) → (Cause → Other) → MissingFor Cause stored → MissingFor Other stored
+missing-too Cause Other Done too is = tt
+missing-too Cause Other (Refused refusal) too is = tt
+missing-too Cause Other Missing too is = too is
+missing-too Cause Other Memory too is = tt

@@ -6,6 +6,9 @@ pub mod CellLines
 pub mod GatheredLines
 pub mod MoveNodes
 pub mod FillNodes
+pub mod LackingLaws
+pub mod MissingStones
+pub mod TurnedEntries
 pub mod LinkNodes
 pub mod AllNodes
 pub mod KnownEntries

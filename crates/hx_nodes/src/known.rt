@@ -3,10 +3,11 @@
 //! What a node at a widened position needs is a guess. So such a node names its children by their places in a short list of
 //! entries, is judged by the checker over their headings, and is stored only where the checker says that it is right.
 
-ghost use Rattle.std.specs.Prelude.{◌≡◌, List, [], slice_get, OnOk, IfSome};
+ghost use Rattle.std.specs.Prelude.{◌≡◌, List, [], slice_get, OnOk, IfOk, IfSome, IfNone};
 ghost use Rattle.std.specs.declared.option.Option.TheVariants.{Some};
 ghost use Rattle.hx_tree.specs.declared.nodes.Node.{Node as Proof};
 ghost use Rattle.hx_tree.specs.Entries.{Extends};
+ghost use Rattle.hx_tree.specs.Rules.{IsRightNode};
 ghost use Rattle.hx_tree.specs.Trees.{headings_of};
 ghost use Rattle.hx_nodes.specs.Stored.{IsStored, IsAnswered};
 ghost use Rattle.hx_nodes.specs.Wide.{AreKnown};
@@ -39,9 +40,10 @@ impl Known {
 
     /// Adds an entry. Its place among the known ones.
     pub(crate) fn add(&mut self, heading: Heading, place: u32) -> Result<u32, Memory>
-        ensures { OnOk result ((list : List Proof) → AreKnown list self.old.headings.items self.old.places.items
+        ensures known { OnOk result ((list : List Proof) → AreKnown list self.old.headings.items self.old.places.items
             → slice_get (headings_of list) place ≡ Some heading
             → AreKnown list self.new.headings.items self.new.places.items) }
+        ensures there { IfOk result (λ place. slice_get self.new.headings.items place ≡ Some heading) }
     {
         let Ok(count) = u32::try_from(self.headings.len()) else {
             return Err(Memory);
@@ -56,7 +58,7 @@ impl Known {
     }
 }
 
-/// Stores a node, where the checker says that it is right after the known entries. None where it does not.
+/// Stores a node, where the checker says that it is right after the known entries. None only where it is not.
 pub(crate) fn store_known<P: Proofs, R: Wait>(
     rt: &R,
     alloc: Global,
@@ -71,12 +73,14 @@ pub(crate) fn store_known<P: Proofs, R: Wait>(
     ensures stored { IfSome result (IsStored (P.list proofs.new) (P.slots proofs.new)
         node.heading.position node.heading.to_move) }
     ensures answered { IfSome result IsAnswered }
+    ensures wrong { IfNone result (¬ IsRightNode known.now.headings.items node) }
 {
     match check_node(alloc, known.headings.as_slice(), &node) {
         Ok(true) => {
             let named = renamed(node, known.places.as_slice());
             Some(store(rt, proofs, named))
         }
-        _ => None,
+        Ok(false) => None,
+        Err(Memory) => Some(Stored::Memory),
     }
 }

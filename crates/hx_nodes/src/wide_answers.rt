@@ -5,6 +5,8 @@
 ghost use Rattle.std.specs.Prelude.{◌≡◌, IfSome};
 ghost use Rattle.hx_board.specs.Colours.{other_of};
 ghost use Rattle.hx_tree.specs.Entries.{Extends};
+ghost use Rattle.hx_nodes.specs.Missing.{LacksAnswers};
+ghost use Rattle.hx_nodes.specs.Stored.{MissingFor};
 ghost use Rattle.hx_nodes.specs.Wide.{IsTrueRefusal, IsStoredWide};
 
 use crate::answers::store_all;
@@ -171,7 +173,7 @@ fn all_wide<P: Proofs, R: Wait>(
 }
 
 /// Stores an entry of each position after a move of the opponent's to one of these cells, where an entry that serves it names the
-/// winner. Some where no slot is left for one.
+/// winner. Some where no slot is left for one, or memory is wanting.
 fn store_each<P: Proofs, R: Wait>(
     rt: &R,
     alloc: Global,
@@ -197,16 +199,18 @@ fn store_each<P: Proofs, R: Wait>(
             break;
         }
         let next = position.with(winner.other(), cell);
-        let stored = store_wider(rt, alloc, proofs, &next, winner, winner);
-        if let Stored::Refused(refusal) = stored {
-            return Some(Stored::Refused(refusal));
+        match store_wider(rt, alloc, proofs, &next, winner, winner) {
+            Stored::Refused(refusal) => return Some(Stored::Refused(refusal)),
+            Stored::Memory => return Some(Stored::Memory),
+            Stored::Done | Stored::Missing => {}
         }
     }
     None
 }
 
 /// Stores that a set's player wins with the opponent to move, where entries say so of the positions after the moves that have to be
-/// tried: a proof that serves the position, or one of the position itself.
+/// tried: a proof that serves the position, or one of the position itself. Missing only where the board is full, or no entry of the
+/// position after one of the moves that are to be tried says so.
 pub fn widen_all<P: Proofs, R: Wait>(
     rt: &R,
     proofs: &mut P,
@@ -218,6 +222,8 @@ pub fn widen_all<P: Proofs, R: Wait>(
     ensures seen { Extends (P.list proofs.new) (P.list proofs.old) }
     ensures stored { IsStoredWide (P.list proofs.new) (P.slots proofs.new)
         set.now.present.board (other_of set.now.player) result }
+    ensures missing { MissingFor (LacksAnswers (P.list proofs.old) (P.list proofs.new)
+        set.now order.now) result }
 {
     let tried = all_wide(rt, proofs, set, order);
     let to_move = set.colour().other();
@@ -228,9 +234,9 @@ pub fn widen_all<P: Proofs, R: Wait>(
         return Stored::Memory;
     };
     let alloc = set.allocator();
-    let tried = store_each(rt, alloc, proofs, set.position(), set.colour(), found.cells);
-    if let Some(Stored::Refused(refusal)) = tried {
-        return Stored::Refused(refusal);
+    match store_each(rt, alloc, proofs, set.position(), set.colour(), found.cells) {
+        Some(Stored::Refused(refusal)) => Stored::Refused(refusal),
+        Some(Stored::Memory) => Stored::Memory,
+        _ => store_all(rt, proofs, set, order),
     }
-    store_all(rt, proofs, set, order)
 }

@@ -3,6 +3,7 @@
 ghost use Rattle.std.specs.Prelude.{◌≡◌, IfSome};
 ghost use Rattle.hx_board.specs.Graph.{HasChain};
 ghost use Rattle.hx_tree.specs.Entries.{Extends};
+ghost use Rattle.hx_nodes.specs.Stored.{IsAnswered};
 ghost use Rattle.hx_nodes.specs.Wide.{IsTrueRefusal, IsStoredWide};
 
 use crate::chains::store_chain;
@@ -49,6 +50,7 @@ pub fn widen_chain<P: Proofs, R: Wait>(
     ensures over { P.over proofs.new ≡ P.over proofs.old }
     ensures seen { Extends (P.list proofs.new) (P.list proofs.old) }
     ensures stored { IsStoredWide (P.list proofs.new) (P.slots proofs.new) position.now to_move result }
+    ensures answered { IsAnswered result }
 {
     let tried = chain_wide(rt, proofs, position, to_move, winner);
     if let Some(stored) = end_of(rt, proofs, position, to_move, tried) {

@@ -4,6 +4,8 @@
 ghost use Rattle.std.specs.Prelude.{◌≡◌, IfSome};
 ghost use Rattle.hx_tree.specs.Entries.{Extends};
 ghost use Rattle.hx_fill.specs.Fills.{IsFillIn};
+ghost use Rattle.hx_nodes.specs.Missing.{LacksFill};
+ghost use Rattle.hx_nodes.specs.Stored.{MissingFor};
 ghost use Rattle.hx_nodes.specs.Wide.{IsTrueRefusal, IsStoredWide};
 
 use crate::fills::store_fill;
@@ -104,7 +106,8 @@ fn fill_exactly<P: Proofs, R: Wait>(
 }
 
 /// Stores who wins a position, where an entry that serves the position after fill-in says who wins that: a proof that serves the
-/// position, or one of the position itself.
+/// position, or one of the position itself. Missing only where no entry of the filled position says so, or where nothing was
+/// filled.
 pub fn widen_fill<P: Proofs, R: Wait>(
     rt: &R,
     alloc: Global,
@@ -118,13 +121,16 @@ pub fn widen_fill<P: Proofs, R: Wait>(
     ensures over { P.over proofs.new ≡ P.over proofs.old }
     ensures seen { Extends (P.list proofs.new) (P.list proofs.old) }
     ensures stored { IsStoredWide (P.list proofs.new) (P.slots proofs.new) position.now to_move result }
+    ensures missing { MissingFor (LacksFill (P.list proofs.old) (P.list proofs.new)
+        filled.now.steps.items filled.now.position to_move) result }
 {
     let tried = fill_wide(rt, alloc, proofs, to_move, filled);
     if let Some(stored) = end_of(rt, proofs, position, to_move, tried) {
         return stored;
     }
-    if let Some(Stored::Refused(refusal)) = fill_exactly(rt, alloc, proofs, to_move, filled) {
-        return Stored::Refused(refusal);
+    match fill_exactly(rt, alloc, proofs, to_move, filled) {
+        Some(Stored::Refused(refusal)) => Stored::Refused(refusal),
+        Some(Stored::Memory) => Stored::Memory,
+        _ => store_fill(rt, alloc, proofs, position, to_move, filled),
     }
-    store_fill(rt, alloc, proofs, position, to_move, filled)
 }

@@ -3,6 +3,7 @@
 ghost use Rattle.std.specs.Prelude.{◌≡◌, IfSome};
 ghost use Rattle.hx_tree.specs.Entries.{Extends};
 ghost use Rattle.hx_search.specs.Decided.{Decides};
+ghost use Rattle.hx_nodes.specs.Stored.{IsAnswered};
 ghost use Rattle.hx_nodes.specs.Wide.{IsTrueRefusal, IsStoredWide};
 
 use crate::known::{Known, store_known};
@@ -63,6 +64,7 @@ pub fn widen_links<P: Proofs, R: Wait>(
     ensures seen { Extends (P.list proofs.new) (P.list proofs.old) }
     ensures stored { IsStoredWide (P.list proofs.new) (P.slots proofs.new)
         set.now.present.board to_move result }
+    ensures answered { IsAnswered result }
 {
     let tried = links_wide(rt, proofs, set, to_move, index);
     if let Some(stored) = end_of(rt, proofs, set.position(), to_move, tried) {

@@ -3,6 +3,8 @@
 ghost use Rattle.std.specs.Prelude.{◌≡◌, IfSome};
 ghost use Rattle.hx_board.specs.Positions.{IsEmpty};
 ghost use Rattle.hx_tree.specs.Entries.{Extends};
+ghost use Rattle.hx_nodes.specs.Missing.{LacksServedMove};
+ghost use Rattle.hx_nodes.specs.Stored.{MissingFor};
 ghost use Rattle.hx_nodes.specs.Wide.{IsTrueRefusal, IsStoredWide};
 
 use crate::moves::store_move;
@@ -42,7 +44,8 @@ fn move_wide<P: Proofs, R: Wait>(
 }
 
 /// Stores that the player to move wins by a move to the cell, where an entry that serves the position after it says so: a proof
-/// that serves the position, or one of the position itself.
+/// that serves the position, or one of the position itself. Missing only where no entry that says so was seen to serve the
+/// position after the move, or no entry of that position says so.
 pub fn widen_move<P: Proofs, R: Wait>(
     rt: &R,
     alloc: Global,
@@ -56,6 +59,8 @@ pub fn widen_move<P: Proofs, R: Wait>(
     ensures over { P.over proofs.new ≡ P.over proofs.old }
     ensures seen { Extends (P.list proofs.new) (P.list proofs.old) }
     ensures stored { IsStoredWide (P.list proofs.new) (P.slots proofs.new) position.now to_move result }
+    ensures missing { MissingFor (LacksServedMove (P.list proofs.old) (P.list proofs.new)
+        position.now to_move cell) result }
 {
     let next = position.with(to_move, cell);
     let tried = move_wide(rt, proofs, &next, to_move, cell);

@@ -2,6 +2,8 @@
 
 ghost use Rattle.std.specs.Prelude.{◌≡◌};
 ghost use Rattle.hx_tree.specs.Entries.{Extends};
+ghost use Rattle.hx_nodes.specs.Missing.{LacksTurned};
+ghost use Rattle.hx_nodes.specs.Stored.{MissingFor};
 ghost use Rattle.hx_nodes.specs.Wide.{IsStoredWide};
 
 use crate::stored::Stored;
@@ -13,7 +15,8 @@ use hx_turn::turned;
 use std::sync::Wait;
 
 /// Looks for an entry that serves the position, and where there is none for one that serves the turned position, by which it
-/// stores a proof. Missing where neither is there.
+/// stores a proof. Missing only where for each player nothing was seen that serves the position; and nothing that serves the
+/// turned one either, or entries of two positions that are turned into one another name different winners.
 pub fn widen_turned<P: Proofs, R: Wait>(
     rt: &R,
     proofs: &mut P,
@@ -24,7 +27,11 @@ pub fn widen_turned<P: Proofs, R: Wait>(
     ensures over { P.over proofs.new ≡ P.over proofs.old }
     ensures seen { Extends (P.list proofs.new) (P.list proofs.old) }
     ensures stored { IsStoredWide (P.list proofs.new) (P.slots proofs.new) position.now to_move result }
+    ensures missing { MissingFor (LacksTurned (P.list proofs.old) (P.list proofs.new)
+        position.now to_move) result }
 {
+    // The proof takes from here that the position's board is one.
+    let _size = position.size();
     if let Some(stored) = end_of(rt, proofs, position, to_move, None) {
         return stored;
     }
@@ -33,9 +40,12 @@ pub fn widen_turned<P: Proofs, R: Wait>(
         return Stored::Missing;
     };
     let wide = turned(&wider.position);
-    let tried = Some(store_turned(rt, proofs, &wide, to_move));
-    match end_of(rt, proofs, position, to_move, tried) {
-        Some(stored) => stored,
-        None => Stored::Missing,
+    match store_turned(rt, proofs, &wide, to_move) {
+        Stored::Done => match look_wider_either(rt, proofs, position, to_move) {
+            Some(_wider) => Stored::Done,
+            None => Stored::Missing,
+        },
+        Stored::Refused(refusal) => Stored::Refused(refusal),
+        Stored::Missing | Stored::Memory => unreachable!(),
     }
 }

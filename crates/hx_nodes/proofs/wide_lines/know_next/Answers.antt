@@ -5,6 +5,6 @@ use Rattle.hx_nodes.proofs.wide_lines.know_next.Goals as goal
 pub returns-in-Ok-clause-known : goal.returns-in-Ok-clause-known
 returns-in-Ok-clause-known g c =
     let list = g.P.Proofs.list c.look.new.self in
-    c.in-Ok.ensures list
+    c.in-Ok.ensures.known list
     (known_grown list (g.P.Proofs.list c.args.proofs.now) (extends-on _ _ _ c.store_wider-stored.ensures.seen c.look.ensures.seen) _ _ c.requires)
     (found_known list c.args.next.now c.args.winner c.in-Some.found c.in-Some.ensures.found)

@@ -1,13 +1,17 @@
-use Rattle.std.proofs.Common.{◌≡◌, sym, subst}
+use Rattle.std.proofs.Common.{sym, subst}
 use Rattle.hx_board.specs.declared.colours.Colour.{Colour}
 use Rattle.hx_book.specs.WiderEntry.{IsWiderFound}
+use Rattle.hx_nodes.proofs.GrowingLists.{extends-on}
+use Rattle.hx_nodes.proofs.LackingLaws.{unserved-now}
 use Rattle.hx_nodes.proofs.wider.store_wider.Goals as goal
 
-pub fill_to-requires : goal.fill_to-requires
-fill_to-requires g c =
-    let is = c.in-Some-look_wider.ensures.found in (
-      c.args.position.now,
-      subst
-          (λ (winner : Colour). IsWiderFound (g.P.Proofs.list c.look_wider.new.self) c.args.position.now c.args.to_move winner c.in-Some-look_wider.wider)
-          (sym is.same_winner) is,
-    )
+pub fill_missing-requires : goal.fill_missing-requires
+fill_missing-requires g c =
+    let is = c.in-Some-look_wider.ensures.found in
+    subst
+    (λ (winner : Colour). IsWiderFound (g.P.Proofs.list c.look_wider.new.self) c.args.position.now c.args.to_move winner c.in-Some-look_wider.wider)
+    (sym is.same_winner) is
+
+pub returns-in-None-clause-missing : goal.returns-in-None-clause-missing
+returns-in-None-clause-missing g c =
+    unserved-now _ _ _ _ _ (extends-on _ _ _ c.look.ensures.seen c.look_wider.ensures.seen) c.in-None.ensures.found
