@@ -1,6 +1,7 @@
 //! Searches by one worker: how strong it is, by its units, and how fast, by the time of a unit.
 #![tactic(auto)]
 
+mod counting;
 mod searches;
 mod tasks;
 
@@ -15,7 +16,7 @@ const LONGEST_NAME: usize = 16;
 fn print(rt: &HostRuntime, task: &Task, sum: &Sum) -> io::Result<()> {
     let a_unit = sum.nanoseconds / sum.units.max(1);
     println!(rt;
-        "{}: Black wins {}, White {}; {} units, {} ms, {}.{} us a unit; {} proofs",
+        "{}: Black wins {}, White {}; {} units, {} ms, {}.{} us a unit; {} nodes, of which {} lead to one that serves",
         task.name,
         sum.black_wins,
         sum.white_wins,
@@ -23,7 +24,8 @@ fn print(rt: &HostRuntime, task: &Task, sum: &Sum) -> io::Result<()> {
         sum.nanoseconds / 1000000,
         a_unit / 1000,
         a_unit % 1000 / 100,
-        sum.proofs
+        sum.nodes,
+        sum.leading
     )
 }
 

@@ -2,6 +2,7 @@
 
 ghost use Rattle.std.specs.Prelude.{◌≤◌, ◌^◌};
 
+use crate::counting::Counting;
 use crate::searches::{Done, search};
 use hx_board::{Colour, Memory, Position, Size};
 use hx_book::Book;
@@ -15,7 +16,7 @@ use std::time::{Clock, Instant};
 const HINTS: u32 = 1048576;
 
 /// Slots of a book.
-const SLOTS: u32 = 65536;
+const SLOTS: u32 = 1048576;
 
 /// More units than any of the searches takes.
 const MANY_UNITS: u64 = 1000000;
@@ -26,7 +27,7 @@ enum Positions {
     /// The empty board, Black to move.
     Empty,
 
-    /// After Black's move to the cell in this row and column.
+    /// After Black's move to the cell in this row and column, both counted from 0.
     After { row: u8, col: u8 },
 
     /// After each of Black's moves, all in one book.
@@ -45,7 +46,7 @@ pub(crate) struct Task {
 }
 
 /// All searches.
-pub(crate) const TASKS: [Task; 7] = [
+pub(crate) const TASKS: [Task; 12] = [
     Task {
         name: "empty6",
         side: 6,
@@ -71,6 +72,30 @@ pub(crate) const TASKS: [Task; 7] = [
         budget: 1500,
     },
     Task {
+        name: "g4",
+        side: 7,
+        positions: Positions::After { row: 3, col: 6 },
+        budget: MANY_UNITS,
+    },
+    Task {
+        name: "a5",
+        side: 7,
+        positions: Positions::After { row: 4, col: 0 },
+        budget: MANY_UNITS,
+    },
+    Task {
+        name: "a6",
+        side: 7,
+        positions: Positions::After { row: 5, col: 0 },
+        budget: MANY_UNITS,
+    },
+    Task {
+        name: "b4",
+        side: 7,
+        positions: Positions::After { row: 3, col: 1 },
+        budget: MANY_UNITS,
+    },
+    Task {
         name: "openings6",
         side: 6,
         positions: Positions::EachOpening,
@@ -78,6 +103,12 @@ pub(crate) const TASKS: [Task; 7] = [
     },
     Task {
         name: "d5",
+        side: 8,
+        positions: Positions::After { row: 4, col: 3 },
+        budget: MANY_UNITS,
+    },
+    Task {
+        name: "d5-start",
         side: 8,
         positions: Positions::After { row: 4, col: 3 },
         budget: 3000,
@@ -97,7 +128,10 @@ pub(crate) struct Sum {
     pub(crate) nanoseconds: u64,
     pub(crate) black_wins: u32,
     pub(crate) white_wins: u32,
-    pub(crate) proofs: u32,
+
+    /// Nodes in the book, and how many of them lead to one that serves.
+    pub(crate) nodes: u32,
+    pub(crate) leading: u32,
 }
 
 impl Sum {
@@ -131,13 +165,13 @@ fn after(position: &Position, row: u8, col: u8) -> Option<Position> {
 fn timed<R: Wait + Clock>(
     rt: &R,
     alloc: Global,
-    book: Book,
+    book: Counting,
     hints: &Hints,
     position: &Position,
     to_move: Colour,
     budget: u64,
     sum: &mut Sum,
-) -> Result<Book, Memory>
+) -> Result<Counting, Memory>
     requires { budget ≤ 2 ^ 40 }
 {
     let start = Instant::now(rt).map_err(|_| Memory)?;
@@ -151,11 +185,11 @@ fn timed<R: Wait + Clock>(
 fn search_openings<R: Wait + Clock>(
     rt: &R,
     alloc: Global,
-    book: Book,
+    book: Counting,
     hints: &Hints,
     empty: &Position,
     sum: &mut Sum,
-) -> Result<Book, Memory> {
+) -> Result<Counting, Memory> {
     let size = empty.size();
     let mut book = book;
     for row in 0..size.rows() {
@@ -184,14 +218,18 @@ pub(crate) fn run<R: Wait + Clock>(rt: &R, alloc: Global, task: &Task) -> Result
         nanoseconds: 0,
         black_wins: 0,
         white_wins: 0,
-        proofs: 0,
+        nodes: 0,
+        leading: 0,
     };
     let Some(size) = Size::new(task.side, task.side) else {
         return Ok(sum);
     };
     let budget = task.budget.min(MANY_UNITS);
     let hints = Hints::with_words(alloc, HINTS)?;
-    let book = Book::with_slots(alloc, SLOTS)?;
+    let book = Counting {
+        book: Book::with_slots(alloc, SLOTS)?,
+        leading: 0,
+    };
     let empty = Position::empty(size);
     let book = match task.positions {
         Positions::Empty => timed(
@@ -219,6 +257,7 @@ pub(crate) fn run<R: Wait + Clock>(rt: &R, alloc: Global, task: &Task) -> Result
         },
         Positions::EachOpening => search_openings(rt, alloc, book, &hints, &empty, &mut sum)?,
     };
-    sum.proofs = book.held();
+    sum.nodes = book.book.held();
+    sum.leading = book.leading;
     Ok(sum)
 }

@@ -1,7 +1,8 @@
 //! Which move a turn goes down to, and how far.
 //!
 //! Of the moves that are left the first ones alone are looked at, a quarter of them and one more: with all in focus a search
-//! of 7 by 7 takes twice the units. Of these the turn goes down to the one with the least delta, as df-pn does.
+//! of 7 by 7 takes twice the units. Of these the turn goes down to the one with the least delta, as df-pn does. Those out of focus
+//! count together as one move more (`rest.rt`).
 
 ghost use Rattle.std.specs.Prelude.{◌≡◌, ◌<◌, IfOk};
 ghost use Rattle.std.specs.List.{All};
@@ -11,6 +12,7 @@ ghost use Rattle.hx_worker.specs.Keeps.{KeepsSeat};
 use crate::children::{Child, Moves};
 use crate::losses::{WORDS, with_losses};
 use crate::marks::hinted_or;
+use crate::rest::rest;
 use crate::starts::{Start, Turn};
 use crate::stones::after;
 use crate::workers::Worker;
@@ -65,9 +67,15 @@ pub(crate) fn choose<G>(
     if moves.children.is_empty() {
         return Ok(Choice::AllLose);
     }
-    let Ok(numbers) = numbers_of(worker, seat, alloc, in_focus(moves)) else {
+    let focused = in_focus(moves);
+    let Ok(mut numbers) = numbers_of(worker, seat, alloc, focused) else {
         return Err(Memory);
     };
+    if let Some(rest) = rest(moves.children.len().saturating_sub(focused.len()))
+        && numbers.push(rest).is_err()
+    {
+        return Err(Memory);
+    }
     let numbers = numbers.as_slice();
     let Some((place, limit)) = thresholds(turn.limit, numbers) else {
         return Ok(Choice::Limit(combine(numbers)));
@@ -90,7 +98,8 @@ fn numbers_of<G>(
     ensures seat { KeepsSeat seat.old seat.new }
     ensures numbers { IfOk result (λ numbers. All IsNumbers numbers.items) }
 {
-    let Ok(mut numbers) = Vec::with_capacity(alloc, children.len()) else {
+    // One more may come for those out of focus.
+    let Ok(mut numbers) = Vec::with_capacity(alloc, children.len() + 1) else {
         return Err(Memory);
     };
     for child in children {

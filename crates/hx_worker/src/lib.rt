@@ -18,6 +18,7 @@ mod orders;
 mod outcomes;
 mod proved_moves;
 mod replies;
+mod rest;
 mod roots;
 mod rounds;
 mod sets;
