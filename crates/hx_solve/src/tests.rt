@@ -126,7 +126,7 @@ fn by_links(rt: HostRuntime) -> Result<(), Fail> {
 #[test]
 fn a_stone_in_the_centre(rt: HostRuntime) -> Result<(), Fail> {
     let size = Size::new(5, 5).ok_or("size")?;
-    // The cell c3 is in row 2 and column 2.
+    // The cell c3 is in the third row and in the third column.
     let stones = Position::from_masks(size, Mask::of(1 << 24), Mask::empty());
     let position = stones.ok_or("stones")?;
     let settings = Settings {
