@@ -23,19 +23,16 @@ use Rattle.hx_fill.specs.Makers.{AreMakers, AreVertices, IsAmong, JoinsEach, Joi
 use Rattle.hx_fill.proofs.JoinedAfter.{joined_before, joined_still, joined_over_stone}
 use Rattle.hx_fill.proofs.OpenAfter.{among-open, open_before, open_after}
 
--- the empty cells among some, but for one
-pub others_are : (board : Board) (empties among cell others : ℕ) → others ≡ remove (intersection empties among) cell → ((n : ℕ) → (has empties n ≡ true) ↔ IsEmpty board n)
+pub differs-removed : (set cell n : ℕ) → has (remove set cell) n ≡ true → n ≢ cell
+differs-removed set cell n h e = false≢true (sym (removed set cell) ∙ (let P : ℕ → Type 0 = λ x. has (remove set cell) x ≡ true in subst P e h))
+
+-- some empty cells, but for one
+pub others_are : (board : Board) (among cell others : ℕ) → others ≡ remove among cell → ((n : ℕ) → has among n ≡ true → IsEmpty board n)
     → (n : ℕ) → (has others n ≡ true) ↔ ((has among n ≡ true) × (IsEmpty board n × (n ≢ cell)))
-others_are board empties among cell others same is n = rw same (
-  (λ h. let both : has (intersection empties among) n ≡ true = has-remove_before (intersection empties among) cell n h in (
-    has-intersection_right empties among n both,
-    ((is n).0 (has-intersection_left empties among n both), λ e. not_itself (let P : ℕ → Type 0 = λ x. has (remove (intersection empties among) cell) x ≡ true in subst P e h)),
-  )),
-  (λ all. has-remove_other (intersection empties among) cell n all.1.1 (has-intersection_both empties among n ((is n).1 all.1.0) all.0)),
+others_are board among cell others same empty n = rw same (
+  (λ h. let before : has among n ≡ true = has-remove_before among cell n h in (before, (empty n before, differs-removed among cell n h))),
+  (λ all. has-remove_other among cell n all.1.1 all.0),
 )
-  where
-    not_itself : has (remove (intersection empties among) cell) cell ≡ true → ⊥
-    not_itself h = false≢true (sym (removed (intersection empties among) cell) ∙ h)
 
 -- ---- one open neighbour
 

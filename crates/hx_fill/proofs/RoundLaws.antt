@@ -1,5 +1,7 @@
 -- A round: cell by cell it either fills something, or the cell is settled on the board of its start, which is then still the board.
-use Rattle.std.proofs.Common.{◌≡◌, ℕ, zero, suc, ◌+◌, ◌<◌, true, false, List, [], ◌∷◌, ◌++◌, length, length-append, append_assoc, refl, sym, ap, ◌∙◌, subst, ◌⊎◌, inl, inr, ⊎_elim, arith, ◌↔◌}
+use Rattle.std.proofs.Common.{◌≡◌, ℕ, if◌then◌else◌, zero, suc, ◌+◌, ◌<◌, Bool, true, false, List, [], ◌∷◌, ◌++◌, length, length-append, append_assoc, refl, sym, ap, ◌∙◌, subst, ◌⊎◌, inl, inr, ⊎_elim, arith, ◌↔◌}
+use Rattle.std.specs.declared.option.Option.TheVariants.{None, Some}
+use Rattle.std.specs.Prelude.{is_some}
 use Rattle.std.proofs.lemmas.Bool.{false≢true}
 use Rattle.std.proofs.lemmas.List.{append-nil}
 use Rattle.std.proofs.lemmas.List.Elements.{All-nil, All-append, All-push}
@@ -7,7 +9,8 @@ use Rattle.hx_board.specs.declared.colours.Colour.{Colour}
 use Rattle.hx_board.specs.declared.colours.Colour.TheVariants.{Black, White}
 use Rattle.hx_board.specs.Sets.{has, remove}
 use Rattle.hx_board.specs.Cells.{OnBoard}
-use Rattle.hx_board.specs.Positions.{Board, IsBoard, IsEmpty}
+use Rattle.hx_board.specs.Colours.{other_of}
+use Rattle.hx_board.specs.Positions.{Board, IsBoard, IsEmpty, stone_at}
 use Rattle.hx_board.specs.Counts.{empty_count}
 use Rattle.hx_board.proofs.SetLaws.{has-empty, removed_cases}
 use Rattle.hx_inferior.specs.declared.fills.FillStep.TheVariants.{Dead, Pair}
@@ -72,7 +75,7 @@ module _ (player : Colour) (board : Board) (fills : List Fill) where
   round_ends left now found none (Still same also settled) = Still same also (λ n empty _. settled n empty (none n empty.on_board))
   round_ends left now found none (Further added some is kinds to) = Further added some is kinds to
 
--- ---- two rounds
+-- ---- a round after others
 
 none_from : (board : Board) (player : Colour) → ((cell : ℕ) → IsEmpty board cell → has 0 cell ≡ false → HasNoFill board player board cell) → HasNone board player
 none_from board player settled = record {
@@ -94,42 +97,82 @@ round-adds player board next fills more (Still same also settled) =
 round-adds player board next fills more (Further added some is kinds to) =
     record { added = added; is = is; kinds = kinds; to = to; none = λ none. absurd (omega arith) }
 
-module _ (board mid next : Board) (fills found more : List Fill) (black : Adds Black board fills mid found) (white : Adds White mid found next more) where
-  both_added : List Fill
-  both_added = black.added ++ white.added
+module _ (player : Colour) (board next : Board) (fills more : List Fill) (adds : Adds player board fills next more) where
+  lengths : length more ≡ length fills + length adds.added
+  lengths = rw adds.is (length-append fills adds.added)
 
-  pub lengths : length more ≡ length fills + length black.added + length white.added
-  lengths = rw (white.is, black.is, length-append (fills ++ black.added) white.added, length-append fills black.added) refl
+  pub round-right : (start : Board) → FillsTo start fills board → FillsTo start more next
+  round-right start to = rw adds.is (fills_to-append fills adds.added start board next to adds.to)
 
-  pub two_rounds-right : (start : Board) → FillsTo start fills board → FillsTo start more next
-  two_rounds-right start to =
-      rw (white.is, black.is)
-      (fills_to-append (fills ++ black.added) white.added start mid next (fills_to-append fills black.added start board mid to black.to) white.to)
+  pub round-kinds : AreDeadOrPairs fills → AreDeadOrPairs more
+  round-kinds kinds = rw adds.is (All-append (λ (fill : Fill). IsDeadOrPair fill.step) fills adds.added kinds adds.kinds)
 
-  pub two_rounds-kinds : AreDeadOrPairs fills → AreDeadOrPairs more
-  two_rounds-kinds kinds =
-      let P : Fill → Type 0 = λ fill. IsDeadOrPair fill.step in
-      rw (white.is, black.is) (All-append P (fills ++ black.added) white.added (All-append P fills black.added kinds black.kinds) white.kinds)
+  pub round-none : length more ≡ length fills → (next ≡ board) × HasNone next player
+  round-none same =
+      let all = lengths in
+      let none = adds.none (omega arith) in
+      (none.0, rw none.0 none.1)
 
-  pub two_rounds-fewer : IsBoard board → (length more ≡ length fills → ⊥) → empty_count next < empty_count board
-  two_rounds-fewer is grew =
-      fewer_empty (black.added ++ white.added) board next is (fills_to-append black.added white.added board mid next black.to white.to)
-      (let both = length-append black.added white.added in let all = lengths in ⊎_elim (λ none. absurd (grew (omega arith))) (λ some. some) (zero_or_more (length (black.added ++ white.added))))
+  round-fewer : IsBoard board → (length more ≡ length fills → ⊥) → empty_count next < empty_count board
+  round-fewer is grew =
+      let all = lengths in
+      fewer_empty adds.added board next is adds.to (⊎_elim (λ none. absurd (grew (omega arith))) (λ some. some) (zero_or_more (length adds.added)))
     where
       zero_or_more : (n : ℕ) → (n ≡ 0) ⊎ (0 < n)
       zero_or_more zero = inl refl
       zero_or_more (suc n) = inr (omega arith)
 
-  pub two_rounds-left : length more ≡ length fills → NothingLeft next
-  two_rounds-left same player =
-      let all = lengths in
-      let no_black = black.none (omega arith) in
-      let no_white = white.none (omega arith) in
-      left player (rw (no_white.0, no_black.0) no_black.1) (rw no_white.0 no_white.1)
+one_less : (n : ℕ) → n + n < suc (n + n)
+one_less n = omega arith
+
+less_and_one : (m n : ℕ) → m < n → suc (m + m) < n + n
+less_and_one m n less = omega arith
+
+less_both : (m n : ℕ) → m < n → suc (m + m) < suc (n + n)
+less_both m n less = omega arith
+
+-- how many rounds may follow, by the number of empty cells and whether the last round filled nothing
+abbrev pub rounds_left : ℕ → Bool → ℕ
+rounds_left empties true = empties + empties
+rounds_left empties false = suc (empties + empties)
+
+-- the last of two rounds in a row that filled nothing
+pub nothing_left-both : (board : Board) (player : Colour) → HasNone board player → HasNone board (other_of player) → NothingLeft board
+nothing_left-both board Black this other Black = this
+nothing_left-both board Black this other White = other
+nothing_left-both board White this other Black = other
+nothing_left-both board White this other White = this
+
+module _ (player : Colour) (board next : Board) (fills more : List Fill) (adds : Adds player board fills next more) (had_none has_none : Bool) where
+  -- a round fills something, or it is the first in a row that does not
+  pub fewer_rounds : IsBoard board → (length more ≡ length fills → has_none ≡ true) → (has_none ≡ true → length more ≡ length fills)
+      → (has_none ≡ true → had_none ≡ true → ⊥) → rounds_left (empty_count next) has_none < rounds_left (empty_count board) had_none
+  fewer_rounds is when_none tells not_both = by_cases has_none had_none when_none tells not_both
     where
-      left : (player : Colour) → HasNone next Black → HasNone next White → HasNone next player
-      left Black b w = b
-      left White b w = w
+      fewer : (length more ≡ length fills → false ≡ true) → empty_count next < empty_count board
+      fewer when = round-fewer player board next fills more adds is (λ same. false≢true (when same))
+
+      by_cases : (has had : Bool) → (length more ≡ length fills → has ≡ true) → (has ≡ true → length more ≡ length fills) → (has ≡ true → had ≡ true → ⊥)
+          → rounds_left (empty_count next) has < rounds_left (empty_count board) had
+      by_cases true true when tells not = absurd (not refl refl)
+      by_cases true false when tells not = rw (round-none player board next fills more adds (tells refl)).0 (one_less (empty_count board))
+      by_cases false true when tells not = less_and_one (empty_count next) (empty_count board) (fewer when)
+      by_cases false false when tells not = less_both (empty_count next) (empty_count board) (fewer when)
+
+-- ---- a cell without a stone
+
+without : (b w : Bool) → is_some (if b then Some Black else (if w then Some White else None)) ≡ false → (b ≡ false) × (w ≡ false)
+without true w h = absurd (false≢true (sym h))
+without false true h = absurd (false≢true (sym h))
+without false false h = (refl, refl)
+
+pub empty-without_stone : (board : Board) (cell : ℕ) → OnBoard board.size cell → is_some (stone_at board cell) ≡ false → IsEmpty board cell
+empty-without_stone board cell on_board none =
+    let both = without (has board.black cell) (has board.white cell) none in
+    record { on_board = on_board; no_black = both.0; no_white = both.1 }
+
+pub without_stone-empty : (board : Board) (cell : ℕ) → IsEmpty board cell → is_some (stone_at board cell) ≡ false
+without_stone-empty board cell empty = rw (empty.no_black, empty.no_white) refl
 
 -- ---- the answer of `fill_at`
 

@@ -28,17 +28,18 @@ pub(crate) struct Makers {
     pub(crate) is_dead: bool,
 }
 
-/// What is known of an empty cell with these open neighbours, and its makers among some cells. The fewer these are, the sooner
+/// What is known of an empty cell with these open neighbours, and its makers among some empty cells. The fewer these are, the sooner
 /// none of them is left.
 pub(crate) fn makers_of(view: &View, cell: Cell, around: VertexSet, among: Mask) -> Makers
     requires empty { IsEmpty view.now.board cell }
     requires around { IsSetOf view.now.board.size
         (IsOpenNeighbour view.now.board view.now.player cell) around }
+    requires among { (n : ℕ) → has among n ≡ true → IsEmpty view.now.board n }
     ensures { AreMakers view.now.board view.now.player cell among result }
 {
     let all = Makers {
         is_dead: true,
-        cells: view.position().empties().meet(among).without(cell),
+        cells: among.without(cell),
     };
     narrowed_by(view, &all, around)
 }

@@ -1,8 +1,8 @@
 //! Fill-in, in rounds.
 //!
 //! A round goes once over the empty cells for one player, with what was joined at its start, and fills what is dead or a captured
-//! pair. That stays right when stones come elsewhere, so a round may fill many cells without a further flood. The rounds end when
-//! one for each player has filled nothing.
+//! pair. That stays right when stones come elsewhere, so a round may fill many cells without a further flood. The players take turns
+//! until two rounds in a row, one for each, have filled nothing.
 
 ghost use Rattle.std.specs.Prelude.{◌≡◌, IfOk, OnOk};
 ghost use Rattle.hx_board.specs.Positions.{IsEmpty};
@@ -25,15 +25,19 @@ pub fn fill_in(alloc: Global, position: &Position) -> Result<Filled, Memory>
         position: *position,
         steps: Vec::new(alloc),
     };
+    let mut colour = Colour::Black;
+    let mut has_other_none = false;
     loop {
         // The proof takes from here that the position's board is one.
         let _size = filled.position.size();
         let before = filled.steps.len();
-        fill_round(&mut filled, Colour::Black)?;
-        fill_round(&mut filled, Colour::White)?;
-        if filled.steps.len() == before {
+        fill_round(&mut filled, colour)?;
+        let has_none = filled.steps.len() == before;
+        if has_none && has_other_none {
             return Ok(filled);
         }
+        has_other_none = has_none;
+        colour = colour.other();
     }
 }
 
@@ -48,7 +52,7 @@ fn fill_round(filled: &mut Filled, colour: Colour) -> Result<(), Memory>
     let mut left = filled.position.empties();
     while let Some(cell) = left.least(size) {
         left = left.without(cell);
-        let is_empty = filled.position.empties().has(cell);
+        let is_empty = filled.position.at(cell).is_none();
         if is_empty {
             fill_at(filled, &view, colour, cell)?;
         }

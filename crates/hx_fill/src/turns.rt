@@ -126,7 +126,8 @@ impl Turn {
     {
         let own = View::after(&self.position, self.mover, &self.own, self.mover, better);
         let around = open_around(&self.position, self.mover, worse);
-        let makers = makers_of(&own, worse, around, self.position.empties());
+        let among = self.position.empties().without(better);
+        let makers = makers_of(&own, worse, around, among);
         partner_of(&own, worse, makers.cells)
     }
 

@@ -6,6 +6,9 @@ use Rattle.hx_fill.proofs.rounds.fill_at.Goals as goal
 pub makers_of-makers-requires-clause-empty : goal.makers_of-makers-requires-clause-empty
 makers_of-makers-requires-clause-empty c = empty_then c.args.view.now.board c.args.filled.now.position c.requires.grown c.args.cell c.requires.empty
 
+pub makers_of-makers-requires-clause-among : goal.makers_of-makers-requires-clause-among
+makers_of-makers-requires-clause-among c = λ n h. empty_then c.args.view.now.board c.args.filled.now.position c.requires.grown n ((c.empties.ensures n).0 h)
+
 pub add-requires : goal.add-requires
 add-requires c =
     let makers = rw c.requires.colour at c.makers_of-makers.ensures in

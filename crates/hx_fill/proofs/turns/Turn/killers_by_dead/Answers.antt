@@ -1,8 +1,12 @@
 use Rattle.std.proofs.Common.{sym, ◌∙◌}
 use Rattle.std.proofs.lemmas.Bool.{false≢true}
+use Rattle.hx_board.proofs.SetLaws.{has-empty}
 use Rattle.hx_board.proofs.CellLaws.{on_board-small}
 use Rattle.hx_fill.proofs.KillerLaws.{cells_have, killers_by_dead-neighbours}
 use Rattle.hx_fill.proofs.turns.Turn.killers_by_dead.Goals as goal
+
+pub makers_of-makers-requires-clause-among : goal.makers_of-makers-requires-clause-among
+makers_of-makers-requires-clause-among c = λ n h. absurd (false≢true (sym (has-empty n) ∙ (rw c.empty.ensures at h)))
 
 pub returns : goal.returns
 returns c =

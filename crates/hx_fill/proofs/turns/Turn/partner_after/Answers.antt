@@ -1,6 +1,8 @@
 use Rattle.std.proofs.Common.{sym}
+use Rattle.hx_board.proofs.SetLaws.{has-remove_before, has-remove_other}
 use Rattle.hx_board.proofs.StoneLaws.{empty-put}
 use Rattle.hx_fill.proofs.OpenAfter.{open-own_after}
+use Rattle.hx_fill.proofs.MakerLaws.{differs-removed}
 use Rattle.hx_fill.proofs.KillerLaws.{no_pair-by_makers, partner-dominates}
 use Rattle.hx_fill.proofs.turns.Turn.partner_after.Goals as goal
 
@@ -12,6 +14,12 @@ pub makers_of-makers-requires-clause-empty : goal.makers_of-makers-requires-clau
 makers_of-makers-requires-clause-empty c =
     rw c.after-own.ensures ((empty-put c.args.self.now.position c.args.self.now.mover c.args.better c.args.worse).1 (c.requires.worse, λ e. c.requires.differ (sym e)))
 
+pub makers_of-makers-requires-clause-among : goal.makers_of-makers-requires-clause-among
+makers_of-makers-requires-clause-among c = λ n h.
+    let left = rw c.without-among.ensures.set at h in
+    rw c.after-own.ensures ((empty-put c.args.self.now.position c.args.self.now.mover c.args.better n).1
+    ((c.empties.ensures n).0 (has-remove_before c.empties.result c.args.better n left), differs-removed c.empties.result c.args.better n left))
+
 pub partner_of-requires-clause-empty : goal.partner_of-requires-clause-empty
 partner_of-requires-clause-empty c =
     rw c.after-own.ensures ((empty-put c.args.self.now.position c.args.self.now.mover c.args.better c.args.worse).1 (c.requires.worse, λ e. c.requires.differ (sym e)))
@@ -21,5 +29,6 @@ returns c =
     let makers = rw c.after-own.ensures at c.makers_of-makers.ensures in
     let partner = rw c.after-own.ensures at c.partner_of.ensures in
     partner-dominates c.args.self.now.position c.args.self.now.mover c.args.better c.args.worse c.makers_of-makers.result.cells c.partner_of.result c.requires.better c.requires.worse c.requires.differ
-    (no_pair-by_makers _ _ c.args.worse c.empties.result c.makers_of-makers.result makers
-    (λ n empty. (c.empties.ensures n).1 ((empty-put c.args.self.now.position c.args.self.now.mover c.args.better n).0 empty).0)) partner
+    (no_pair-by_makers _ _ c.args.worse c.without-among.result c.makers_of-makers.result makers
+    (λ n empty. let before = (empty-put c.args.self.now.position c.args.self.now.mover c.args.better n).0 empty in
+    rw c.without-among.ensures.set (has-remove_other c.empties.result c.args.better n before.1 ((c.empties.ensures n).1 before.0)))) partner
