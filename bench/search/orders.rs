@@ -3,9 +3,9 @@
 //!
 //! A cell is one step from what it is joined with and from what a Full link leads to.
 
-ghost use Rattle.hx_board.specs.Cells.{OnBoard};
+ghost use Rattle.hx_board.specs.Graph.{IsVertex};
 
-use hx_board::{CELLS, Cell, Mask, Memory, Position, Size, Vertex, VertexSet};
+use hx_board::{CELLS, Cell, Memory, Size, Vertex, VertexSet};
 use hx_linkset::LinkSet;
 use std::alloc::Global;
 
@@ -15,12 +15,28 @@ const FAR: u32 = 20;
 /// What each empty cell is one step from.
 type Nears = [VertexSet; CELLS];
 
-/// What a cell is joined with, or has a Full link to.
-fn near(set: &LinkSet, cell: Cell) -> VertexSet
-    requires { OnBoard set.now.present.board.size cell }
+/// The cell that a vertex is.
+fn cell_of(vertex: &Vertex) -> Option<Cell> {
+    match vertex {
+        Vertex::Of(cell) => Some(*cell),
+        Vertex::First | Vertex::Last => None,
+    }
+}
+
+/// The first cell of some cells. It asks for no board, so it takes no time to find out which cells a board has.
+fn first(cells: VertexSet) -> Option<Cell> {
+    match cells.lowest() {
+        None => None,
+        Some(vertex) => cell_of(&vertex),
+    }
+}
+
+/// What a vertex is joined with, or has a Full link to.
+fn near(set: &LinkSet, vertex: &Vertex) -> VertexSet
+    requires { IsVertex set.now.present.board.size vertex.now }
 {
-    let mut near = set.groups().joined_with(Vertex::Of(cell));
-    for full in set.full_at(Vertex::Of(cell)) {
+    let mut near = set.groups().joined_with(*vertex);
+    for full in set.full_at(*vertex) {
         near = near.with(full.to);
     }
     near
@@ -36,56 +52,42 @@ fn nears(set: &LinkSet) -> Nears {
             break;
         };
         left = left.without(cell);
-        nears[cell.index() as usize] = near(set, cell);
+        nears[cell.index() as usize] = near(set, &Vertex::Of(cell));
     }
     nears
 }
 
-/// The cells among some that are one step from what is reached.
-fn next(size: Size, nears: &Nears, reached: VertexSet, cells: Mask) -> Mask {
-    let mut found = Mask::empty();
+/// Adds a distance to the sums of some cells. Answers what these are one step from.
+fn add(cells: VertexSet, distance: u32, nears: &Nears, sums: &mut [u32; CELLS]) -> VertexSet {
+    let mut near = VertexSet::empty();
     let mut left = cells;
     for _ in 0..CELLS {
-        let Some(cell) = left.least(size) else {
+        let Some(cell) = first(left) else {
             break;
         };
-        left = left.without(cell);
-        let is_near = !nears[cell.index() as usize].meet(reached).is_empty();
-        if is_near {
-            found = found.with(cell);
-        }
-    }
-    found
-}
-
-/// Adds a distance to the sums of these cells.
-fn add(size: Size, cells: Mask, distance: u32, sums: &mut [u32; CELLS]) {
-    let mut left = cells;
-    for _ in 0..CELLS {
-        let Some(cell) = left.least(size) else {
-            break;
-        };
-        left = left.without(cell);
+        left = left.without(Vertex::Of(cell));
         let index = cell.index() as usize;
         sums[index] = sums[index].wrapping_add(distance);
+        near = near.union(nears[index]);
     }
+    near
 }
 
-/// Adds the distances of all empty cells from a side.
-fn add_distances(position: &Position, nears: &Nears, side: Vertex, sums: &mut [u32; CELLS]) {
-    let size = position.size();
-    let mut reached = VertexSet::empty().with(side);
-    let mut left = position.empties();
+/// Adds the distances of all empty cells from a side. What is near a cell has the cell near it too, so the cells at the next distance
+/// are those that cells at the last one are near to.
+fn add_distances(set: &LinkSet, nears: &Nears, side: Vertex, sums: &mut [u32; CELLS])
+    requires { IsVertex set.now.present.board.size side }
+{
+    let mut left = VertexSet::of_cells(set.position().empties());
+    let mut reached = near(set, &side).meet(left);
     for distance in 1..FAR {
-        let new = next(size, nears, reached, left);
-        if new.is_empty() {
+        if reached.is_empty() {
             break;
         }
-        add(size, new, distance, sums);
-        reached = reached.union(VertexSet::of_cells(new));
-        left = left.minus(new);
+        left = left.minus(reached);
+        reached = add(reached, distance, nears, sums).meet(left);
     }
-    add(size, left, FAR, sums);
+    let _beyond = add(left, FAR, nears, sums);
 }
 
 /// Twice the distance from the centre, by rows, columns and diagonals.
@@ -100,15 +102,48 @@ fn from_centre(size: Size, cell: Cell) -> u32 {
         .wrapping_add(across)
 }
 
+/// The sums of both players' distances to their sides, of each empty cell.
+fn sums(own: &LinkSet, others: &LinkSet) -> [u32; CELLS] {
+    let mut sums = [0u32; CELLS];
+    for set in [own, others] {
+        let nears = nears(set);
+        add_distances(set, &nears, Vertex::First, &mut sums);
+        add_distances(set, &nears, Vertex::Last, &mut sums);
+    }
+    sums
+}
+
+/// When each of these cells is tried, by the sums: the one with the least number first.
+fn places(
+    size: Size,
+    cells: VertexSet,
+    sums: &[u32; CELLS],
+) -> [u32; CELLS] {
+    let mut places = [0u32; CELLS];
+    let mut left = cells;
+    for _ in 0..CELLS {
+        let Some(cell) = first(left) else {
+            break;
+        };
+        left = left.without(Vertex::Of(cell));
+        let index = cell.index() as usize;
+        places[index] = sums[index]
+            .wrapping_mul(1000)
+            .wrapping_add(from_centre(size, cell));
+
+    }
+    places
+}
+
 /// The cells of a set, in cell order.
-fn list(alloc: Global, size: Size, cells: Mask) -> Result<Vec<Cell>, Memory> {
+fn list(alloc: Global, cells: VertexSet) -> Result<Vec<Cell>, Memory> {
     let mut found = Vec::with_capacity(alloc, CELLS).map_err(|_| Memory)?;
     let mut left = cells;
     for _ in 0..CELLS {
-        let Some(cell) = left.least(size) else {
+        let Some(cell) = first(left) else {
             break;
         };
-        left = left.without(cell);
+        left = left.without(Vertex::Of(cell));
         found.push(cell).map_err(|_| Memory)?;
     }
     Ok(found)
@@ -121,20 +156,12 @@ pub(crate) fn in_order(
     others: &LinkSet,
 ) -> Result<Vec<Cell>, Memory> {
     let position = own.position();
-    let size = position.size();
-    let mut sums = [0u32; CELLS];
-    for set in [own, others] {
-        let nears = nears(set);
-        add_distances(position, &nears, Vertex::First, &mut sums);
-        add_distances(position, &nears, Vertex::Last, &mut sums);
-    }
-    let mut found = list(alloc, size, position.empties())?;
+    let cells = VertexSet::of_cells(position.empties());
+    let sums = sums(own, others);
+    let places = places(position.size(), cells, &sums);
+    let mut found = list(alloc, cells)?;
     found
-        .sort_by_key(|cell: &Cell| {
-            let sum = sums[cell.index() as usize];
-            sum.wrapping_mul(1000)
-                .wrapping_add(from_centre(size, *cell))
-        })
+        .sort_by_key(|cell: &Cell| places[cell.index() as usize])
         .map_err(|_| Memory)?;
     Ok(found)
 }

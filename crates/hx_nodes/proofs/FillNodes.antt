@@ -15,7 +15,7 @@ use Rattle.hx_tree.specs.Fills.{MayFillAll, filled_all}
 use Rattle.hx_tree.specs.Headings.{IsHeading}
 use Rattle.hx_tree.specs.Rules.{IsRightNode}
 use Rattle.hx_tree.specs.Trees.{headings_of}
-use Rattle.hx_nodes.specs.Wide.{LeadTo}
+use Rattle.hx_nodes.specs.Inner.{LeadTo}
 use Rattle.hx_nodes.proofs.FoundEntries.{found-heading}
 use Rattle.hx_nodes.proofs.MoveNodes.{node_of}
 

@@ -17,7 +17,7 @@ use Rattle.hx_tree.specs.Entries.{IsFirstFound}
 use Rattle.hx_book.specs.declared.wider.Wider.{Wider}
 use Rattle.hx_book.specs.WiderEntry.{IsWiderFound}
 use Rattle.hx_book.proofs.ChildLaws.{get-heading}
-use Rattle.hx_nodes.specs.Wide.{AreKnown}
+use Rattle.hx_nodes.specs.Inner.{AreKnown}
 use Rattle.hx_nodes.proofs.GrowingLists.{extends-headings}
 
 module _ (list : List Node) where

@@ -19,7 +19,7 @@ use Rattle.hx_turn.proofs.TurnedBoards.{stone-on_board}
 use Rattle.hx_tree.specs.declared.nodes.Node.{Node}
 use Rattle.hx_book.specs.declared.wider.Wider.{Wider}
 use Rattle.hx_book.specs.WiderEntry.{IsWiderFound}
-use Rattle.hx_nodes.specs.Wide.{put_all, LeadTo}
+use Rattle.hx_nodes.specs.Inner.{put_all, LeadTo}
 use Rattle.hx_nodes.proofs.TakenCells.{gone_itself}
 
 -- ---- stones on all cells of a set

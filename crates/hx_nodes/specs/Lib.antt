@@ -2,3 +2,4 @@ pub mod Stored
 pub mod Missing
 pub mod Lines
 pub mod Wide
+pub mod Inner

@@ -10,7 +10,7 @@ ghost use Rattle.hx_tree.specs.Entries.{Extends};
 ghost use Rattle.hx_tree.specs.Rules.{IsRightNode};
 ghost use Rattle.hx_tree.specs.Trees.{headings_of};
 ghost use Rattle.hx_nodes.specs.Stored.{IsStored, IsAnswered};
-ghost use Rattle.hx_nodes.specs.Wide.{AreKnown};
+ghost use Rattle.hx_nodes.specs.Inner.{AreKnown};
 
 use crate::stored::{Stored, store};
 use hx_board::Memory;

@@ -2,7 +2,7 @@
 
 ghost use Rattle.std.specs.Prelude.{◌≡◌, IfSome};
 ghost use Rattle.hx_tree.specs.Entries.{Extends};
-ghost use Rattle.hx_nodes.specs.Wide.{AreKnown};
+ghost use Rattle.hx_nodes.specs.Inner.{AreKnown};
 
 use crate::known::Known;
 use crate::lines::line_among;

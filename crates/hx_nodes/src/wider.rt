@@ -8,7 +8,8 @@ ghost use Rattle.hx_tree.specs.Entries.{Extends};
 ghost use Rattle.hx_book.specs.WiderEntry.{IsWiderFound};
 ghost use Rattle.hx_nodes.specs.Missing.{WasUnserved, WasUnservedByEach};
 ghost use Rattle.hx_nodes.specs.Stored.{IsStored, IsAnswered, MissingFor};
-ghost use Rattle.hx_nodes.specs.Wide.{IsTrueRefusal, IsStoredWide, put_all, LeadTo};
+ghost use Rattle.hx_nodes.specs.Inner.{put_all, LeadTo};
+ghost use Rattle.hx_nodes.specs.Wide.{IsTrueRefusal, IsStoredWide};
 
 use crate::known::{Known, store_known};
 use crate::stored::Stored;

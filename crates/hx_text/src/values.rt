@@ -70,7 +70,7 @@ pub(crate) fn mask(word: &[u8]) -> Option<Mask>
 const HALF: u128 = 18_446_744_073_709_551_616;
 
 /// The number of half a mask. Its digits differ from mask to mask, so nothing here branches on them. They are taken as an array, whose
-/// length the compiler knows: so it goes over all of them at once, which takes less than half the time.
+/// length the compiler knows: so it goes over them without a loop, which takes less than half the time.
 fn half_mask(digits: &[u8]) -> Option<u64>
     requires { length digits.now ≡ 16 }
     ensures { Reads (hex 16) (λ n. n < 2 ^ 64) digits.now result }

@@ -1,6 +1,6 @@
 use Rattle.std.proofs.Common.{◌≡◌}
 use Rattle.hx_tree.specs.Entries.{Extends}
-use Rattle.hx_nodes.specs.Wide.{AreKnown}
+use Rattle.hx_nodes.specs.Inner.{AreKnown}
 use Rattle.hx_nodes.proofs.wide_lines.lines_at.Given as goal
 
 abbrev pub invariant-loop : goal.invariant-loop
