@@ -33,6 +33,3 @@ pub use texts::{TEXT_ROOM, Text};
 pub use values::{read_digits, read_number};
 pub use versions::{Version, version_of};
 pub use writer::{write_end, write_heading, write_node, write_position};
-
-#[cfg(test)]
-mod tests;

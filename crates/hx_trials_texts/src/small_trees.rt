@@ -1,18 +1,11 @@
 //! The texts of two trees, with nodes by each rule and entries of each kind. The nodes of the first are not right, which is no
 //! matter of the grammar.
 
-ghost use Rattle.std.specs.Prelude.{IsTrue};
-ghost use Rattle.hx_text.specs.TreeTexts.{ListsFit};
-
-use crate::{
-    Fed, TreeFault, TreeReader, Version, cut, version_of, write_end, write_heading, write_node,
-};
-use hx_board::CELLS;
+use super::trees_written::written;
 use hx_board::Colour::Black;
-use hx_io::MemorySink;
-use hx_tree::{MOST_STEPS, MOST_THREATS, Node, Rule};
+use hx_text::{Fed, TreeFault, TreeReader, Version, cut};
+use hx_tree::Node;
 use std::alloc::{AllocError, Global};
-use std::process::Abort;
 use std::test::Fail;
 
 const TREE: &str = "hextree 1
@@ -82,40 +75,6 @@ fn reading_of(alloc: Global, text: &[u8]) -> Result<Reading, AllocError> {
     })
 }
 
-/// Whether the lists of a rule are no longer than a text may have them.
-fn lists_fit(rule: &Rule) -> bool
-    ensures { IsTrue result → ListsFit rule.now }
-{
-    match rule {
-        Rule::Chain | Rule::Move { .. } | Rule::Turned { .. } => true,
-        Rule::Links { steps } => steps.items().len() <= MOST_STEPS,
-        Rule::All {
-            steps,
-            threats,
-            lines,
-        } => {
-            steps.items().len() <= MOST_STEPS
-                && threats.items().len() <= MOST_THREATS
-                && lines.items().len() <= CELLS
-        }
-        Rule::Fill { steps, .. } => steps.items().len() <= CELLS,
-    }
-}
-
-/// A sink that took these nodes, with the lines before and after them, a few bytes at a time.
-fn written(rt: &impl Abort, alloc: Global, nodes: &[Node]) -> Result<MemorySink, Fail> {
-    let size = nodes.last().ok_or("no node")?.heading.position.size();
-    let mut sink = MemorySink::new(alloc, 1024, 7, Vec::new(alloc))?;
-    assert_eq!(rt; write_heading(&mut sink, version_of(nodes), size), Ok(()));
-    for node in nodes {
-        assert!(rt; lists_fit(&node.rule));
-        assert_eq!(rt; write_node(&mut sink, node), Ok(()));
-    }
-    let count = u32::try_from(nodes.len()).ok().ok_or("count")?;
-    assert_eq!(rt; write_end(&mut sink, count, Black), Ok(()));
-    Ok(sink)
-}
-
 /// What is read of each text is written as the same text, in its own version.
 #[test]
 fn trees_are_read_and_written(rt: HostRuntime) -> Result<(), Fail> {
@@ -123,7 +82,9 @@ fn trees_are_read_and_written(rt: HostRuntime) -> Result<(), Fail> {
         let reading = reading_of(rt.alloc(), text.as_bytes())?;
         assert_eq!(rt; reading.last, Ok(Fed::End(Black)));
         assert_eq!(rt; reading.version, Some(version));
-        let sink = written(&rt, rt.alloc(), &reading.nodes)?;
+        let nodes = reading.nodes.as_slice();
+        let size = nodes.last().ok_or("no node")?.heading.position.size();
+        let sink = written(&rt, rt.alloc(), size, nodes, Black)?;
         assert_eq!(rt; sink.bytes(), text.as_bytes());
     }
     Ok(())
