@@ -2,7 +2,8 @@
 //!
 //! A proof shows that a call gives what its definition says, and not that the definition means what Hex means. So beside each
 //! definition stands a program here that works it out in the slowest obvious way, and a test holds the call against it on a
-//! table. The tests stand in a crate of their own, so that no crate below is proved again for a change of them.
+//! table. Beside them are the tests of hx_text on a few texts, words and numbers that are written out. The tests stand in a
+//! crate of their own, so that no crate below is proved again for a change of them, or twice for having them.
 #![tactic(auto)]
 
 #[cfg(test)]
@@ -16,6 +17,8 @@ mod lines;
 #[cfg(test)]
 mod read;
 #[cfg(test)]
+mod small_trees;
+#[cfg(test)]
 mod spelled;
 #[cfg(test)]
 mod tables;
@@ -26,4 +29,8 @@ mod trees_spelled;
 #[cfg(test)]
 mod trees_tables;
 #[cfg(test)]
+mod trees_written;
+#[cfg(test)]
 mod values;
+#[cfg(test)]
+mod words_and_numbers;
