@@ -37,6 +37,3 @@ pub use wide_links::widen_links;
 pub use wide_moves::widen_move;
 pub use wide_turns::widen_turned;
 pub use wider::{look_wider_either, store_wider};
-
-#[cfg(test)]
-mod tests;
