@@ -1,0 +1,114 @@
+//! Each `widen` call over a small book, and which cells the opponent has at the position of the entry that it leaves.
+
+use crate::lawful_calls::{Place, chained, filled, is_done, is_missing, left_of, linked, moved};
+use crate::own_positions::answered;
+use crate::small_boards::{board, cell_of};
+use hx_board::Colour::{Black, White};
+use hx_board::{Colour, Mask, Position};
+use hx_book::Book;
+use hx_linkset::LinkSet;
+use hx_nodes::{look_wider_either, store_wider, widen_all, widen_turned};
+use hx_search::reach;
+use std::sync::Wait;
+use std::test::Fail;
+
+/// White's stones at the entry that serves a position.
+fn white_at<R: Wait>(
+    rt: &R,
+    book: &mut Book,
+    position: &Position,
+    to_move: Colour,
+) -> Result<Mask, Fail> {
+    let wider = look_wider_either(rt, book, position, to_move).ok_or("no entry")?;
+    Ok(wider.position.stones(White))
+}
+
+/// Black's chain on the left column leaves the right one to White, and so does the turned chain the left one.
+#[test]
+fn a_chain_and_a_turned_position(rt: HostRuntime) -> Result<(), Fail> {
+    let position = board(2, 2, 0x801)?;
+    let other = board(2, 2, 0x1002)?;
+    let mut book = Book::with_slots(rt.alloc(), 2).or(Err("memory"))?;
+    let stored = chained(&rt, Place::Wider, &mut book, &position, White, Black)?;
+    assert!(rt; is_done(stored));
+    assert_eq!(rt;
+        white_at(&rt, &mut book, &position, White)?,
+        Mask::of(0x1002)
+    );
+    assert!(rt; is_done(widen_turned(&rt, &mut book, &other, White)));
+    assert_eq!(rt; white_at(&rt, &mut book, &other, White)?, Mask::of(0x801));
+    Ok(())
+}
+
+/// A position that an entry serves gets one of its own.
+#[test]
+fn a_position_that_is_served(rt: HostRuntime) -> Result<(), Fail> {
+    let position = board(2, 2, 0x801)?;
+    let mut book = Book::with_slots(rt.alloc(), 2).or(Err("memory"))?;
+    chained(&rt, Place::Wider, &mut book, &position, White, Black)?;
+    assert!(rt; book.find(&position, White).is_none());
+    let stored = store_wider(&rt, rt.alloc(), &mut book, &position, White, Black);
+    assert!(rt; is_done(stored));
+    assert!(rt; book.find(&position, White).is_some());
+    Ok(())
+}
+
+/// With a black stone on b1 the cells a2 and b2 are a captured pair of Black's, who needs no cell of the right column.
+#[test]
+fn a_fill(rt: HostRuntime) -> Result<(), Fail> {
+    let position = board(2, 3, 0x2)?;
+    let last = left_of(rt.alloc(), &position)?;
+    let mut book = Book::with_slots(rt.alloc(), 2).or(Err("memory"))?;
+    chained(&rt, Place::Wider, &mut book, &last, White, Black)?;
+    let stored = filled(&rt, rt.alloc(), Place::Wider, &mut book, &position, White)?;
+    assert!(rt; is_done(stored));
+    assert_eq!(rt;
+        white_at(&rt, &mut book, &position, White)?,
+        Mask::of(0x2004)
+    );
+    Ok(())
+}
+
+/// A bridge from b1 to the edge does not need a1, nor does the move that makes it.
+#[test]
+fn a_link_and_a_move(rt: HostRuntime) -> Result<(), Fail> {
+    let empty = board(2, 2, 0)?;
+    let position = board(2, 2, 0x2)?;
+    let b1 = cell_of(&empty, 1)?;
+    let mut book = Book::with_slots(rt.alloc(), 2).or(Err("memory"))?;
+    let mut set = LinkSet::new(rt.alloc(), &position, Black).or(Err("memory"))?;
+    assert!(rt; is_done(linked(&rt, Place::Wider, &mut book, &mut set, White)?));
+    assert_eq!(rt; white_at(&rt, &mut book, &position, White)?, Mask::of(0x1));
+    let stored = moved(&rt, rt.alloc(), Place::Wider, &mut book, &empty, Black, b1)?;
+    assert!(rt; is_done(stored));
+    assert_eq!(rt; white_at(&rt, &mut book, &empty, Black)?, Mask::of(0x1));
+    Ok(())
+}
+
+/// On one row Black's answers to a1 and b1, each by the other, do not need c1.
+#[test]
+fn each_answer(rt: HostRuntime) -> Result<(), Fail> {
+    let position = board(1, 3, 0)?;
+    let a1 = cell_of(&position, 0)?;
+    let b1 = cell_of(&position, 1)?;
+    let mut book = Book::with_slots(rt.alloc(), 5).or(Err("memory"))?;
+    let set = LinkSet::new(rt.alloc(), &position, Black).or(Err("memory"))?;
+    assert!(rt; is_missing(widen_all(&rt, &mut book, &set, &[])));
+    answered(&rt, rt.alloc(), Place::Wider, &mut book, &position, a1, b1)?;
+    answered(&rt, rt.alloc(), Place::Wider, &mut book, &position, b1, a1)?;
+    assert!(rt; is_done(widen_all(&rt, &mut book, &set, &[])));
+    assert_eq!(rt; white_at(&rt, &mut book, &position, White)?, Mask::of(0x4));
+    Ok(())
+}
+
+/// Two threats that share no cell need no answer, and no third cell.
+#[test]
+fn threats_alone(rt: HostRuntime) -> Result<(), Fail> {
+    let position = board(1, 3, 0)?;
+    let mut book = Book::with_slots(rt.alloc(), 1).or(Err("memory"))?;
+    let mut set = LinkSet::new(rt.alloc(), &position, Black).or(Err("memory"))?;
+    reach(&mut set, White).or(Err("memory"))?;
+    assert!(rt; is_done(widen_all(&rt, &mut book, &set, &[])));
+    assert_eq!(rt; white_at(&rt, &mut book, &position, White)?, Mask::of(0x4));
+    Ok(())
+}
