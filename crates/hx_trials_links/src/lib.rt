@@ -8,14 +8,28 @@
 #[cfg(test)]
 mod closed;
 #[cfg(test)]
+mod closings;
+#[cfg(test)]
+mod fill_steps;
+#[cfg(test)]
 mod fills;
+#[cfg(test)]
+mod links_kept;
+#[cfg(test)]
+mod made;
 #[cfg(test)]
 mod musts;
 #[cfg(test)]
 mod plain_sets;
 #[cfg(test)]
+mod reaches;
+#[cfg(test)]
 mod runs_of_sets;
 #[cfg(test)]
 mod tests;
 #[cfg(test)]
+mod threats_chosen;
+#[cfg(test)]
 mod unders;
+#[cfg(test)]
+mod winners_kept;
