@@ -21,6 +21,3 @@ pub use mustplay::must;
 pub use musts::Must;
 pub use rounds::fill_in;
 pub use winners_steps::steps_for;
-
-#[cfg(test)]
-mod tests;

@@ -19,6 +19,3 @@ pub use derivations::Derived;
 pub use fulls::{FullIter, FullLink};
 pub use pairs::PairIter;
 pub use sets::{Added, LinkSet, MOST_LINKS};
-
-#[cfg(test)]
-mod tests;

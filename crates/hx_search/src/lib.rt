@@ -24,8 +24,3 @@ pub use closures::{Closure, close};
 pub use decisions::{Reached, decided};
 pub use reaches::{reach, reach_with};
 pub use workspaces::Workspace;
-
-#[cfg(test)]
-mod reach_tests;
-#[cfg(test)]
-mod tests;
