@@ -1,31 +1,20 @@
 //! The calls beside the plain programs.
 
-ghost use Rattle.std.specs.Prelude.{IfOk};
 ghost use Rattle.hx_fill.specs.Fills.{AreDeadOrPairs};
 
 use super::closed::{is_closed, live_links};
 use super::fills::{filled, filled_for, has_nothing_to_fill};
+use super::made::{Plan, filled_in, new_set, step_of};
 use super::musts::{shared_by, shared_by_all};
 use super::unders::{are_by_order, are_under};
 use hx_board::{Cell, Colour, Mask, Position, Size, Vertex};
-use hx_fill::{Filled, fill_in, must, steps_for};
-use hx_link::{Parts, Step};
+use hx_fill::{Filled, must, steps_for};
 use hx_linkset::{Added, LinkSet};
 use hx_samples::{Draws, numbered};
 use hx_search::{Closure, close};
-use smallvec::SmallVec;
-use std::alloc::{AllocError, Global};
+use std::alloc::Global;
 use std::process::Abort;
 use std::test::Fail;
-
-fn filled_in(alloc: Global, position: &Position) -> Result<Filled, Fail>
-    ensures { IfOk result (λ filled. AreDeadOrPairs filled.steps.items) }
-{
-    match fill_in(alloc, position) {
-        Ok(filled) => Ok(filled),
-        Err(_) => Err("memory".into()),
-    }
-}
 
 /// The steps for a winner lead to the same position.
 fn compare_steps(
@@ -51,13 +40,6 @@ fn compare_fill_in(rt: &impl Abort, alloc: Global, position: &Position) -> Resul
     assert_eq!(rt; plain, Some(found.position), "{position:?}");
     compare_steps(rt, alloc, position, &found, Colour::Black)?;
     compare_steps(rt, alloc, position, &found, Colour::White)
-}
-
-fn new_set(alloc: Global, position: &Position, player: Colour) -> Result<LinkSet, Fail> {
-    match LinkSet::new(alloc, position, player) {
-        Ok(set) => Ok(set),
-        Err(_) => Err("memory".into()),
-    }
 }
 
 /// The set is closed by `close`, and is so by the plain program too.
@@ -148,25 +130,6 @@ fn drawn_positions(rt: HostRuntime) -> Result<(), Fail> {
         }
     }
     Ok(())
-}
-
-/// What a step is made of.
-#[derive(Clone, Copy)]
-enum Plan {
-    Base(Vertex, Vertex),
-    Cell(u32, u32),
-    Or(u32, u32),
-}
-
-fn step_of(alloc: Global, plan: Plan) -> Result<Step, AllocError> {
-    match plan {
-        Plan::Base(a, b) => Ok(Step::Base { a, b }),
-        Plan::Cell(left, right) => Ok(Step::AndCell { left, right }),
-        Plan::Or(left, right) => {
-            let parts = Parts::new(SmallVec::from_slice(alloc, &[left, right])?);
-            Ok(Step::Or { parts })
-        }
-    }
 }
 
 /// The steps of examples/overlapping-threats.hextree. Links 8 and 14 join the two sides, on a1, b1 and a2, and on b1, a2 and b2.
