@@ -1,9 +1,10 @@
 //! What the moves out of focus count.
 //!
 //! A turn looks at the first of its moves alone, but each of them has to be refuted before the player to move has lost. So those out of
-//! focus count too, four of them as one move that is as easy to refute as can be: a turn with many moves looks harder to refute than one
-//! with few. On fourteen openings of 7 by 7 this takes a tenth of the units off, and after b7 nearly a half; on harder positions it
-//! changes little. To count them as more takes more off the fourteen, and makes harder positions harder.
+//! focus count too, five of them as one move that is as easy to refute as can be: a turn with many moves looks harder to refute than one
+//! with few. On hard openings of 7 by 7, as a5, a6, b4 and g4, this takes a fifth to a quarter of the units off. The openings of 6 by 6 take
+//! a twelfth more, and 8 by 8 after d5 two fifths more. To count six or eight as one brings about as much; with two as one a search after
+//! g4 takes more units than where they do not count.
 
 ghost use Rattle.std.specs.Prelude.{IfSome};
 ghost use Rattle.hx_pn.specs.Numbers.{IsNumbers};
@@ -12,7 +13,7 @@ use hx_board::CELLS;
 use hx_pn::{INF, Numbers};
 
 /// So many moves count as one.
-const AS_ONE: usize = 4;
+const AS_ONE: usize = 5;
 
 /// The numbers of one move that counts as much as so many moves out of focus. No delta is higher, so no turn goes down to it.
 pub(crate) fn rest(out_of_focus: usize) -> Option<Numbers>
