@@ -2,7 +2,7 @@
 //!
 //! A turn looks at the first of its moves alone, but each of them has to be refuted before the player to move has lost. So those out of
 //! focus count too, five of them as one move that is as easy to refute as can be: a turn with many moves looks harder to refute than one
-//! with few. On 7 by 7 after a5, a6, b4 and g4 together this takes an eighth of the units off; but the openings of 6 by 6 take a twelfth
+//! with few. On 7 by 7 after a5, a6, b4 and g4 together this takes a sixth of the units off; but the openings of 6 by 6 take a twelfth
 //! more, and 8 by 8 after d5 two fifths more. With six as one it is much the same, and with two as one a search after g4 takes more units
 //! than where these moves do not count.
 
