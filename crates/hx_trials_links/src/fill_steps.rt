@@ -2,7 +2,7 @@
 
 use super::made::{cell, filled_in};
 use hx_board::Colour::{Black, White};
-use hx_board::{Position, Size};
+use hx_board::{Mask, Position, Size};
 use hx_fill::{Fill, steps_for};
 use hx_inferior::FillStep;
 use std::test::Fail;
@@ -12,7 +12,8 @@ use std::test::Fail;
 #[test]
 fn a_pair_is_filled(rt: HostRuntime) -> Result<(), Fail> {
     let size = Size::new(2, 2).ok_or("size")?;
-    let position = Position::empty(size).with(Black, cell(0, 1)?);
+    let b1 = Mask::of(0x2);
+    let position = Position::from_masks(size, b1, Mask::empty()).ok_or("position")?;
     let filled = filled_in(rt.alloc(), &position)?;
     let (a2, b2) = (cell(1, 0)?, cell(1, 1)?);
     let step = FillStep::Pair(a2, b2);
