@@ -1,11 +1,13 @@
 -- The laws of positions.
-use Rattle.std.proofs.Common.{◌≡◌, ◌≢◌, ℕ, ◌^◌, ◌<◌, Bool, true, false, refl, sym, ap, ◌∙◌, subst, ⊎_elim, arith, ◌↔◌}
+use Rattle.std.proofs.Common.{◌≡◌, ◌≢◌, ℕ, if◌then◌else◌, ◌^◌, ◌<◌, Bool, true, false, refl, sym, ap, ◌∙◌, subst, ⊎_elim, arith, ◌↔◌}
+use Rattle.std.specs.declared.option.Option.TheVariants.{None, Some}
+use Rattle.std.specs.Prelude.{is_some}
 use Rattle.std.proofs.lemmas.Bool.{false≢true}
 use Rattle.hx_board.specs.Sets.{has, insert, remove, union, difference, IsSubset, ShareNone}
 use Rattle.hx_board.specs.Cells.{Extent, OnBoard}
 use Rattle.hx_board.specs.declared.colours.Colour.{Colour}
 use Rattle.hx_board.specs.declared.colours.Colour.TheVariants.{Black, White}
-use Rattle.hx_board.specs.Positions.{Board, IsBoard, IsPosition, IsEmpty, put, lifted}
+use Rattle.hx_board.specs.Positions.{Board, IsBoard, IsPosition, IsEmpty, put, lifted, stone_at}
 use Rattle.hx_board.proofs.SetLaws.{has-empty, has-insert_cases, has-union_left, has-union_right, has-union_cases, has-difference_left, has-difference_right, has-difference_both, is_false, set-small, remove-absent, remove-insert}
 use Rattle.hx_board.proofs.CellLaws.{on_board-small}
 
@@ -89,3 +91,18 @@ board-small board is = (
   where
     within : (n : ℕ) → OnBoard board.size n → n < 128
     within n on = let small : n < 121 = on_board-small board.size n is.0 on in omega arith
+
+-- ---- a cell without a stone
+
+without : (b w : Bool) → is_some (if b then Some Black else (if w then Some White else None)) ≡ false → (b ≡ false) × (w ≡ false)
+without true w h = absurd (false≢true (sym h))
+without false true h = absurd (false≢true (sym h))
+without false false h = (refl, refl)
+
+pub empty-without_stone : (board : Board) (cell : ℕ) → OnBoard board.size cell → is_some (stone_at board cell) ≡ false → IsEmpty board cell
+empty-without_stone board cell on_board none =
+    let both = without (has board.black cell) (has board.white cell) none in
+    record { on_board = on_board; no_black = both.0; no_white = both.1 }
+
+pub without_stone-empty : (board : Board) (cell : ℕ) → IsEmpty board cell → is_some (stone_at board cell) ≡ false
+without_stone-empty board cell empty = rw (empty.no_black, empty.no_white) refl

@@ -1,7 +1,5 @@
 -- A round: cell by cell it either fills something, or the cell is settled on the board of its start, which is then still the board.
-use Rattle.std.proofs.Common.{◌≡◌, ℕ, if◌then◌else◌, zero, suc, ◌+◌, ◌<◌, Bool, true, false, List, [], ◌∷◌, ◌++◌, length, length-append, append_assoc, refl, sym, ap, ◌∙◌, subst, ◌⊎◌, inl, inr, ⊎_elim, arith, ◌↔◌}
-use Rattle.std.specs.declared.option.Option.TheVariants.{None, Some}
-use Rattle.std.specs.Prelude.{is_some}
+use Rattle.std.proofs.Common.{◌≡◌, ℕ, zero, suc, ◌+◌, ◌<◌, Bool, true, false, List, [], ◌∷◌, ◌++◌, length, length-append, append_assoc, refl, sym, ap, ◌∙◌, subst, ◌⊎◌, inl, inr, ⊎_elim, arith, ◌↔◌}
 use Rattle.std.proofs.lemmas.Bool.{false≢true}
 use Rattle.std.proofs.lemmas.List.{append-nil}
 use Rattle.std.proofs.lemmas.List.Elements.{All-nil, All-append, All-push}
@@ -10,7 +8,7 @@ use Rattle.hx_board.specs.declared.colours.Colour.TheVariants.{Black, White}
 use Rattle.hx_board.specs.Sets.{has, remove}
 use Rattle.hx_board.specs.Cells.{OnBoard}
 use Rattle.hx_board.specs.Colours.{other_of}
-use Rattle.hx_board.specs.Positions.{Board, IsBoard, IsEmpty, stone_at}
+use Rattle.hx_board.specs.Positions.{Board, IsBoard, IsEmpty}
 use Rattle.hx_board.specs.Counts.{empty_count}
 use Rattle.hx_board.proofs.SetLaws.{has-empty, removed_cases}
 use Rattle.hx_inferior.specs.declared.fills.FillStep.TheVariants.{Dead, Pair}
@@ -158,21 +156,6 @@ module _ (player : Colour) (board next : Board) (fills more : List Fill) (adds :
       by_cases true false when tells not = rw (round-none player board next fills more adds (tells refl)).0 (one_less (empty_count board))
       by_cases false true when tells not = less_and_one (empty_count next) (empty_count board) (fewer when)
       by_cases false false when tells not = less_both (empty_count next) (empty_count board) (fewer when)
-
--- ---- a cell without a stone
-
-without : (b w : Bool) → is_some (if b then Some Black else (if w then Some White else None)) ≡ false → (b ≡ false) × (w ≡ false)
-without true w h = absurd (false≢true (sym h))
-without false true h = absurd (false≢true (sym h))
-without false false h = (refl, refl)
-
-pub empty-without_stone : (board : Board) (cell : ℕ) → OnBoard board.size cell → is_some (stone_at board cell) ≡ false → IsEmpty board cell
-empty-without_stone board cell on_board none =
-    let both = without (has board.black cell) (has board.white cell) none in
-    record { on_board = on_board; no_black = both.0; no_white = both.1 }
-
-pub without_stone-empty : (board : Board) (cell : ℕ) → IsEmpty board cell → is_some (stone_at board cell) ≡ false
-without_stone-empty board cell empty = rw (empty.no_black, empty.no_white) refl
 
 -- ---- the answer of `fill_at`
 

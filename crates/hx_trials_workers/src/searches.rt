@@ -41,7 +41,7 @@ pub(crate) struct Searched {
 }
 
 /// Counts of one worker.
-fn counts_of(alloc: Global, budget: u64) -> Result<(Counts, CountSeat), Fail>
+pub(crate) fn counts_of(alloc: Global, budget: u64) -> Result<(Counts, CountSeat), Fail>
     requires { budget ≤ 2 ^ 40 }
     ensures made { IfOk result (λ m. m.1.made ≡ m.0) }
     ensures words { IfOk result (λ m. m.0.limits.words ≡ 4096) }

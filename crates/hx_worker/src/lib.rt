@@ -31,6 +31,3 @@ mod workers;
 pub use ended::Ended;
 pub use jobs::{Job, work};
 pub use replies::Replies;
-
-#[cfg(test)]
-mod tests;

@@ -1,10 +1,10 @@
 //! What the moves out of focus count.
 //!
 //! A turn looks at the first of its moves alone, but each of them has to be refuted before the player to move has lost. So those out of
-//! focus count too, five of them as one move that is as easy to refute as can be: a turn with many moves looks harder to refute than one
-//! with few. On 7 by 7 after a5, a6, b4 and g4 together this takes a sixth of the units off; but the openings of 6 by 6 take a twelfth
-//! more, and 8 by 8 after d5 two fifths more. With six as one it is much the same, and with two as one a search after g4 takes more units
-//! than where these moves do not count.
+//! focus count too, five of them as one move that is as easy to refute as can be, to the nearest: a turn with many moves looks harder to
+//! refute than one with few. On 7 by 7 after a5, a6, b4 and g4 together this takes a fifth of the units off; but after e6 they are a
+//! quarter more, the openings of 6 by 6 take a tenth more, and 8 by 8 after d5 a sixth more. Other numbers than five, and
+//! other roundings, were tried: most take up to a quarter more after g4.
 
 ghost use Rattle.std.specs.Prelude.{IfSome};
 ghost use Rattle.hx_pn.specs.Numbers.{IsNumbers};
@@ -19,7 +19,7 @@ const AS_ONE: usize = 5;
 pub(crate) fn rest(out_of_focus: usize) -> Option<Numbers>
     ensures { IfSome result IsNumbers }
 {
-    let phi = out_of_focus.min(CELLS) / AS_ONE;
+    let phi = (out_of_focus.min(CELLS) + AS_ONE / 2) / AS_ONE;
     if phi == 0 {
         None
     } else {

@@ -1,7 +1,8 @@
 use Rattle.std.proofs.Common.{sym, ◌∙◌}
 use Rattle.std.proofs.lemmas.Bool.{false≢true}
 use Rattle.hx_board.proofs.SetLaws.{remove-lt}
-use Rattle.hx_fill.proofs.RoundLaws.{grown-looks, round_looks, round_passes, round_ends, empty-without_stone, without_stone-empty}
+use Rattle.hx_board.proofs.PositionLaws.{empty-without_stone, without_stone-empty}
+use Rattle.hx_fill.proofs.RoundLaws.{grown-looks, round_looks, round_passes, round_ends}
 use Rattle.hx_fill.proofs.rounds.fill_round.Goals as goal
 
 pub loop-cell-smaller-in-Continue-1 : goal.loop-cell-smaller-in-Continue-1
