@@ -6,10 +6,5 @@ pub mod CellLines
 pub mod GatheredLines
 pub mod MoveNodes
 pub mod FillNodes
-pub mod LackingLaws
-pub mod MissingStones
-pub mod TurnedEntries
 pub mod LinkNodes
 pub mod AllNodes
-pub mod KnownEntries
-pub mod WideLaws

@@ -1,5 +1,3 @@
 pub mod Stored
 pub mod Missing
 pub mod Lines
-pub mod Wide
-pub mod Inner

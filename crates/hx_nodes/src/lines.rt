@@ -87,8 +87,8 @@ fn line_for<P: Proofs, R: Wait>(
     })
 }
 
-/// The line of these that is for a cell.
-pub(crate) fn line_among(lines: &[Line], cell: Cell) -> Option<Line>
+/// The line of these that is for a cell. None where there is none.
+pub fn line_among(lines: &[Line], cell: Cell) -> Option<Line>
     ensures { MatchOption result
         (¬ Contains (cells_of lines.now) cell)
         (λ line. Contains lines.now line × (cell_of line ≡ cell)) }

@@ -26,8 +26,9 @@ pub enum Stored {
     Memory,
 }
 
-/// Stores a right node.
-pub(crate) fn store<P: Proofs, R: Wait>(rt: &R, proofs: &mut P, node: Node) -> Stored
+/// Stores a right node. Done where the list of proofs has an entry of its position and mover then, be it this node or an earlier
+/// one; Refused where no slot is left.
+pub fn store<P: Proofs, R: Wait>(rt: &R, proofs: &mut P, node: Node) -> Stored
     requires { IsRightNode (headings_of (P.list proofs.old)) node }
     ensures slots { P.slots proofs.new ≡ P.slots proofs.old }
     ensures over { P.over proofs.new ≡ P.over proofs.old }

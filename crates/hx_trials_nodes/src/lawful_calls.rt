@@ -4,11 +4,9 @@ use hx_board::{Cell, Colour, Position, chain};
 use hx_book::Book;
 use hx_fill::fill_in;
 use hx_linkset::LinkSet;
-use hx_nodes::{
-    Stored, store_chain, store_fill, store_links, store_move, widen_chain, widen_fill, widen_links,
-    widen_move,
-};
+use hx_nodes::{Stored, store_chain, store_fill, store_links, store_move};
 use hx_search::{Reached, decided, reach};
+use hx_wide::{widen_chain, widen_fill, widen_links, widen_move};
 use std::alloc::Global;
 use std::sync::Wait;
 use std::test::Fail;

@@ -7,8 +7,8 @@ use hx_board::Colour::{Black, White};
 use hx_board::{Colour, Mask, Position};
 use hx_book::Book;
 use hx_linkset::LinkSet;
-use hx_nodes::{look_wider_either, store_wider, widen_all, widen_turned};
 use hx_search::reach;
+use hx_wide::{look_wider_either, store_wider, widen_all, widen_turned};
 use std::sync::Wait;
 use std::test::Fail;
 

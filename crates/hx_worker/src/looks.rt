@@ -11,8 +11,8 @@ use crate::starts::Turn;
 use hx_board::{Colour, Memory, Position, chain};
 use hx_book::Proofs;
 use hx_linkset::LinkSet;
-use hx_nodes::{widen_chain, widen_links, widen_turned};
 use hx_search::{Reached, Workspace, reach_with};
+use hx_wide::{widen_chain, widen_links, widen_turned};
 use std::sync::Wait;
 
 /// Looks a position and the turned one up, and then tests both players' chains.

@@ -18,8 +18,9 @@ use hx_board::Cell;
 use hx_book::Proofs;
 use hx_count::Hints;
 use hx_linkset::LinkSet;
-use hx_nodes::{Stored, widen_all, widen_move, widen_turned};
+use hx_nodes::Stored;
 use hx_pn::{INF, Numbers};
+use hx_wide::{widen_all, widen_move, widen_turned};
 use std::alloc::Global;
 use std::sync::Wait;
 

@@ -10,7 +10,8 @@ ghost use Rattle.hx_nodes.specs.Stored.{IsStored};
 
 use hx_board::{CELLS, Cell, Colour, Position};
 use hx_book::Proofs;
-use hx_nodes::{Stored, store_move, store_wider};
+use hx_nodes::{Stored, store_move};
+use hx_wide::store_wider;
 use std::alloc::Global;
 use std::sync::Wait;
 

@@ -21,10 +21,11 @@ use hx_book::Proofs;
 use hx_count::CountSeat;
 use hx_io::Gate;
 use hx_linkset::LinkSet;
-use hx_nodes::{Stored, look_wider_either};
+use hx_nodes::Stored;
 use hx_pn::{INF, Numbers};
 use hx_search::Workspace;
 use hx_turn::Orientations;
+use hx_wide::look_wider_either;
 use std::alloc::Global;
 use std::sync::Wait;
 

@@ -28,8 +28,8 @@ use hx_count::{CountSeat, Hints};
 use hx_fill::{Filled, fill_in};
 use hx_io::Gate;
 use hx_linkset::LinkSet;
-use hx_nodes::widen_fill;
 use hx_search::Workspace;
+use hx_wide::widen_fill;
 use std::alloc::Global;
 use std::sync::Wait;
 

@@ -14,7 +14,7 @@ use crate::outcomes::{Outcome, outcome_of};
 use crate::starts::Turn;
 use hx_board::{Cell, Mask};
 use hx_book::Proofs;
-use hx_nodes::widen_move;
+use hx_wide::widen_move;
 use std::alloc::Global;
 use std::sync::Wait;
 

@@ -1,0 +1,6 @@
+pub mod LackingLaws
+pub mod MissingStones
+pub mod TurnedEntries
+pub mod KnownEntries
+pub mod KnownFills
+pub mod WideLaws

@@ -1,0 +1,8 @@
+use Rattle.hx_nodes.proofs.GrowingLists.{extends-on}
+use Rattle.hx_wide.proofs.chains.widen_chain.Goals as goal
+
+pub returns-in-Some-clause-seen : goal.returns-in-Some-clause-seen
+returns-in-Some-clause-seen g c = extends-on _ _ _ c.chain_wide-tried.ensures.seen c.end_of.ensures.seen
+
+pub returns-clause-seen : goal.returns-clause-seen
+returns-clause-seen g c = extends-on _ _ _ (extends-on _ _ _ c.chain_wide-tried.ensures.seen c.end_of.ensures.seen) c.store_chain.ensures.seen

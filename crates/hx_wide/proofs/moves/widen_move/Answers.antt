@@ -1,0 +1,49 @@
+use Rattle.hx_tree.specs.Entries.{Extends}
+use Rattle.hx_nodes.specs.Missing.{LacksMove}
+use Rattle.hx_wide.specs.Missing.{WasUnserved, LacksServedMove}
+use Rattle.hx_nodes.proofs.GrowingLists.{extends-on, missing-too}
+use Rattle.hx_wide.proofs.LackingLaws.{unserved_move-earlier, lacks_move-earlier}
+use Rattle.hx_wide.proofs.WideLaws.{stored_wide}
+use Rattle.hx_wide.proofs.moves.widen_move.Goals as goal
+
+pub returns-in-Done-clause-stored : goal.returns-in-Done-clause-stored
+returns-in-Done-clause-stored g c = stored_wide _ _ _ _ _ c.store_move.ensures.stored
+
+pub returns-in-Done-clause-missing : goal.returns-in-Done-clause-missing
+returns-in-Done-clause-missing g c =
+    let old = g.P.Proofs.list c.args.proofs.now in
+    let ended = g.P.Proofs.list c.end_of.new.proofs in
+    let mid = g.P.Proofs.list c.store_wider.new.proofs in
+    let new = g.P.Proofs.list c.store_move.new.proofs in
+    let grown : Extends ended old = extends-on _ _ _ c.move_wide-tried.ensures.seen c.end_of.ensures.seen in
+    missing-too (LacksMove mid new c.args.position.now c.args.to_move c.args.cell) (LacksServedMove old new c.args.position.now c.args.to_move c.args.cell) c.store_move.result
+    (lacks_move-earlier old mid new (extends-on old ended mid grown c.store_wider.ensures.seen) c.args.position.now c.args.to_move c.args.cell)
+    c.store_move.ensures.missing
+
+pub returns-in-Missing-clause-missing : goal.returns-in-Missing-clause-missing
+returns-in-Missing-clause-missing g c =
+    let old = g.P.Proofs.list c.args.proofs.now in
+    let ended = g.P.Proofs.list c.end_of.new.proofs in
+    let new = g.P.Proofs.list c.store_wider.new.proofs in
+    let was : WasUnserved ended new c.with-next.result c.other.result c.args.to_move = c.in-Missing.ensures.missing in
+    unserved_move-earlier old ended new (extends-on _ _ _ c.move_wide-tried.ensures.seen c.end_of.ensures.seen) c.args.position.now c.args.to_move c.args.cell
+    (rw (c.with-next.ensures, c.other.ensures) at was)
+
+pub returns-in-Some-clause-seen : goal.returns-in-Some-clause-seen
+returns-in-Some-clause-seen g c = extends-on _ _ _ c.move_wide-tried.ensures.seen c.end_of.ensures.seen
+
+pub returns-in-Refused-clause-seen : goal.returns-in-Refused-clause-seen
+returns-in-Refused-clause-seen g c =
+    extends-on _ _ _ (extends-on _ _ _ c.move_wide-tried.ensures.seen c.end_of.ensures.seen) c.store_wider.ensures.seen
+
+pub returns-in-Missing-clause-seen : goal.returns-in-Missing-clause-seen
+returns-in-Missing-clause-seen g c =
+    extends-on _ _ _ (extends-on _ _ _ c.move_wide-tried.ensures.seen c.end_of.ensures.seen) c.store_wider.ensures.seen
+
+pub returns-in-Memory-clause-seen : goal.returns-in-Memory-clause-seen
+returns-in-Memory-clause-seen g c =
+    extends-on _ _ _ (extends-on _ _ _ c.move_wide-tried.ensures.seen c.end_of.ensures.seen) c.store_wider.ensures.seen
+
+pub returns-in-Done-clause-seen : goal.returns-in-Done-clause-seen
+returns-in-Done-clause-seen g c =
+    extends-on _ _ _ (extends-on _ _ _ (extends-on _ _ _ c.move_wide-tried.ensures.seen c.end_of.ensures.seen) c.store_wider.ensures.seen) c.store_move.ensures.seen

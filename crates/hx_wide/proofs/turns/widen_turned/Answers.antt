@@ -1,0 +1,71 @@
+use Rattle.std.proofs.Common.{inl, inr, ⊎_elim, subst}
+use Rattle.hx_tree.specs.Entries.{Extends}
+use Rattle.hx_book.specs.EitherEntry.{IsNeitherFound}
+use Rattle.hx_book.specs.WiderEntry.{IsWiderFound}
+use Rattle.hx_nodes.specs.declared.stored.Stored.{Stored}
+use Rattle.hx_wide.specs.Missing.{WasUnservedByEach}
+use Rattle.hx_nodes.specs.Stored.{MissingFor, HadMemory}
+use Rattle.hx_nodes.proofs.GrowingLists.{extends-same, extends-on}
+use Rattle.hx_wide.proofs.LackingLaws.{unserved_by_each-within}
+use Rattle.hx_wide.proofs.TurnedEntries.{either_there, clash}
+use Rattle.hx_wide.proofs.turns.widen_turned.Goals as goal
+
+pub returns-in_default-look_wider_either-clause-missing : goal.returns-in_default-look_wider_either-clause-missing
+returns-in_default-look_wider_either-clause-missing g c =
+    let old = g.P.Proofs.list c.args.proofs.now in
+    let mid = g.P.Proofs.list c.end_of.new.proofs in
+    let new = g.P.Proofs.list c.look_wider_either.new.proofs in
+    let here : WasUnservedByEach old mid c.args.position.now c.args.to_move = c.in_default.ensures.none in
+    let turned : WasUnservedByEach mid new c.turned-other.result c.args.to_move = c.in_default-look_wider_either.ensures.none in (
+      unserved_by_each-within old old mid new c.args.position.now c.args.to_move (extends-same old) c.look_wider_either.ensures.seen here,
+      inl (record {
+        turned = c.turned-other.result;
+        is_turned = c.turned-other.ensures.turned;
+        unserved = unserved_by_each-within old mid new new c.turned-other.result c.args.to_move c.end_of.ensures.seen (extends-same new) turned;
+      }),
+    )
+
+pub unreachable-requires : goal.unreachable-requires
+unreachable-requires g c =
+    let list = g.P.Proofs.list c.look_wider_either.new.proofs in
+    let new = g.P.Proofs.list c.store_turned.new.proofs in
+    let wider = c.in-Some-look_wider_either.wider in
+    let wide = c.turned-wide.result in
+    let found : IsWiderFound list c.turned-other.result c.args.to_move wider.found.winner wider = c.in-Some-look_wider_either.ensures.found in
+    let Cause : Type 0 = IsNeitherFound list new wide c.args.to_move in
+    ⊎_elim
+    (λ missing. either_there list c.args.position.now c.turned-other.result c.args.to_move wider found new wide c.store_turned.ensures.seen c.turned-wide.ensures.back
+    (subst (λ (stored : Stored). MissingFor Cause stored) missing c.store_turned.ensures.missing))
+    (λ memory. subst (λ (stored : Stored). HadMemory stored) memory c.store_turned.ensures.memory)
+    c.in-Missing.is
+
+pub returns-in-None-clause-missing : goal.returns-in-None-clause-missing
+returns-in-None-clause-missing g c =
+    let old = g.P.Proofs.list c.args.proofs.now in
+    let before = g.P.Proofs.list c.end_of.new.proofs in
+    let list = g.P.Proofs.list c.look_wider_either.new.proofs in
+    let mid = g.P.Proofs.list c.store_turned.new.proofs in
+    let new = g.P.Proofs.list c.look_wider_either-in-Done.new.proofs in
+    let wider = c.in-Some-look_wider_either.wider in
+    let found : IsWiderFound list c.turned-other.result c.args.to_move wider.found.winner wider = c.in-Some-look_wider_either.ensures.found in
+    let unserved : WasUnservedByEach mid new c.args.position.now c.args.to_move = c.in-None.ensures.none in
+    let grown : Extends mid old = extends-on old before mid c.end_of.ensures.seen (extends-on before list mid c.look_wider_either.ensures.seen c.store_turned.ensures.seen) in (
+      unserved_by_each-within old mid new new c.args.position.now c.args.to_move grown (extends-same new) unserved,
+      inr (clash list c.args.position.now c.turned-other.result c.args.to_move wider found mid new c.turned-wide.result c.size-size.ensures.valid
+          c.turned-other.ensures.turned c.turned-wide.ensures.turned c.store_turned.ensures.seen c.look_wider_either-in-Done.ensures.seen c.in-Done.ensures.stored unserved),
+    )
+
+pub returns-in_default-look_wider_either-clause-seen : goal.returns-in_default-look_wider_either-clause-seen
+returns-in_default-look_wider_either-clause-seen g c = extends-on _ _ _ c.end_of.ensures.seen c.look_wider_either.ensures.seen
+
+pub returns-in-Refused-clause-seen : goal.returns-in-Refused-clause-seen
+returns-in-Refused-clause-seen g c =
+    extends-on _ _ _ (extends-on _ _ _ c.end_of.ensures.seen c.look_wider_either.ensures.seen) c.store_turned.ensures.seen
+
+pub returns-in-None-clause-seen : goal.returns-in-None-clause-seen
+returns-in-None-clause-seen g c =
+    extends-on _ _ _ (extends-on _ _ _ (extends-on _ _ _ c.end_of.ensures.seen c.look_wider_either.ensures.seen) c.store_turned.ensures.seen) c.look_wider_either-in-Done.ensures.seen
+
+pub returns-in-Some-look_wider_either-2-clause-seen : goal.returns-in-Some-look_wider_either-2-clause-seen
+returns-in-Some-look_wider_either-2-clause-seen g c =
+    extends-on _ _ _ (extends-on _ _ _ (extends-on _ _ _ c.end_of.ensures.seen c.look_wider_either.ensures.seen) c.store_turned.ensures.seen) c.look_wider_either-in-Done.ensures.seen

@@ -1,0 +1,241 @@
+//! Proofs that whichever move the opponent makes, a player wins after it. They need the carriers of the threats, what some proofs
+//! after moves of the opponent's need, so chosen that each other move is outside one of them, and the cells of the lines that name
+//! a better cell.
+
+ghost use Rattle.std.specs.Prelude.{◌≡◌, IfSome};
+ghost use Rattle.hx_board.specs.Colours.{other_of};
+ghost use Rattle.hx_tree.specs.Entries.{Extends};
+ghost use Rattle.hx_nodes.specs.Missing.{LacksAnswers};
+ghost use Rattle.hx_nodes.specs.Stored.{MissingFor};
+ghost use Rattle.hx_wide.specs.Wide.{IsTrueRefusal, IsStoredWide};
+
+use crate::known::{Known, store_known};
+use crate::lines::{lines_at, needed_by};
+use crate::widened::widened;
+use crate::wider::{end_of, store_wider};
+use hx_board::{CELLS, Cell, Colour, Mask, Memory, Position};
+use hx_book::Proofs;
+use hx_fill::{Must, must};
+use hx_linkset::LinkSet;
+use hx_nodes::{Stored, store_all};
+use hx_tree::{Heading, Line, Lines, Node, Rule, Threats};
+use std::alloc::Global;
+use std::sync::Wait;
+
+/// What the proofs after the opponent's moves to these cells need. A move outside what another's proof needs is answered by that.
+/// None where a move has no answer.
+fn needed_after<P: Proofs, R: Wait>(
+    rt: &R,
+    proofs: &mut P,
+    position: &Position,
+    winner: Colour,
+    cells: Mask,
+) -> Option<Mask>
+    ensures slots { P.slots proofs.new ≡ P.slots proofs.old }
+    ensures over { P.over proofs.new ≡ P.over proofs.old }
+    ensures seen { Extends (P.list proofs.new) (P.list proofs.old) }
+{
+    let size = position.size();
+    let mut needed = Mask::empty();
+    let mut left = cells.meet(position.empties());
+    for _ in 0..CELLS {
+        let Some(cell) = left.least(size) else {
+            break;
+        };
+        let Some(empties) = empties_after(rt, proofs, position, winner, cell) else {
+            return None;
+        };
+        needed = needed.union(empties);
+        left = left.without(cell).meet(empties);
+    }
+    Some(needed)
+}
+
+/// The empty cells of the entry that serves the position after the opponent's move to a cell.
+fn empties_after<P: Proofs, R: Wait>(
+    rt: &R,
+    proofs: &mut P,
+    position: &Position,
+    winner: Colour,
+    cell: Cell,
+) -> Option<Mask>
+    ensures slots { P.slots proofs.new ≡ P.slots proofs.old }
+    ensures over { P.over proofs.new ≡ P.over proofs.old }
+    ensures seen { Extends (P.list proofs.new) (P.list proofs.old) }
+{
+    let is_empty = position.empties().has(cell);
+    if !is_empty {
+        return None;
+    }
+    let next = position.with(winner.other(), cell);
+    match proofs.look_wider(rt, &next, winner, winner) {
+        Some(wider) => Some(wider.position.empties()),
+        None => None,
+    }
+}
+
+/// The cells without those of these lines.
+fn without_lines(cells: Mask, lines: &[Line]) -> Mask {
+    let mut left = cells;
+    for line in lines {
+        left = left.without(line.cell());
+    }
+    left
+}
+
+/// What the threats and the lines that name a better cell need.
+fn needed_at_once(set: &LinkSet, threats: &[u32], under: &[Line]) -> Mask {
+    let mut needed = Mask::empty();
+    for threat in threats {
+        needed = needed.union(set.carrier(*threat));
+    }
+    for line in under {
+        needed = needed.union(needed_by(line));
+    }
+    needed
+}
+
+/// The widened position.
+fn position_for<P: Proofs, R: Wait>(
+    rt: &R,
+    proofs: &mut P,
+    set: &LinkSet,
+    found: &Must,
+) -> Option<Position>
+    ensures slots { P.slots proofs.new ≡ P.slots proofs.old }
+    ensures over { P.over proofs.new ≡ P.over proofs.old }
+    ensures seen { Extends (P.list proofs.new) (P.list proofs.old) }
+{
+    let winner = set.colour();
+    let position = set.position();
+    let under = found.under.items();
+    let tried = without_lines(found.cells, under);
+    let Some(after) = needed_after(rt, proofs, position, winner, tried) else {
+        return None;
+    };
+    let needed = after.union(needed_at_once(set, found.threats.items(), under));
+    widened(position, winner, needed)
+}
+
+/// Stores the answers where the opponent has all cells that they do not need.
+fn all_wide<P: Proofs, R: Wait>(
+    rt: &R,
+    proofs: &mut P,
+    set: &LinkSet,
+    order: &[Cell],
+) -> Option<Stored>
+    ensures slots { P.slots proofs.new ≡ P.slots proofs.old }
+    ensures over { P.over proofs.new ≡ P.over proofs.old }
+    ensures seen { Extends (P.list proofs.new) (P.list proofs.old) }
+    ensures refusal { IfSome result (IsTrueRefusal (P.list proofs.new) (P.slots proofs.new)) }
+{
+    let alloc = set.allocator();
+    let winner = set.colour();
+    let Ok(found) = must(set, order) else {
+        return None;
+    };
+    let Some(position) = position_for(rt, proofs, set, &found) else {
+        return None;
+    };
+    let Must {
+        threats,
+        cells,
+        under,
+    } = found;
+    let mut known = Known::new(alloc);
+    let Some(lines) = lines_at(
+        rt,
+        alloc,
+        proofs,
+        &mut known,
+        &position,
+        winner,
+        cells,
+        under.items(),
+    ) else {
+        return None;
+    };
+    let Ok(derived) = set.derivation(threats.items()) else {
+        return None;
+    };
+    let heading = Heading {
+        position,
+        to_move: winner.other(),
+        winner,
+    };
+    let rule = Rule::All {
+        steps: derived.steps,
+        threats: Threats::new(derived.places),
+        lines: Lines::new(lines),
+    };
+    store_known(rt, alloc, proofs, &known, Node { heading, rule })
+}
+
+/// Stores an entry of each position after a move of the opponent's to one of these cells, where an entry that serves it names the
+/// winner. Some where no slot is left for one, or memory is wanting.
+fn store_each<P: Proofs, R: Wait>(
+    rt: &R,
+    alloc: Global,
+    proofs: &mut P,
+    position: &Position,
+    winner: Colour,
+    cells: Mask,
+) -> Option<Stored>
+    ensures slots { P.slots proofs.new ≡ P.slots proofs.old }
+    ensures over { P.over proofs.new ≡ P.over proofs.old }
+    ensures seen { Extends (P.list proofs.new) (P.list proofs.old) }
+    ensures refusal { IfSome result (IsTrueRefusal (P.list proofs.new) (P.slots proofs.new)) }
+{
+    let size = position.size();
+    let mut left = cells.meet(position.empties());
+    for _ in 0..CELLS {
+        let Some(cell) = left.least(size) else {
+            break;
+        };
+        left = left.without(cell);
+        let is_empty = position.empties().has(cell);
+        if !is_empty {
+            break;
+        }
+        let next = position.with(winner.other(), cell);
+        match store_wider(rt, alloc, proofs, &next, winner, winner) {
+            Stored::Refused(refusal) => return Some(Stored::Refused(refusal)),
+            Stored::Memory => return Some(Stored::Memory),
+            Stored::Done | Stored::Missing => {}
+        }
+    }
+    None
+}
+
+/// Stores that a set's player wins with the opponent to move, where entries say so of the positions after the moves that have to be
+/// tried: a proof that serves the position, or one of the position itself. Missing only where the board is full, or no entry of the
+/// position after one of the moves that are to be tried says so.
+pub fn widen_all<P: Proofs, R: Wait>(
+    rt: &R,
+    proofs: &mut P,
+    set: &LinkSet,
+    order: &[Cell],
+) -> Stored
+    ensures slots { P.slots proofs.new ≡ P.slots proofs.old }
+    ensures over { P.over proofs.new ≡ P.over proofs.old }
+    ensures seen { Extends (P.list proofs.new) (P.list proofs.old) }
+    ensures stored { IsStoredWide (P.list proofs.new) (P.slots proofs.new)
+        set.now.present.board (other_of set.now.player) result }
+    ensures missing { MissingFor (LacksAnswers (P.list proofs.old) (P.list proofs.new)
+        set.now order.now) result }
+{
+    let tried = all_wide(rt, proofs, set, order);
+    let to_move = set.colour().other();
+    if let Some(stored) = end_of(rt, proofs, set.position(), to_move, tried) {
+        return stored;
+    }
+    let Ok(found) = must(set, order) else {
+        return Stored::Memory;
+    };
+    let alloc = set.allocator();
+    match store_each(rt, alloc, proofs, set.position(), set.colour(), found.cells) {
+        Some(Stored::Refused(refusal)) => Stored::Refused(refusal),
+        Some(Stored::Memory) => Stored::Memory,
+        _ => store_all(rt, proofs, set, order),
+    }
+}
