@@ -10,7 +10,8 @@ use hx_board::{Colour, Memory, Position};
 use hx_count::{CountSeat, Counts, Hints};
 use hx_io::RealGate;
 use hx_linkset::LinkSet;
-use hx_worker::{Ended, Job, Replies, work};
+use hx_moves::Replies;
+use hx_worker::{Ended, Job, work};
 use std::alloc::Global;
 use std::sync::Wait;
 

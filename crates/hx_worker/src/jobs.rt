@@ -5,13 +5,12 @@ ghost use Rattle.hx_count.specs.Machine.{held_in_all};
 ghost use Rattle.hx_count.specs.Seats.{own};
 ghost use Rattle.hx_tree.specs.Entries.{Extends};
 ghost use Rattle.hx_search.specs.Closed.{IsGrown};
+ghost use Rattle.hx_moves.specs.Keeps.{KeepsSeat};
 ghost use Rattle.hx_worker.specs.Sets.{AreOn};
-ghost use Rattle.hx_worker.specs.Keeps.{KeepsSeat};
 ghost use Rattle.hx_worker.specs.Ends.{IsEnded, IsTried, EndsSpent};
 
 use crate::closing::close_and_end;
 use crate::ended::Ended;
-use crate::replies::Replies;
 use crate::rounds::search;
 use crate::workers::{Worker, ask};
 use hx_board::{Colour, Position};
@@ -19,6 +18,7 @@ use hx_book::Proofs;
 use hx_count::{CountSeat, Counts, Hints};
 use hx_io::Gate;
 use hx_linkset::LinkSet;
+use hx_moves::Replies;
 use std::sync::Wait;
 
 /// What a worker works on, and with.

@@ -9,18 +9,15 @@ ghost use Rattle.hx_count.specs.Machine.{held_in_all};
 ghost use Rattle.hx_count.specs.Seats.{Seat, own as own_account};
 ghost use Rattle.hx_tree.specs.Entries.{Extends};
 ghost use Rattle.hx_fill.specs.Fills.{IsFillIn};
-ghost use Rattle.hx_worker.specs.Keeps.{KeepsSeat, StandsAgain};
+ghost use Rattle.hx_moves.specs.Keeps.{KeepsSeat};
+ghost use Rattle.hx_worker.specs.Keeps.{StandsAgain};
 ghost use Rattle.hx_worker.specs.Outcomes.{IsOutcome};
 
-use crate::children::Moves;
-use crate::focus::{Choice, Down, choose};
+use crate::left_hints::{leave, leave_proved};
 use crate::looks::{by_links, look_up, look_up_filled};
-use crate::losses::{WORDS, loss_word};
-use crate::marks::{leave, leave_proved};
 use crate::outcomes::{Outcome, outcome_of};
 use crate::proved_moves::{all_lose, look_again, look_at_marked, take_in};
 use crate::sets::{put, serves, take_back};
-use crate::starts::{Start, Turn};
 use crate::wide_moves::look_at_all;
 use crate::workers::{Worker, ask};
 use hx_book::Proofs;
@@ -28,6 +25,7 @@ use hx_count::{CountSeat, Hints};
 use hx_fill::{Filled, fill_in};
 use hx_io::Gate;
 use hx_linkset::LinkSet;
+use hx_moves::{Choice, Down, Moves, Start, Turn, WORDS, choose, loss_word};
 use hx_nodes::widen_fill;
 use hx_search::Workspace;
 use std::alloc::Global;
@@ -241,7 +239,7 @@ fn expand<P: Proofs, G: Gate, R: Wait>(
         if let Some(outcome) = look_again(rt, alloc, proofs, worker.hints, turn, &mut moves) {
             return outcome;
         }
-        let down = match choose(worker, seat, alloc, turn, &moves) {
+        let down = match choose(worker.counts, worker.hints, seat, alloc, turn, &moves) {
             Ok(Choice::Down(down)) => down,
             Ok(Choice::Limit(numbers)) => return Outcome::Open(numbers),
             Ok(Choice::AllLose) => return all_lose(rt, proofs, others, &moves),

@@ -3,7 +3,7 @@ use Rattle.hx_count.specs.Machine.{Account, holding, releasing, held_in_all}
 use Rattle.hx_count.specs.Seats.{Seat, own}
 use Rattle.hx_count.proofs.MachineLaws.{held-holding-le, releasing-held}
 use Rattle.hx_nodes.proofs.GrowingLists.{extends-on}
-use Rattle.hx_worker.specs.Keeps.{KeepsSeat}
+use Rattle.hx_moves.specs.Keeps.{KeepsSeat}
 use Rattle.hx_worker.proofs.turns.+search.Goals as goal
 
 -- a word is held, a turn keeps the seat, and the word is released

@@ -5,16 +5,16 @@
 
 ghost use Rattle.std.specs.Prelude.{◌≡◌, ◌<◌};
 ghost use Rattle.hx_pn.specs.Numbers.{IsNumbers};
-ghost use Rattle.hx_worker.specs.Keeps.{KeepsSeat};
+ghost use Rattle.hx_moves.specs.Keeps.{KeepsSeat};
 
 use hx_count::{CountSeat, Counts};
 use hx_pn::{Numbers, worse};
 
 /// How many loss words there are.
-pub(crate) const WORDS: u32 = 4096;
+pub const WORDS: u32 = 4096;
 
 /// The loss word of a position and mover that have this number. It is made of other digits than the word of the hint.
-pub(crate) fn loss_word(number: u64) -> u32
+pub fn loss_word(number: u64) -> u32
     ensures { result < WORDS }
 {
     ((number >> 32) % 4096) as u32
