@@ -10,7 +10,8 @@ use hx_board::{Colour, Memory, Position};
 use hx_count::{CountSeat, Counts, Hints};
 use hx_io::RealGate;
 use hx_linkset::LinkSet;
-use hx_worker::{Ended, Job, Replies, work};
+use hx_moves::{LOSS_WORDS, Replies};
+use hx_worker::{Ended, Job, work};
 use std::alloc::Global;
 use std::sync::Wait;
 
@@ -25,11 +26,11 @@ pub(crate) struct Done {
 /// Counts with one seat.
 fn counted(alloc: Global, budget: u64) -> Result<(Counts, CountSeat), Memory>
     requires { budget ≤ 2 ^ 40 }
-    ensures words { IfOk result (λ made. made.0.limits.words ≡ 4096) }
+    ensures words { IfOk result (λ made. made.0.limits.words ≡ LOSS_WORDS) }
     ensures fit { IfOk result (λ made. made.1.made ≡ made.0) }
     ensures nothing { IfOk result (λ made. held_in_all (own made.1) ≡ 0) }
 {
-    let (counts, mut seats) = Counts::start(alloc, budget, 4096, 1)?;
+    let (counts, mut seats) = Counts::start(alloc, budget, LOSS_WORDS, 1)?;
     match seats.pop() {
         Some(seat) => Ok((counts, seat)),
         None => Err(Memory),

@@ -14,8 +14,9 @@ use hx_board::{Colour, Memory, Position};
 use hx_count::{CountSeat, Counts, Hints};
 use hx_io::Gate;
 use hx_linkset::LinkSet;
+use hx_moves::{LOSS_WORDS, Replies};
 use hx_share::{BookSeat, Desk, Shared};
-use hx_worker::{Ended, Job, Replies, work};
+use hx_worker::{Ended, Job, work};
 use std::alloc::Global;
 use std::sync::Wait;
 use std::thread;
@@ -49,7 +50,7 @@ impl Crew<'_> {
         gate: &G,
         seats: Vec<Seats>,
     ) -> Result<Vec<Done>, Memory>
-        requires words { self.now.counts.now.limits.words ≡ 4096 }
+        requires words { self.now.counts.now.limits.words ≡ LOSS_WORDS }
         requires seats { All (AreNewSeats self.now.shared.now.made self.now.counts.now) seats.items }
         ensures len { IfOk result (λ dones. vec_len dones ≡ vec_len seats) }
         ensures dones { IfOk result (λ dones. All (IsDone self.now.shared.now.made self.now.counts.now self.now.position self.now.to_move) dones.items) }
@@ -63,7 +64,7 @@ impl Crew<'_> {
 
     /// The work of one worker.
     fn work<G: Gate, R: Wait>(&self, rt: &R, alloc: Global, gate: &G, seats: Seats) -> Done
-        requires words { self.now.counts.now.limits.words ≡ 4096 }
+        requires words { self.now.counts.now.limits.words ≡ LOSS_WORDS }
         requires seats { AreNewSeats self.now.shared.now.made self.now.counts.now seats }
         ensures { IsDone self.now.shared.now.made self.now.counts.now self.now.position self.now.to_move result }
     {

@@ -13,14 +13,12 @@ use hx_board::{Colour, Memory, Position};
 use hx_book::Book;
 use hx_count::{Counts, Hints, Totals};
 use hx_io::Gate;
+use hx_moves::{LOSS_WORDS, Replies};
 use hx_share::Shared;
-use hx_worker::{Ended, Replies};
+use hx_worker::Ended;
 use std::alloc::Global;
 use std::sync::Wait;
 use std::thread::Threads;
-
-/// How many loss words the workers share.
-const LOSS_WORDS: u32 = 4096;
 
 /// The book and the sums of the counts after a search, and the end that counts.
 #[derive(Drop)]

@@ -9,7 +9,8 @@ use hx_board::{Colour, Position};
 use hx_count::{CountSeat, Counts, Hints};
 use hx_io::RealGate;
 use hx_linkset::LinkSet;
-use hx_worker::{Ended, Job, Replies, work};
+use hx_moves::{LOSS_WORDS, Replies};
+use hx_worker::{Ended, Job, work};
 use std::alloc::Global;
 use std::sync::Wait;
 use std::test::Fail;
@@ -44,10 +45,10 @@ pub(crate) struct Searched {
 pub(crate) fn counts_of(alloc: Global, budget: u64) -> Result<(Counts, CountSeat), Fail>
     requires { budget ≤ 2 ^ 40 }
     ensures made { IfOk result (λ m. m.1.made ≡ m.0) }
-    ensures words { IfOk result (λ m. m.0.limits.words ≡ 4096) }
+    ensures words { IfOk result (λ m. m.0.limits.words ≡ LOSS_WORDS) }
     ensures nothing { IfOk result (λ m. held_in_all (own m.1) ≡ 0) }
 {
-    let Ok((counts, seats)) = Counts::start(alloc, budget, 4096, 1) else {
+    let Ok((counts, seats)) = Counts::start(alloc, budget, LOSS_WORDS, 1) else {
         return Err("memory".into());
     };
     let mut seats = seats;

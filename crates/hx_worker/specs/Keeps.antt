@@ -3,12 +3,6 @@ use Rattle.std.specs.Prelude.{◌≡◌, ℕ, true}
 use Rattle.hx_count.specs.Seats.{Seat, own}
 use Rattle.hx_linkset.specs.States.{Standing}
 
--- a seat of the same counts, which holds each word as often as before, and is refused if it was
-pub record KeepsSeat (old new : Seat) : Type 0 where
-  pub same_made : new.made ≡ old.made
-  pub same_held : (own new).held ≡ (own old).held
-  pub still_refused : (own old).refused ≡ true → (own new).refused ≡ true
-
 -- the seat's worker was refused a unit, and the refusal carries the budget
 pub record IsSpent (seat : Seat) (taken : ℕ) : Type 0 where
   pub refused : (own seat).refused ≡ true

@@ -5,13 +5,12 @@ ghost use Rattle.hx_count.specs.Machine.{held_in_all};
 ghost use Rattle.hx_count.specs.Seats.{own};
 ghost use Rattle.hx_tree.specs.Entries.{Extends};
 ghost use Rattle.hx_search.specs.Closed.{IsGrown};
+ghost use Rattle.hx_moves.specs.Keeps.{KeepsSeat};
 ghost use Rattle.hx_worker.specs.Sets.{AreOn};
-ghost use Rattle.hx_worker.specs.Keeps.{KeepsSeat};
 ghost use Rattle.hx_worker.specs.Ends.{IsEnded, IsTried, EndsSpent};
 
 use crate::closing::close_and_end;
 use crate::ended::Ended;
-use crate::replies::Replies;
 use crate::rounds::search;
 use crate::workers::{Worker, ask};
 use hx_board::{Colour, Position};
@@ -19,6 +18,7 @@ use hx_book::Proofs;
 use hx_count::{CountSeat, Counts, Hints};
 use hx_io::Gate;
 use hx_linkset::LinkSet;
+use hx_moves::{LOSS_WORDS, Replies};
 use std::sync::Wait;
 
 /// What a worker works on, and with.
@@ -51,7 +51,7 @@ pub struct Job<'a, P: Proofs> {
 /// seat holds what it held, the sets stand at the job's position, and links that were live in them are.
 pub fn work<P: Proofs, G: Gate, R: Wait>(rt: &R, job: &mut Job<'_, P>, gate: &G) -> Ended
     requires seat { job.old.seat.made ≡ job.old.counts.now }
-    requires words { job.old.counts.now.limits.words ≡ 4096 }
+    requires words { job.old.counts.now.limits.words ≡ LOSS_WORDS }
     requires nothing_held { held_in_all (own job.old.seat) ≡ 0 }
     requires sets { AreOn job.old.position job.old.black job.old.white }
     ensures worker { job.new.worker ≡ job.old.worker }

@@ -7,10 +7,10 @@ ghost use Rattle.hx_worker.specs.Keeps.{StandsAgain};
 ghost use Rattle.hx_worker.specs.Outcomes.{IsOutcome};
 
 use crate::outcomes::{Outcome, outcome_of};
-use crate::starts::Turn;
 use hx_board::{Colour, Memory, Position, chain};
 use hx_book::Proofs;
 use hx_linkset::LinkSet;
+use hx_moves::Turn;
 use hx_search::{Reached, Workspace, reach_with};
 use hx_wide::{widen_chain, widen_links, widen_turned};
 use std::sync::Wait;

@@ -5,19 +5,15 @@ ghost use Rattle.hx_count.specs.Seats.{Seat};
 ghost use Rattle.hx_tree.specs.Entries.{Extends};
 ghost use Rattle.hx_worker.specs.Outcomes.{IsOutcome};
 
-use crate::children::{Child, Moves};
-use crate::first_numbers::first_numbers;
-use crate::focus::{Down, in_focus};
-use crate::marks::{is_marked, leave_open, open};
 use crate::outcomes::{Outcome, outcome_of};
-use crate::replies::Replies;
-use crate::starts::Turn;
-use crate::stones::after;
 use crate::wide_moves::leave_out_siblings;
 use hx_board::Cell;
 use hx_book::Proofs;
 use hx_count::Hints;
 use hx_linkset::LinkSet;
+use hx_moves::{
+    Child, Down, Moves, Replies, Turn, after, first_numbers, in_focus, is_marked, leave_open, open,
+};
 use hx_nodes::Stored;
 use hx_pn::{INF, Numbers};
 use hx_wide::{widen_all, widen_move, widen_turned};

@@ -6,14 +6,11 @@ ghost use Rattle.hx_board.specs.Positions.{Board};
 ghost use Rattle.hx_count.specs.Machine.{held_in_all};
 ghost use Rattle.hx_count.specs.Seats.{Seat, own as own_account};
 ghost use Rattle.hx_tree.specs.Entries.{Extends};
-ghost use Rattle.hx_worker.specs.Keeps.{KeepsSeat};
+ghost use Rattle.hx_moves.specs.Keeps.{KeepsSeat};
 ghost use Rattle.hx_worker.specs.Ends.{IsEnded};
 
 use crate::ended::{Ended, found_by};
-use crate::losses::WORDS;
 use crate::outcomes::Outcome;
-use crate::roots::store_root;
-use crate::starts::Start;
 use crate::turns::visit;
 use crate::workers::{Worker, ask};
 use hx_board::{CELLS, Colour, Position};
@@ -21,11 +18,12 @@ use hx_book::Proofs;
 use hx_count::CountSeat;
 use hx_io::Gate;
 use hx_linkset::LinkSet;
+use hx_moves::{LOSS_WORDS, Start};
 use hx_nodes::Stored;
 use hx_pn::{INF, Numbers};
 use hx_search::Workspace;
 use hx_turn::Orientations;
-use hx_wide::look_wider_either;
+use hx_wide::{look_wider_either, store_root};
 use std::alloc::Global;
 use std::sync::Wait;
 
@@ -74,7 +72,7 @@ fn round<P: Proofs, G: Gate, R: Wait>(
     start: &Start,
 ) -> Option<Ended>
     requires seat { seat.old.made ≡ worker.now.counts.now }
-    requires words { worker.now.counts.now.limits.words ≡ WORDS }
+    requires words { worker.now.counts.now.limits.words ≡ LOSS_WORDS }
     requires room { held_in_all (own_account seat.old) + DEPTH < 1024 }
     ensures slots { P.slots proofs.new ≡ P.slots proofs.old }
     ensures over { P.over proofs.new ≡ P.over proofs.old }
@@ -113,7 +111,7 @@ fn rounds<P: Proofs, G: Gate, R: Wait>(
     start: &Start,
 ) -> Ended
     requires seat { seat.old.made ≡ worker.now.counts.now }
-    requires words { worker.now.counts.now.limits.words ≡ WORDS }
+    requires words { worker.now.counts.now.limits.words ≡ LOSS_WORDS }
     requires room { held_in_all (own_account seat.old) + DEPTH < 1024 }
     ensures slots { P.slots proofs.new ≡ P.slots proofs.old }
     ensures over { P.over proofs.new ≡ P.over proofs.old }
@@ -140,7 +138,7 @@ pub(crate) fn search<P: Proofs, G: Gate, R: Wait>(
     to_move: Colour,
 ) -> Ended
     requires seat { seat.old.made ≡ worker.now.counts.now }
-    requires words { worker.now.counts.now.limits.words ≡ WORDS }
+    requires words { worker.now.counts.now.limits.words ≡ LOSS_WORDS }
     requires room { held_in_all (own_account seat.old) + DEPTH < 1024 }
     ensures slots { P.slots proofs.new ≡ P.slots proofs.old }
     ensures over { P.over proofs.new ≡ P.over proofs.old }

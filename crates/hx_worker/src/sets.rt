@@ -7,8 +7,8 @@
 ghost use Rattle.std.specs.Prelude.{◌≡◌, ◌≢◌, [], IsTrue};
 ghost use Rattle.hx_worker.specs.Sets.{IsPut, IsBack};
 
-use crate::stones::Stone;
 use hx_linkset::LinkSet;
+use hx_moves::Stone;
 
 /// A set with more links is not played on.
 const MANY_LINKS: u32 = 6000;

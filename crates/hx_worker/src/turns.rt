@@ -9,18 +9,15 @@ ghost use Rattle.hx_count.specs.Machine.{held_in_all};
 ghost use Rattle.hx_count.specs.Seats.{Seat, own as own_account};
 ghost use Rattle.hx_tree.specs.Entries.{Extends};
 ghost use Rattle.hx_fill.specs.Fills.{IsFillIn};
-ghost use Rattle.hx_worker.specs.Keeps.{KeepsSeat, StandsAgain};
+ghost use Rattle.hx_moves.specs.Keeps.{KeepsSeat};
+ghost use Rattle.hx_worker.specs.Keeps.{StandsAgain};
 ghost use Rattle.hx_worker.specs.Outcomes.{IsOutcome};
 
-use crate::children::Moves;
-use crate::focus::{Choice, Down, choose};
+use crate::left_hints::{leave, leave_proved};
 use crate::looks::{by_links, look_up, look_up_filled};
-use crate::losses::{WORDS, loss_word};
-use crate::marks::{leave, leave_proved};
 use crate::outcomes::{Outcome, outcome_of};
 use crate::proved_moves::{all_lose, look_again, look_at_marked, take_in};
 use crate::sets::{put, serves, take_back};
-use crate::starts::{Start, Turn};
 use crate::wide_moves::look_at_all;
 use crate::workers::{Worker, ask};
 use hx_book::Proofs;
@@ -28,6 +25,7 @@ use hx_count::{CountSeat, Hints};
 use hx_fill::{Filled, fill_in};
 use hx_io::Gate;
 use hx_linkset::LinkSet;
+use hx_moves::{Choice, Down, LOSS_WORDS, Moves, Start, Turn, choose, loss_word};
 use hx_search::Workspace;
 use hx_wide::widen_fill;
 use std::alloc::Global;
@@ -47,7 +45,7 @@ fn turn<P: Proofs, G: Gate, R: Wait>(
     depth: u32,
 ) -> Outcome
     requires seat { seat.old.made ≡ worker.now.counts.now }
-    requires words { worker.now.counts.now.limits.words ≡ WORDS }
+    requires words { worker.now.counts.now.limits.words ≡ LOSS_WORDS }
     requires room { held_in_all (own_account seat.old) + depth < 1024 }
     ensures slots { P.slots proofs.new ≡ P.slots proofs.old }
     ensures over { P.over proofs.new ≡ P.over proofs.old }
@@ -79,7 +77,7 @@ pub(crate) fn visit<P: Proofs, G: Gate, R: Wait>(
     depth: u32,
 ) -> Outcome
     requires seat { seat.old.made ≡ worker.now.counts.now }
-    requires words { worker.now.counts.now.limits.words ≡ WORDS }
+    requires words { worker.now.counts.now.limits.words ≡ LOSS_WORDS }
     requires room { held_in_all (own_account seat.old) + depth < 1024 }
     ensures slots { P.slots proofs.new ≡ P.slots proofs.old }
     ensures over { P.over proofs.new ≡ P.over proofs.old }
@@ -122,7 +120,7 @@ fn with_own<P: Proofs, G: Gate, R: Wait>(
     depth: u32,
 ) -> Outcome
     requires seat { seat.old.made ≡ worker.now.counts.now }
-    requires words { worker.now.counts.now.limits.words ≡ WORDS }
+    requires words { worker.now.counts.now.limits.words ≡ LOSS_WORDS }
     requires room { held_in_all (own_account seat.old) + depth < 1024 }
     ensures slots { P.slots proofs.new ≡ P.slots proofs.old }
     ensures over { P.over proofs.new ≡ P.over proofs.old }
@@ -167,7 +165,7 @@ fn with_others<P: Proofs, G: Gate, R: Wait>(
     depth: u32,
 ) -> Outcome
     requires seat { seat.old.made ≡ worker.now.counts.now }
-    requires words { worker.now.counts.now.limits.words ≡ WORDS }
+    requires words { worker.now.counts.now.limits.words ≡ LOSS_WORDS }
     requires room { held_in_all (own_account seat.old) + depth < 1024 }
     ensures slots { P.slots proofs.new ≡ P.slots proofs.old }
     ensures over { P.over proofs.new ≡ P.over proofs.old }
@@ -212,7 +210,7 @@ fn expand<P: Proofs, G: Gate, R: Wait>(
     depth: u32,
 ) -> Outcome
     requires seat { seat.old.made ≡ worker.now.counts.now }
-    requires words { worker.now.counts.now.limits.words ≡ WORDS }
+    requires words { worker.now.counts.now.limits.words ≡ LOSS_WORDS }
     requires room { held_in_all (own_account seat.old) + depth < 1024 }
     ensures slots { P.slots proofs.new ≡ P.slots proofs.old }
     ensures over { P.over proofs.new ≡ P.over proofs.old }
@@ -241,7 +239,7 @@ fn expand<P: Proofs, G: Gate, R: Wait>(
         if let Some(outcome) = look_again(rt, alloc, proofs, worker.hints, turn, &mut moves) {
             return outcome;
         }
-        let down = match choose(worker, seat, alloc, turn, &moves) {
+        let down = match choose(worker.counts, worker.hints, seat, alloc, turn, &moves) {
             Ok(Choice::Down(down)) => down,
             Ok(Choice::Limit(numbers)) => return Outcome::Open(numbers),
             Ok(Choice::AllLose) => return all_lose(rt, proofs, others, &moves),
@@ -280,7 +278,7 @@ fn descend<P: Proofs, G: Gate, R: Wait>(
     depth: u32,
 ) -> Outcome
     requires seat { seat.old.made ≡ worker.now.counts.now }
-    requires words { worker.now.counts.now.limits.words ≡ WORDS }
+    requires words { worker.now.counts.now.limits.words ≡ LOSS_WORDS }
     requires room { held_in_all (own_account seat.old) + depth < 1024 }
     ensures slots { P.slots proofs.new ≡ P.slots proofs.old }
     ensures over { P.over proofs.new ≡ P.over proofs.old }

@@ -9,11 +9,10 @@ ghost use Rattle.hx_count.specs.Seats.{Seat};
 ghost use Rattle.hx_tree.specs.Entries.{Extends};
 ghost use Rattle.hx_worker.specs.Outcomes.{IsOutcome};
 
-use crate::children::Moves;
 use crate::outcomes::{Outcome, outcome_of};
-use crate::starts::Turn;
 use hx_board::{Cell, Mask};
 use hx_book::Proofs;
+use hx_moves::{Moves, Turn};
 use hx_wide::widen_move;
 use std::alloc::Global;
 use std::sync::Wait;

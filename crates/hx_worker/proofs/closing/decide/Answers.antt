@@ -2,6 +2,7 @@ use Rattle.hx_board.specs.declared.colours.Colour.{Colour}
 use Rattle.hx_board.specs.declared.colours.Colour.TheVariants.{Black, White}
 use Rattle.hx_board.specs.Positions.{Board}
 use Rattle.hx_board.specs.Graph.{HasChain}
+use Rattle.hx_nodes.proofs.GrowingLists.{extends-on}
 use Rattle.hx_worker.proofs.closing.decide.Goals as goal
 
 no-chains : (board : Board) → (HasChain board Black → ⊥) → (HasChain board White → ⊥) → (player : Colour) → HasChain board player → ⊥
@@ -14,3 +15,18 @@ returns-clause-tried g c = λ none. record {
   black_open = c.by_closed.ensures.open_set c.in_default-by_closed.is;
   white_open = c.by_closed-2.ensures.open_set none;
 }
+
+pub returns-in-Some-by_chain-clause-seen : goal.returns-in-Some-by_chain-clause-seen
+returns-in-Some-by_chain-clause-seen g c = extends-on _ _ _ c.by_entry.ensures.seen c.by_chain.ensures.seen
+
+pub returns-in-Some-by_chain-2-clause-seen : goal.returns-in-Some-by_chain-2-clause-seen
+returns-in-Some-by_chain-2-clause-seen g c =
+    extends-on _ _ _ (extends-on _ _ _ c.by_entry.ensures.seen c.by_chain.ensures.seen) c.by_chain-2.ensures.seen
+
+pub returns-in-Some-by_closed-clause-seen : goal.returns-in-Some-by_closed-clause-seen
+returns-in-Some-by_closed-clause-seen g c =
+    extends-on _ _ _ (extends-on _ _ _ (extends-on _ _ _ c.by_entry.ensures.seen c.by_chain.ensures.seen) c.by_chain-2.ensures.seen) c.by_closed.ensures.seen
+
+pub returns-clause-seen : goal.returns-clause-seen
+returns-clause-seen g c =
+    extends-on _ _ _ (extends-on _ _ _ (extends-on _ _ _ (extends-on _ _ _ c.by_entry.ensures.seen c.by_chain.ensures.seen) c.by_chain-2.ensures.seen) c.by_closed.ensures.seen) c.by_closed-2.ensures.seen

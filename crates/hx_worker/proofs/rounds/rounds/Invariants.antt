@@ -1,6 +1,6 @@
 use Rattle.std.proofs.Common.{◌≡◌}
 use Rattle.hx_tree.specs.Entries.{Extends}
-use Rattle.hx_worker.specs.Keeps.{KeepsSeat}
+use Rattle.hx_moves.specs.Keeps.{KeepsSeat}
 use Rattle.hx_worker.proofs.rounds.rounds.Given as goal
 
 abbrev pub invariant-loop : goal.invariant-loop

@@ -3,7 +3,7 @@ use Rattle.hx_count.specs.Machine.{Account, holding, releasing, held_in_all}
 use Rattle.hx_count.specs.Seats.{Seat, own}
 use Rattle.hx_count.proofs.MachineLaws.{held-holding-le, releasing-held}
 use Rattle.hx_nodes.proofs.GrowingLists.{extends-on}
-use Rattle.hx_worker.specs.Keeps.{KeepsSeat}
+use Rattle.hx_moves.specs.Keeps.{KeepsSeat}
 use Rattle.hx_worker.proofs.turns.+search.Goals as goal
 
 -- a word is held, a turn keeps the seat, and the word is released
@@ -76,3 +76,26 @@ with_others-returns-in-Some-clause-outcome g t c = c.in-Some.ensures.outcome c.a
 
 pub with_own-returns-in-Some-clause-outcome : goal.with_own-returns-in-Some-clause-outcome
 with_own-returns-in-Some-clause-outcome g t c = c.in-Some.ensures.outcome c.args.seat.now
+
+pub expand-returns-in-Some-look_at_all-clause-seen : goal.expand-returns-in-Some-look_at_all-clause-seen
+expand-returns-in-Some-look_at_all-clause-seen g t c = extends-on _ _ _ c.by_links.ensures.seen c.look_at_all.ensures.seen
+
+pub expand-returns-in-Some-look_at_marked-clause-seen : goal.expand-returns-in-Some-look_at_marked-clause-seen
+expand-returns-in-Some-look_at_marked-clause-seen g t c =
+    extends-on _ _ _ (extends-on _ _ _ c.by_links.ensures.seen c.look_at_all.ensures.seen) c.look_at_marked.ensures.seen
+
+pub expand-returns-in-Some-look_again-clause-seen : goal.expand-returns-in-Some-look_again-clause-seen
+expand-returns-in-Some-look_again-clause-seen g t c = extends-on _ _ _ c.loop.invariant.seen c.look_again.ensures.seen
+
+pub expand-returns-in-Some-take_in-clause-seen : goal.expand-returns-in-Some-take_in-clause-seen
+expand-returns-in-Some-take_in-clause-seen g t c =
+    extends-on _ _ _ (extends-on _ _ _ (extends-on _ _ _ c.loop.invariant.seen c.look_again.ensures.seen) c.descend-outcome.ensures.seen) c.take_in.ensures.seen
+
+pub visit-returns-clause-seen : goal.visit-returns-clause-seen
+visit-returns-clause-seen g t c = extends-on _ _ _ (extends-on _ _ _ c.look_up.ensures.seen c.with_own-outcome.ensures.seen) c.conclude.ensures.seen
+
+pub with_own-returns-clause-seen : goal.with_own-returns-clause-seen
+with_own-returns-clause-seen g t c = extends-on _ _ _ c.look_up_filled.ensures.seen c.with_others-outcome.ensures.seen
+
+pub with_others-returns-clause-seen : goal.with_others-returns-clause-seen
+with_others-returns-clause-seen g t c = extends-on _ _ _ c.by_links.ensures.seen c.expand-outcome.ensures.seen

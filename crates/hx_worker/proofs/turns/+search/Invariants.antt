@@ -1,7 +1,8 @@
 -- At each position the functions call one another in this order, and each move that is made leaves a depth of one less.
 use Rattle.std.proofs.Common.{◌≡◌, ◌+◌, ◌*◌}
 use Rattle.hx_tree.specs.Entries.{Extends}
-use Rattle.hx_worker.specs.Keeps.{KeepsSeat, StandsAgain}
+use Rattle.hx_moves.specs.Keeps.{KeepsSeat}
+use Rattle.hx_worker.specs.Keeps.{StandsAgain}
 use Rattle.hx_worker.proofs.turns.+search.Given as goal
 
 abbrev pub decreases-turn : goal.decreases-turn

@@ -7,23 +7,22 @@
 ghost use Rattle.std.specs.Prelude.{◌≡◌, ◌<◌, IfOk};
 ghost use Rattle.std.specs.List.{All};
 ghost use Rattle.hx_pn.specs.Numbers.{IsNumbers};
-ghost use Rattle.hx_worker.specs.Keeps.{KeepsSeat};
+ghost use Rattle.hx_moves.specs.Keeps.{KeepsSeat};
 
 use crate::children::{Child, Moves};
-use crate::losses::{WORDS, with_losses};
+use crate::losses::{LOSS_WORDS, with_losses};
 use crate::marks::hinted_or;
 use crate::rest::rest;
 use crate::starts::{Start, Turn};
 use crate::stones::after;
-use crate::workers::Worker;
 use hx_board::Memory;
-use hx_count::CountSeat;
+use hx_count::{CountSeat, Counts, Hints};
 use hx_pn::{Numbers, combine, focus, thresholds};
 use std::alloc::Global;
 
 /// What a turn does next.
 #[derive(Drop)]
-pub(crate) enum Choice {
+pub enum Choice {
     /// Each move is known to lose.
     AllLose,
 
@@ -36,39 +35,42 @@ pub(crate) enum Choice {
 
 /// A move that a turn goes down to.
 #[derive(Drop)]
-pub(crate) struct Down {
+pub struct Down {
     /// Its place among the moves.
-    pub(crate) place: usize,
-    pub(crate) child: Child,
+    pub place: usize,
+
+    /// The move itself, with the numbers that it had before.
+    pub child: Child,
 
     /// The turn after the move.
-    pub(crate) start: Start,
+    pub start: Start,
 }
 
-/// The moves in focus.
-pub(crate) fn in_focus(moves: &Moves) -> &[Child] {
+/// The moves in focus: the first ones of those that are left.
+pub fn in_focus(moves: &Moves) -> &[Child] {
     let children = moves.children.as_slice();
     let live = u32::try_from(children.len()).unwrap_or(u32::MAX);
     children.get(..focus(live) as usize).unwrap_or(children)
 }
 
 /// What the turn does next.
-pub(crate) fn choose<G>(
-    worker: &Worker<'_, G>,
+pub fn choose(
+    counts: &Counts,
+    hints: &Hints,
     seat: &mut CountSeat,
     alloc: Global,
     turn: &Turn,
     moves: &Moves,
 ) -> Result<Choice, Memory>
-    requires seat { seat.old.made ≡ worker.now.counts.now }
-    requires words { worker.now.counts.now.limits.words ≡ WORDS }
+    requires seat { seat.old.made ≡ counts.now }
+    requires words { counts.now.limits.words ≡ LOSS_WORDS }
     ensures { KeepsSeat seat.old seat.new }
 {
     if moves.children.is_empty() {
         return Ok(Choice::AllLose);
     }
     let focused = in_focus(moves);
-    let Ok(mut numbers) = numbers_of(worker, seat, alloc, focused) else {
+    let Ok(mut numbers) = numbers_of(counts, hints, seat, alloc, focused) else {
         return Err(Memory);
     };
     if let Some(rest) = rest(moves.children.len().saturating_sub(focused.len()))
@@ -87,14 +89,15 @@ pub(crate) fn choose<G>(
 }
 
 /// The numbers of some moves, as their hints tell them, with losses.
-fn numbers_of<G>(
-    worker: &Worker<'_, G>,
+fn numbers_of(
+    counts: &Counts,
+    hints: &Hints,
     seat: &mut CountSeat,
     alloc: Global,
     children: &[Child],
 ) -> Result<Vec<Numbers>, Memory>
-    requires seat { seat.old.made ≡ worker.now.counts.now }
-    requires words { worker.now.counts.now.limits.words ≡ WORDS }
+    requires seat { seat.old.made ≡ counts.now }
+    requires words { counts.now.limits.words ≡ LOSS_WORDS }
     ensures seat { KeepsSeat seat.old seat.new }
     ensures numbers { IfOk result (λ numbers. All IsNumbers numbers.items) }
 {
@@ -103,8 +106,8 @@ fn numbers_of<G>(
         return Err(Memory);
     };
     for child in children {
-        let told = hinted_or(worker.hints, child.number, child.numbers);
-        let seen = with_losses(worker.counts, seat, child.number, told);
+        let told = hinted_or(hints, child.number, child.numbers);
+        let seen = with_losses(counts, seat, child.number, told);
         numbers.push_reserved(seen);
     }
     Ok(numbers)

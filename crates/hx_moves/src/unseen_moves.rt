@@ -13,7 +13,7 @@ use hx_pn::Numbers;
 const CELLS_OF_ONE: u32 = 16;
 
 /// The numbers of a move at this position that nobody looked at.
-pub(crate) fn first_numbers(position: &Position) -> Numbers
+pub fn first_numbers(position: &Position) -> Numbers
     ensures { IsNumbers result }
 {
     Numbers {

@@ -1,6 +1,6 @@
 use Rattle.std.proofs.Common.{◌≡◌}
 use Rattle.hx_tree.specs.Entries.{Extends}
-use Rattle.hx_worker.proofs.roots.winning_cell.Given as goal
+use Rattle.hx_wide.proofs.roots.winning_cell.Given as goal
 
 abbrev pub invariant-loop : goal.invariant-loop
 invariant-loop g l = record {

@@ -7,14 +7,14 @@ use hx_inferior::FillStep;
 use hx_turn::Orientations;
 use std::alloc::Global;
 
-/// A stone that is put on a position.
-pub(crate) type Stone = (Colour, Cell);
+/// A stone that is put on a position: whose it is, and where.
+pub type Stone = (Colour, Cell);
 
 /// Room for the stones of most turns.
 const FEW: usize = 8;
 
 /// The position after a move. None where the cell holds a stone.
-pub(crate) fn after(before: &Orientations, colour: Colour, cell: Cell) -> Option<Orientations> {
+pub fn after(before: &Orientations, colour: Colour, cell: Cell) -> Option<Orientations> {
     let is_empty = before.position().empties().has(cell);
     if is_empty {
         Some(before.with(colour, cell))

@@ -12,39 +12,43 @@ use std::alloc::Global;
 
 /// What a turn is given.
 #[derive(Drop)]
-pub(crate) struct Start {
-    pub(crate) here: Orientations,
-    pub(crate) to_move: Colour,
+pub struct Start {
+    /// The position before fill-in.
+    pub here: Orientations,
+    pub to_move: Colour,
 
-    /// The move that led to the position. The sets of links do not have its stone yet.
-    pub(crate) moved: Option<Cell>,
+    /// The move that led to the position. The sets of links do not have its stone yet. None where no move led to it.
+    pub moved: Option<Cell>,
 
     /// The turn ends where its numbers come to this.
-    pub(crate) limit: Numbers,
+    pub limit: Numbers,
     ghost within: { IsNumbers limit },
 }
 
 /// A turn after fill-in.
 #[derive(Drop)]
-pub(crate) struct Turn {
-    pub(crate) filled: Orientations,
-    pub(crate) to_move: Colour,
+pub struct Turn {
+    /// The position after fill-in.
+    pub filled: Orientations,
+    pub to_move: Colour,
 
     /// The move that led to the position.
     pub(crate) moved: Option<Cell>,
-    pub(crate) limit: Numbers,
+
+    /// The turn ends where its numbers come to this.
+    pub limit: Numbers,
 
     /// Whether anything was filled.
-    pub(crate) is_filled: bool,
+    pub is_filled: bool,
 
     /// The stones that neither set of links has yet.
-    pub(crate) stones: Vec<Stone>,
+    pub stones: Vec<Stone>,
     ghost within: { IsNumbers limit },
 }
 
 impl Turn {
     /// The turn of this start, with what was filled in.
-    pub(crate) fn of(alloc: Global, start: &Start, filled: &Filled) -> Result<Turn, Memory> {
+    pub fn of(alloc: Global, start: &Start, filled: &Filled) -> Result<Turn, Memory> {
         Ok(Turn {
             filled: Orientations::of(&filled.position),
             to_move: start.to_move,

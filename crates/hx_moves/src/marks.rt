@@ -9,11 +9,8 @@
 
 ghost use Rattle.hx_pn.specs.Numbers.{IsNumbers};
 
-use crate::outcomes::Outcome;
-use hx_board::Colour;
 use hx_count::Hints;
 use hx_pn::{INF, Numbers};
-use hx_turn::Orientations;
 
 /// The highest number that a hint can have.
 const HIGHEST: u32 = INF - 1;
@@ -30,7 +27,7 @@ fn hint_word(number: u64) -> u32 {
 }
 
 /// The nearest numbers of a position that is not proved. No mark has them.
-pub(crate) fn open(numbers: Numbers) -> Numbers
+pub fn open(numbers: Numbers) -> Numbers
     ensures { IsNumbers result }
 {
     Numbers {
@@ -40,7 +37,7 @@ pub(crate) fn open(numbers: Numbers) -> Numbers
 }
 
 /// Whether the hint of the position and mover that have this number says that they are proved.
-pub(crate) fn is_marked(hints: &Hints, number: u64) -> bool {
+pub fn is_marked(hints: &Hints, number: u64) -> bool {
     hints.get(hint_word(number)) == PROVED
 }
 
@@ -58,27 +55,11 @@ pub(crate) fn hinted_or(hints: &Hints, number: u64, others: Numbers) -> Numbers
 }
 
 /// Leaves the mark of a position and mover that have this number.
-fn leave_mark(hints: &Hints, number: u64) {
+pub fn leave_mark(hints: &Hints, number: u64) {
     hints.set(hint_word(number), PROVED);
 }
 
 /// Leaves the numbers of a position and mover that are not proved.
-pub(crate) fn leave_open(hints: &Hints, number: u64, numbers: Numbers) {
+pub fn leave_open(hints: &Hints, number: u64, numbers: Numbers) {
     hints.set(hint_word(number), open(numbers));
-}
-
-/// Leaves what a turn at a position came to.
-pub(crate) fn leave(hints: &Hints, here: &Orientations, to_move: Colour, outcome: &Outcome) {
-    match outcome {
-        Outcome::Proved => leave_mark(hints, here.number(to_move)),
-        Outcome::Open(numbers) => leave_open(hints, here.number(to_move), *numbers),
-        _ => {}
-    }
-}
-
-/// Leaves a mark at a position, where a turn came to a proof of it.
-pub(crate) fn leave_proved(hints: &Hints, here: &Orientations, to_move: Colour, outcome: &Outcome) {
-    if let Outcome::Proved = outcome {
-        leave_mark(hints, here.number(to_move));
-    }
 }

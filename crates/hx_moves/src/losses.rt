@@ -5,17 +5,17 @@
 
 ghost use Rattle.std.specs.Prelude.{◌≡◌, ◌<◌};
 ghost use Rattle.hx_pn.specs.Numbers.{IsNumbers};
-ghost use Rattle.hx_worker.specs.Keeps.{KeepsSeat};
+ghost use Rattle.hx_moves.specs.Keeps.{KeepsSeat};
 
 use hx_count::{CountSeat, Counts};
 use hx_pn::{Numbers, worse};
 
 /// How many loss words there are.
-pub(crate) const WORDS: u32 = 4096;
+pub const LOSS_WORDS: u32 = 4096;
 
 /// The loss word of a position and mover that have this number. It is made of other digits than the word of the hint.
-pub(crate) fn loss_word(number: u64) -> u32
-    ensures { result < WORDS }
+pub fn loss_word(number: u64) -> u32
+    ensures { result < LOSS_WORDS }
 {
     ((number >> 32) % 4096) as u32
 }
@@ -28,7 +28,7 @@ pub(crate) fn with_losses(
     numbers: Numbers,
 ) -> Numbers
     requires seat { seat.old.made ≡ counts.now }
-    requires words { counts.now.limits.words ≡ WORDS }
+    requires words { counts.now.limits.words ≡ LOSS_WORDS }
     requires numbers { IsNumbers numbers }
     ensures seat { KeepsSeat seat.old seat.new }
     ensures numbers { IsNumbers result }

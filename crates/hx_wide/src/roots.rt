@@ -1,4 +1,4 @@
-//! The proof of the job's own position, which is the root of a tree.
+//! The proof of a search's own position, which is the root of a tree.
 //!
 //! An entry that serves the position proves it by fill steps, and names no move. So where the mover wins by a move, a node by that
 //! move is stored for the position itself: then the last node of a tree names it.
@@ -8,15 +8,15 @@ ghost use Rattle.hx_board.specs.Positions.{IsEmpty};
 ghost use Rattle.hx_tree.specs.Entries.{Extends};
 ghost use Rattle.hx_nodes.specs.Stored.{IsStored};
 
+use crate::wider::store_wider;
 use hx_board::{CELLS, Cell, Colour, Position};
 use hx_book::Proofs;
 use hx_nodes::{Stored, store_move};
-use hx_wide::store_wider;
 use std::alloc::Global;
 use std::sync::Wait;
 
 /// Stores who wins the position, where an entry that serves it names this winner: by a move, or else by fill steps.
-pub(crate) fn store_root<P: Proofs, R: Wait>(
+pub fn store_root<P: Proofs, R: Wait>(
     rt: &R,
     alloc: Global,
     proofs: &mut P,

@@ -2,12 +2,12 @@
 
 ghost use Rattle.hx_pn.specs.Numbers.{IsNumbers};
 
-use crate::first_numbers::first_numbers;
 use crate::marks::hinted_or;
 use crate::orders::in_order;
 use crate::replies::Replies;
 use crate::starts::Turn;
 use crate::stones::after;
+use crate::unseen_moves::first_numbers;
 use hx_board::{CELLS, Cell, Mask, Memory};
 use hx_count::Hints;
 use hx_fill::must;
@@ -16,31 +16,32 @@ use hx_pn::Numbers;
 
 /// A move that is not known to lose.
 #[derive(Clone, Copy)]
-pub(crate) struct Child {
-    pub(crate) cell: Cell,
+pub struct Child {
+    /// The cell that the mover puts a stone on.
+    pub cell: Cell,
 
     /// The number of the position after the move, which the turned position shares.
-    pub(crate) number: u64,
+    pub number: u64,
 
     /// The numbers that the last turn after the move came to, seen from the player to move there.
-    pub(crate) numbers: Numbers,
+    pub numbers: Numbers,
     ghost within: { IsNumbers numbers },
 }
 
 /// The moves of a turn.
 #[derive(Drop)]
-pub(crate) struct Moves {
+pub struct Moves {
     /// All empty cells, the best moves first.
-    pub(crate) order: Vec<Cell>,
+    pub order: Vec<Cell>,
 
     /// The moves that must be tried and are not known to lose, the best ones first.
-    pub(crate) children: Vec<Child>,
+    pub children: Vec<Child>,
 }
 
 impl Moves {
     /// The moves that must be tried, by the links of both players: no link of the other player answers them, and no other move
     /// is better.
-    pub(crate) fn of(
+    pub fn of(
         hints: &Hints,
         replies: &Replies,
         own: &LinkSet,
@@ -65,15 +66,15 @@ impl Moves {
         Ok(Moves { order, children })
     }
 
-    /// A move is known to lose.
-    pub(crate) fn leave_out(&mut self, place: usize) {
+    /// The move at this place among the children is known to lose, and is left out. Where there is no such place, nothing changes.
+    pub fn leave_out(&mut self, place: usize) {
         if place < self.children.len() {
             self.children.remove(place);
         }
     }
 
-    /// The moves to these cells are known to lose.
-    pub(crate) fn leave_out_all(&mut self, cells: Mask) {
+    /// The moves to these cells are known to lose, and are left out.
+    pub fn leave_out_all(&mut self, cells: Mask) {
         let mut left = self.children.len();
         for _ in 0..CELLS {
             if left == 0 {
@@ -89,8 +90,8 @@ impl Moves {
         }
     }
 
-    /// The turn after a move has come to these numbers.
-    pub(crate) fn note(&mut self, place: usize, child: &Child, numbers: Numbers)
+    /// The turn after a move, the child at this place, has come to these numbers. Where there is no such place, nothing changes.
+    pub fn note(&mut self, place: usize, child: &Child, numbers: Numbers)
         requires { IsNumbers numbers }
     {
         if place < self.children.len() {

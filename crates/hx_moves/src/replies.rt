@@ -58,7 +58,7 @@ impl Replies {
     }
 
     /// The mover of a turn has won by a move to the cell.
-    pub(crate) fn note(&self, turn: &Turn, cell: Cell) {
+    pub fn note(&self, turn: &Turn, cell: Cell) {
         let Some(last) = turn.moved else {
             return;
         };

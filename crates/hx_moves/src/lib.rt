@@ -1,0 +1,25 @@
+//! The moves of a turn: in which order they are tried, with which numbers, and which one a search goes down to.
+//!
+//! All of this only says where to look. Nothing here is in a proof of a position, so each heuristic may be wrong. Each stands in a
+//! file of its own that says what it brings.
+#![tactic(auto)]
+
+mod children;
+mod focus;
+mod losses;
+mod marks;
+mod orders;
+mod replies;
+mod rest;
+mod starts;
+mod stones;
+mod unseen_moves;
+
+pub use children::{Child, Moves};
+pub use focus::{Choice, Down, choose, in_focus};
+pub use losses::{LOSS_WORDS, loss_word};
+pub use marks::{is_marked, leave_mark, leave_open, open};
+pub use replies::Replies;
+pub use starts::{Start, Turn};
+pub use stones::{Stone, after};
+pub use unseen_moves::first_numbers;
