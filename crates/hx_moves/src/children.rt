@@ -1,5 +1,7 @@
 //! The moves of a turn that are tried.
 
+ghost use Rattle.std.specs.Prelude.{◌≡◌, ◌<◌, ◌≤◌, not, length, filter, remove, slice_get, IsSomeAnd};
+ghost use Rattle.hx_board.specs.Sets.{has};
 ghost use Rattle.hx_pn.specs.Numbers.{IsNumbers};
 
 use crate::marks::hinted_or;
@@ -8,7 +10,7 @@ use crate::replies::Replies;
 use crate::starts::Turn;
 use crate::stones::after;
 use crate::unseen_moves::first_numbers;
-use hx_board::{CELLS, Cell, Mask, Memory};
+use hx_board::{Cell, Mask, Memory};
 use hx_count::Hints;
 use hx_fill::must;
 use hx_linkset::LinkSet;
@@ -67,32 +69,32 @@ impl Moves {
     }
 
     /// The move at this place among the children is known to lose, and is left out. Where there is no such place, nothing changes.
-    pub fn leave_out(&mut self, place: usize) {
+    pub fn leave_out(&mut self, place: usize)
+        ensures order { self.new.order ≡ self.old.order }
+        ensures gone { place < length self.old.children.items
+            → self.new.children.items ≡ remove self.old.children.items place }
+        ensures beyond { length self.old.children.items ≤ place → self.new.children ≡ self.old.children }
+    {
         if place < self.children.len() {
             self.children.remove(place);
         }
     }
 
     /// The moves to these cells are known to lose, and are left out.
-    pub fn leave_out_all(&mut self, cells: Mask) {
-        let mut left = self.children.len();
-        for _ in 0..CELLS {
-            if left == 0 {
-                break;
-            }
-            left -= 1;
-            let Some(child) = self.children.get(left).copied() else {
-                break;
-            };
-            if cells.has(child.cell) {
-                self.leave_out(left);
-            }
-        }
+    pub fn leave_out_all(&mut self, cells: Mask)
+        ensures order { self.new.order ≡ self.old.order }
+        ensures left { self.new.children.items ≡ filter (λ child. not (has cells child.cell)) self.old.children.items }
+    {
+        self.children.retain(|child: &Child| !cells.has(child.cell));
     }
 
     /// The turn after a move, the child at this place, has come to these numbers. Where there is no such place, nothing changes.
     pub fn note(&mut self, place: usize, child: &Child, numbers: Numbers)
         requires { IsNumbers numbers }
+        ensures order { self.new.order ≡ self.old.order }
+        ensures noted { place < length self.old.children.items
+            → IsSomeAnd (slice_get self.new.children.items place) (λ noted. noted.numbers ≡ numbers) }
+        ensures beyond { length self.old.children.items ≤ place → self.new.children ≡ self.old.children }
     {
         if place < self.children.len() {
             self.children[place] = Child {

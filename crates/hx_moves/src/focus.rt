@@ -4,10 +4,11 @@
 //! of 7 by 7 takes twice the units. Of these the turn goes down to the one with the least delta, as df-pn does. Those out of focus
 //! count together as one move more (`rest.rt`).
 
-ghost use Rattle.std.specs.Prelude.{◌≡◌, ◌<◌, IfOk};
+ghost use Rattle.std.specs.Prelude.{◌≡◌, ◌<◌, length, take, IfOk, IfSome};
 ghost use Rattle.std.specs.List.{All};
 ghost use Rattle.hx_pn.specs.Numbers.{IsNumbers};
 ghost use Rattle.hx_moves.specs.Keeps.{KeepsSeat};
+ghost use Rattle.hx_moves.specs.Choices.{IsWayDown, IsChoice};
 
 use crate::children::{Child, Moves};
 use crate::losses::{LOSS_WORDS, with_losses};
@@ -47,7 +48,9 @@ pub struct Down {
 }
 
 /// The moves in focus: the first ones of those that are left.
-pub fn in_focus(moves: &Moves) -> &[Child] {
+pub fn in_focus(moves: &Moves) -> &[Child]
+    ensures { result.now ≡ take (length result.now) moves.now.children.items }
+{
     let children = moves.children.as_slice();
     let live = u32::try_from(children.len()).unwrap_or(u32::MAX);
     children.get(..focus(live) as usize).unwrap_or(children)
@@ -64,7 +67,8 @@ pub fn choose(
 ) -> Result<Choice, Memory>
     requires seat { seat.old.made ≡ counts.now }
     requires words { counts.now.limits.words ≡ LOSS_WORDS }
-    ensures { KeepsSeat seat.old seat.new }
+    ensures seat { KeepsSeat seat.old seat.new }
+    ensures choice { IfOk result (IsChoice turn.now moves.now) }
 {
     if moves.children.is_empty() {
         return Ok(Choice::AllLose);
@@ -116,6 +120,7 @@ fn numbers_of(
 /// The way down to the move at a place.
 fn way_down(turn: &Turn, moves: &Moves, place: usize, limit: Numbers) -> Option<Down>
     requires { IsNumbers limit }
+    ensures { IfSome result (IsWayDown turn.now moves.now) }
 {
     let Some(child) = moves.children.get(place).copied() else {
         return None;

@@ -48,7 +48,11 @@ pub struct Turn {
 
 impl Turn {
     /// The turn of this start, with what was filled in.
-    pub fn of(alloc: Global, start: &Start, filled: &Filled) -> Result<Turn, Memory> {
+    pub fn of(alloc: Global, start: &Start, filled: &Filled) -> Result<Turn, Memory>
+        ensures filled { IfOk result (λ turn. turn.filled ≡ filled.now.position) }
+        ensures to_move { IfOk result (λ turn. turn.to_move ≡ start.now.to_move) }
+        ensures limit { IfOk result (λ turn. turn.limit ≡ start.now.limit) }
+    {
         Ok(Turn {
             filled: Orientations::of(&filled.position),
             to_move: start.to_move,

@@ -1,5 +1,8 @@
 //! The stones that come in a turn: the move that led to it, and what is filled in.
 
+ghost use Rattle.std.specs.Prelude.{◌≡◌, MatchOption};
+ghost use Rattle.hx_board.specs.Positions.{IsEmpty, put};
+
 use crate::starts::Start;
 use hx_board::{Cell, Colour, Memory};
 use hx_fill::{Fill, Filled};
@@ -14,7 +17,11 @@ pub type Stone = (Colour, Cell);
 const FEW: usize = 8;
 
 /// The position after a move. None where the cell holds a stone.
-pub fn after(before: &Orientations, colour: Colour, cell: Cell) -> Option<Orientations> {
+pub fn after(before: &Orientations, colour: Colour, cell: Cell) -> Option<Orientations>
+    ensures { MatchOption result
+        (¬ IsEmpty before.now cell)
+        (λ next. IsEmpty before.now cell × (next ≡ put before.now colour cell)) }
+{
     let is_empty = before.position().empties().has(cell);
     if is_empty {
         Some(before.with(colour, cell))
