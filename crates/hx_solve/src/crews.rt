@@ -68,28 +68,23 @@ impl Crew<'_> {
         requires seats { AreNewSeats self.now.shared.now.made self.now.counts.now seats }
         ensures { IsDone self.now.shared.now.made self.now.counts.now self.now.position self.now.to_move result }
     {
-        let Seats {
-            worker,
-            book,
-            counts,
-        } = seats;
         let Ok((black, white)) = self.new_sets(alloc) else {
             return Done {
-                book,
-                counts,
+                book: seats.book,
+                counts: seats.counts,
                 ended: Ended::Memory,
             };
         };
         let mut job = Job {
-            worker,
+            worker: seats.worker,
             position: self.position,
             to_move: self.to_move,
             proofs: Desk {
                 shared: self.shared,
-                seat: book,
+                seat: seats.book,
             },
             counts: self.counts,
-            seat: counts,
+            seat: seats.counts,
             hints: self.hints,
             replies: self.replies,
             black,
