@@ -1,7 +1,9 @@
 //! The moves of a turn that are tried.
 
-ghost use Rattle.std.specs.Prelude.{◌≡◌, ◌<◌, ◌≤◌, not, length, filter, remove, slice_get, IsSomeAnd};
+ghost use Rattle.std.specs.Prelude.{◌≡◌, ◌<◌, ◌≤◌, not, length, filter, remove, slice_get, IfOk, IfSome, IsSomeAnd};
+ghost use Rattle.std.specs.List.{All};
 ghost use Rattle.hx_board.specs.Sets.{has};
+ghost use Rattle.hx_board.specs.Positions.{IsEmpty};
 ghost use Rattle.hx_pn.specs.Numbers.{IsNumbers};
 
 use crate::marks::hinted_or;
@@ -49,7 +51,9 @@ impl Moves {
         own: &LinkSet,
         others: &LinkSet,
         turn: &Turn,
-    ) -> Result<Moves, Memory> {
+    ) -> Result<Moves, Memory>
+        ensures { IfOk result (λ moves. All (λ child. IsEmpty turn.now.filled child.cell) moves.children.items) }
+    {
         let earlier = replies.earlier(turn, own.position().empties());
         let order = in_order(own, others, &earlier)?;
         let must = must(others, order.as_slice())?;
@@ -59,11 +63,13 @@ impl Moves {
         }
         let mut children = Vec::with_capacity(own.allocator(), order.len()).map_err(|_| Memory)?;
         for cell in order.as_slice() {
-            if tried.has(*cell)
-                && let Some(child) = child_of(hints, turn, *cell)
-            {
-                children.push(child).map_err(|_| Memory)?;
+            if !tried.has(*cell) {
+                continue;
             }
+            let Some(child) = child_of(hints, turn, *cell) else {
+                continue;
+            };
+            children.push(child).map_err(|_| Memory)?;
         }
         Ok(Moves { order, children })
     }
@@ -107,7 +113,9 @@ impl Moves {
 }
 
 /// A move, with the numbers of its hint or the first ones. None where the cell holds a stone.
-fn child_of(hints: &Hints, turn: &Turn, cell: Cell) -> Option<Child> {
+fn child_of(hints: &Hints, turn: &Turn, cell: Cell) -> Option<Child>
+    ensures { IfSome result (λ child. IsEmpty turn.now.filled child.cell) }
+{
     let Some(there) = after(&turn.filled, turn.to_move, cell) else {
         return None;
     };

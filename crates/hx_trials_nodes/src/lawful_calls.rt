@@ -29,6 +29,15 @@ pub(crate) fn is_missing(stored: Stored) -> bool {
     matches!(stored, Stored::Missing)
 }
 
+/// That a proof was stored.
+pub(crate) fn done(stored: Stored) -> Result<(), Fail> {
+    if is_done(stored) {
+        Ok(())
+    } else {
+        Err("nothing was stored".into())
+    }
+}
+
 /// Stores that a player wins by a chain.
 pub(crate) fn chained<R: Wait>(
     rt: &R,

@@ -1,8 +1,8 @@
 //! Each `widen` call over a small book, and which cells the opponent has at the position of the entry that it leaves.
 
-use crate::lawful_calls::{Place, chained, filled, is_done, is_missing, left_of, linked, moved};
-use crate::own_positions::answered;
-use crate::small_boards::{board, cell_of};
+use crate::lawful_calls::{Place, chained, is_done, is_missing};
+use crate::own_positions::{both_answered, filled_by_chain, linked_and_moved};
+use crate::small_boards::board;
 use hx_board::Colour::{Black, White};
 use hx_board::{Colour, Mask, Position};
 use hx_book::Book;
@@ -57,11 +57,8 @@ fn a_position_that_is_served(rt: HostRuntime) -> Result<(), Fail> {
 #[test]
 fn a_fill(rt: HostRuntime) -> Result<(), Fail> {
     let position = board(2, 3, 0x2)?;
-    let last = left_of(rt.alloc(), &position)?;
     let mut book = Book::with_slots(rt.alloc(), 2).or(Err("memory"))?;
-    chained(&rt, Place::Wider, &mut book, &last, White, Black)?;
-    let stored = filled(&rt, rt.alloc(), Place::Wider, &mut book, &position, White)?;
-    assert!(rt; is_done(stored));
+    filled_by_chain(&rt, rt.alloc(), Place::Wider, &mut book, &position)?;
     assert_eq!(rt;
         white_at(&rt, &mut book, &position, White)?,
         Mask::of(0x2004)
@@ -74,13 +71,9 @@ fn a_fill(rt: HostRuntime) -> Result<(), Fail> {
 fn a_link_and_a_move(rt: HostRuntime) -> Result<(), Fail> {
     let empty = board(2, 2, 0)?;
     let position = board(2, 2, 0x2)?;
-    let b1 = cell_of(&empty, 1)?;
     let mut book = Book::with_slots(rt.alloc(), 2).or(Err("memory"))?;
-    let mut set = LinkSet::new(rt.alloc(), &position, Black).or(Err("memory"))?;
-    assert!(rt; is_done(linked(&rt, Place::Wider, &mut book, &mut set, White)?));
+    linked_and_moved(&rt, rt.alloc(), Place::Wider, &mut book)?;
     assert_eq!(rt; white_at(&rt, &mut book, &position, White)?, Mask::of(0x1));
-    let stored = moved(&rt, rt.alloc(), Place::Wider, &mut book, &empty, Black, b1)?;
-    assert!(rt; is_done(stored));
     assert_eq!(rt; white_at(&rt, &mut book, &empty, Black)?, Mask::of(0x1));
     Ok(())
 }
@@ -89,13 +82,10 @@ fn a_link_and_a_move(rt: HostRuntime) -> Result<(), Fail> {
 #[test]
 fn each_answer(rt: HostRuntime) -> Result<(), Fail> {
     let position = board(1, 3, 0)?;
-    let a1 = cell_of(&position, 0)?;
-    let b1 = cell_of(&position, 1)?;
     let mut book = Book::with_slots(rt.alloc(), 5).or(Err("memory"))?;
     let set = LinkSet::new(rt.alloc(), &position, Black).or(Err("memory"))?;
     assert!(rt; is_missing(widen_all(&rt, &mut book, &set, &[])));
-    answered(&rt, rt.alloc(), Place::Wider, &mut book, &position, a1, b1)?;
-    answered(&rt, rt.alloc(), Place::Wider, &mut book, &position, b1, a1)?;
+    both_answered(&rt, rt.alloc(), Place::Wider, &mut book, &position)?;
     assert!(rt; is_done(widen_all(&rt, &mut book, &set, &[])));
     assert_eq!(rt; white_at(&rt, &mut book, &position, White)?, Mask::of(0x4));
     Ok(())

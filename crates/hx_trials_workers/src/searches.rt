@@ -3,9 +3,11 @@
 ghost use Rattle.std.specs.Prelude.{◌≡◌, ◌≤◌, ◌^◌, IfOk};
 ghost use Rattle.hx_count.specs.Machine.{held_in_all};
 ghost use Rattle.hx_count.specs.Seats.{own};
+ghost use Rattle.hx_worker.specs.Sets.{AreOn};
 
 use super::judged_books::JudgedBook;
 use hx_board::{Colour, Position};
+use hx_book::Proofs;
 use hx_count::{CountSeat, Counts, Hints};
 use hx_io::RealGate;
 use hx_linkset::LinkSet;
@@ -58,6 +60,48 @@ pub(crate) fn counts_of(alloc: Global, budget: u64) -> Result<(Counts, CountSeat
     Ok((counts, seat))
 }
 
+/// Sets of links of both players, Black's first, with no link yet.
+pub(crate) fn new_sets(alloc: Global, position: &Position) -> Result<(LinkSet, LinkSet), Fail>
+    ensures { IfOk result (λ sets. AreOn position.now sets.0 sets.1) }
+{
+    let black = LinkSet::new(alloc, position, Colour::Black).or(Err("memory"))?;
+    let white = LinkSet::new(alloc, position, Colour::White).or(Err("memory"))?;
+    Ok((black, white))
+}
+
+/// The job of the one worker.
+pub(crate) fn job_of<'a, P: Proofs>(
+    position: Position,
+    to_move: Colour,
+    proofs: P,
+    counts: &'a Counts,
+    seat: CountSeat,
+    hints: &'a Hints,
+    replies: &'a Replies,
+    sets: (LinkSet, LinkSet),
+) -> Job<'a, P>
+    ensures position { result.position ≡ position }
+    ensures to_move { result.to_move ≡ to_move }
+    ensures proofs { result.proofs ≡ proofs }
+    ensures counts { result.counts.now ≡ counts.now }
+    ensures seat { result.seat ≡ seat }
+    ensures black { result.black ≡ sets.0 }
+    ensures white { result.white ≡ sets.1 }
+{
+    Job {
+        worker: 0,
+        position,
+        to_move,
+        proofs,
+        counts,
+        seat,
+        hints,
+        replies,
+        black: sets.0,
+        white: sets.1,
+    }
+}
+
 fn end_of(ended: Ended) -> End {
     match ended {
         Ended::Proved { index, winner } => End::Won { index, winner },
@@ -82,20 +126,10 @@ pub(crate) fn search<R: Wait>(
     let (counts, seat) = counts_of(alloc, budget)?;
     let hints = Hints::with_words(alloc, 65536).or(Err("memory"))?;
     let replies = Replies::new(alloc).or(Err("memory"))?;
-    let black = LinkSet::new(alloc, &position, Colour::Black).or(Err("memory"))?;
-    let white = LinkSet::new(alloc, &position, Colour::White).or(Err("memory"))?;
-    let mut job = Job {
-        worker: 0,
-        position,
-        to_move,
-        proofs,
-        counts: &counts,
-        seat,
-        hints: &hints,
-        replies: &replies,
-        black,
-        white,
-    };
+    let sets = new_sets(alloc, &position)?;
+    let mut job = job_of(
+        position, to_move, proofs, &counts, seat, &hints, &replies, sets,
+    );
     let ended = work(rt, &mut job, &RealGate);
     Ok(Searched {
         end: end_of(ended),
