@@ -49,7 +49,8 @@ pub struct Down {
 
 /// The moves in focus: the first ones of those that are left.
 pub fn in_focus(moves: &Moves) -> &[Child]
-    ensures { result.now ≡ take (length result.now) moves.now.children.items }
+    ensures front { result.now ≡ take (length result.now) moves.now.children.items }
+    ensures some { 0 < length moves.now.children.items → 0 < length result.now }
 {
     let children = moves.children.as_slice();
     let live = u32::try_from(children.len()).unwrap_or(u32::MAX);

@@ -7,6 +7,7 @@
 //!
 //! A hint may be of another position. So a mark is no proof, and one that proves to be wrong is written anew.
 
+ghost use Rattle.std.specs.Prelude.{◌<◌, ◌≤◌};
 ghost use Rattle.hx_pn.specs.Numbers.{IsNumbers};
 
 use hx_count::Hints;
@@ -28,7 +29,9 @@ fn hint_word(number: u64) -> u32 {
 
 /// The nearest numbers of a position that is not proved. No mark has them.
 pub fn open(numbers: Numbers) -> Numbers
-    ensures { IsNumbers result }
+    ensures numbers { IsNumbers result }
+    ensures phi { (1 ≤ result.phi) × (result.phi < HIGHEST) }
+    ensures delta { (1 ≤ result.delta) × (result.delta < HIGHEST) }
 {
     Numbers {
         phi: numbers.phi.clamp(1, HIGHEST - 1),
