@@ -1,6 +1,6 @@
 -- What a look finds is a heading with the winner that was found, and no other winner can be found there. So where none or the other
 -- winner was found, no entry names the player as the winner.
-use Rattle.std.proofs.Common.{◌≡◌, ◌≢◌, ℕ, ◌<◌, List, sym, ap, ◌∙◌, subst, Option, Some, ⊎_elim, arith}
+use Rattle.std.proofs.Common.{◌≡◌, ◌≢◌, List, sym, ap, ◌∙◌, subst, Option, ⊎_elim, arith}
 use Rattle.std.specs.Prelude.{slice_get, IsSomeAnd}
 use Rattle.std.proofs.lemmas.Bool.{cases_lt}
 use Rattle.hx_board.specs.declared.colours.Colour.{Colour}

@@ -1,6 +1,5 @@
 -- The tree of a proof that a search came to solves the position; what else the search came to is a cause.
-use Rattle.std.proofs.Common.{◌≡◌, ℕ, ◌≤◌, List, length, get_or, sym, ap, ◌∙◌, subst, ◌++◌, ◌∷◌, [], arith}
-use Rattle.std.specs.List.{All}
+use Rattle.std.proofs.Common.{◌≡◌, ℕ, ◌≤◌, List, length, get_or, sym, ap, ◌∙◌, subst, arith}
 use Rattle.std.proofs.lemmas.Option.{slice_get-get_or}
 use Rattle.hx_board.specs.declared.colours.Colour.{Colour}
 use Rattle.hx_board.specs.Positions.{Board}
@@ -9,17 +8,15 @@ use Rattle.hx_board.proofs.EmptyCells.{sweep_size-below, sweep_size-nine}
 use Rattle.hx_board.proofs.ListLaws.{same_some, get-map, get-lt}
 use Rattle.hx_tree.specs.declared.nodes.Heading.{Heading}
 use Rattle.hx_tree.specs.declared.nodes.Node.{Node}
-use Rattle.hx_tree.specs.Trees.{IsRoot, headings_of}
 use Rattle.hx_book.specs.declared.books.TheConstants.{MOST_SLOTS}
 use Rattle.hx_book.specs.Entries.{contents, IsBook}
 use Rattle.hx_book.specs.Trees.{IsTreeOf}
 use Rattle.hx_tree.specs.Entries.{IsFirstFound}
-use Rattle.hx_sweep.specs.Sweeps.{AreOfSize, IsSweep}
+use Rattle.hx_sweep.specs.Sweeps.{IsSweep}
 use Rattle.hx_worker.specs.declared.ended.Ended.{Ended}
 use Rattle.hx_worker.specs.declared.ended.Ended.TheVariants.{Proved, Spent, NoSlots, Memory}
 use Rattle.hx_solve.specs.declared.settings.Settings.{Settings}
 use Rattle.hx_solve.specs.declared.unsolved.Unsolved.{Unsolved}
-use Rattle.hx_solve.specs.declared.unsolved.Unsolved.TheVariants.{Budget, Slots, Memory as NoMemory}
 use Rattle.hx_solve.specs.Solutions.{IsSolution}
 use Rattle.hx_solve.specs.Causes.{HasCause, FoundNoRoom}
 use Rattle.hx_solve.specs.Searches.{IsClosedEnd, HasEntryFor, IsTreeFrom, SaysWhy}

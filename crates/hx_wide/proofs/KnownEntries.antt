@@ -1,5 +1,5 @@
 -- Entries that are known: one more of them, a list that grew, and the children of a node that is right after them.
-use Rattle.std.proofs.Common.{◌≡◌, ℕ, zero, suc, ◌+◌, ◌<◌, List, [], ◌∷◌, ◌++◌, length, refl, sym, ap, ◌∙◌, Option, Some, arith}
+use Rattle.std.proofs.Common.{◌≡◌, ℕ, zero, suc, ◌<◌, List, [], ◌∷◌, ◌++◌, length, refl, sym, ap, ◌∙◌, Some, arith}
 use Rattle.std.specs.Prelude.{slice_get, slice_index}
 use Rattle.hx_board.proofs.ListLaws.{get-lt}
 use Rattle.hx_tree.specs.declared.nodes.Heading.{Heading}

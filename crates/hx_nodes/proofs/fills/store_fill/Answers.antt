@@ -1,4 +1,4 @@
-use Rattle.std.proofs.Common.{rules, ◌≡◌, ◌≢◌, [], inr}
+use Rattle.std.proofs.Common.{rules, ◌≢◌, [], inr}
 use Rattle.hx_nodes.proofs.FoundEntries.{missed-now}
 use Rattle.hx_nodes.proofs.FillNodes.{fill_right}
 use Rattle.hx_nodes.proofs.fills.store_fill.Goals as goal
