@@ -6,7 +6,8 @@
 ghost use Rattle.std.specs.Prelude.{◌≡◌, IfSome};
 ghost use Rattle.hx_board.specs.Positions.{IsEmpty};
 ghost use Rattle.hx_tree.specs.Entries.{Extends};
-ghost use Rattle.hx_nodes.specs.Stored.{IsStored};
+ghost use Rattle.hx_nodes.specs.Stored.{IsStored, MissingFor};
+ghost use Rattle.hx_wide.specs.Missing.{WasUnserved};
 
 use crate::wider::store_wider;
 use hx_board::{CELLS, Cell, Colour, Position};
@@ -15,7 +16,8 @@ use hx_nodes::{Stored, store_move};
 use std::alloc::Global;
 use std::sync::Wait;
 
-/// Stores who wins the position, where an entry that serves it names this winner: by a move, or else by fill steps.
+/// Stores who wins the position, where an entry that serves it names this winner: by a move, or else by fill steps. Missing only
+/// where no entry of this winner was seen to serve it.
 pub fn store_root<P: Proofs, R: Wait>(
     rt: &R,
     alloc: Global,
@@ -28,6 +30,8 @@ pub fn store_root<P: Proofs, R: Wait>(
     ensures over { P.over proofs.new ≡ P.over proofs.old }
     ensures seen { Extends (P.list proofs.new) (P.list proofs.old) }
     ensures stored { IsStored (P.list proofs.new) (P.slots proofs.new) position.now to_move result }
+    ensures missing { MissingFor (WasUnserved (P.list proofs.old) (P.list proofs.new)
+        position.now to_move winner) result }
 {
     let stored = by_some_move(rt, alloc, proofs, position, to_move, winner);
     if let Some(Stored::Done) = stored {
