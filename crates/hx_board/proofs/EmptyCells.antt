@@ -1,32 +1,19 @@
 -- The laws of the number of empty cells. A stone on an empty cell changes the answer of `is_empty` at that cell alone, so
 -- the count falls by one.
 use Rattle.std.proofs.Common.{◌≡◌, ◌≢◌, ℕ, zero, suc, ◌+◌, ◌*◌, ◌<◌, ◌≤◌, Bool, true, false, ◌||◌, ◌&&◌, not, ltb, refl, sym, ap, ◌∙◌, arith, ⊎_elim, ◌↔◌, eqb-true}
-use Rattle.std.proofs.lemmas.Bool.{false≢true, cases_lt}
-use Rattle.std.proofs.lemmas.Bool.Decides.{nat_tests}
+use Rattle.std.proofs.lemmas.Bool.{false≢true, cases_lt, ltb-true, lt-ltb, not-true, not_from_false}
+use Rattle.std.specs.Prelude.{if◌then◌else◌}
 use Rattle.hx_board.specs.Sets.{has, insert, count_below}
 use Rattle.hx_board.specs.Cells.{IsExtent, row_of, col_of}
 use Rattle.hx_board.specs.declared.colours.Colour.{Colour}
 use Rattle.hx_board.specs.declared.colours.Colour.TheVariants.{Black, White}
 use Rattle.hx_board.specs.Positions.{Board, IsBoard, IsEmpty, put}
 use Rattle.hx_board.specs.Counts.{is_empty, empty_below, empty_count, sweep_size}
-use Rattle.hx_board.proofs.SetLaws.{has-insert, has-insert_same, and_both, is_false}
+use Rattle.hx_board.proofs.SetLaws.{has-insert, has-insert_same, and_both, is_false, same_test}
 use Rattle.hx_board.proofs.CellLaws.{on_board-small}
 use Rattle.hx_board.proofs.Tallies.{share, tally, tally-same, tally-one_less, tally-none, count_below-tally}
 
 -- ---- the test of one cell
-
-not_false : (b : Bool) → b ≡ false → not b ≡ true
-not_false b e = ap not e
-
-not_true : (b : Bool) → not b ≡ true → b ≡ false
-not_true true h = absurd (false≢true h)
-not_true false h = refl
-
-less_test : (a b : ℕ) → a < b → ltb a b ≡ true
-less_test a b h = grind (arith, nat_tests)
-
-test_less : (a b : ℕ) → ltb a b ≡ true → a < b
-test_less a b h = grind (arith, nat_tests)
 
 is_empty-parts : (board : Board) (cell : ℕ)
     → is_empty board cell ≡ (ltb (row_of cell) board.size.rows && ltb (col_of cell) board.size.cols && not (has board.black cell) && not (has board.white cell))
@@ -36,12 +23,12 @@ is_empty-parts board cell = refl
 pub is_empty-is : (board : Board) (cell : ℕ) → (is_empty board cell ≡ true) ↔ IsEmpty board cell
 is_empty-is board cell = (
   (λ h. let t = tests (ltb (row_of cell) board.size.rows) _ _ _ (sym (is_empty-parts board cell) ∙ h) in record {
-    on_board = record { row = test_less _ _ t.0; col = test_less _ _ t.1 };
-    no_black = not_true _ t.2;
-    no_white = not_true _ t.3;
+    on_board = record { row = ltb-true _ _ t.0; col = ltb-true _ _ t.1 };
+    no_black = not-true _ t.2;
+    no_white = not-true _ t.3;
   }),
   (λ e. is_empty-parts board cell
-      ∙ and_both _ _ (and_both _ _ (and_both _ _ (less_test _ _ e.on_board.row) (less_test _ _ e.on_board.col)) (not_false _ e.no_black)) (not_false _ e.no_white)),
+      ∙ and_both _ _ (and_both _ _ (and_both _ _ (lt-ltb _ _ e.on_board.row) (lt-ltb _ _ e.on_board.col)) (not_from_false _ e.no_black)) (not_from_false _ e.no_white)),
 )
   where
     tests : (a b c d : Bool) → (a && b && c && d) ≡ true → (a ≡ true) × (b ≡ true) × (c ≡ true) × (d ≡ true)
@@ -78,14 +65,24 @@ count_below-empty : (bound : ℕ) (board : Board) (set : ℕ) → ((cell : ℕ) 
 count_below-empty bound board set is_set =
     rw (count_below-tally bound set, empty_below-tally bound board) (tally-same (has set) (is_empty board) bound (λ cell _. same cell))
   where
-    both : (member empty : Bool) → (member ≡ true → empty ≡ true) → (empty ≡ true → member ≡ true) → member ≡ empty
-    both true empty f g = sym (f refl)
-    both false empty f g = sym (is_false empty (λ h. false≢true (g h)))
-
     same : (cell : ℕ) → has set cell ≡ is_empty board cell
-    same cell = both _ _ (λ h. (is_empty-is board cell).1 ((is_set cell).0 h)) (λ h. (is_set cell).1 ((is_empty-is board cell).0 h))
+    same cell = same_test _ _ (λ h. (is_empty-is board cell).1 ((is_set cell).0 h)) (λ h. (is_set cell).1 ((is_empty-is board cell).0 h))
 
 -- ---- the count of the whole board
+
+one_or_none-small : (b : Bool) → (if b then 1 else 0) ≤ 1
+one_or_none-small true = omega arith
+one_or_none-small false = omega arith
+
+empty_below-small : (bound : ℕ) (board : Board) → empty_below bound board ≤ bound
+unfolding empty_below
+empty_below-small zero board = omega arith
+empty_below-small (suc bound) board =
+    omega (arith, one_or_none-small (is_empty board bound), empty_below-small bound board)
+
+pub empty_count-small : (board : Board) → empty_count board ≤ 121
+unfolding empty_count
+empty_count-small board = empty_below-small 121 board
 
 -- a stone on an empty cell makes it one less
 pub empty_count-put : (board : Board) (colour : Colour) (cell : ℕ) → IsBoard board → IsEmpty board cell

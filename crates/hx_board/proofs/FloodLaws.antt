@@ -1,6 +1,6 @@
 -- Flooding finds exactly what is joined. A flood keeps that each vertex in it is the start or led to by a walk of own
 -- vertices, and where it grows no more, no walk of own vertices leads out of it.
-use Rattle.std.proofs.Common.{◌≡◌, ◌≢◌, ℕ, ◌-◌, ◌<◌, ◌≤◌, List, [], ◌∷◌, ◌++◌, true, refl, sym, ap, ◌∙◌, subst, arith, ◌⊎◌, inl, inr, ⊎_elim, ◌↔◌}
+use Rattle.std.proofs.Common.{◌≡◌, ◌≢◌, ℕ, ◌-◌, ◌<◌, ◌≤◌, List, [], ◌∷◌, ◌++◌, true, refl, sym, ◌∙◌, subst, arith, ◌⊎◌, inl, inr, ⊎_elim, ◌↔◌}
 use Rattle.std.proofs.lemmas.Bool.{false≢true}
 use Rattle.std.proofs.lemmas.Nat.{le_or_l}
 use Rattle.hx_board.specs.declared.colours.Colour.{Colour}
@@ -15,6 +15,7 @@ use Rattle.hx_board.specs.Floods.{TouchesOneOf}
 use Rattle.hx_board.proofs.SetLaws.{has-union_left, has-union_right, has-union_cases, has-intersection_left, has-intersection_right, has-intersection_both, has-insert_cases, has-insert_same, has-insert_other, has-empty}
 use Rattle.hx_board.proofs.CellLaws.{on_board-small}
 use Rattle.hx_board.proofs.Joins.{touches-vertex, walk-append}
+use Rattle.hx_board.proofs.VertexSetLaws.{some-vertex, code-same}
 
 pub le-union : (s t : ℕ) → s ≤ union s t
 unfolding union
@@ -27,25 +28,9 @@ module _ (size : Extent) (extent : IsExtent size.rows size.cols) where
   within : (n : ℕ) → OnBoard size n → n < 121
   within n on = on_board-small size n extent on
 
-  -- different vertices have different numbers
+  -- different vertices have different codes
   pub same_vertex : (v w : Vertex) → IsVertex size v → IsVertex size w → code_of v ≡ code_of w → v ≡ w
-  same_vertex (Of n) (Of m) is_v is_w e = ap Of e
-  same_vertex (Of n) First is_v is_w e = let small : n < 121 = within n is_v in absurd (omega arith)
-  same_vertex (Of n) Last is_v is_w e = let small : n < 121 = within n is_v in absurd (omega arith)
-  same_vertex First (Of m) is_v is_w e = let small : m < 121 = within m is_w in absurd (omega arith)
-  same_vertex First First is_v is_w e = refl
-  same_vertex First Last is_v is_w e = absurd (omega arith)
-  same_vertex Last (Of m) is_v is_w e = let small : m < 121 = within m is_w in absurd (omega arith)
-  same_vertex Last First is_v is_w e = absurd (omega arith)
-  same_vertex Last Last is_v is_w e = refl
-
-  pub code-small : (v : Vertex) → IsVertex size v → code_of v < 123
-  code-small (Of n) is = let small : n < 121 = within n is in omega arith
-  code-small First is = omega arith
-  code-small Last is = omega arith
-
-  pub vertex_code-small : (n : ℕ) → IsVertexCode size n → n < 123
-  vertex_code-small n w = let P : ℕ → Type 0 = λ x. x < 123 in subst P w.is_code (code-small w.vertex w.is_vertex)
+  same_vertex v w is_v is_w e = code-same v w (some-vertex size extent v is_v) (some-vertex size extent w is_w) e
 
 -- the player's stones with both sides
 pub own-is : (board : Board) (player : Colour) (stones : ℕ) → IsBoard board → stones ≡ stones_of board player

@@ -21,7 +21,7 @@ use Rattle.hx_board.specs.Floods.{AreNear, AreJoined}
 use Rattle.hx_board.proofs.SetLaws.{has-empty, has-remove, has-remove_before, has-union_left, has-union_right, has-union_cases, has-difference_left, has-difference_both, is_false}
 use Rattle.hx_board.proofs.CellLaws.{on_board-small}
 use Rattle.hx_board.proofs.DifferenceLaws.{difference-lt}
-use Rattle.hx_board.proofs.FloodLaws.{code-small}
+use Rattle.hx_board.proofs.VertexSetLaws.{some-vertex, code-small}
 use Rattle.hx_board.proofs.VertexSetLaws.{code-vertex}
 use Rattle.hx_board.proofs.Joins.{touches-sym, touches-vertex, joined-sym, joined-over_own, joined-touches}
 
@@ -134,7 +134,7 @@ module _ (board : Board) (player : Colour) (extent : IsExtent board.size.rows bo
       (is_reach : IsSetOf board.size (Joined board player start) reach) (k : AreJoinedOver board player before own waiting) (count : length after ≡ 123)
       (grown : (n : ℕ) → n < 123 → slice_index after n ≡ (if has reach n then union (slice_index before n) reach else slice_index before n)) where
     row : (v : Vertex) → IsVertex board.size v → slice_index after (code_of v) ≡ (if has reach (code_of v) then union (slice_index before (code_of v)) reach else slice_index before (code_of v))
-    row v is = grown (code_of v) (code-small board.size extent v is)
+    row v is = grown (code_of v) (code-small v (some-vertex board.size extent v is))
 
     keeps : (v : Vertex) → IsVertex board.size v → (n : ℕ) → has (slice_index before (code_of v)) n ≡ true → has (slice_index after (code_of v)) n ≡ true
     keeps v is n h = rw (row v is) (kept (has reach (code_of v)))

@@ -15,6 +15,11 @@ get-lt [] place x e = cc
 get-lt (y ∷ ys) zero x e = omega arith
 get-lt (y ∷ ys) (suc place) x e = omega (arith, get-lt ys place x e)
 
+pub get-there : {A : Type 0} → (xs : List A) (place : ℕ) → place < length xs → (x : A) × (slice_get xs place ≡ Some x)
+get-there [] place inside = absurd (omega arith)
+get-there (y ∷ ys) zero inside = (y, refl)
+get-there (y ∷ ys) (suc place) inside = get-there ys place (omega arith)
+
 pub read-index : (xs : List ℕ) (place x : ℕ) → place < length xs → x ≡ get_or xs place x → x ≡ slice_index xs place
 read-index [] place x inside read = absurd (omega arith)
 read-index (y ∷ ys) zero x inside read = read
@@ -50,6 +55,18 @@ pub of_contained : {X : Type 0} (P : X → Type 0) (items : List X) (item : X) �
 of_contained {X} P items item each found = let Q : Option X → Type 0 = λ o. IfSome o P in
     subst Q (slice_get-get_or items found.0 item found.1 ∙ ap Some found.2) (each found.0)
 
+-- ---- a longer list
+
+pub get-append : {A : Type 0} → (xs more : List A) (place : ℕ) (x : A) → slice_get xs place ≡ Some x → slice_get (xs ++ more) place ≡ Some x
+get-append [] more place x e = cc
+get-append (y ∷ ys) more zero x e = e
+get-append (y ∷ ys) more (suc place) x e = get-append ys more place x e
+
+pub get-append_before : {A : Type 0} → (xs more : List A) (place : ℕ) → place < length xs → slice_get (xs ++ more) place ≡ slice_get xs place
+get-append_before [] more place inside = absurd (omega arith)
+get-append_before (y ∷ ys) more zero inside = refl
+get-append_before (y ∷ ys) more (suc place) inside = get-append_before ys more place (omega arith)
+
 -- ---- one element more
 
 pub get-push : {A : Type 0} → (xs : List A) (x y : A) (place : ℕ) → slice_get (xs ++ x ∷ []) place ≡ Some y
@@ -60,9 +77,7 @@ get-push (z ∷ zs) x y zero e = inl e
 get-push (z ∷ zs) x y (suc place) e = ⊎_elim (λ w. inl w) (λ w. inr (ap suc w.0, w.1)) (get-push zs x y place e)
 
 pub get-push_before : {A : Type 0} → (xs : List A) (more : A) (place : ℕ) (x : A) → slice_get xs place ≡ Some x → slice_get (xs ++ more ∷ []) place ≡ Some x
-get-push_before [] more place x e = cc
-get-push_before (z ∷ zs) more zero x e = e
-get-push_before (z ∷ zs) more (suc place) x e = get-push_before zs more place x e
+get-push_before xs more place x e = get-append xs (more ∷ []) place x e
 
 pub get-push_last : {A : Type 0} → (xs : List A) (x : A) → slice_get (xs ++ x ∷ []) (length xs) ≡ Some x
 get-push_last [] x = refl

@@ -69,6 +69,13 @@ pub position-inside : (size : Extent) (black white all : ℕ) → ((n : ℕ) →
 position-inside size black white all is_all p n h =
     (is_all n).1 (⊎_elim (p.black_inside n) (p.white_inside n) (has-union_cases black white n h))
 
+-- boards of one size with the same stones are one
+pub same_board : (one other : Board) → one.size ≡ other.size → one.black ≡ other.black → one.white ≡ other.white → one ≡ other
+same_board one other size black white =
+    ap (λ (e : Extent). record one { size = e }) size
+    ∙ ap (λ (b : ℕ). record other { black = b; white = one.white }) black
+    ∙ ap (λ (w : ℕ). record other { white = w }) white
+
 -- lifting the stone that was put on an empty cell gives the board back
 pub lifted-put : (board : Board) (colour : Colour) (cell : ℕ) → IsEmpty board cell → lifted (put board colour cell) cell ≡ board
 lifted-put board Black cell e =

@@ -2,18 +2,10 @@
 -- one way of touching.
 use Rattle.std.proofs.Common.{◌≡◌, ℕ, zero, suc, ◌+◌, ◌-◌, ◌*◌, ◌/◌, ◌%◌, ◌<◌, ◌≤◌, Bool, true, false, ◌&&◌, List, [], ◌∷◌, ◌++◌, get_or, refl, sym, arith, ◌↔◌, ltb, ⊎_elim}
 use Rattle.std.specs.Prelude.{Contains}
-use Rattle.std.proofs.lemmas.Bool.{false≢true}
-use Rattle.std.proofs.lemmas.Bool.Decides.{nat_tests}
+use Rattle.std.proofs.lemmas.Bool.{false≢true, ltb-true, lt-ltb}
 use Rattle.std.proofs.lemmas.List.Elements.{Contains-append_left, Contains-append_right, Contains-append_cases}
 use Rattle.hx_board.specs.Cells.{Extent, IsExtent, OnBoard, CellsTouch, Left, Right, Above, Below, Above_right, Below_left, row_of, col_of, index_of, kept, neighbours_of}
 use Rattle.hx_board.proofs.SetLaws.{and_left, and_right, and_both}
-
--- a test that passes, by what it says
-ltb_lt : (a b : ℕ) → ltb a b ≡ true → a < b
-ltb_lt a b h = grind (arith, nat_tests)
-
-lt_ltb : (a b : ℕ) → a < b → ltb a b ≡ true
-lt_ltb a b h = grind (arith, nat_tests)
 
 kept-has : (is_there : Bool) (cell other : ℕ) → Contains (kept is_there cell) other → (is_there ≡ true) × (other ≡ cell)
 kept-has true cell other h = (refl, first h.0 h.1 h.2)
@@ -55,7 +47,7 @@ module _ (size : Extent) (cell : ℕ) (extent : IsExtent size.rows size.cols) (h
   from_left : (other : ℕ) → Contains left other → IsNeighbour other
   from_left other h =
       let w = kept-has (ltb 0 (cell % 11)) (11 * (cell / 11) + (cell % 11 - 1)) other h in
-      let col : 0 < cell % 11 = ltb_lt 0 (cell % 11) w.0 in
+      let col : 0 < cell % 11 = ltb-true 0 (cell % 11) w.0 in
       let place : other ≡ 11 * (cell / 11) + (cell % 11 - 1) = w.1 in
       let here_row : cell / 11 < size.rows = here.row in
       let here_col : cell % 11 < size.cols = here.col in
@@ -64,7 +56,7 @@ module _ (size : Extent) (cell : ℕ) (extent : IsExtent size.rows size.cols) (h
   from_right : (other : ℕ) → Contains right other → IsNeighbour other
   from_right other h =
       let w = kept-has (ltb (cell % 11 + 1) size.cols) (11 * (cell / 11) + (cell % 11 + 1)) other h in
-      let col : cell % 11 + 1 < size.cols = ltb_lt (cell % 11 + 1) size.cols w.0 in
+      let col : cell % 11 + 1 < size.cols = ltb-true (cell % 11 + 1) size.cols w.0 in
       let place : other ≡ 11 * (cell / 11) + (cell % 11 + 1) = w.1 in
       let here_row : cell / 11 < size.rows = here.row in
       let bound : size.cols ≤ 11 = extent.3 in
@@ -73,7 +65,7 @@ module _ (size : Extent) (cell : ℕ) (extent : IsExtent size.rows size.cols) (h
   from_above : (other : ℕ) → Contains above other → IsNeighbour other
   from_above other h =
       let w = kept-has (ltb 0 (cell / 11)) (11 * (cell / 11 - 1) + cell % 11) other h in
-      let row : 0 < cell / 11 = ltb_lt 0 (cell / 11) w.0 in
+      let row : 0 < cell / 11 = ltb-true 0 (cell / 11) w.0 in
       let place : other ≡ 11 * (cell / 11 - 1) + cell % 11 = w.1 in
       let here_row : cell / 11 < size.rows = here.row in
       let here_col : cell % 11 < size.cols = here.col in
@@ -82,7 +74,7 @@ module _ (size : Extent) (cell : ℕ) (extent : IsExtent size.rows size.cols) (h
   from_below : (other : ℕ) → Contains below other → IsNeighbour other
   from_below other h =
       let w = kept-has (ltb (cell / 11 + 1) size.rows) (11 * (cell / 11 + 1) + cell % 11) other h in
-      let row : cell / 11 + 1 < size.rows = ltb_lt (cell / 11 + 1) size.rows w.0 in
+      let row : cell / 11 + 1 < size.rows = ltb-true (cell / 11 + 1) size.rows w.0 in
       let place : other ≡ 11 * (cell / 11 + 1) + cell % 11 = w.1 in
       let here_col : cell % 11 < size.cols = here.col in
       (record { row = omega arith; col = omega arith }, Below (omega arith) (omega arith))
@@ -90,8 +82,8 @@ module _ (size : Extent) (cell : ℕ) (extent : IsExtent size.rows size.cols) (h
   from_above_right : (other : ℕ) → Contains above_right other → IsNeighbour other
   from_above_right other h =
       let w = kept-has (ltb 0 (cell / 11) && ltb (cell % 11 + 1) size.cols) (11 * (cell / 11 - 1) + (cell % 11 + 1)) other h in
-      let row : 0 < cell / 11 = ltb_lt 0 (cell / 11) (and_left _ _ w.0) in
-      let col : cell % 11 + 1 < size.cols = ltb_lt (cell % 11 + 1) size.cols (and_right (ltb 0 (cell / 11)) _ w.0) in
+      let row : 0 < cell / 11 = ltb-true 0 (cell / 11) (and_left _ _ w.0) in
+      let col : cell % 11 + 1 < size.cols = ltb-true (cell % 11 + 1) size.cols (and_right (ltb 0 (cell / 11)) _ w.0) in
       let place : other ≡ 11 * (cell / 11 - 1) + (cell % 11 + 1) = w.1 in
       let here_row : cell / 11 < size.rows = here.row in
       let bound : size.cols ≤ 11 = extent.3 in
@@ -100,8 +92,8 @@ module _ (size : Extent) (cell : ℕ) (extent : IsExtent size.rows size.cols) (h
   from_below_left : (other : ℕ) → Contains below_left other → IsNeighbour other
   from_below_left other h =
       let w = kept-has (ltb (cell / 11 + 1) size.rows && ltb 0 (cell % 11)) (11 * (cell / 11 + 1) + (cell % 11 - 1)) other h in
-      let row : cell / 11 + 1 < size.rows = ltb_lt (cell / 11 + 1) size.rows (and_left _ _ w.0) in
-      let col : 0 < cell % 11 = ltb_lt 0 (cell % 11) (and_right (ltb (cell / 11 + 1) size.rows) _ w.0) in
+      let row : cell / 11 + 1 < size.rows = ltb-true (cell / 11 + 1) size.rows (and_left _ _ w.0) in
+      let col : 0 < cell % 11 = ltb-true 0 (cell % 11) (and_right (ltb (cell / 11 + 1) size.rows) _ w.0) in
       let place : other ≡ 11 * (cell / 11 + 1) + (cell % 11 - 1) = w.1 in
       let here_col : cell % 11 < size.cols = here.col in
       (record { row = omega arith; col = omega arith }, Below_left (omega arith) (omega arith))
@@ -145,24 +137,24 @@ module _ (size : Extent) (cell : ℕ) (extent : IsExtent size.rows size.cols) (h
 
   to_list : (other : ℕ) → OnBoard size other → CellsTouch cell other → Contains (neighbours_of size cell) other
   to_list other on (Left row col) =
-      among_two other (Contains-append_left left right other (has-kept _ _ other (lt_ltb _ _ (omega arith)) (omega arith)))
+      among_two other (Contains-append_left left right other (has-kept _ _ other (lt-ltb _ _ (omega arith)) (omega arith)))
   to_list other on (Right row col) =
       let other_col : other % 11 < size.cols = on.col in
-      among_two other (Contains-append_right left right other (has-kept _ _ other (lt_ltb _ _ (omega arith)) (omega arith)))
+      among_two other (Contains-append_right left right other (has-kept _ _ other (lt-ltb _ _ (omega arith)) (omega arith)))
   to_list other on (Above row col) =
-      among_three other (Contains-append_right two above other (has-kept _ _ other (lt_ltb _ _ (omega arith)) (omega arith)))
+      among_three other (Contains-append_right two above other (has-kept _ _ other (lt-ltb _ _ (omega arith)) (omega arith)))
   to_list other on (Below row col) =
       let other_row : other / 11 < size.rows = on.row in
-      among_four other (Contains-append_right three below other (has-kept _ _ other (lt_ltb _ _ (omega arith)) (omega arith)))
+      among_four other (Contains-append_right three below other (has-kept _ _ other (lt-ltb _ _ (omega arith)) (omega arith)))
   to_list other on (Above_right row col) =
       let other_col : other % 11 < size.cols = on.col in
       among_five other
       (Contains-append_right four above_right other
-      (has-kept _ _ other (and_both (ltb 0 (cell / 11)) _ (lt_ltb _ _ (omega arith)) (lt_ltb _ _ (omega arith))) (omega arith)))
+      (has-kept _ _ other (and_both (ltb 0 (cell / 11)) _ (lt-ltb _ _ (omega arith)) (lt-ltb _ _ (omega arith))) (omega arith)))
   to_list other on (Below_left row col) =
       let other_row : other / 11 < size.rows = on.row in
       Contains-append_right five below_left other
-      (has-kept _ _ other (and_both (ltb (cell / 11 + 1) size.rows) _ (lt_ltb _ _ (omega arith)) (lt_ltb _ _ (omega arith))) (omega arith))
+      (has-kept _ _ other (and_both (ltb (cell / 11 + 1) size.rows) _ (lt-ltb _ _ (omega arith)) (lt-ltb _ _ (omega arith))) (omega arith))
 
   pub neighbours-touch : (other : ℕ) → Contains (neighbours_of size cell) other ↔ (OnBoard size other × CellsTouch cell other)
   neighbours-touch other = (listed other, (λ w. to_list other w.0 w.1))

@@ -1,5 +1,5 @@
 -- The laws of sets of vertices: each call gives a set of vertices again, and a member of the set of a board's vertices is one.
-use Rattle.std.proofs.Common.{◌≡◌, ℕ, ◌<◌, true, sym, ◌∙◌, subst, arith, ⊎_elim}
+use Rattle.std.proofs.Common.{◌≡◌, ℕ, ◌<◌, true, refl, sym, ap, ◌∙◌, subst, arith, ⊎_elim}
 use Rattle.std.proofs.lemmas.Bool.{false≢true}
 use Rattle.hx_board.specs.declared.vertices.Vertex.{Vertex}
 use Rattle.hx_board.specs.declared.vertices.Vertex.TheVariants.{Of, First, Last}
@@ -9,6 +9,32 @@ use Rattle.hx_board.specs.Graph.{IsVertex}
 use Rattle.hx_board.specs.VertexSets.{code_of, AreVertexCodes, IsSomeVertex, IsVertexCode}
 use Rattle.hx_board.proofs.SetLaws.{has-empty, has-insert_cases, has-union_cases}
 use Rattle.hx_board.proofs.CellLaws.{on_board-small}
+
+-- ---- the code of a vertex
+
+pub some-vertex : (size : Extent) → IsExtent size.rows size.cols → (v : Vertex) → IsVertex size v → IsSomeVertex v
+some-vertex size extent (Of n) is = on_board-small size n extent is
+some-vertex size extent First is = tt
+some-vertex size extent Last is = tt
+
+pub code-small : (v : Vertex) → IsSomeVertex v → code_of v < 123
+code-small (Of n) some = omega arith
+code-small First some = omega arith
+code-small Last some = omega arith
+
+-- different vertices have different codes
+pub code-same : (v w : Vertex) → IsSomeVertex v → IsSomeVertex w → code_of v ≡ code_of w → v ≡ w
+code-same (Of n) (Of m) h k e = ap Of e
+code-same (Of n) First h k e = absurd (omega arith)
+code-same (Of n) Last h k e = absurd (omega arith)
+code-same First (Of m) h k e = absurd (omega arith)
+code-same First First h k e = refl
+code-same First Last h k e = absurd (omega arith)
+code-same Last (Of m) h k e = absurd (omega arith)
+code-same Last First h k e = absurd (omega arith)
+code-same Last Last h k e = refl
+
+-- ---- sets of codes
 
 pub empty-codes : AreVertexCodes 0
 empty-codes n h = absurd (false≢true (sym (has-empty n) ∙ h))

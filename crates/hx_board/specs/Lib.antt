@@ -1,4 +1,5 @@
 pub mod Finds
+pub mod Lists
 pub mod Sets
 pub mod Colours
 pub mod Cells

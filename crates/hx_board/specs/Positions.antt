@@ -34,6 +34,10 @@ pub record IsEmpty (board : Board) (cell : ℕ) : Type 0 where
   pub no_black : has board.black cell ≡ false
   pub no_white : has board.white cell ≡ false
 
+-- no cell is empty
+abbrev pub IsFull : Board → Type 0
+IsFull board = (cell : ℕ) → ¬ IsEmpty board cell
+
 -- the colour of the stone on a cell
 abbrev pub stone_at : Board → ℕ → Option Colour
 stone_at board cell = if has board.black cell then Some Black else (if has board.white cell then Some White else None)

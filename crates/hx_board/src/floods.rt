@@ -1,6 +1,6 @@
 //! Floods: what a vertex is joined with.
 //!
-//! A flood begins with one vertex and takes in, step by step, all own vertices that touch it. Each step is some twenty
+//! A flood begins with one vertex and takes in, step by step, all own vertices that touch it. Each step is some thirty
 //! operations on whole sets, however many stones the board has, and there are no more steps than the way through the
 //! group is long. Union-find would look at the stones and their neighbours one by one.
 

@@ -1,6 +1,6 @@
 //! The cells that touch those of a set, found by shifts of the whole set.
 //!
-//! Neighbours' indexes lie fixed steps away, so six shifts find the neighbours of all cells of a set at once. What a shift
+//! Neighbours' indexes lie fixed steps away, so four shifts find the neighbours of all cells of a set at once. What a shift
 //! moves over the edge of the board is cut off by the board's own cells.
 
 ghost use Rattle.std.specs.Prelude.{◌≡◌, ℕ, ◌+◌, ◌<◌, ◌↔◌, true};
