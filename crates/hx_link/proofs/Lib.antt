@@ -1,3 +1,4 @@
 pub mod MeetingLaws
+pub mod LinkLaws
 pub mod PartLaws
 pub mod OneLink

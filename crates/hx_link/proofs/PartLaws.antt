@@ -20,10 +20,8 @@ use Rattle.hx_link.specs.declared.links.Link.{Link}
 use Rattle.hx_link.specs.declared.parts.TheConstants.{MOST_PARTS}
 use Rattle.hx_link.specs.declared.steps.Step.TheVariants.{Or}
 use Rattle.hx_link.specs.Steps.{IsLink, HasEnds, IsOneOf, links_at, carriers_of, GivesOr, StepGives}
+use Rattle.hx_link.proofs.LinkLaws.{ends_along, one_of_later, same_front}
 use Rattle.hx_link.specs.Named.{IsMade, IsSemiAt, ArePartsFrom, PartsSoFar}
-
-one_of_later : (l x : Link) (xs : List Link) → IsOneOf l xs → IsOneOf l (x ∷ xs)
-one_of_later l x xs h = (suc h.0, h.1)
 
 -- what is in a list with one link more
 one_of_push : (xs : List Link) (x l : Link) → IsOneOf l (xs ++ x ∷ []) → IsOneOf l xs ⊎ (l ≡ x)
@@ -35,15 +33,12 @@ one_of_before xs x l h = (h.0, get-push_before xs x h.0 l h.1)
 one_of_last : (xs : List Link) (x : Link) → IsOneOf x (xs ++ x ∷ [])
 one_of_last xs x = (length xs, get-push_last xs x)
 
-both : {x y : Option Link} {xs ys : List (Option Link)} → x ≡ y → xs ≡ ys → x ∷ xs ≡ y ∷ ys
-both a b = cc
-
 links_at-push : (before : List Link) (places : List ℕ) (place : ℕ) (links : List Link) (part : Link) → links_at before places ≡ map (λ (l : Link). Some l) links → slice_get before place ≡ Some part
     → links_at before (places ++ place ∷ []) ≡ map (λ (l : Link). Some l) (links ++ part ∷ [])
 links_at-push before [] place [] part e h = cc
 links_at-push before [] place (l ∷ ls) part e h = cc
 links_at-push before (p ∷ ps) place [] part e h = cc
-links_at-push before (p ∷ ps) place (l ∷ ls) part e h = let more : links_at before (ps ++ place ∷ []) ≡ map (λ (l : Link). Some l) (ls ++ part ∷ []) = links_at-push before ps place ls part (cc) h in let here : slice_get before p ≡ Some l = cc in both here more
+links_at-push before (p ∷ ps) place (l ∷ ls) part e h = let more : links_at before (ps ++ place ∷ []) ≡ map (λ (l : Link). Some l) (ls ++ part ∷ []) = links_at-push before ps place ls part (cc) h in let here : slice_get before p ≡ Some l = cc in same_front here more
 
 or_assoc : (a b c : Bool) → (a || (b || c)) ≡ ((a || b) || c)
 or_assoc true b c = refl
@@ -97,12 +92,6 @@ part_at before [] links e k place h = cc
 part_at before (p ∷ ps) [] e k place h = cc
 part_at before (p ∷ ps) (l ∷ ls) e zero place h = (l, ((zero, refl), let same : p ≡ place = cc in (let there : slice_get before p ≡ Some l = cc in ap (λ n. slice_get before n) (sym same) ∙ there)))
 part_at before (p ∷ ps) (l ∷ ls) e (suc k) place h = let w = part_at before ps ls (cc) k place h in (w.0, (one_of_later w.0 l ls w.1.0, w.1.1))
-
-ends_along : (f p : Link) (u v : Vertex) → HasEnds f u v → HasEnds p u v → HasEnds p f.a f.b
-ends_along f p u v (inl a) (inl b) = inl (b.0 ∙ sym a.0, b.1 ∙ sym a.1)
-ends_along f p u v (inl a) (inr b) = inr (b.0 ∙ sym a.1, b.1 ∙ sym a.0)
-ends_along f p u v (inr a) (inl b) = inr (b.0 ∙ sym a.1, b.1 ∙ sym a.0)
-ends_along f p u v (inr a) (inr b) = inl (b.0 ∙ sym a.0, b.1 ∙ sym a.1)
 
 pub ends_back : (f l : Link) → HasEnds f l.a l.b → HasEnds l f.a f.b
 ends_back f l (inl e) = inl (sym e.0, sym e.1)

@@ -1,11 +1,35 @@
--- A list of nodes as a book of proofs. With one node more: which entries it has then, and that no two are of one position and
+-- A list of nodes as a book of proofs. What a list has that goes on from another. With one node more: which entries it has then, and that no two are of one position and
 -- mover. What was stored is the first entry of its position and mover.
-use Rattle.std.proofs.Common.{◌≡◌, ℕ, List, [], ◌∷◌, ◌++◌, length, refl, sym, ◌∙◌, subst, ◌⊎◌, inl, inr, ⊎_elim, arith}
+use Rattle.std.proofs.Common.{◌≡◌, ℕ, List, [], ◌∷◌, ◌++◌, length, append-nil, append_assoc, refl, sym, ap, ◌∙◌, subst, ◌⊎◌, inl, inr, ⊎_elim, arith}
+use Rattle.std.specs.Prelude.{slice_get}
+use Rattle.std.specs.declared.option.Option.TheVariants.{Some}
 use Rattle.hx_board.specs.declared.colours.Colour.{Colour}
 use Rattle.hx_board.specs.Positions.{Board}
-use Rattle.hx_board.proofs.ListLaws.{get-push, get-push_before, get-push_last}
+use Rattle.hx_board.proofs.ListLaws.{get-append, get-push, get-push_before, get-push_last}
 use Rattle.hx_tree.specs.declared.nodes.Node.{Node}
-use Rattle.hx_tree.specs.Entries.{IsOf, IsEntry, HasNoEntry, AreDistinctEntries, IsFirstEntry, IsThere, IsAdded, IsStored}
+use Rattle.hx_tree.specs.Entries.{IsOf, IsEntry, HasNoEntry, AreDistinctEntries, IsFirstEntry, IsThere, IsAdded, IsStored, Extends}
+
+-- ---- a list that begins with another
+
+pub extends-itself : (list : List Node) → Extends list list
+extends-itself list = ([], sym (append-nil list))
+
+pub extends-on : (first second third : List Node) → Extends second first → Extends third second → Extends third first
+extends-on first second third one two =
+    (one.0 ++ two.0, two.1 ∙ ap (λ (nodes : List Node). nodes ++ two.0) one.1 ∙ append_assoc first one.0 two.0)
+
+pub node-later : (new old : List Node) (place : ℕ) (node : Node) → Extends new old → slice_get old place ≡ Some node → slice_get new place ≡ Some node
+node-later new old place node more there = rw more.1 (get-append old more.0 place node there)
+
+-- an entry stays one
+pub entry-later : (new old : List Node) (board : Board) (mover : Colour) (place : ℕ) → Extends new old → IsEntry old board mover place → IsEntry new board mover place
+entry-later new old board mover place more entry = record {
+  node = entry.node;
+  there = node-later new old place entry.node more entry.there;
+  is_of = entry.is_of;
+}
+
+-- ---- one node more
 
 module _ (nodes : List Node) (node : Node) where
   pub entry-before : (board : Board) (mover : Colour) (place : ℕ) → IsEntry nodes board mover place → IsEntry (nodes ++ node ∷ []) board mover place

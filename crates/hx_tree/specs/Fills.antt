@@ -1,5 +1,5 @@
 -- Fill steps one after the other, and when a node goes on from the board after them.
-use Rattle.std.specs.Prelude.{◌≢◌, ℕ, List, [], ◌∷◌, slice_get, IsSomeAnd}
+use Rattle.std.specs.Prelude.{◌≡◌, ◌≢◌, ℕ, List, [], ◌∷◌, slice_get, IsSomeAnd}
 use Rattle.hx_board.specs.declared.colours.Colour.{Colour}
 use Rattle.hx_board.specs.Positions.{Board}
 use Rattle.hx_inferior.specs.declared.fills.FillStep.{FillStep}
@@ -16,6 +16,11 @@ MayFillAll board winner (step ∷ steps) = MayFill board winner step × MayFillA
 abbrev pub filled_all : Board → Colour → List FillStep → Board
 filled_all board winner [] = board
 filled_all board winner (step ∷ steps) = filled_all (filled board winner step) winner steps
+
+-- each step may be done on the board after those before it, and they lead from the one board to the other
+pub record LeadTo (board : Board) (winner : Colour) (steps : List FillStep) (final : Board) : Type 0 where
+  pub right : MayFillAll board winner steps
+  pub same : filled_all board winner steps ≡ final
 
 -- there is some step, each may be done where it stands, and an earlier heading says that the winner wins the board after them
 -- all, with the same player to move

@@ -9,3 +9,7 @@ pub record IsHeading (board : Board) (mover winner : Colour) (heading : Heading)
   pub same_position : heading.position ≡ board
   pub same_mover : heading.to_move ≡ mover
   pub same_winner : heading.winner ≡ winner
+
+-- the heading with this position, mover and winner
+abbrev pub heading_of : Board → Colour → Colour → Heading
+heading_of board mover winner = record { position = board; to_move = mover; winner = winner }
