@@ -4,22 +4,24 @@
 //! of 7 by 7 takes twice the units. Of these the turn goes down to the one with the least delta, as df-pn does. Those out of focus
 //! count together as one move more (`rest.rt`).
 
-ghost use Rattle.std.specs.Prelude.{◌≡◌, ◌<◌, length, take, IfOk, IfSome};
+ghost use Rattle.std.specs.Prelude.{◌≡◌, ◌<◌, ◌≤◌, length, take, MatchOption};
 ghost use Rattle.std.specs.List.{All};
 ghost use Rattle.hx_pn.specs.Numbers.{IsNumbers};
 ghost use Rattle.hx_moves.specs.Keeps.{KeepsSeat};
-ghost use Rattle.hx_moves.specs.Choices.{IsWayDown, IsChoice};
+ghost use Rattle.hx_moves.specs.Choices.{HasMoveToStone, IsWayDown, IsChoice};
 
-use crate::children::{Child, Moves};
+use crate::children::Child;
 use crate::losses::{LOSS_WORDS, with_losses};
 use crate::marks::hinted_or;
+use crate::moves::Moves;
 use crate::rest::rest;
 use crate::starts::{Start, Turn};
 use crate::stones::after;
-use hx_board::Memory;
 use hx_count::{CountSeat, Counts, Hints};
-use hx_pn::{Numbers, combine, focus, thresholds};
-use std::alloc::Global;
+use hx_pn::{Numbers, UNSEEN, combine, focus, thresholds};
+
+/// No more moves are in focus: a quarter of 121, rounded up, and one more.
+const MOST_IN_FOCUS: usize = 32;
 
 /// What a turn does next.
 #[derive(Drop)]
@@ -27,7 +29,7 @@ pub enum Choice {
     /// Each move is known to lose.
     AllLose,
 
-    /// The numbers of the turn have come to its limit.
+    /// The numbers of the turn have come to its limit, or the move to go down to has a stone on its cell.
     Limit(Numbers),
 
     /// It goes down.
@@ -51,10 +53,12 @@ pub struct Down {
 pub fn in_focus(moves: &Moves) -> &[Child]
     ensures front { result.now ≡ take (length result.now) moves.now.children.items }
     ensures some { 0 < length moves.now.children.items → 0 < length result.now }
+    ensures few { length result.now ≤ MOST_IN_FOCUS }
 {
     let children = moves.children.as_slice();
     let live = u32::try_from(children.len()).unwrap_or(u32::MAX);
-    children.get(..focus(live) as usize).unwrap_or(children)
+    let count = (focus(live) as usize).min(MOST_IN_FOCUS);
+    children.get(..count).unwrap_or(&[])
 }
 
 /// What the turn does next.
@@ -62,70 +66,63 @@ pub fn choose(
     counts: &Counts,
     hints: &Hints,
     seat: &mut CountSeat,
-    alloc: Global,
     turn: &Turn,
     moves: &Moves,
-) -> Result<Choice, Memory>
+) -> Choice
     requires seat { seat.old.made ≡ counts.now }
     requires words { counts.now.limits.words ≡ LOSS_WORDS }
     ensures seat { KeepsSeat seat.old seat.new }
-    ensures choice { IfOk result (IsChoice turn.now moves.now) }
+    ensures choice { IsChoice turn.now moves.now result }
 {
     if moves.children.is_empty() {
-        return Ok(Choice::AllLose);
+        return Choice::AllLose;
     }
     let focused = in_focus(moves);
-    let Ok(mut numbers) = numbers_of(counts, hints, seat, alloc, focused) else {
-        return Err(Memory);
-    };
-    if let Some(rest) = rest(moves.children.len().saturating_sub(focused.len()))
-        && numbers.push(rest).is_err()
-    {
-        return Err(Memory);
+    let mut numbers = numbers_of(counts, hints, seat, focused);
+    let mut count = focused.len();
+    if let Some(rest) = rest(moves.children.len().saturating_sub(count)) {
+        numbers[count] = rest;
+        count += 1;
     }
-    let numbers = numbers.as_slice();
+    let numbers = &numbers[..count];
     let Some((place, limit)) = thresholds(turn.limit, numbers) else {
-        return Ok(Choice::Limit(combine(numbers)));
+        return Choice::Limit(combine(numbers));
     };
     match way_down(turn, moves, place, limit) {
-        Some(down) => Ok(Choice::Down(down)),
-        None => Ok(Choice::Limit(combine(numbers))),
+        Some(down) => Choice::Down(down),
+        None => Choice::Limit(combine(numbers)),
     }
 }
 
-/// The numbers of some moves, as their hints tell them, with losses.
+/// The numbers of some moves, as their hints tell them, with losses; behind them is room for one more.
 fn numbers_of(
     counts: &Counts,
     hints: &Hints,
     seat: &mut CountSeat,
-    alloc: Global,
     children: &[Child],
-) -> Result<Vec<Numbers>, Memory>
+) -> [Numbers; MOST_IN_FOCUS + 1]
     requires seat { seat.old.made ≡ counts.now }
     requires words { counts.now.limits.words ≡ LOSS_WORDS }
+    requires few { length children.now ≤ MOST_IN_FOCUS }
     ensures seat { KeepsSeat seat.old seat.new }
-    ensures numbers { IfOk result (λ numbers. All IsNumbers numbers.items) }
+    ensures numbers { All IsNumbers result }
 {
-    // One more may come for those out of focus.
-    let Ok(mut numbers) = Vec::with_capacity(alloc, children.len() + 1) else {
-        return Err(Memory);
-    };
-    for child in children {
+    let mut numbers = [UNSEEN; MOST_IN_FOCUS + 1];
+    for place in 0..children.len() {
+        let child = &children[place];
         let told = hinted_or(hints, child.number, child.numbers);
-        let seen = with_losses(counts, seat, child.number, told);
-        numbers.push_reserved(seen);
+        numbers[place] = with_losses(counts, seat, child.number, told);
     }
-    Ok(numbers)
+    numbers
 }
 
-/// The way down to the move at a place.
+/// The way down to the move at a place. None where its cell holds a stone.
 fn way_down(turn: &Turn, moves: &Moves, place: usize, limit: Numbers) -> Option<Down>
-    requires { IsNumbers limit }
-    ensures { IfSome result (IsWayDown turn.now moves.now) }
+    requires place { place < length moves.now.children.items }
+    requires limit { IsNumbers limit }
+    ensures { MatchOption result (HasMoveToStone turn.now moves.now) (IsWayDown turn.now moves.now) }
 {
-    let Some(child) = moves.children.get(place).copied() else {
-        return None;
-    };
+    let child = moves.children[place];
     let Some(here) = after(&turn.filled, turn.to_move, child.cell) else {
         return None;
     };

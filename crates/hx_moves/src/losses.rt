@@ -17,7 +17,7 @@ pub const LOSS_WORDS: u32 = 4096;
 pub fn loss_word(number: u64) -> u32
     ensures { result < LOSS_WORDS }
 {
-    ((number >> 32) % 4096) as u32
+    (number >> 32) as u32 % LOSS_WORDS
 }
 
 /// The numbers of a position as they look with the workers that are below it.

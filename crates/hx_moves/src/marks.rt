@@ -7,8 +7,9 @@
 //!
 //! A hint may be of another position. So a mark is no proof, and one that proves to be wrong is written anew.
 
-ghost use Rattle.std.specs.Prelude.{◌<◌, ◌≤◌};
+ghost use Rattle.std.specs.Prelude.{◌≡◌};
 ghost use Rattle.hx_pn.specs.Numbers.{IsNumbers};
+ghost use Rattle.hx_moves.specs.Marks.{open_of};
 
 use hx_count::Hints;
 use hx_pn::{INF, Numbers};
@@ -27,11 +28,10 @@ fn hint_word(number: u64) -> u32 {
     (number & 0xffff_ffff) as u32
 }
 
-/// The nearest numbers of a position that is not proved. No mark has them.
+/// The nearest numbers of a position that is not proved, between 1 and two below `INF`. No mark has them.
 pub fn open(numbers: Numbers) -> Numbers
+    ensures value { result ≡ open_of numbers }
     ensures numbers { IsNumbers result }
-    ensures phi { (1 ≤ result.phi) × (result.phi < HIGHEST) }
-    ensures delta { (1 ≤ result.delta) × (result.delta < HIGHEST) }
 {
     Numbers {
         phi: numbers.phi.clamp(1, HIGHEST - 1),

@@ -116,28 +116,14 @@ fn sums(own: &LinkSet, others: &LinkSet) -> [u32; CELLS] {
     sums
 }
 
-/// When each of these cells is tried, by the sums: the one with the least number first.
-fn places(
-    size: Size,
-    cells: VertexSet,
-    sums: &[u32; CELLS],
-    earlier: &[u32; CELLS],
-) -> [u32; CELLS] {
-    let mut places = [0u32; CELLS];
-    let mut left = cells;
-    for _ in 0..CELLS {
-        let Some(cell) = first(left) else {
-            break;
-        };
-        left = left.without(Vertex::Of(cell));
-        let index = cell.index() as usize;
-        places[index] = sums[index]
-            .wrapping_mul(1000)
-            .wrapping_add(MOST)
-            .wrapping_add(from_centre(size, cell))
-            .wrapping_sub(earlier[index]);
-    }
-    places
+/// When a cell is tried, by the sums: the one with the least number first.
+fn place_of(size: Size, cell: Cell, sums: &[u32; CELLS], earlier: &[u32; CELLS]) -> u32 {
+    let index = cell.index() as usize;
+    sums[index]
+        .wrapping_mul(1000)
+        .wrapping_add(MOST)
+        .wrapping_add(from_centre(size, cell))
+        .wrapping_sub(earlier[index])
 }
 
 /// The cells of a set, in cell order.
@@ -162,11 +148,11 @@ pub(crate) fn in_order(
 ) -> Result<Vec<Cell>, Memory> {
     let position = own.position();
     let cells = VertexSet::of_cells(position.empties());
+    let size = position.size();
     let sums = sums(own, others);
-    let places = places(position.size(), cells, &sums, earlier);
     let mut found = list(own.allocator(), cells)?;
     found
-        .sort_by_key(|cell: &Cell| places[cell.index() as usize])
+        .sort_by_key(|cell: &Cell| place_of(size, *cell, &sums, earlier))
         .map_err(|_| Memory)?;
     Ok(found)
 }

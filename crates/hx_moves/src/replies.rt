@@ -8,6 +8,8 @@
 //!
 //! A count is a hint: it decides in which order moves are tried, and no proof rests on it.
 
+ghost use Rattle.std.specs.Prelude.{◌<◌};
+
 use crate::starts::Turn;
 use hx_board::{CELLS, Cell, Colour, Mask, Memory};
 use hx_count::Hints;
@@ -17,8 +19,14 @@ use std::alloc::Global;
 /// How much earlier the move is tried that won most often, in thousandths of a distance.
 pub(crate) const MOST: u32 = 3000;
 
+/// How many cells the largest board has.
+const MOST_CELLS: u32 = CELLS as u32;
+
+/// A word for each last cell and each cell.
+const WORDS_OF_MOVER: u32 = MOST_CELLS * MOST_CELLS;
+
 /// A word for each mover, each last cell and each cell.
-const WORDS: u32 = 29282;
+const WORDS: u32 = 2 * WORDS_OF_MOVER;
 
 /// No word counts further.
 const HIGHEST: u32 = 1_000_000;
@@ -31,11 +39,13 @@ pub struct Replies {
 }
 
 /// The word of a mover's move to a cell after the opponent's to the last cell.
-fn word(mover: Colour, last: Cell, cell: Cell) -> u32 {
-    let pair = u32::from(last.index()) * 121 + u32::from(cell.index());
+fn word(mover: Colour, last: Cell, cell: Cell) -> u32
+    ensures { result < WORDS }
+{
+    let pair = u32::from(last.index()) * MOST_CELLS + u32::from(cell.index());
     match mover {
         Colour::Black => pair,
-        Colour::White => pair + 14641,
+        Colour::White => pair + WORDS_OF_MOVER,
     }
 }
 

@@ -1,7 +1,8 @@
 //! What a turn is given, and what it goes on with after fill-in.
 
-ghost use Rattle.std.specs.Prelude.{◌≡◌, IfOk};
+ghost use Rattle.std.specs.Prelude.{◌≡◌, ◌↔◌, ◌++◌, [], IfOk, IsFalse};
 ghost use Rattle.hx_pn.specs.Numbers.{IsNumbers};
+ghost use Rattle.hx_moves.specs.Stones.{stones_of_move, stones_of_fills};
 
 use crate::stones::{Stone, stones_of};
 use hx_board::{Cell, Colour, Memory};
@@ -33,7 +34,7 @@ pub struct Turn {
     pub to_move: Colour,
 
     /// The move that led to the position.
-    pub(crate) moved: Option<Cell>,
+    pub moved: Option<Cell>,
 
     /// The turn ends where its numbers come to this.
     pub limit: Numbers,
@@ -51,7 +52,12 @@ impl Turn {
     pub fn of(alloc: Global, start: &Start, filled: &Filled) -> Result<Turn, Memory>
         ensures filled { IfOk result (λ turn. turn.filled ≡ filled.now.position) }
         ensures to_move { IfOk result (λ turn. turn.to_move ≡ start.now.to_move) }
+        ensures moved { IfOk result (λ turn. turn.moved ≡ start.now.moved) }
         ensures limit { IfOk result (λ turn. turn.limit ≡ start.now.limit) }
+        ensures is_filled { IfOk result (λ turn.
+            IsFalse turn.is_filled ↔ (filled.now.steps.items ≡ [])) }
+        ensures stones { IfOk result (λ turn. turn.stones.items
+            ≡ stones_of_move start.now.moved start.now.to_move ++ stones_of_fills filled.now.steps.items) }
     {
         Ok(Turn {
             filled: Orientations::of(&filled.position),

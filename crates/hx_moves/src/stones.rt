@@ -1,7 +1,8 @@
 //! The stones that come in a turn: the move that led to it, and what is filled in.
 
-ghost use Rattle.std.specs.Prelude.{◌≡◌, MatchOption};
+ghost use Rattle.std.specs.Prelude.{◌≡◌, ◌++◌, ◌∷◌, [], IfOk, MatchOption, OnOk};
 ghost use Rattle.hx_board.specs.Positions.{IsEmpty, put};
+ghost use Rattle.hx_moves.specs.Stones.{stones_of_move, stones_of_step, stones_of_fills};
 
 use crate::starts::Start;
 use hx_board::{Cell, Colour, Memory};
@@ -31,11 +32,10 @@ pub fn after(before: &Orientations, colour: Colour, cell: Cell) -> Option<Orient
 }
 
 /// The stones of a turn, the move first.
-pub(crate) fn stones_of(
-    alloc: Global,
-    start: &Start,
-    filled: &Filled,
-) -> Result<Vec<Stone>, Memory> {
+pub(crate) fn stones_of(alloc: Global, start: &Start, filled: &Filled) -> Result<Vec<Stone>, Memory>
+    ensures { IfOk result (λ stones. stones.items
+        ≡ stones_of_move start.now.moved start.now.to_move ++ stones_of_fills filled.now.steps.items) }
+{
     let mut stones = Vec::with_capacity(alloc, FEW).map_err(|_| Memory)?;
     if let Some(cell) = start.moved {
         push(&mut stones, start.to_move.other(), cell)?;
@@ -47,7 +47,10 @@ pub(crate) fn stones_of(
 }
 
 /// Adds the stones of one step of fill-in.
-fn push_fill(stones: &mut Vec<Stone>, fill: &Fill) -> Result<(), Memory> {
+fn push_fill(stones: &mut Vec<Stone>, fill: &Fill) -> Result<(), Memory>
+    ensures { OnOk result (stones.new.items
+        ≡ stones.old.items ++ stones_of_step fill.now.colour fill.now.step) }
+{
     let colour = fill.colour;
     match fill.step {
         FillStep::Dead(cell) | FillStep::Other(cell) => push(stones, colour, cell),
@@ -58,6 +61,8 @@ fn push_fill(stones: &mut Vec<Stone>, fill: &Fill) -> Result<(), Memory> {
     }
 }
 
-fn push(stones: &mut Vec<Stone>, colour: Colour, cell: Cell) -> Result<(), Memory> {
+fn push(stones: &mut Vec<Stone>, colour: Colour, cell: Cell) -> Result<(), Memory>
+    ensures { OnOk result (stones.new.items ≡ stones.old.items ++ (colour, cell) ∷ []) }
+{
     stones.push((colour, cell)).map_err(|_| Memory)
 }

@@ -3,7 +3,7 @@ use Rattle.std.proofs.Common.{◌≡◌, ℕ, zero, suc, ◌<◌, ◌≤◌, Lis
 use Rattle.std.specs.Prelude.{slice_get}
 use Rattle.hx_board.specs.declared.colours.Colour.{Colour}
 use Rattle.hx_board.specs.Positions.{Board}
-use Rattle.hx_board.proofs.ListLaws.{get-lt, get_or-get}
+use Rattle.hx_board.proofs.ListLaws.{get-lt, get_or-get, get-append, get-append_before}
 use Rattle.hx_tree.specs.declared.nodes.Node.{Node}
 use Rattle.hx_tree.specs.declared.entries.Found.{Found}
 use Rattle.hx_tree.specs.Entries.{IsEntry, IsFirstFound, Extends}
@@ -16,16 +16,6 @@ all-get P xs place x all there = subst P (get_or-get xs place x x there) (all pl
 pub any-get : {A : Type 0} → (P : A → Type 0) (xs : List A) (place : ℕ) (x : A) → slice_get xs place ≡ Some x → P x → Any P xs
 any-get P xs place x there has = (place, x, get-lt xs place x there, get_or-get xs place x x there, has)
 
-get-later : (nodes more : List Node) (place : ℕ) (node : Node) → slice_get nodes place ≡ Some node → slice_get (nodes ++ more) place ≡ Some node
-get-later [] more place node e = cc
-get-later (first ∷ nodes) more zero node e = e
-get-later (first ∷ nodes) more (suc place) node e = get-later nodes more place node e
-
-get-before : (nodes more : List Node) (place : ℕ) → place < length nodes → slice_get (nodes ++ more) place ≡ slice_get nodes place
-get-before [] more place inside = absurd (omega arith)
-get-before (first ∷ nodes) more zero inside = refl
-get-before (first ∷ nodes) more (suc place) inside = get-before nodes more place (omega arith)
-
 -- what was found first is found first in a list that goes on
 pub found-later : (old new : List Node) (board : Board) (mover : Colour) (found : Found) → Extends new old → IsFirstFound old board mover found
     → IsFirstFound new board mover found
@@ -37,7 +27,7 @@ found-later old new board mover found more first = rw more.1 later
     before : (earlier : ℕ) → earlier < found.index → IsEntry (old ++ more.0) board mover earlier → ⊥
     before earlier less entry = first.first.first earlier less (record {
       node = entry.node;
-      there = sym (get-before old more.0 earlier (omega (arith, less, inside))) ∙ entry.there;
+      there = sym (get-append_before old more.0 earlier (omega (arith, less, inside))) ∙ entry.there;
       is_of = entry.is_of;
     })
 
@@ -46,7 +36,7 @@ found-later old new board mover found more first = rw more.1 later
       first = record {
         entry = record {
           node = first.first.entry.node;
-          there = get-later old more.0 found.index first.first.entry.node first.first.entry.there;
+          there = get-append old more.0 found.index first.first.entry.node first.first.entry.there;
           is_of = first.first.entry.is_of;
         };
         first = before;

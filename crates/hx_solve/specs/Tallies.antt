@@ -1,5 +1,6 @@
 -- Counts of refusals.
-use Rattle.std.specs.Prelude.{◌≡◌, ℕ, ◌+◌, ◌-◌, ◌≤◌, ◌^◌, min}
+use Rattle.std.specs.Prelude.{◌≡◌, ℕ, ◌≤◌}
+use Rattle.hx_io.specs.Causes.{next_count}
 use Rattle.hx_solve.specs.declared.unsolved.Unsolved.{Unsolved}
 use Rattle.hx_solve.specs.declared.unsolved.Unsolved.TheVariants.{Budget, Slots, Memory}
 
@@ -13,14 +14,10 @@ pub record Tallied : Type 0 where
 abbrev pub tallied : ℕ → ℕ → ℕ → ℕ → Tallied
 tallied budget slots budgets proofs = record { budget = budget; slots = slots; budgets = budgets; proofs = proofs }
 
--- one more, as far as 64 binary digits reach
-abbrev pub one_more : ℕ → ℕ
-one_more count = min (count + 1) (2 ^ 64 - 1)
-
 -- the tally with the refusal counted
 abbrev pub counting : Unsolved → Tallied → Tallied
-counting (Budget taken) tally = record tally { budgets = one_more tally.budgets }
-counting (Slots refusal) tally = record tally { proofs = one_more tally.proofs }
+counting (Budget taken) tally = record tally { budgets = next_count tally.budgets }
+counting (Slots refusal) tally = record tally { proofs = next_count tally.proofs }
 counting Memory tally = tally
 
 -- neither count is lower than before

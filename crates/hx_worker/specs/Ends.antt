@@ -5,6 +5,8 @@ use Rattle.hx_board.specs.Positions.{Board}
 use Rattle.hx_board.specs.Graph.{HasChain}
 use Rattle.hx_tree.specs.declared.nodes.Node.{Node}
 use Rattle.hx_tree.specs.Entries.{IsFirstFound}
+use Rattle.hx_turn.specs.Turned.{IsTurned}
+use Rattle.hx_book.specs.EitherEntry.{WasMissed}
 use Rattle.hx_linkset.specs.States.{Standing}
 use Rattle.hx_linkset.specs.declared.sets.TheConstants.{MOST_LINKS}
 use Rattle.hx_count.specs.Seats.{Seat}
@@ -38,6 +40,13 @@ IsThrough set = IsClosed set ⊎ (length set.present.links ≡ MOST_LINKS)
 pub record IsOpenSet (set : Standing) (mover : Colour) : Type 0 where
   pub through : IsThrough set
   pub open_set : (place : ℕ) → Decides set mover place → ⊥
+
+-- neither the position nor the turned one had an entry when it was looked up
+pub record WasUnlisted (old new : List Node) (board : Board) (mover : Colour) : Type 0 where
+  pub missed : WasMissed old new board mover
+  pub turned : Board
+  pub is_turned : IsTurned board turned
+  pub turned_missed : WasMissed old new turned mover
 
 -- the position is decided neither by a chain nor by the links of the sets, which were closed as far as that goes
 pub record IsTried (board : Board) (mover : Colour) (black white : Standing) : Type 0 where

@@ -10,7 +10,7 @@ ghost use Rattle.hx_tree.specs.Entries.{Extends};
 ghost use Rattle.hx_search.specs.Closed.{IsGrown};
 ghost use Rattle.hx_worker.specs.Sets.{AreOn};
 ghost use Rattle.hx_worker.specs.Keeps.{IsSpent};
-ghost use Rattle.hx_worker.specs.Ends.{IsEnded, IsTried, IsThrough, IsOpenSet, EndsSpent};
+ghost use Rattle.hx_worker.specs.Ends.{IsEnded, IsTried, IsThrough, IsOpenSet, WasUnlisted, EndsSpent};
 
 use crate::ended::{Ended, ended_by, found_by};
 use hx_board::{Colour, Memory, Position, chain};
@@ -44,6 +44,7 @@ fn by_entry<P: Proofs, R: Wait>(
     ensures seen { Extends (P.list proofs.new) (P.list proofs.old) }
     ensures ended { (seat : Seat) → IfSome result (IsEnded (P.list proofs.new) (P.slots proofs.new) seat position.now to_move) }
     ensures not_spent { IfSome result (λ ended. ¬ EndsSpent ended) }
+    ensures unlisted { result ≡ None → WasUnlisted (P.list proofs.old) (P.list proofs.new) position.now to_move }
 {
     match store_turned(rt, proofs, position, to_move) {
         Stored::Done => found_by(rt, proofs, position, to_move),
@@ -123,6 +124,7 @@ fn decide<P: Proofs, R: Wait>(
     ensures ended { (seat : Seat) → IfSome result (IsEnded (P.list proofs.new) (P.slots proofs.new) seat position.now to_move) }
     ensures not_spent { IfSome result (λ ended. ¬ EndsSpent ended) }
     ensures tried { result ≡ None → IsTried position.now to_move black.new white.new }
+    ensures unlisted { result ≡ None → WasUnlisted (P.list proofs.old) (P.list proofs.new) position.now to_move }
 {
     if let Some(ended) = by_entry(rt, proofs, position, to_move) {
         return Some(ended);
@@ -157,6 +159,7 @@ pub(crate) fn close_and_end<P: Proofs, R: Wait>(
     ensures white { IsGrown white.old white.new }
     ensures ended { (seat : Seat) → IsSpent seat spent → IsEnded (P.list proofs.new) (P.slots proofs.new) seat position.now to_move result }
     ensures tried { EndsSpent result → IsTried position.now to_move black.new white.new }
+    ensures unlisted { EndsSpent result → WasUnlisted (P.list proofs.old) (P.list proofs.new) position.now to_move }
 {
     match decide(rt, proofs, position, to_move, black, white) {
         Some(ended) => ended,

@@ -7,7 +7,7 @@ ghost use Rattle.hx_tree.specs.Entries.{Extends};
 ghost use Rattle.hx_search.specs.Closed.{IsGrown};
 ghost use Rattle.hx_moves.specs.Keeps.{KeepsSeat};
 ghost use Rattle.hx_worker.specs.Sets.{AreOn};
-ghost use Rattle.hx_worker.specs.Ends.{IsEnded, IsTried, EndsSpent};
+ghost use Rattle.hx_worker.specs.Ends.{IsEnded, IsTried, WasUnlisted, EndsSpent};
 
 use crate::closing::close_and_end;
 use crate::ended::Ended;
@@ -66,10 +66,13 @@ pub fn work<P: Proofs, G: Gate, R: Wait>(rt: &R, job: &mut Job<'_, P>, gate: &G)
     ensures seat { KeepsSeat job.old.seat job.new.seat }
     ensures black { IsGrown job.old.black job.new.black }
     ensures white { IsGrown job.old.white job.new.white }
-    ensures ended { IsEnded (P.list job.new.proofs) (P.slots job.new.proofs) job.new.seat job.old.position job.old.to_move result }
+    ensures ended { IsEnded (P.list job.new.proofs) (P.slots job.new.proofs) job.new.seat
+        job.old.position job.old.to_move result }
     // A spent budget ends the work before the first turn, or after all was tried that can be tried at once.
     ensures tried { EndsSpent result → (own job.old.seat).granted < (own job.new.seat).granted
         → IsTried job.old.position job.old.to_move job.new.black job.new.white }
+    ensures unlisted { EndsSpent result → (own job.old.seat).granted < (own job.new.seat).granted
+        → WasUnlisted (P.list job.old.proofs) (P.list job.new.proofs) job.old.position job.old.to_move }
 {
     let worker = Worker {
         number: job.worker,

@@ -183,7 +183,7 @@ pub(crate) fn take_in<P: Proofs, R: Wait>(
             known
         }
         Outcome::Open(numbers) => {
-            moves.note(down.place, &down.child, open(numbers));
+            moves.note(down.place, open(numbers));
             None
         }
         other => Some(other),

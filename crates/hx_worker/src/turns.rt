@@ -239,11 +239,10 @@ fn expand<P: Proofs, G: Gate, R: Wait>(
         if let Some(outcome) = look_again(rt, alloc, proofs, worker.hints, turn, &mut moves) {
             return outcome;
         }
-        let down = match choose(worker.counts, worker.hints, seat, alloc, turn, &moves) {
-            Ok(Choice::Down(down)) => down,
-            Ok(Choice::Limit(numbers)) => return Outcome::Open(numbers),
-            Ok(Choice::AllLose) => return all_lose(rt, proofs, others, &moves),
-            Err(_) => return Outcome::Memory,
+        let down = match choose(worker.counts, worker.hints, seat, turn, &moves) {
+            Choice::Down(down) => down,
+            Choice::Limit(numbers) => return Outcome::Open(numbers),
+            Choice::AllLose => return all_lose(rt, proofs, others, &moves),
         };
         let outcome = descend(
             rt, worker, proofs, seat, workspace, own, others, &down, depth,
@@ -351,7 +350,7 @@ fn after_fill<P: Proofs, R: Wait>(
             let position = start.here.position();
             match outcome_of(widen_fill(rt, alloc, proofs, position, start.to_move, filled)) {
                 Some(outcome) => outcome,
-                None => Outcome::Proved,
+                None => Outcome::Open(start.limit),
             }
         }
         other => other,

@@ -1,8 +1,8 @@
 //! Moves that entries at wider positions tell of.
 //!
 //! An entry that serves the position after a move says who wins it, though nobody came to it. So each move is looked up before the
-//! turn goes down, and once a move is refuted the moves that its proof does not need are left out with it. These are two to
-//! forty thousand moves of a hard search.
+//! turn goes down, and once a move is refuted the moves that its proof does not need are left out with it. In a hard search these
+//! are 2,000 to 40,000 moves.
 
 ghost use Rattle.std.specs.Prelude.{◌≡◌, IfSome};
 ghost use Rattle.hx_count.specs.Seats.{Seat};
@@ -17,7 +17,7 @@ use hx_wide::widen_move;
 use std::alloc::Global;
 use std::sync::Wait;
 
-/// The cells that the entry against a move does not need, and the move itself. None where there is none.
+/// The cells that the entry against a move does not need, and the move itself. No cell where there is no such entry.
 fn refuted_with<P: Proofs, R: Wait>(rt: &R, proofs: &mut P, turn: &Turn, cell: Cell) -> Mask
     ensures slots { P.slots proofs.new ≡ P.slots proofs.old }
     ensures over { P.over proofs.new ≡ P.over proofs.old }

@@ -1,4 +1,4 @@
-use Rattle.hx_nodes.proofs.GrowingLists.{extends-on}
+use Rattle.hx_tree.proofs.EntryLaws.{extends-on}
 use Rattle.hx_worker.proofs.closing.by_closed.Goals as goal
 
 pub returns-in-Decided-clause-seen : goal.returns-in-Decided-clause-seen

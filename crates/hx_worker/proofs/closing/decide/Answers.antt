@@ -2,7 +2,8 @@ use Rattle.hx_board.specs.declared.colours.Colour.{Colour}
 use Rattle.hx_board.specs.declared.colours.Colour.TheVariants.{Black, White}
 use Rattle.hx_board.specs.Positions.{Board}
 use Rattle.hx_board.specs.Graph.{HasChain}
-use Rattle.hx_nodes.proofs.GrowingLists.{extends-on}
+use Rattle.hx_tree.proofs.EntryLaws.{extends-itself, extends-on}
+use Rattle.hx_worker.proofs.UnlistedLaws.{unlisted-wider}
 use Rattle.hx_worker.proofs.closing.decide.Goals as goal
 
 no-chains : (board : Board) → (HasChain board Black → ⊥) → (HasChain board White → ⊥) → (player : Colour) → HasChain board player → ⊥
@@ -30,3 +31,8 @@ returns-in-Some-by_closed-clause-seen g c =
 pub returns-clause-seen : goal.returns-clause-seen
 returns-clause-seen g c =
     extends-on _ _ _ (extends-on _ _ _ (extends-on _ _ _ (extends-on _ _ _ c.by_entry.ensures.seen c.by_chain.ensures.seen) c.by_chain-2.ensures.seen) c.by_closed.ensures.seen) c.by_closed-2.ensures.seen
+
+pub returns-clause-unlisted : goal.returns-clause-unlisted
+returns-clause-unlisted g c = λ none. unlisted-wider _ _ _ _ _ _ (extends-itself _)
+    (extends-on _ _ _ (extends-on _ _ _ (extends-on _ _ _ c.by_chain.ensures.seen c.by_chain-2.ensures.seen) c.by_closed.ensures.seen) c.by_closed-2.ensures.seen)
+    (c.by_entry.ensures.unlisted c.in_default-by_entry.is)

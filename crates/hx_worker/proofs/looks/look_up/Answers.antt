@@ -1,4 +1,4 @@
-use Rattle.hx_nodes.proofs.GrowingLists.{extends-on}
+use Rattle.hx_tree.proofs.EntryLaws.{extends-on}
 use Rattle.hx_worker.proofs.looks.look_up.Goals as goal
 
 pub returns-then-is_some-clause-outcome : goal.returns-then-is_some-clause-outcome

@@ -1,4 +1,4 @@
-use Rattle.hx_nodes.proofs.GrowingLists.{extends-on}
+use Rattle.hx_tree.proofs.EntryLaws.{extends-on}
 use Rattle.hx_worker.proofs.proved_moves.look_at.Goals as goal
 
 pub returns-in-Done-clause-seen : goal.returns-in-Done-clause-seen

@@ -1,4 +1,4 @@
-use Rattle.hx_nodes.proofs.GrowingLists.{extends-on}
+use Rattle.hx_tree.proofs.EntryLaws.{extends-on}
 use Rattle.hx_worker.proofs.rounds.rounds.Goals as goal
 
 pub returns-in-Some-round-clause-seen : goal.returns-in-Some-round-clause-seen

@@ -2,7 +2,7 @@ use Rattle.std.proofs.Common.{rules, ◌≡◌, ℕ, ap, ◌∙◌, arith}
 use Rattle.hx_count.specs.Machine.{Account, holding, releasing, held_in_all}
 use Rattle.hx_count.specs.Seats.{Seat, own}
 use Rattle.hx_count.proofs.MachineLaws.{held-holding-le, releasing-held}
-use Rattle.hx_nodes.proofs.GrowingLists.{extends-on}
+use Rattle.hx_tree.proofs.EntryLaws.{extends-on}
 use Rattle.hx_moves.specs.Keeps.{KeepsSeat}
 use Rattle.hx_worker.proofs.turns.+search.Goals as goal
 
@@ -48,18 +48,15 @@ expand-returns-in-Some-look_at_marked-clause-outcome g t c = c.in-Some-look_at_m
 pub expand-returns-in-Some-look_again-clause-outcome : goal.expand-returns-in-Some-look_again-clause-outcome
 expand-returns-in-Some-look_again-clause-outcome g t c = c.in-Some-look_again.ensures.outcome c.loop.seat
 
-pub expand-returns-in-Ok-Limit-clause-seen : goal.expand-returns-in-Ok-Limit-clause-seen
-expand-returns-in-Ok-Limit-clause-seen g t c = extends-on _ _ _ c.loop.invariant.seen c.look_again.ensures.seen
+pub expand-returns-in-Limit-clause-seen : goal.expand-returns-in-Limit-clause-seen
+expand-returns-in-Limit-clause-seen g t c = extends-on _ _ _ c.loop.invariant.seen c.look_again.ensures.seen
 
-pub expand-returns-in-Ok-AllLose-clause-seen : goal.expand-returns-in-Ok-AllLose-clause-seen
-expand-returns-in-Ok-AllLose-clause-seen g t c =
+pub expand-returns-in-AllLose-clause-seen : goal.expand-returns-in-AllLose-clause-seen
+expand-returns-in-AllLose-clause-seen g t c =
     extends-on _ _ _ (extends-on _ _ _ c.loop.invariant.seen c.look_again.ensures.seen) c.all_lose.ensures.seen
 
-pub expand-returns-in-Ok-AllLose-clause-outcome : goal.expand-returns-in-Ok-AllLose-clause-outcome
-expand-returns-in-Ok-AllLose-clause-outcome g t c = c.all_lose.ensures.outcome c.choose.new.seat
-
-pub expand-returns-in-Err-clause-seen : goal.expand-returns-in-Err-clause-seen
-expand-returns-in-Err-clause-seen g t c = extends-on _ _ _ c.loop.invariant.seen c.look_again.ensures.seen
+pub expand-returns-in-AllLose-clause-outcome : goal.expand-returns-in-AllLose-clause-outcome
+expand-returns-in-AllLose-clause-outcome g t c = c.all_lose.ensures.outcome c.choose.new.seat
 
 pub expand-returns-in-Some-take_in-clause-outcome : goal.expand-returns-in-Some-take_in-clause-outcome
 expand-returns-in-Some-take_in-clause-outcome g t c =

@@ -1,4 +1,4 @@
-use Rattle.hx_nodes.proofs.GrowingLists.{extends-on}
+use Rattle.hx_tree.proofs.EntryLaws.{extends-on}
 use Rattle.hx_worker.proofs.wide_moves.look_at_all.Goals as goal
 
 pub returns-in-Some-won_by-clause-seen : goal.returns-in-Some-won_by-clause-seen

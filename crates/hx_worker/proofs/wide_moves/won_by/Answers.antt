@@ -1,4 +1,4 @@
-use Rattle.hx_nodes.proofs.GrowingLists.{extends-on}
+use Rattle.hx_tree.proofs.EntryLaws.{extends-on}
 use Rattle.hx_worker.proofs.wide_moves.won_by.Goals as goal
 
 pub returns-clause-outcome : goal.returns-clause-outcome

@@ -1,0 +1,15 @@
+use Rattle.std.proofs.Common.{refl, rules}
+use Rattle.hx_board.proofs.ListLaws.{read-get}
+use Rattle.hx_moves.proofs.focus.way_down.Goals as goal
+
+pub returns-in_default : goal.returns-in_default
+returns-in_default c = (c.args.place, c.index-child.result.now, c.requires.place, search rules, c.in_default.ensures)
+
+pub returns : goal.returns
+returns c = record {
+  there = read-get _ _ _ c.requires.place c.index-child.ensures;
+  empty = search rules;
+  next = search rules;
+  mover = search rules;
+  moved = refl;
+}
