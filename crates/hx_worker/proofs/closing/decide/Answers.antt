@@ -35,4 +35,4 @@ returns-clause-seen g c =
 pub returns-clause-unlisted : goal.returns-clause-unlisted
 returns-clause-unlisted g c = λ none. unlisted-wider _ _ _ _ _ _ (extends-itself _)
     (extends-on _ _ _ (extends-on _ _ _ (extends-on _ _ _ c.by_chain.ensures.seen c.by_chain-2.ensures.seen) c.by_closed.ensures.seen) c.by_closed-2.ensures.seen)
-    (c.by_entry.ensures.unlisted c.in_default-by_entry.is)
+    (c.by_entry.ensures.unlisted c.in_default.is)
