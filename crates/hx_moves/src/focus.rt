@@ -120,7 +120,8 @@ fn numbers_of(
 fn way_down(turn: &Turn, moves: &Moves, place: usize, limit: Numbers) -> Option<Down>
     requires place { place < length moves.now.children.items }
     requires limit { IsNumbers limit }
-    ensures { MatchOption result (HasMoveToStone turn.now moves.now) (IsWayDown turn.now moves.now) }
+    ensures { MatchOption result (HasMoveToStone turn.now moves.now)
+        (IsWayDown turn.now moves.now) }
 {
     let child = moves.children[place];
     let Some(here) = after(&turn.filled, turn.to_move, child.cell) else {

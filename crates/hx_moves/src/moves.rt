@@ -66,7 +66,8 @@ impl Moves {
         ensures order { self.new.order ≡ self.old.order }
         ensures gone { place < length self.old.children.items
             → self.new.children.items ≡ remove self.old.children.items place }
-        ensures beyond { length self.old.children.items ≤ place → self.new.children ≡ self.old.children }
+        ensures beyond { length self.old.children.items ≤ place
+            → self.new.children ≡ self.old.children }
     {
         if place < self.children.len() {
             self.children.remove(place);
@@ -76,7 +77,8 @@ impl Moves {
     /// The moves to these cells are known to lose, and are left out.
     pub fn leave_out_all(&mut self, cells: Mask)
         ensures order { self.new.order ≡ self.old.order }
-        ensures left { self.new.children.items ≡ filter (λ child. not (has cells child.cell)) self.old.children.items }
+        ensures left { self.new.children.items
+            ≡ filter (λ child. not (has cells child.cell)) self.old.children.items }
     {
         self.children.retain(|child: &Child| !cells.has(child.cell));
     }

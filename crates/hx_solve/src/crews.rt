@@ -51,9 +51,13 @@ impl Crew<'_> {
         seats: Vec<Seats>,
     ) -> Result<Vec<Done>, Memory>
         requires words { self.now.counts.now.limits.words ≡ LOSS_WORDS }
-        requires seats { All (AreNewSeats self.now.shared.now.made self.now.counts.now) seats.items }
+        requires seats { All (AreNewSeats self.now.shared.now.made self.now.counts.now)
+            seats.items }
         ensures len { IfOk result (λ dones. vec_len dones ≡ vec_len seats) }
-        ensures dones { IfOk result (λ dones. All (IsDone self.now.shared.now.made self.now.counts.now self.now.position self.now.to_move) dones.items) }
+        ensures dones { IfOk result
+            (λ dones. All
+            (IsDone self.now.shared.now.made self.now.counts.now self.now.position self.now.to_move)
+            dones.items) }
     {
         let ended = thread::map_vec(rt, seats, &|seats| self.work(rt, alloc, gate, seats));
         match ended {
@@ -66,7 +70,8 @@ impl Crew<'_> {
     fn work<G: Gate, R: Wait>(&self, rt: &R, alloc: Global, gate: &G, seats: Seats) -> Done
         requires words { self.now.counts.now.limits.words ≡ LOSS_WORDS }
         requires seats { AreNewSeats self.now.shared.now.made self.now.counts.now seats }
-        ensures { IsDone self.now.shared.now.made self.now.counts.now self.now.position self.now.to_move result }
+        ensures { IsDone self.now.shared.now.made self.now.counts.now self.now.position
+            self.now.to_move result }
     {
         let Ok((black, white)) = self.new_sets(alloc) else {
             return Done {

@@ -45,12 +45,17 @@ impl Parts {
 impl Crew<'_> {
     /// The parts of what these workers gave back.
     pub(crate) fn take_apart(&self, mut dones: Vec<Done>, mut parts: Parts) -> Parts
-        requires dones { All (IsDone self.now.shared.now.made self.now.counts.now self.now.position self.now.to_move) dones.items }
+        requires dones { All
+            (IsDone self.now.shared.now.made self.now.counts.now self.now.position self.now.to_move)
+            dones.items }
         requires room { HasRoom (vec_len dones) parts }
-        ensures lens { (vec_len result.books ≡ vec_len dones) × (vec_len result.counts ≡ vec_len dones) × (vec_len result.ends ≡ vec_len dones) }
+        ensures lens { (vec_len result.books ≡ vec_len dones)
+            × (vec_len result.counts ≡ vec_len dones) × (vec_len result.ends ≡ vec_len dones) }
         ensures books { All (λ s. s.made ≡ self.now.shared.now.made) result.books.items }
         ensures counts { All (λ s. s.made ≡ self.now.counts.now) result.counts.items }
-        ensures ends { All (IsEndOfSome self.now.shared.now.made.slots self.now.position self.now.to_move result.books.items result.counts.items) result.ends.items }
+        ensures ends { All
+            (IsEndOfSome self.now.shared.now.made.slots self.now.position self.now.to_move
+            result.books.items result.counts.items) result.ends.items }
     {
         while let Some(done) = dones.pop() {
             let Done {

@@ -34,7 +34,8 @@ impl Crew<'_> {
         requires counts { All (λ s. s.made ≡ self.now.counts.now) counts.items }
         requires nothing { All (λ s. HasNothing (own s)) counts.items }
         ensures len { IfOk result (λ dealt. vec_len dealt ≡ vec_len books) }
-        ensures seats { IfOk result (λ dealt. All (AreNewSeats self.now.shared.now.made self.now.counts.now) dealt.items) }
+        ensures seats { IfOk result
+            (λ dealt. All (AreNewSeats self.now.shared.now.made self.now.counts.now) dealt.items) }
     {
         let Ok(mut dealt) = Vec::with_capacity(alloc, books.len()) else {
             return Err(Memory);

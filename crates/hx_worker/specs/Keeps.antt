@@ -8,6 +8,8 @@ pub record IsSpent (seat : Seat) (taken : ℕ) : Type 0 where
   pub refused : (own seat).refused ≡ true
   pub budget : taken ≡ seat.made.limits.budget
 
+-- ---- words for the functions inside the crate alone
+
 -- links may have come; the player, the board and the plays that stand are as before
 pub record StandsAgain (old new : Standing) : Type 0 where
   pub same_player : new.player ≡ old.player

@@ -1,4 +1,5 @@
 pub mod Keeps
 pub mod Sets
-pub mod Outcomes
 pub mod Ends
+-- ---- words for the functions inside the crate alone
+pub mod Outcomes

@@ -11,6 +11,8 @@ pub record AreOn (board : Board) (black white : Standing) : Type 0 where
   pub black_board : black.present.board ≡ board
   pub white_board : white.present.board ≡ board
 
+-- ---- words for the functions inside the crate alone
+
 -- stones were put on the set as one play
 pub record IsPlayedOn (old new : Standing) : Type 0 where
   pub same_player : new.player ≡ old.player

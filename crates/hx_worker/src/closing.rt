@@ -42,9 +42,12 @@ fn by_entry<P: Proofs, R: Wait>(
     ensures slots { P.slots proofs.new ≡ P.slots proofs.old }
     ensures over { P.over proofs.new ≡ P.over proofs.old }
     ensures seen { Extends (P.list proofs.new) (P.list proofs.old) }
-    ensures ended { (seat : Seat) → IfSome result (IsEnded (P.list proofs.new) (P.slots proofs.new) seat position.now to_move) }
+    ensures ended { (seat : Seat)
+        → IfSome result
+        (IsEnded (P.list proofs.new) (P.slots proofs.new) seat position.now to_move) }
     ensures not_spent { IfSome result (λ ended. ¬ EndsSpent ended) }
-    ensures unlisted { result ≡ None → WasUnlisted (P.list proofs.old) (P.list proofs.new) position.now to_move }
+    ensures unlisted { result ≡ None
+        → WasUnlisted (P.list proofs.old) (P.list proofs.new) position.now to_move }
 {
     match store_turned(rt, proofs, position, to_move) {
         Stored::Done => found_by(rt, proofs, position, to_move),
@@ -65,7 +68,9 @@ fn by_chain<P: Proofs, R: Wait>(
     ensures slots { P.slots proofs.new ≡ P.slots proofs.old }
     ensures over { P.over proofs.new ≡ P.over proofs.old }
     ensures seen { Extends (P.list proofs.new) (P.list proofs.old) }
-    ensures ended { (seat : Seat) → IfSome result (IsEnded (P.list proofs.new) (P.slots proofs.new) seat position.now to_move) }
+    ensures ended { (seat : Seat)
+        → IfSome result
+        (IsEnded (P.list proofs.new) (P.slots proofs.new) seat position.now to_move) }
     ensures not_spent { IfSome result (λ ended. ¬ EndsSpent ended) }
     ensures no_chain { result ≡ None → HasChain position.now player → ⊥ }
 {
@@ -90,7 +95,9 @@ fn by_closed<P: Proofs, R: Wait>(
     ensures over { P.over proofs.new ≡ P.over proofs.old }
     ensures seen { Extends (P.list proofs.new) (P.list proofs.old) }
     ensures set { IsGrown set.old set.new }
-    ensures ended { (seat : Seat) → IfSome result (IsEnded (P.list proofs.new) (P.slots proofs.new) seat position.now to_move) }
+    ensures ended { (seat : Seat)
+        → IfSome result
+        (IsEnded (P.list proofs.new) (P.slots proofs.new) seat position.now to_move) }
     ensures not_spent { IfSome result (λ ended. ¬ EndsSpent ended) }
     ensures open_set { result ≡ None → IsOpenSet set.new to_move }
 {
@@ -121,10 +128,13 @@ fn decide<P: Proofs, R: Wait>(
     ensures seen { Extends (P.list proofs.new) (P.list proofs.old) }
     ensures black { IsGrown black.old black.new }
     ensures white { IsGrown white.old white.new }
-    ensures ended { (seat : Seat) → IfSome result (IsEnded (P.list proofs.new) (P.slots proofs.new) seat position.now to_move) }
+    ensures ended { (seat : Seat)
+        → IfSome result
+        (IsEnded (P.list proofs.new) (P.slots proofs.new) seat position.now to_move) }
     ensures not_spent { IfSome result (λ ended. ¬ EndsSpent ended) }
     ensures tried { result ≡ None → IsTried position.now to_move black.new white.new }
-    ensures unlisted { result ≡ None → WasUnlisted (P.list proofs.old) (P.list proofs.new) position.now to_move }
+    ensures unlisted { result ≡ None
+        → WasUnlisted (P.list proofs.old) (P.list proofs.new) position.now to_move }
 {
     if let Some(ended) = by_entry(rt, proofs, position, to_move) {
         return Some(ended);
@@ -157,9 +167,11 @@ pub(crate) fn close_and_end<P: Proofs, R: Wait>(
     ensures seen { Extends (P.list proofs.new) (P.list proofs.old) }
     ensures black { IsGrown black.old black.new }
     ensures white { IsGrown white.old white.new }
-    ensures ended { (seat : Seat) → IsSpent seat spent → IsEnded (P.list proofs.new) (P.slots proofs.new) seat position.now to_move result }
+    ensures ended { (seat : Seat) → IsSpent seat spent
+        → IsEnded (P.list proofs.new) (P.slots proofs.new) seat position.now to_move result }
     ensures tried { EndsSpent result → IsTried position.now to_move black.new white.new }
-    ensures unlisted { EndsSpent result → WasUnlisted (P.list proofs.old) (P.list proofs.new) position.now to_move }
+    ensures unlisted { EndsSpent result
+        → WasUnlisted (P.list proofs.old) (P.list proofs.new) position.now to_move }
 {
     match decide(rt, proofs, position, to_move, black, white) {
         Some(ended) => ended,

@@ -38,7 +38,9 @@ pub(crate) fn found_by<P: Proofs, R: Wait>(
     ensures slots { P.slots proofs.new ≡ P.slots proofs.old }
     ensures over { P.over proofs.new ≡ P.over proofs.old }
     ensures seen { Extends (P.list proofs.new) (P.list proofs.old) }
-    ensures ended { (seat : Seat) → IfSome result (IsEnded (P.list proofs.new) (P.slots proofs.new) seat position.now to_move) }
+    ensures ended { (seat : Seat)
+        → IfSome result
+        (IsEnded (P.list proofs.new) (P.slots proofs.new) seat position.now to_move) }
     ensures not_spent { IfSome result (λ ended. ¬ EndsSpent ended) }
     ensures found { HasEntry (P.list proofs.old) position.now to_move → IsSome result }
 {
@@ -59,12 +61,14 @@ pub(crate) fn ended_by<P: Proofs, R: Wait>(
     to_move: Colour,
     stored: Stored,
 ) -> Ended
-    requires stored { IsStored (P.list proofs.old) (P.slots proofs.old) position.now to_move stored }
+    requires stored { IsStored (P.list proofs.old) (P.slots proofs.old) position.now to_move
+        stored }
     requires answered { IsAnswered stored }
     ensures slots { P.slots proofs.new ≡ P.slots proofs.old }
     ensures over { P.over proofs.new ≡ P.over proofs.old }
     ensures seen { Extends (P.list proofs.new) (P.list proofs.old) }
-    ensures ended { (seat : Seat) → IsEnded (P.list proofs.new) (P.slots proofs.new) seat position.now to_move result }
+    ensures ended { (seat : Seat)
+        → IsEnded (P.list proofs.new) (P.slots proofs.new) seat position.now to_move result }
     ensures not_spent { ¬ EndsSpent result }
 {
     match stored {

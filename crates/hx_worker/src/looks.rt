@@ -25,7 +25,8 @@ pub(crate) fn look_up<P: Proofs, R: Wait>(
     ensures slots { P.slots proofs.new ≡ P.slots proofs.old }
     ensures over { P.over proofs.new ≡ P.over proofs.old }
     ensures seen { Extends (P.list proofs.new) (P.list proofs.old) }
-    ensures outcome { (seat : Seat) → IfSome result (IsOutcome (P.list proofs.new) (P.slots proofs.new) seat) }
+    ensures outcome { (seat : Seat)
+        → IfSome result (IsOutcome (P.list proofs.new) (P.slots proofs.new) seat) }
 {
     let known = outcome_of(widen_turned(rt, proofs, position, to_move));
     if known.is_some() {
@@ -49,7 +50,8 @@ pub(crate) fn look_up_filled<P: Proofs, R: Wait>(
     ensures slots { P.slots proofs.new ≡ P.slots proofs.old }
     ensures over { P.over proofs.new ≡ P.over proofs.old }
     ensures seen { Extends (P.list proofs.new) (P.list proofs.old) }
-    ensures outcome { (seat : Seat) → IfSome result (IsOutcome (P.list proofs.new) (P.slots proofs.new) seat) }
+    ensures outcome { (seat : Seat)
+        → IfSome result (IsOutcome (P.list proofs.new) (P.slots proofs.new) seat) }
 {
     if !turn.is_filled {
         return None;
@@ -69,7 +71,8 @@ pub(crate) fn by_links<P: Proofs, R: Wait>(
     ensures over { P.over proofs.new ≡ P.over proofs.old }
     ensures seen { Extends (P.list proofs.new) (P.list proofs.old) }
     ensures set { StandsAgain set.old set.new }
-    ensures outcome { (seat : Seat) → IfSome result (IsOutcome (P.list proofs.new) (P.slots proofs.new) seat) }
+    ensures outcome { (seat : Seat)
+        → IfSome result (IsOutcome (P.list proofs.new) (P.slots proofs.new) seat) }
 {
     match reach_with(workspace, set, to_move) {
         Ok(Reached::Decided(index)) => outcome_of(widen_links(rt, proofs, set, to_move, index)),

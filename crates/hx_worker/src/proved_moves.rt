@@ -36,7 +36,8 @@ pub(crate) fn look_again<P: Proofs, R: Wait>(
     ensures slots { P.slots proofs.new ≡ P.slots proofs.old }
     ensures over { P.over proofs.new ≡ P.over proofs.old }
     ensures seen { Extends (P.list proofs.new) (P.list proofs.old) }
-    ensures outcome { (seat : Seat) → IfSome result (IsOutcome (P.list proofs.new) (P.slots proofs.new) seat) }
+    ensures outcome { (seat : Seat)
+        → IfSome result (IsOutcome (P.list proofs.new) (P.slots proofs.new) seat) }
 {
     if let Some(outcome) = look_at_own(rt, proofs, hints, turn) {
         return Some(outcome);
@@ -56,7 +57,8 @@ fn look_at_own<P: Proofs, R: Wait>(
     ensures slots { P.slots proofs.new ≡ P.slots proofs.old }
     ensures over { P.over proofs.new ≡ P.over proofs.old }
     ensures seen { Extends (P.list proofs.new) (P.list proofs.old) }
-    ensures outcome { (seat : Seat) → IfSome result (IsOutcome (P.list proofs.new) (P.slots proofs.new) seat) }
+    ensures outcome { (seat : Seat)
+        → IfSome result (IsOutcome (P.list proofs.new) (P.slots proofs.new) seat) }
 {
     let number = turn.filled.number(turn.to_move);
     if !is_marked(hints, number) {
@@ -83,7 +85,8 @@ pub(crate) fn look_at_marked<P: Proofs, R: Wait>(
     ensures slots { P.slots proofs.new ≡ P.slots proofs.old }
     ensures over { P.over proofs.new ≡ P.over proofs.old }
     ensures seen { Extends (P.list proofs.new) (P.list proofs.old) }
-    ensures outcome { (seat : Seat) → IfSome result (IsOutcome (P.list proofs.new) (P.slots proofs.new) seat) }
+    ensures outcome { (seat : Seat)
+        → IfSome result (IsOutcome (P.list proofs.new) (P.slots proofs.new) seat) }
 {
     let mut left = count;
     while left > 0 {
@@ -109,7 +112,8 @@ fn look_at<P: Proofs, R: Wait>(
     ensures slots { P.slots proofs.new ≡ P.slots proofs.old }
     ensures over { P.over proofs.new ≡ P.over proofs.old }
     ensures seen { Extends (P.list proofs.new) (P.list proofs.old) }
-    ensures outcome { (seat : Seat) → IfSome result (IsOutcome (P.list proofs.new) (P.slots proofs.new) seat) }
+    ensures outcome { (seat : Seat)
+        → IfSome result (IsOutcome (P.list proofs.new) (P.slots proofs.new) seat) }
 {
     let Some(child) = moves.children.get(place).copied() else {
         return None;
@@ -144,7 +148,8 @@ pub(crate) fn by_move<P: Proofs, R: Wait>(
     ensures slots { P.slots proofs.new ≡ P.slots proofs.old }
     ensures over { P.over proofs.new ≡ P.over proofs.old }
     ensures seen { Extends (P.list proofs.new) (P.list proofs.old) }
-    ensures outcome { (seat : Seat) → IfSome result (IsOutcome (P.list proofs.new) (P.slots proofs.new) seat) }
+    ensures outcome { (seat : Seat)
+        → IfSome result (IsOutcome (P.list proofs.new) (P.slots proofs.new) seat) }
 {
     let position = turn.filled.position();
     let is_empty = position.empties().has(child.cell);
@@ -207,7 +212,8 @@ pub(crate) fn all_lose<P: Proofs, R: Wait>(
     ensures slots { P.slots proofs.new ≡ P.slots proofs.old }
     ensures over { P.over proofs.new ≡ P.over proofs.old }
     ensures seen { Extends (P.list proofs.new) (P.list proofs.old) }
-    ensures outcome { (seat : Seat) → IsOutcome (P.list proofs.new) (P.slots proofs.new) seat result }
+    ensures outcome { (seat : Seat)
+        → IsOutcome (P.list proofs.new) (P.slots proofs.new) seat result }
 {
     match outcome_of(widen_all(rt, proofs, others, moves.order.as_slice())) {
         Some(outcome) => outcome,

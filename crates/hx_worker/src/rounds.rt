@@ -47,7 +47,9 @@ fn settle<P: Proofs, R: Wait>(
     ensures slots { P.slots proofs.new ≡ P.slots proofs.old }
     ensures over { P.over proofs.new ≡ P.over proofs.old }
     ensures seen { Extends (P.list proofs.new) (P.list proofs.old) }
-    ensures ended { (seat : Seat) → IfSome result (IsEnded (P.list proofs.new) (P.slots proofs.new) seat position.now to_move) }
+    ensures ended { (seat : Seat)
+        → IfSome result
+        (IsEnded (P.list proofs.new) (P.slots proofs.new) seat position.now to_move) }
 {
     let Some(wider) = look_wider_either(rt, proofs, position, to_move) else {
         return None;
@@ -78,7 +80,9 @@ fn round<P: Proofs, G: Gate, R: Wait>(
     ensures over { P.over proofs.new ≡ P.over proofs.old }
     ensures seen { Extends (P.list proofs.new) (P.list proofs.old) }
     ensures seat { KeepsSeat seat.old seat.new }
-    ensures ended { IfSome result (IsEnded (P.list proofs.new) (P.slots proofs.new) seat.new start.now.here start.now.to_move) }
+    ensures ended { IfSome result
+        (IsEnded (P.list proofs.new) (P.slots proofs.new) seat.new start.now.here
+        start.now.to_move) }
 {
     match visit(
         rt, worker, proofs, seat, workspace, own, others, start, DEPTH,
@@ -117,7 +121,8 @@ fn rounds<P: Proofs, G: Gate, R: Wait>(
     ensures over { P.over proofs.new ≡ P.over proofs.old }
     ensures seen { Extends (P.list proofs.new) (P.list proofs.old) }
     ensures seat { KeepsSeat seat.old seat.new }
-    ensures ended { IsEnded (P.list proofs.new) (P.slots proofs.new) seat.new start.now.here start.now.to_move result }
+    ensures ended { IsEnded (P.list proofs.new) (P.slots proofs.new) seat.new start.now.here
+        start.now.to_move result }
 {
     for _ in rt.forever() {
         if let Some(ended) = round(rt, worker, proofs, seat, workspace, own, others, start) {
@@ -144,7 +149,8 @@ pub(crate) fn search<P: Proofs, G: Gate, R: Wait>(
     ensures over { P.over proofs.new ≡ P.over proofs.old }
     ensures seen { Extends (P.list proofs.new) (P.list proofs.old) }
     ensures seat { KeepsSeat seat.old seat.new }
-    ensures ended { IsEnded (P.list proofs.new) (P.slots proofs.new) seat.new position.now to_move result }
+    ensures ended { IsEnded (P.list proofs.new) (P.slots proofs.new) seat.new position.now to_move
+        result }
 {
     let Ok(mut workspace) = Workspace::new(alloc) else {
         return Ended::Memory;

@@ -47,7 +47,8 @@ fn won_by<P: Proofs, R: Wait>(
     ensures slots { P.slots proofs.new ≡ P.slots proofs.old }
     ensures over { P.over proofs.new ≡ P.over proofs.old }
     ensures seen { Extends (P.list proofs.new) (P.list proofs.old) }
-    ensures outcome { (seat : Seat) → IfSome result (IsOutcome (P.list proofs.new) (P.slots proofs.new) seat) }
+    ensures outcome { (seat : Seat)
+        → IfSome result (IsOutcome (P.list proofs.new) (P.slots proofs.new) seat) }
 {
     let position = turn.filled.position();
     let is_empty = position.empties().has(cell);
@@ -72,7 +73,8 @@ pub(crate) fn look_at_all<P: Proofs, R: Wait>(
     ensures slots { P.slots proofs.new ≡ P.slots proofs.old }
     ensures over { P.over proofs.new ≡ P.over proofs.old }
     ensures seen { Extends (P.list proofs.new) (P.list proofs.old) }
-    ensures outcome { (seat : Seat) → IfSome result (IsOutcome (P.list proofs.new) (P.slots proofs.new) seat) }
+    ensures outcome { (seat : Seat)
+        → IfSome result (IsOutcome (P.list proofs.new) (P.slots proofs.new) seat) }
 {
     let mut refuted = Mask::empty();
     let mut left = moves.children.len();
