@@ -1,4 +1,4 @@
-//! A whole search with one worker over the crates, depth first and by proof numbers: the yardstick
+//! A whole search with one worker over the crates, depth first and by proof numbers: the measure
 //! of how strong and how fast the parts are together.
 //!
 //! It is proved to be safe and to end, and says nothing of its answers. For each turn it fills in,
