@@ -1,9 +1,8 @@
 -- The 25 cells of a drawn board: what stands at each place, that each is on the board, and that none stands there twice. Each is
 -- tried.
-use Rattle.std.proofs.Common.{◌≡◌, ℕ, zero, suc, ◌+◌, ◌/◌, ◌%◌, ◌<◌, Bool, true, ◌&&◌, not, eqb, ltb, eqb-true, eq-eqb, List, [], ◌∷◌, ◌++◌, length, take, get_or, refl, sym, ap, ◌∙◌, subst, inl, inr, ⊎_elim, arith}
+use Rattle.std.proofs.Common.{◌≡◌, ℕ, ◌+◌, ◌/◌, ◌%◌, ◌<◌, Bool, true, ◌&&◌, not, eqb, ltb, eqb-true, eq-eqb, List, [], ◌∷◌, ◌++◌, length, take, get_or, refl, sym, ap, ◌∙◌, subst, inl, inr, arith}
 use Rattle.std.proofs.lemmas.List.{take_more, length-take-le}
-use Rattle.std.proofs.lemmas.Bool.{false≢true, cases_lt}
-use Rattle.std.proofs.lemmas.Bool.Decides.{nat_tests}
+use Rattle.std.proofs.lemmas.Bool.{agree_below_at, false≢true, ltb-true}
 use Rattle.hx_board.specs.Cells.{OnBoard, index_of}
 use Rattle.hx_board.proofs.SetLaws.{and_left, and_right}
 use Rattle.hx_demo.specs.DrawnPositions.{board_size, cells_in_order}
@@ -11,23 +10,11 @@ use Rattle.hx_demo.proofs.DrawnLists.{IsIn, AreDistinct}
 
 -- ---- what stands at each place
 
--- whether a test passes at each number below a bound
-abbrev pass_below : (ℕ → Bool) → ℕ → Bool
-pass_below test zero = true
-pass_below test (suc bound) = test bound && pass_below test bound
-
-passed : (test : ℕ → Bool) (bound n : ℕ) → pass_below test bound ≡ true → n < bound → test n ≡ true
-passed test zero n pass low = absurd (omega arith)
-passed test (suc bound) n pass low = ⊎_elim
-    (λ lower. passed test bound n (and_right (test bound) (pass_below test bound) pass) lower)
-    (λ top. let same : bound ≡ n = omega arith in ap test (sym same) ∙ and_left (test bound) (pass_below test bound) pass)
-    (cases_lt n bound)
-
 abbrev is_at : ℕ → Bool
 is_at place = eqb (get_or cells_in_order place 0) (index_of (place / 5) (place % 5))
 
 pub cell_at : (place : ℕ) → place < 25 → get_or cells_in_order place 0 ≡ index_of (place / 5) (place % 5)
-cell_at place low = eqb-true _ _ (passed is_at 25 place refl low)
+cell_at place low = eqb-true _ _ (agree_below_at is_at (λ _. true) 25 place refl low)
 
 -- the cells that stand before a place, and one more
 pub length-cells_so_far : (items : List ℕ) (place : ℕ) → place < 25 → items ≡ take place cells_in_order → length items < 25
@@ -43,14 +30,11 @@ abbrev are_on_board : List ℕ → Bool
 are_on_board [] = true
 are_on_board (cell ∷ cells) = ltb (cell / 11) 5 && ltb (cell % 11) 5 && are_on_board cells
 
-less : (a b : ℕ) → ltb a b ≡ true → a < b
-less a b h = grind (arith, nat_tests)
-
 on_board-by_tests : (cells : List ℕ) (cell : ℕ) → are_on_board cells ≡ true → IsIn cell cells → OnBoard board_size cell
 on_board-by_tests [] cell pass h = absurd h
 on_board-by_tests (first ∷ cells) cell pass (inl same) =
     let both = and_left (ltb (first / 11) 5 && ltb (first % 11) 5) (are_on_board cells) pass in
-    let here : OnBoard board_size first = record { row = less _ _ (and_left _ _ both); col = less _ _ (and_right _ _ both) } in
+    let here : OnBoard board_size first = record { row = ltb-true _ _ (and_left _ _ both); col = ltb-true _ _ (and_right _ _ both) } in
     let P : ℕ → Type 0 = OnBoard board_size in subst P (sym same) here
 on_board-by_tests (first ∷ cells) cell pass (inr h) = on_board-by_tests cells cell (and_right _ (are_on_board cells) pass) h
 

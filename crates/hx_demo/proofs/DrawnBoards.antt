@@ -7,12 +7,12 @@ use Rattle.std.specs.declared.option.Option.{Option}
 use Rattle.std.specs.declared.option.Option.TheVariants.{None, Some}
 use Rattle.hx_board.specs.declared.colours.Colour.{Colour}
 use Rattle.hx_board.specs.declared.colours.Colour.TheVariants.{Black, White}
-use Rattle.hx_board.specs.Cells.{Extent, OnBoard}
+use Rattle.hx_board.specs.Cells.{OnBoard}
 use Rattle.hx_board.specs.Sets.{has, count_below}
 use Rattle.hx_board.specs.Positions.{Board, IsBoard, IsPosition, IsEmpty, put}
 use Rattle.hx_board.specs.Counts.{is_empty, empty_below, empty_count}
 use Rattle.hx_board.proofs.CellLaws.{on_board-small}
-use Rattle.hx_board.proofs.PositionLaws.{empty-is_position}
+use Rattle.hx_board.proofs.PositionLaws.{empty-is_position, same_board}
 use Rattle.hx_board.proofs.StoneLaws.{board-put}
 use Rattle.hx_board.proofs.EmptyCells.{empty_count-put}
 use Rattle.rand_pcg.specs.Lcg.{Lcg}
@@ -113,12 +113,6 @@ drawn_cells-small generator n h =
 
 -- ---- what the two parts are
 
-same_parts : (board other : Board) → board.size ≡ other.size → board.black ≡ other.black → board.white ≡ other.white → board ≡ other
-same_parts board other size black white =
-    ap (λ (e : Extent). record board { size = e }) size
-    ∙ ap (λ (b : ℕ). record other { black = b; white = board.white }) black
-    ∙ ap (λ (w : ℕ). record other { white = w }) white
-
 -- two parts of eight words each, one after the other
 pub two_parts : (generator further : Lcg) (board : Board) (cells left : List ℕ) → board.size ≡ board_size → cells ≡ cells_in_order
     → board.black ≡ set_of (drawn_from cells (next_words 8 generator)) → left ≡ left_after cells (next_words 8 generator)
@@ -127,7 +121,7 @@ pub two_parts : (generator further : Lcg) (board : Board) (cells left : List ℕ
 two_parts generator further board cells left size_is cells_are black_is left_is further_is white_is =
     let black : board.black ≡ set_of (black_cells generator) = rw cells_are at black_is in
     let white : board.white ≡ set_of (white_cells generator) = rw (left_is, cells_are, further_is) at white_is in
-    same_parts board (with_stones (black_cells generator) (white_cells generator)) size_is black white
+    same_board board (with_stones (black_cells generator) (white_cells generator)) size_is black white
 
 pub drawn-stones : (generator : Lcg) → HasStones (with_stones (black_cells generator) (white_cells generator)) (length (black_cells generator ++ white_cells generator))
 drawn-stones generator =

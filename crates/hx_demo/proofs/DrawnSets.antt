@@ -1,26 +1,15 @@
 -- The set of the cells in a list: its members are of the list, and where the list has no cell twice they are as many.
-use Rattle.std.proofs.Common.{◌≡◌, ℕ, suc, ◌<◌, Bool, true, false, ◌||◌, eqb, List, [], ◌∷◌, ◌++◌, length, refl, sym, ap, ◌∙◌, inl, inr, ⊎_elim}
+use Rattle.std.proofs.Common.{◌≡◌, ℕ, suc, ◌<◌, true, false, List, [], ◌∷◌, ◌++◌, length, refl, sym, ap, ◌∙◌, inl, inr, ⊎_elim}
 use Rattle.std.proofs.lemmas.Bool.{false≢true}
 use Rattle.hx_board.specs.Sets.{has, insert, count_below}
-use Rattle.hx_board.proofs.SetLaws.{has-insert, has-insert_cases, has-insert_same, has-empty, same_set, is_false, remove-insert}
+use Rattle.hx_board.proofs.SetLaws.{insert-swap, has-insert_cases, has-insert_same, has-empty, is_false, remove-insert}
 use Rattle.hx_board.proofs.Tallies.{count_below-remove}
 use Rattle.hx_demo.specs.DrawnPositions.{set_of}
 use Rattle.hx_demo.proofs.DrawnLists.{IsIn, AreDistinct}
 
-or_swap : (a b c : Bool) → (a || (b || c)) ≡ (b || (a || c))
-or_swap true true c = refl
-or_swap true false c = refl
-or_swap false b c = refl
-
-insert_swap : (set first second : ℕ) → insert (insert set first) second ≡ insert (insert set second) first
-insert_swap set first second = same_set _ _ (λ n.
-    has-insert (insert set first) second n ∙ ap (λ b. eqb n second || b) (has-insert set first n)
-    ∙ or_swap (eqb n second) (eqb n first) (has set n)
-    ∙ sym (has-insert (insert set second) first n ∙ ap (λ b. eqb n first || b) (has-insert set second n)))
-
 pub set_of-push : (cells : List ℕ) (cell : ℕ) → set_of (cells ++ cell ∷ []) ≡ insert (set_of cells) cell
 set_of-push [] cell = refl
-set_of-push (first ∷ cells) cell = ap (λ (set : ℕ). insert set first) (set_of-push cells cell) ∙ insert_swap (set_of cells) cell first
+set_of-push (first ∷ cells) cell = ap (λ (set : ℕ). insert set first) (set_of-push cells cell) ∙ insert-swap (set_of cells) cell first
 
 pub set_of-in : (cells : List ℕ) (n : ℕ) → has (set_of cells) n ≡ true → IsIn n cells
 set_of-in [] n h = false≢true (sym (has-empty n) ∙ h)

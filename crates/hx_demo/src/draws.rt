@@ -24,8 +24,8 @@ const STREAM: u64 = 54;
 /// How many rows a drawn board has, and how many columns.
 const SIDE: u8 = 5;
 
-/// How many cells it has.
-const CELLS: usize = 25;
+/// How many cells a drawn board has.
+const BOARD_CELLS: usize = 25;
 
 /// How many stones of each colour it gets.
 const STONES: usize = 8;
@@ -70,7 +70,7 @@ impl Draw {
     }
 
     /// The cells of eight stones, which move out of the list.
-    fn stones(&mut self, left: &mut ArrayVec<Cell, CELLS>) -> Mask
+    fn stones(&mut self, left: &mut ArrayVec<Cell, BOARD_CELLS>) -> Mask
         requires { STONES ≤ array_vec_len left.old }
         ensures cells { result ≡ set_of (drawn_from left.old.items (next_words STONES self.old)) }
         ensures rest { left.new.items ≡ left_after left.old.items (next_words STONES self.old) }
@@ -84,10 +84,12 @@ impl Draw {
     }
 
     /// The cell at the next word's place, which moves out of the list.
-    fn cell(&mut self, left: &mut ArrayVec<Cell, CELLS>) -> Cell
+    fn cell(&mut self, left: &mut ArrayVec<Cell, BOARD_CELLS>) -> Cell
         requires { 0 < array_vec_len left.old }
-        ensures cell { result ≡ slice_index left.old.items (place_of (pcg32 self.old).0 left.old.items) }
-        ensures rest { left.new.items ≡ remove left.old.items (place_of (pcg32 self.old).0 left.old.items) }
+        ensures cell { result
+            ≡ slice_index left.old.items (place_of (pcg32 self.old).0 left.old.items) }
+        ensures rest { left.new.items
+            ≡ remove left.old.items (place_of (pcg32 self.old).0 left.old.items) }
         ensures further { self.new ≡ (pcg32 self.old).1 }
     {
         let place = self.words.next_word() as usize % left.len();
@@ -103,12 +105,12 @@ fn board_size() -> Size
 }
 
 /// The cells of a drawn board in cell order.
-fn cells_in_order() -> ArrayVec<Cell, CELLS>
+fn cells_in_order() -> ArrayVec<Cell, BOARD_CELLS>
     ensures { result.items ≡ cells_in_order }
 {
     let size = board_size();
     let mut cells = ArrayVec::new();
-    for place in 0..CELLS as u8 {
+    for place in 0..BOARD_CELLS as u8 {
         cells.push(size.cell(place / SIDE, place % SIDE).unwrap());
     }
     cells

@@ -17,7 +17,7 @@ use Rattle.hx_board.proofs.FloodLaws.{same_vertex}
 use Rattle.hx_board.proofs.VertexSetLaws.{code-vertex}
 use Rattle.hx_inferior.specs.Inferior.{IsOpenNeighbour, IsDead}
 
-of_same : (n m : ℕ) → Of n ≡ Of m → n ≡ m
+pub of_same : (n m : ℕ) → Of n ≡ Of m → n ≡ m
 of_same n m e = cc
 
 pub same_or_differ : (v w : Vertex) → (v ≡ w) ⊎ (v ≢ w)

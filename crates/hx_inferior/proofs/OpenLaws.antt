@@ -1,7 +1,7 @@
 -- The open neighbours of a cell as a set: the cells that touch it without those of the opponent's stones, and the sides that it
 -- lies along. Each of the three parts has numbers of its own.
 use Rattle.std.proofs.Common.{◌≡◌, ℕ, ◌<◌, Bool, true, false, ◌&&◌, ◌||◌, not, eqb, ltb, refl, sym, ap, ◌∙◌, ⊎_elim, ◌↔◌, eq-eqb, eqb-true, arith}
-use Rattle.std.proofs.lemmas.Bool.{lt-ltb}
+use Rattle.std.proofs.lemmas.Bool.{lt-ltb, not-true}
 use Rattle.hx_board.specs.declared.colours.Colour.{Colour}
 use Rattle.hx_board.specs.declared.vertices.Vertex.{Vertex}
 use Rattle.hx_board.specs.declared.vertices.Vertex.TheVariants.{Of, First, Last}
@@ -14,10 +14,6 @@ use Rattle.hx_board.specs.VertexSets.{code_of, IsSetOf}
 use Rattle.hx_board.proofs.SetLaws.{and_left, and_right, and_both, or_cases, or_left, or_right}
 use Rattle.hx_board.proofs.CellLaws.{on_board-small}
 use Rattle.hx_inferior.specs.Inferior.{IsOpenNeighbour}
-
-not_true : (b : Bool) → not b ≡ true → b ≡ false
-not_true true h = cc
-not_true false h = refl
 
 -- what is known of the sets that the code computes
 pub record Parts (board : Board) (player : Colour) (cell touched cells with_first all : ℕ) (at_first at_last : Bool) : Type 0 where
@@ -46,7 +42,7 @@ module _ (board : Board) (player : Colour) (cell touched cells with_first all : 
       (λ v.
       let t = and_left (has touched n && not (has (stones_of board (other_of player)) n)) _ (sym (k.is_cells n) ∙ v) in
       let touch = (k.is_touched n).0 (and_left (has touched n) _ t) in
-      rest (touch.0, touch.1, not_true _ (and_right (has touched n) _ t)))
+      rest (touch.0, touch.1, not-true _ (and_right (has touched n) _ t)))
       (or_cases _ _ (sym (k.is_with_first n) ∙ w)))
       (or_cases _ _ (sym (k.is_all n) ∙ h))
 

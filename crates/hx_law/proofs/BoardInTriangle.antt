@@ -7,8 +7,7 @@ use Rattle.hx_board.specs.declared.colours.Colour.{Colour}
 use Rattle.hx_board.specs.declared.colours.Colour.TheVariants.{Black, White}
 use Rattle.hx_board.specs.Sets.{has}
 use Rattle.hx_board.specs.Cells.{OnBoard, row_of, col_of}
-use Rattle.hx_board.specs.Positions.{Board, IsPosition, stones_of}
-use Rattle.hx_law.specs.Laws.{IsFull}
+use Rattle.hx_board.specs.Positions.{Board, IsFull, IsPosition, stones_of}
 use Rattle.hx_law.proofs.Points.{Point}
 use Rattle.hx_law.proofs.Depths.{point_of, cell_at, cell_at-point_of, depth, extent}
 

@@ -11,9 +11,9 @@ use Rattle.hx_board.specs.declared.vertices.Vertex.TheVariants.{Of, First, Last}
 use Rattle.hx_board.specs.Sets.{has}
 use Rattle.hx_board.specs.Colours.{other_of}
 use Rattle.hx_board.specs.Cells.{Extent, IsExtent, OnBoard, row_of, col_of}
-use Rattle.hx_board.specs.Positions.{Board, IsBoard, stones_of}
+use Rattle.hx_board.specs.Positions.{Board, IsBoard, IsFull, stones_of}
 use Rattle.hx_board.specs.Graph.{IsLastLine, IsOwn, Touches, Walk, HasChain}
-use Rattle.hx_law.specs.Laws.{IsFull, NeverBoth, AlwaysOne}
+use Rattle.hx_law.specs.Laws.{NeverBoth, AlwaysOne}
 use Rattle.hx_board.proofs.ColourLaws.{one_or_other, other-differs}
 use Rattle.hx_law.proofs.Points.{Point, Near, Connected, Stay, Step, connected-first, connected-last, connected-trans, connected-sym}
 use Rattle.hx_law.proofs.Depths.{point_of, cell_at, point_of-cell_at, touching-near, near-touching, depth, extent, point_at, depths-point_at, sum-depths, sum-extents, extent-positive, near-across, near-deeper, near-depth, on_first_line, on_last_line, on_board, col_small}

@@ -3,13 +3,9 @@ use Rattle.std.specs.Prelude.{ℕ, ◌⊎◌}
 use Rattle.hx_board.specs.declared.colours.Colour.{Colour}
 use Rattle.hx_board.specs.declared.colours.Colour.TheVariants.{Black, White}
 use Rattle.hx_board.specs.Colours.{other_of}
-use Rattle.hx_board.specs.Positions.{Board, IsEmpty, put}
+use Rattle.hx_board.specs.Positions.{Board, put}
 use Rattle.hx_board.specs.Graph.{HasChain}
 use Rattle.hx_board.specs.Game.{Wins}
-
--- no cell is empty
-abbrev pub IsFull : Board → Type 0
-IsFull board = (cell : ℕ) → ¬ IsEmpty board cell
 
 -- not both players have a chain
 abbrev pub NeverBoth : Board → Type 0

@@ -1,6 +1,7 @@
 //! Who has a chain.
 
-ghost use Rattle.hx_law.specs.Laws.{IsFull, NeverBoth, AlwaysOne, HasOnlyChain};
+ghost use Rattle.hx_board.specs.Positions.{IsFull};
+ghost use Rattle.hx_law.specs.Laws.{NeverBoth, AlwaysOne, HasOnlyChain};
 
 use hx_board::{Colour, Position, chain};
 

@@ -1,9 +1,8 @@
 //! Full boards beside plain walks, and callers of the laws.
 
 ghost use Rattle.std.specs.Prelude.{◌↔◌, IsTrue};
-ghost use Rattle.hx_board.specs.Positions.{IsEmpty, put};
+ghost use Rattle.hx_board.specs.Positions.{IsEmpty, IsFull, put};
 ghost use Rattle.hx_board.specs.Game.{Wins};
-ghost use Rattle.hx_law.specs.Laws.{IsFull};
 
 use super::*;
 use hx_board::Colour::{Black, White};

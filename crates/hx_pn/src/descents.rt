@@ -39,7 +39,8 @@ fn best_of(children: &[Numbers]) -> Option<Best>
 
 /// The best child, after one more was looked at.
 fn better(best: Best, place: usize, child: Numbers) -> Best
-    ensures { (seen : List Child) → IsBest seen best → place ≡ length seen → IsNumbers child → IsBest (seen ++ child ∷ []) result }
+    ensures { (seen : List Child) → IsBest seen best → place ≡ length seen → IsNumbers child
+        → IsBest (seen ++ child ∷ []) result }
 {
     if child.delta < best.child.delta {
         Best {
@@ -65,7 +66,8 @@ pub fn thresholds(limit: Numbers, children: &[Numbers]) -> Option<(usize, Number
     requires limit { IsNumbers limit }
     requires children { All IsNumbers children.now }
     ensures next { MatchOption result (HasReached limit children.now)
-        (λ found. (¬ HasReached limit children.now) × ((child : Numbers) × (IsChosen children.now found.0 child
+        (λ found. (¬ HasReached limit children.now)
+        × ((child : Numbers) × (IsChosen children.now found.0 child
         × (found.1 ≡ child_limit limit children.now found.0 child)))) }
 
     // A child's thresholds may be passed down again, to the child at that place.

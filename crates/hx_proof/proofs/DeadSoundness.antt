@@ -19,12 +19,10 @@ use Rattle.hx_board.proofs.KeptStones.{keeps_put, joined_stays}
 use Rattle.hx_board.proofs.Joins.{touches-sym, joined-over_own, joined-touches}
 use Rattle.hx_law.proofs.WinLaws.{chain-put}
 use Rattle.hx_inferior.specs.Inferior.{IsOpenNeighbour, IsDead}
+use Rattle.hx_inferior.proofs.DeadLaws.{of_same}
 use Rattle.hx_proof.proofs.StoneOrder.{put-swap}
 
 -- ---- vertices
-
-of_same : (n m : ℕ) → Of n ≡ Of m → n ≡ m
-of_same n m e = cc
 
 of_decided : (n m : ℕ) → Dec (n ≡ m) → Dec (Of n ≡ Of m)
 of_decided n m (yes same) = yes (ap Of same)

@@ -1,38 +1,19 @@
 -- Each exchange moves a number to its place in the other half of its block, and seven exchanges move each number n of 128 to
 -- 127 - n. That the seven sets are the lower halves, and that the seven moves come to 127 - n, is tried number by number.
-use Rattle.std.proofs.Common.{◌≡◌, ℕ, zero, suc, ◌+◌, ◌-◌, ◌*◌, ◌/◌, ◌%◌, ◌^◌, ◌<◌, ◌≤◌, Bool, true, false, ◌&&◌, ◌||◌, not, eqb, eqb-true, leb, ltb, cond, refl, sym, ap, ◌∙◌, arith, bit_or, bit_and}
-use Rattle.std.proofs.lemmas.Bool.Decides.{nat_tests, Decides-below_and}
+use Rattle.std.proofs.Common.{◌≡◌, ℕ, ◌+◌, ◌-◌, ◌*◌, ◌/◌, ◌%◌, ◌^◌, ◌<◌, ◌≤◌, Bool, true, false, ◌&&◌, ◌||◌, not, eqb, eqb-true, leb, ltb, cond, refl, sym, ap, ◌∙◌, arith, bit_or, bit_and}
+use Rattle.std.proofs.lemmas.Bool.Decides.{nat_tests}
 use Rattle.std.proofs.Math.Nat.{div-eq-sub-div, div-eq_of_lt}
-use Rattle.std.proofs.lemmas.Bool.{false≢true}
+use Rattle.std.proofs.lemmas.Bool.{agree_below, agree_below_at, false≢true, ltb-true}
 use Rattle.hx_board.specs.Sets.{has, union, intersection}
 use Rattle.hx_board.proofs.SetLaws.{has-union, has-intersection, has-later, has-earlier}
 use Rattle.hx_turn.specs.Reversed.{AreLowHalves, partner}
 
--- whether a test passes at each number below a bound
-abbrev passes : (ℕ → Bool) → ℕ → Bool
-passes p zero = true
-passes p (suc n) = p n && passes p n
-
-passed : (p : ℕ → Bool) (n : ℕ) → passes p n ≡ true → (k : ℕ) → k < n → p k ≡ true
-passed p n = (Decides-below_and p (λ k. p k ≡ true) (passes p) (λ k. ((λ h. h), (λ h. h))) refl (λ _. refl) n).0
-
--- whether two tests agree
-abbrev agree : Bool → Bool → Bool
-agree true b = b
-agree false b = not b
-
-agreed : (a b : Bool) → agree a b ≡ true → a ≡ b
-agreed true true h = refl
-agreed true false h = sym h
-agreed false true h = h
-agreed false false h = refl
-
 -- whether a set has the lower halves of its blocks
 abbrev has_lows : ℕ → ℕ → Bool
-has_lows half low = passes (λ n. agree (has low n) (eqb (n / half % 2) 0)) 128
+has_lows half low = agree_below (has low) (λ n. eqb (n / half % 2) 0) 128
 
 pub low_halves : (half low : ℕ) → has_lows half low ≡ true → AreLowHalves half low
-low_halves half low tried n less = agreed _ _ (passed (λ k. agree (has low k) (eqb (k / half % 2) 0)) 128 tried n less)
+low_halves half low tried n less = agree_below_at (has low) (λ k. eqb (k / half % 2) 0) 128 n tried less
 
 pub lows_2 : AreLowHalves 1 0x55555555555555555555555555555555
 unfolding has
@@ -141,14 +122,11 @@ module _ (bits low half n : ℕ) (some : 0 < half) (are : AreLowHalves half low)
 abbrev pub moved : ℕ → ℕ
 moved n = partner 1 (partner 2 (partner 4 (partner 8 (partner 16 (partner 32 (partner 64 n))))))
 
-pub partner-small : (half n : ℕ) → passes (λ k. ltb (partner half k) 128) 128 ≡ true → n < 128 → partner half n < 128
-partner-small half n tried less = ltb_lt (partner half n) 128 (passed (λ k. ltb (partner half k) 128) 128 tried n less)
-  where
-    ltb_lt : (a b : ℕ) → ltb a b ≡ true → a < b
-    ltb_lt a b h = grind (arith, nat_tests)
+pub partner-small : (half n : ℕ) → agree_below (λ k. ltb (partner half k) 128) (λ _. true) 128 ≡ true → n < 128 → partner half n < 128
+partner-small half n tried less = ltb-true (partner half n) 128 (agree_below_at (λ k. ltb (partner half k) 128) (λ _. true) 128 n tried less)
 
-each_moved : passes (λ k. eqb (moved k) (127 - k)) 128 ≡ true
+each_moved : agree_below (λ k. eqb (moved k) (127 - k)) (λ _. true) 128 ≡ true
 each_moved = refl
 
 pub moved-is : (n : ℕ) → n < 128 → moved n ≡ 127 - n
-moved-is n less = eqb-true _ _ (passed (λ k. eqb (moved k) (127 - k)) 128 each_moved n less)
+moved-is n less = eqb-true _ _ (agree_below_at (λ k. eqb (moved k) (127 - k)) (λ _. true) 128 n each_moved less)

@@ -1,13 +1,14 @@
 -- Two boards that mirror each other: of one size, and each stone of the one stands on the turned cell of the other. A board
 -- and its turned board are such, both ways, and stay so when both get a stone. Such boards are turned boards of one another.
-use Rattle.std.proofs.Common.{◌≡◌, ℕ, Bool, true, false, refl, sym, ap, ◌∙◌, subst, inl, inr, ⊎_elim}
+use Rattle.std.proofs.Common.{◌≡◌, ℕ, true, false, refl, sym, ap, ◌∙◌, subst, inl, inr, ⊎_elim}
 use Rattle.std.proofs.lemmas.Bool.{false≢true, false_from_ne_true}
 use Rattle.hx_board.specs.declared.colours.Colour.{Colour}
 use Rattle.hx_board.specs.declared.colours.Colour.TheVariants.{Black, White}
 use Rattle.hx_board.specs.Sets.{has}
 use Rattle.hx_board.specs.Cells.{Extent, IsExtent, OnBoard}
 use Rattle.hx_board.specs.Positions.{Board, IsBoard, IsEmpty, put, stones_of}
-use Rattle.hx_board.proofs.SetLaws.{same_set}
+use Rattle.hx_board.proofs.SetLaws.{same_set, same_test}
+use Rattle.hx_board.proofs.PositionLaws.{same_board}
 use Rattle.hx_board.proofs.StoneLaws.{size-put, stones-put}
 use Rattle.hx_turn.specs.Turned.{turned_cell, IsTurned}
 use Rattle.hx_turn.proofs.TurnedCells.{on_board-turned, turned-turned}
@@ -72,17 +73,10 @@ turned-back board turned is turn =
     (let P : Extent → Type 0 = λ size. Mirrors size turned board in subst P (sym turn.same_size) (exchanged board.size board turned (turned-mirrors board turned is turn)))
     is
 
-same_test : (a b : Bool) → (a ≡ true → b ≡ true) → (b ≡ true → a ≡ true) → a ≡ b
-same_test true b there back = sym (there refl)
-same_test false true there back = absurd (false≢true (back refl))
-same_test false false there back = refl
-
 -- a board has one turned board
 pub turned-one : (board one other : Board) → IsTurned board one → IsTurned board other → one ≡ other
 turned-one board one other first second =
-    ap (λ (size : Extent). record { size = size; black = one.black; white = one.white }) (first.same_size ∙ sym second.same_size)
-    ∙ ap (λ (black : ℕ). record { size = other.size; black = black; white = one.white }) (same Black)
-    ∙ ap (λ (white : ℕ). record { size = other.size; black = other.black; white = white }) (same White)
+    same_board one other (first.same_size ∙ sym second.same_size) (same Black) (same White)
   where
     same : (player : Colour) → stones_of one player ≡ stones_of other player
     same player = same_set _ _ (λ n. same_test (has (stones_of one player) n) (has (stones_of other player) n)

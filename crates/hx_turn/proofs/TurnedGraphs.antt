@@ -6,6 +6,7 @@ use Rattle.hx_board.specs.declared.vertices.Vertex.TheVariants.{Of, First, Last}
 use Rattle.hx_board.specs.Cells.{Extent, IsExtent}
 use Rattle.hx_board.specs.Positions.{Board, IsBoard}
 use Rattle.hx_board.specs.Graph.{IsVertex, Touches, IsOwn, Walk, Joined}
+use Rattle.hx_board.proofs.Joins.{touches-vertex}
 use Rattle.hx_turn.specs.Turned.{turned_vertex, IsTurned, KeepsJoined}
 use Rattle.hx_turn.proofs.TurnedCells.{on_board-turned, turned-turned, touch-turned, first_line-turned, last_line-turned}
 use Rattle.hx_turn.proofs.TurnedBoards.{Mirrors, exchanged, turned-mirrors}
@@ -22,14 +23,6 @@ touches-turned size extent player First Last t = absurd t
 touches-turned size extent player Last (Of cell) t = (on_board-turned size extent cell t.0, first_line-turned size extent player cell t.0 t.1)
 touches-turned size extent player Last First t = absurd t
 touches-turned size extent player Last Last t = absurd t
-
--- a vertex that something touches is one of the board
-touched-vertex : (size : Extent) (player : Colour) (v w : Vertex) → Touches size player v w → IsVertex size w
-touched-vertex size player (Of cell) (Of other) t = t.1
-touched-vertex size player First (Of cell) t = t.0
-touched-vertex size player Last (Of cell) t = t.0
-touched-vertex size player v First t = tt
-touched-vertex size player v Last t = tt
 
 pub vertex-turned : (size : Extent) → IsExtent size.rows size.cols → (v : Vertex) → IsVertex size v → turned_vertex size (turned_vertex size v) ≡ v
 vertex-turned size extent (Of cell) here = ap Of (turned-turned size extent cell here)
@@ -58,7 +51,7 @@ module _ (size : Extent) (player : Colour) (board turned : Board) (m : Mirrors s
   walk-turned [] from to t = touch from to t
   walk-turned (next ∷ rest) from to w =
       let P : Extent → Type 0 = λ s. IsVertex s next in
-      (touch from next w.0, own-turned next (subst P m.board_size (touched-vertex board.size player from next w.0)) w.1, walk-turned rest next to w.2)
+      (touch from next w.0, own-turned next (subst P m.board_size (touches-vertex board.size player from next w.0)) w.1, walk-turned rest next to w.2)
 
   pub joined-turned : (from to : Vertex) → Joined board player from to → Joined turned player (turned_vertex size from) (turned_vertex size to)
   joined-turned from to (inl same) = inl (ap (turned_vertex size) same)

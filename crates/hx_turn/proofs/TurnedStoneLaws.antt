@@ -1,11 +1,13 @@
 -- The turned board as one value is the turned board, and with a stone more it is the one of the board with that stone.
-use Rattle.std.proofs.Common.{◌≡◌, ℕ, zero, suc, ◌/◌, ◌<◌, ◌≤◌, Bool, true, false, if◌then◌else◌, refl, sym, ap, ◌∙◌, subst, ◌⊎◌, inl, inr, ⊎_elim, arith, ◌↔◌}
+use Rattle.std.proofs.Common.{◌≡◌, ℕ, zero, suc, ◌<◌, Bool, true, false, if◌then◌else◌, refl, sym, ap, ◌∙◌, subst, ◌⊎◌, inl, inr, ⊎_elim, arith, ◌↔◌}
 use Rattle.std.proofs.lemmas.Bool.{false≢true, cases_eq}
 use Rattle.hx_board.specs.declared.colours.Colour.{Colour}
 use Rattle.hx_board.specs.declared.colours.Colour.TheVariants.{Black, White}
+use Rattle.hx_board.specs.declared.cells.TheConstants.{CELLS}
 use Rattle.hx_board.specs.Sets.{has, insert}
 use Rattle.hx_board.specs.Cells.{Extent, IsExtent, OnBoard}
 use Rattle.hx_board.specs.Positions.{Board, IsBoard, IsEmpty, put, stones_of}
+use Rattle.hx_board.proofs.CellLaws.{on_board-small}
 use Rattle.hx_board.proofs.SetLaws.{has-empty, has-insert_cases, has-insert_same, has-insert_other}
 use Rattle.hx_board.proofs.StoneLaws.{size-put, board-put}
 use Rattle.hx_turn.specs.Turned.{turned_cell, IsTurned}
@@ -58,24 +60,18 @@ comes size set (suc bound) cell below member = ⊎_elim
     (cases_eq cell bound)
 
 module _ (size : Extent) (extent : IsExtent size.rows size.cols) (set : ℕ) (inside : (cell : ℕ) → has set cell ≡ true → OnBoard size cell) where
-  turned_cells-are : (cell : ℕ) → (has (turned_cells size set 121) cell ≡ true) ↔ (OnBoard size cell × (has set (turned_cell size cell) ≡ true))
+  turned_cells-are : (cell : ℕ) → (has (turned_cells size set CELLS) cell ≡ true) ↔ (OnBoard size cell × (has set (turned_cell size cell) ≡ true))
   turned_cells-are cell = (
     (λ h.
-        let from = comes_from size set 121 cell h in
+        let from = comes_from size set CELLS cell h in
         let on : OnBoard size from.cell = inside from.cell from.member in
         let P : ℕ → Type 0 = λ n. OnBoard size n × (has set (turned_cell size n) ≡ true) in
         subst P (sym from.same) (on_board-turned size extent from.cell on, ap (has set) (turned-turned size extent from.cell on) ∙ from.member)),
     (λ w.
         let turned : OnBoard size (turned_cell size cell) = on_board-turned size extent cell w.0 in
-        ap (has (turned_cells size set 121)) (sym (turned-turned size extent cell w.0))
-        ∙ comes size set 121 (turned_cell size cell) (on_board-small (turned_cell size cell) turned) w.1),
+        ap (has (turned_cells size set CELLS)) (sym (turned-turned size extent cell w.0))
+        ∙ comes size set CELLS (turned_cell size cell) (on_board-small size (turned_cell size cell) extent turned) w.1),
   )
-    where
-      on_board-small : (n : ℕ) → OnBoard size n → n < 121
-      on_board-small n on =
-          let row : n / 11 < size.rows = on.row in
-          let rows : size.rows ≤ 11 = extent.1 in
-          omega arith
 
 -- ---- the turned board
 

@@ -1,5 +1,6 @@
 -- The turned board as one value, put together cell by cell.
 use Rattle.std.specs.Prelude.{ℕ, zero, suc, if◌then◌else◌}
+use Rattle.hx_board.specs.declared.cells.TheConstants.{CELLS}
 use Rattle.hx_board.specs.Sets.{has, insert}
 use Rattle.hx_board.specs.Cells.{Extent}
 use Rattle.hx_board.specs.Positions.{Board}
@@ -16,6 +17,6 @@ turned_cells size set (suc cell) =
 abbrev pub turned_of : Board → Board
 turned_of board = record {
   size = board.size;
-  black = turned_cells board.size board.black 121;
-  white = turned_cells board.size board.white 121;
+  black = turned_cells board.size board.black CELLS;
+  white = turned_cells board.size board.white CELLS;
 }

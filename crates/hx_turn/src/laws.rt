@@ -10,7 +10,8 @@ use hx_board::{Colour, Position};
 /// Vertices that are joined in a player's graph are joined on the turned board, with the player's sides exchanged, and no
 /// others are.
 pub fn turned_joins(position: &Position, colour: Colour)
-    ensures { (turned : Board) → IsTurned position.now turned → KeepsJoined position.now colour turned }
+    ensures { (turned : Board) → IsTurned position.now turned
+        → KeepsJoined position.now colour turned }
 {
     // The proof takes from here that the position's board is one.
     let _size = position.size();
@@ -19,7 +20,8 @@ pub fn turned_joins(position: &Position, colour: Colour)
 /// A player wins a position, with a player to move, exactly where the player wins the turned one with the same player to
 /// move.
 pub fn turned_keeps(position: &Position, to_move: Colour, colour: Colour)
-    ensures { (turned : Board) → IsTurned position.now turned → KeepsWinner position.now to_move colour turned }
+    ensures { (turned : Board) → IsTurned position.now turned
+        → KeepsWinner position.now to_move colour turned }
 {
     // The proof takes from here that the position's board is one.
     let _size = position.size();

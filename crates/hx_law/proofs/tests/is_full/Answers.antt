@@ -2,9 +2,8 @@
 use Rattle.std.proofs.Common.{◌≡◌, ℕ, true, sym, ◌∙◌, ◌↔◌}
 use Rattle.std.proofs.lemmas.Bool.{false≢true, false_from_ne_true}
 use Rattle.hx_board.specs.Sets.{has}
-use Rattle.hx_board.specs.Positions.{Board, IsEmpty}
+use Rattle.hx_board.specs.Positions.{Board, IsEmpty, IsFull}
 use Rattle.hx_board.proofs.SetLaws.{has-empty, same_set}
-use Rattle.hx_law.specs.Laws.{IsFull}
 use Rattle.hx_law.proofs.tests.is_full.Goals as goal
 
 full_where_empty : (board : Board) (empties : ℕ) → ((cell : ℕ) → (has empties cell ≡ true) ↔ IsEmpty board cell) → (empties ≡ 0) ↔ IsFull board
