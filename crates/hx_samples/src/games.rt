@@ -6,6 +6,19 @@ use hx_board::{Colour, Position};
 /// Whether the player wins the position with this mover: the player has a chain; or moves, and some move wins; or the
 /// opponent has a move, and after each of them the player wins. A game of more than `moves` moves counts as lost.
 pub fn wins(position: &Position, player: Colour, mover: Colour, moves: u8) -> bool {
+    wins_by(&has_chain, position, player, mover, moves)
+}
+
+/// `wins`, where the given test says whether a player has a chain.
+pub fn wins_by<F: Fn(&Position, Colour) -> bool>(
+    has_chain: &F,
+    position: &Position,
+    player: Colour,
+    mover: Colour,
+    moves: u8,
+) -> bool
+    requires { F.IsAlwaysCallable has_chain.now }
+{
     if has_chain(position, player) {
         return true;
     }
@@ -25,7 +38,7 @@ pub fn wins(position: &Position, player: Colour, mover: Colour, moves: u8) -> bo
                 && position.empties().has(cell)
             {
                 let next = position.with(mover, cell);
-                is_won = wins(&next, player, mover.other(), moves - 1);
+                is_won = wins_by(has_chain, &next, player, mover.other(), moves - 1);
             }
         }
     }

@@ -65,7 +65,7 @@ pub fn empty_count(position: &Position) -> u32 {
 }
 
 /// Whether a vertex is a stone or a side of the player.
-fn is_own(position: &Position, player: Colour, vertex: &Vertex) -> bool {
+pub fn is_own(position: &Position, player: Colour, vertex: &Vertex) -> bool {
     match vertex {
         Vertex::Of(cell) => position.at(*cell) == Some(player),
         Vertex::First | Vertex::Last => true,
