@@ -15,7 +15,7 @@ use Rattle.hx_board.specs.Sets.{has, union, intersection}
 use Rattle.hx_board.specs.Positions.{Board}
 use Rattle.hx_board.proofs.ListLaws.{same_some, get-push, get-push_before, get-push_last}
 use Rattle.hx_board.proofs.SetLaws.{has-empty, has-union, has-intersection_left, has-intersection_right, has-intersection_both, same_set, is_false}
-use Rattle.hx_link.specs.declared.links.Kind.TheVariants.{Full, Semi}
+use Rattle.hx_link.specs.declared.links.Kind.TheVariants.{Full}
 use Rattle.hx_link.specs.declared.links.Link.{Link}
 use Rattle.hx_link.specs.declared.parts.TheConstants.{MOST_PARTS}
 use Rattle.hx_link.specs.declared.steps.Step.TheVariants.{Or}
@@ -185,8 +185,8 @@ pub parts_next : (before : List Link) (places : List ℕ) (i : ℕ) (a b : Verte
 parts_next before places i a b start in_all in_some carrier next_all next_some lt e f p s =
     rw (e, f, take_more places i 0 lt) (parts_more before (take i places) (get_or places i 0) a b start in_all in_some carrier p s)
 
-pub no_semi : (before : List Link) (places : List ℕ) (i : ℕ) (a b : Vertex) → i < length places → ((link : Link) → slice_get before (get_or places i 0) ≡ Some link → link.kind ≡ Semi → HasEnds link a b → ⊥) → ArePartsFrom before places a b → ⊥
-no_semi before places i a b lt none are = let w = are i (get_or places i 0) (slice_get-get_or places i 0 lt) in none w.1.part w.1.there w.1.semi w.1.ends
+pub no_semi : (before : List Link) (places : List ℕ) (i : ℕ) (a b : Vertex) → i < length places → ((carrier : ℕ) → IsSemiAt before (get_or places i 0) a b carrier → ⊥) → ArePartsFrom before places a b → ⊥
+no_semi before places i a b lt none are = let w = are i (get_or places i 0) (slice_get-get_or places i 0 lt) in none w.0 w.1
 
 pub parts_all : (before : List Link) (places : List ℕ) (i : ℕ) (a b : Vertex) (start in_all in_some : ℕ) → length places ≤ i → PartsSoFar before (take i places) a b start in_all in_some → PartsSoFar before places a b start in_all in_some
 parts_all before places i a b start in_all in_some le p = rw take_all at p

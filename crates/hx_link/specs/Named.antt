@@ -27,6 +27,11 @@ pub record MeetIn (first second : Link) (meeting : Meeting) : Type 0 where
   pub second_ends : HasEnds second meeting.middle meeting.to
   pub other_ends_differ : meeting.from ≢ meeting.to
 
+-- a Full link is at the place
+pub record IsFullAt (before : List Link) (place : ℕ) (link : Link) : Type 0 where
+  pub there : slice_get before place ≡ Some link
+  pub full : link.kind ≡ Full
+
 -- two earlier Full links that share exactly one end and no cell
 pub record IsMet (before : List Link) (left right : ℕ) (met : Met) : Type 0 where
   pub first_there : slice_get before left ≡ Some met.first

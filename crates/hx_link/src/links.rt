@@ -1,7 +1,6 @@
 //! Links between two vertices of a player's graph, and which of them there can be on a board.
 //!
-//! Hayward, van Rijswijck, Arneson and Henderson call a Full link a virtual connection and a Semi link a virtual
-//! semi-connection; the carrier is their word.
+//! Anshelevich calls a Full link a virtual connection and a Semi link a virtual semi-connection.
 
 ghost use Rattle.std.specs.Prelude.{◌≡◌, ℕ, ◌<◌, ◌↔◌, IsTrue, true, false};
 ghost use Rattle.hx_board.specs.declared.vertices.Vertex.{Vertex};

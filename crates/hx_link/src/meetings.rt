@@ -1,10 +1,7 @@
 //! How two earlier links meet, which both And rules ask first: at exactly one end, and nowhere else.
 
-ghost use Rattle.std.specs.Prelude.{◌≡◌, MatchOption, slice_get, Some};
 ghost use Rattle.hx_board.specs.Finds.{Finds};
-ghost use Rattle.hx_link.specs.declared.links.Link.{Link};
-ghost use Rattle.hx_link.specs.declared.links.Kind.TheVariants.{Full};
-ghost use Rattle.hx_link.specs.Named.{MeetIn, IsMet};
+ghost use Rattle.hx_link.specs.Named.{MeetIn, IsFullAt, IsMet};
 
 use crate::links::{Kind, Link};
 use hx_board::Vertex;
@@ -62,9 +59,7 @@ fn meeting_of(first: &Link, second: &Link) -> Option<Meeting>
 
 /// The earlier Full link at a place.
 fn full_at(before: &[Link], place: u32) -> Option<Link>
-    ensures { MatchOption result
-        ((link : Link) → slice_get before.now place ≡ Some link → link.kind ≡ Full → ⊥)
-        (λ link. (slice_get before.now place ≡ Some link) × (link.kind ≡ Full)) }
+    ensures { Finds result (IsFullAt before.now place) }
 {
     match before.get(place as usize) {
         None => None,

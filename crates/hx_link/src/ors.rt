@@ -1,11 +1,9 @@
 //! Anshelevich's Or rule: where the player, to move, can join two ends in several ways, and no one cell is needed in all of
 //! them, a move of the opponent leaves one way, and so the ends are joined whoever moves first.
 
-ghost use Rattle.std.specs.Prelude.{◌≡◌, MatchOption, slice_get, Some};
+ghost use Rattle.std.specs.Prelude.{◌≡◌, MatchOption, slice_get};
 ghost use Rattle.hx_board.specs.Finds.{Finds};
-ghost use Rattle.hx_link.specs.declared.links.Link.{Link};
-ghost use Rattle.hx_link.specs.declared.links.Kind.TheVariants.{Semi};
-ghost use Rattle.hx_link.specs.Steps.{HasEnds, StepGives};
+ghost use Rattle.hx_link.specs.Steps.{StepGives};
 ghost use Rattle.hx_link.specs.Named.{IsSemiAt, ArePartsFrom, PartsSoFar};
 
 use crate::links::{Kind, Link, has_ends, made};
@@ -22,10 +20,7 @@ struct Shares {
 
 /// The carrier of an earlier Semi link of these ends.
 fn semi_at(before: &[Link], place: u32, a: &Vertex, b: &Vertex) -> Option<Mask>
-    ensures { MatchOption result
-        ((link : Link) → slice_get before.now place ≡ Some link → link.kind ≡ Semi
-        → HasEnds link a.now b.now → ⊥)
-        (λ carrier. IsSemiAt before.now place a.now b.now carrier) }
+    ensures { Finds result (IsSemiAt before.now place a.now b.now) }
 {
     match before.get(place as usize) {
         None => None,

@@ -4,8 +4,8 @@
 use crate::links::{Kind, Link};
 use crate::parts::MOST_PARTS;
 use crate::steps::Step;
-use hx_board::{Cell, Colour, Mask, Position, Size, Vertex};
-use hx_samples::{is_vertex, joined_to};
+use hx_board::{CELLS, Cell, Colour, Mask, Position, Size, Vertex};
+use hx_samples::{is_own, is_vertex, joined_to};
 
 /// The link that a step gives after these.
 pub(crate) fn plain_result(
@@ -112,7 +112,7 @@ fn or(before: &[Link], places: &[u32]) -> Option<Given> {
 
 /// Whether some cell is in the carriers of all the links at these places.
 fn some_cell_is_in_all(before: &[Link], places: &[u32]) -> bool {
-    for index in 0..121u8 {
+    for index in 0..CELLS as u8 {
         if let Some(cell) = cell_at(index)
             && is_in_all(before, places, cell)
         {
@@ -135,7 +135,7 @@ fn is_in_all(before: &[Link], places: &[u32], cell: Cell) -> bool {
 /// The cells that are in one of the two carriers.
 fn cells_of_either(carrier: Mask, other: Mask) -> Mask {
     let mut cells = Mask::empty();
-    for index in 0..121u8 {
+    for index in 0..CELLS as u8 {
         if let Some(cell) = cell_at(index)
             && (carrier.has(cell) || other.has(cell))
         {
@@ -146,7 +146,7 @@ fn cells_of_either(carrier: Mask, other: Mask) -> Mask {
 }
 
 fn share_a_cell(first: &Link, second: &Link) -> bool {
-    for index in 0..121u8 {
+    for index in 0..CELLS as u8 {
         if let Some(cell) = cell_at(index)
             && first.carrier.has(cell)
             && second.carrier.has(cell)
@@ -200,13 +200,6 @@ fn can_be_end(position: &Position, player: Colour, vertex: &Vertex, carrier: Mas
             Some(stone) => stone == player,
             None => is_vertex(position.size(), vertex) && !carrier.has(*cell),
         },
-        Vertex::First | Vertex::Last => true,
-    }
-}
-
-fn is_own(position: &Position, player: Colour, vertex: &Vertex) -> bool {
-    match vertex {
-        Vertex::Of(cell) => position.at(*cell) == Some(player),
         Vertex::First | Vertex::Last => true,
     }
 }
