@@ -13,6 +13,7 @@ use Rattle.hx_board.specs.Positions.{IsEmpty}
 use Rattle.hx_board.specs.VertexSets.{code_of, IsSomeVertex}
 use Rattle.hx_board.proofs.ListLaws.{same_some}
 use Rattle.hx_board.proofs.SetLaws.{and_left, and_right, and_both, intersection-is_subset, is_subset-intersection}
+use Rattle.hx_board.proofs.VertexSetLaws.{code-same}
 use Rattle.hx_link.specs.declared.links.Kind.{Kind}
 use Rattle.hx_link.specs.declared.links.Kind.TheVariants.{Full, Semi}
 use Rattle.hx_link.specs.declared.links.Link.{Link}
@@ -21,7 +22,6 @@ use Rattle.hx_linkset.specs.declared.fulls.FullLink.{FullLink}
 use Rattle.hx_linkset.specs.States.{Standing, IsLive}
 use Rattle.hx_linkset.specs.Fulls.{IsFullAt, AreFullAt, seen_by, seen_from, fulls_from, fulls_of, AreFullLists, is_live_from, live_from, live_at}
 use Rattle.hx_linkset.proofs.RisingLists.{AreAllFrom, all-rising}
-use Rattle.hx_linkset.proofs.HeadLaws.{code-same}
 
 -- ---- all that have a property, in rising order of their indices
 

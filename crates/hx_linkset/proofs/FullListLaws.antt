@@ -10,11 +10,11 @@ use Rattle.hx_board.specs.declared.vertices.Vertex.{Vertex}
 use Rattle.hx_board.specs.VertexSets.{code_of, IsSomeVertex}
 use Rattle.hx_board.proofs.ListLaws.{get-push, get-push_before}
 use Rattle.hx_board.proofs.SetLaws.{is_false}
+use Rattle.hx_board.proofs.VertexSetLaws.{code-small}
 use Rattle.hx_link.specs.declared.links.Kind.{Kind}
 use Rattle.hx_link.specs.declared.links.Kind.TheVariants.{Full, Semi}
 use Rattle.hx_link.specs.declared.links.Link.{Link}
 use Rattle.hx_linkset.specs.declared.fulls.FullLink.{FullLink}
-use Rattle.hx_linkset.proofs.HeadLaws.{code-small}
 use Rattle.hx_linkset.specs.Fulls.{seen_by, seen_from, fulls_from, fulls_of, AreFullLists, contents_of, without_last}
 
 -- ---- what is seen of a link from a vertex

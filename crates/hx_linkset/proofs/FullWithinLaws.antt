@@ -12,7 +12,7 @@ use Rattle.std.specs.List.Sorted.{IsStrictlyIncreasing}
 use Rattle.hx_board.specs.declared.vertices.Vertex.{Vertex}
 use Rattle.hx_board.specs.Sets.{has, intersection, IsSubset}
 use Rattle.hx_board.specs.VertexSets.{code_of}
-use Rattle.hx_board.proofs.SetLaws.{and_left, and_right, and_both, has-intersection_left, has-intersection_right, has-intersection_both, intersection-is_subset, is_subset-intersection}
+use Rattle.hx_board.proofs.SetLaws.{same_test, and_left, and_right, and_both, has-intersection_left, has-intersection_right, has-intersection_both, intersection-is_subset, is_subset-intersection}
 use Rattle.hx_linkset.specs.declared.fulls.FullLink.{FullLink}
 use Rattle.hx_linkset.specs.States.{Standing}
 use Rattle.hx_linkset.specs.Fulls.{IsFullAt, AreFullAt, IsFullWithin, AreFullWithin, is_live_from, live_from}
@@ -66,11 +66,6 @@ module _ (p : FullLink → Bool) where
         by_test false = refl
 
 -- ---- one entry
-
-same_test : (a b : Bool) → (a ≡ true → b ≡ true) → (b ≡ true → a ≡ true) → a ≡ b
-same_test true b to from = sym (to refl)
-same_test false true to from = from refl
-same_test false false to from = refl
 
 module _ (full : FullLink) where
   inside_if : (cells ends : ℕ) → is_live_from cells ends full ≡ true → IsSubset full.carrier cells

@@ -11,6 +11,7 @@ use Rattle.hx_link.specs.declared.links.Link.{Link}
 use Rattle.hx_link.specs.declared.steps.Step.{Step}
 use Rattle.hx_link.specs.declared.steps.Step.TheVariants.{Base, AndStone, AndCell, Or}
 use Rattle.hx_link.specs.Steps.{IsOneOf, links_at, carriers_of, StepGives, GivesByRule}
+use Rattle.hx_link.proofs.LinkLaws.{place_of}
 use Rattle.hx_linkset.specs.States.{IsLive, IsLiveAt, Names, GivesFromLive}
 use Rattle.hx_board.proofs.ListLaws.{same_some}
 use Rattle.hx_linkset.proofs.LiveLaws.{parts_live}
@@ -22,15 +23,6 @@ given-from_live board player links step link p g live = record { gives = g; from
 carriers_cases : (links : List Link) (n : ℕ) → has (carriers_of links) n ≡ true → (part : Link) × (IsOneOf part links × (has part.carrier n ≡ true))
 carriers_cases [] n h = absurd (false≢true (sym (has-empty n) ∙ h))
 carriers_cases (l ∷ ls) n h = ⊎_elim (λ k. (l, ((zero, refl), k))) (λ k. let w = carriers_cases ls n k in (w.0, ((suc w.1.0.0, w.1.0.1), w.1.1))) (has-union_cases l.carrier (carriers_of ls) n h)
-
--- the place that an Or names for one of its parts
-place_of : (before : List Link) (places : List ℕ) (links : List Link) → links_at before places ≡ map (λ (l : Link). Some l) links
-    → (k : ℕ) (part : Link) → slice_get links k ≡ Some part → (place : ℕ) × ((slice_get places k ≡ Some place) × (slice_get before place ≡ Some part))
-place_of before [] [] e k part h = cc
-place_of before [] (l ∷ ls) e k part h = cc
-place_of before (p ∷ ps) [] e k part h = cc
-place_of before (p ∷ ps) (l ∷ ls) e zero part h = (p, (refl, let there : slice_get before p ≡ Some l = cc in there ∙ h))
-place_of before (p ∷ ps) (l ∷ ls) e (suc k) part h = place_of before ps ls (cc) k part h
 
 module _ (board : Board) (player : Colour) (held : List Link) where
   named_empty : (place : ℕ) (part : Link) → IsLiveAt board player held place → slice_get held place ≡ Some part → (n : ℕ) → has part.carrier n ≡ true → IsEmpty board n

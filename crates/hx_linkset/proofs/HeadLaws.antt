@@ -5,29 +5,14 @@ use Rattle.hx_board.specs.declared.vertices.Vertex.{Vertex}
 use Rattle.hx_board.specs.declared.vertices.Vertex.TheVariants.{Of, First, Last}
 use Rattle.hx_board.specs.Positions.{Board, IsBoard}
 use Rattle.hx_board.specs.VertexSets.{code_of, IsSomeVertex}
-use Rattle.hx_board.proofs.CellLaws.{on_board-small}
+use Rattle.hx_board.proofs.VertexSetLaws.{some-vertex, code-small, code-same}
 use Rattle.hx_link.specs.declared.links.Kind.{Kind}
 use Rattle.hx_link.specs.declared.links.Kind.TheVariants.{Full, Semi}
 use Rattle.hx_link.specs.declared.links.Link.{Link}
 use Rattle.hx_link.specs.Steps.{IsEnd}
+use Rattle.hx_link.proofs.LinkLaws.{end-vertex}
 use Rattle.hx_linkset.specs.States.{IsLive}
 use Rattle.hx_linkset.specs.Held.{kind_code, head_for, head_of}
-
-pub code-small : (vertex : Vertex) → IsSomeVertex vertex → code_of vertex < 123
-code-small (Of cell) small = omega arith
-code-small First small = omega arith
-code-small Last small = omega arith
-
-pub code-same : (a b : Vertex) → IsSomeVertex a → IsSomeVertex b → code_of a ≡ code_of b → a ≡ b
-code-same (Of cell) (Of other) h k e = ap Of e
-code-same (Of cell) First h k e = absurd (omega arith)
-code-same (Of cell) Last h k e = absurd (omega arith)
-code-same First (Of other) h k e = absurd (omega arith)
-code-same First First h k e = refl
-code-same First Last h k e = absurd (omega arith)
-code-same Last (Of other) h k e = absurd (omega arith)
-code-same Last First h k e = absurd (omega arith)
-code-same Last Last h k e = refl
 
 -- two digits to the base 123
 digits-same : (row col row' col' : ℕ) → col < 123 → col' < 123 → 123 * row + col ≡ 123 * row' + col' → (row ≡ row') × (col ≡ col')
@@ -51,9 +36,7 @@ head-small Semi a b ha hb = omega (arith, code-small a ha, code-small b hb)
 
 module _ (board : Board) (is_board : IsBoard board) (player : Colour) where
   end-some : (vertex : Vertex) → IsEnd board player vertex → IsSomeVertex vertex
-  end-some (Of cell) end = on_board-small board.size cell is_board.0 end.0
-  end-some First end = tt
-  end-some Last end = tt
+  end-some vertex end = some-vertex board.size is_board.0 vertex (end-vertex board player vertex end)
 
   pub live-some : (link : Link) → IsLive board player link → IsSomeVertex link.a × IsSomeVertex link.b
   live-some link live = (end-some link.a live.a_end, end-some link.b live.b_end)

@@ -17,6 +17,7 @@ use Rattle.hx_link.specs.declared.links.Link.{Link}
 use Rattle.hx_link.specs.declared.steps.Step.{Step}
 use Rattle.hx_link.specs.declared.steps.Step.TheVariants.{Base, AndStone, AndCell, Or}
 use Rattle.hx_link.specs.Steps.{IsEnd, HasEnds, MeetAt, carriers_of, GivesByRule, StepGives}
+use Rattle.hx_link.proofs.LinkLaws.{in_carriers}
 use Rattle.hx_link.proofs.PartLaws.{part_at}
 use Rattle.hx_linkset.specs.States.{IsLive, Names, IsLiveAt}
 
@@ -45,11 +46,6 @@ module _ (board : Board) (player : Colour) where
       no_stone : (who : Colour) → IsEnd board who (Of cell)
       no_stone Black = (e.on_board, e.no_white)
       no_stone White = (e.on_board, e.no_black)
-
-  in_carriers : (links : List Link) (place : ℕ) (part : Link) → slice_get links place ≡ Some part → (n : ℕ) → has part.carrier n ≡ true → has (carriers_of links) n ≡ true
-  in_carriers [] place part there n h = cc
-  in_carriers (l ∷ ls) zero part there n h = let same : l ≡ part = cc in has-union_left l.carrier (carriers_of ls) n (rw same h)
-  in_carriers (l ∷ ls) (suc place) part there n h = has-union_right l.carrier (carriers_of ls) n (in_carriers ls place part there n h)
 
   module _ (before : List Link) (p : IsPosition board.size board.black board.white) where
     -- the two parts of an And

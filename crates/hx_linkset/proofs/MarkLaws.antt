@@ -6,8 +6,8 @@ use Rattle.std.proofs.lemmas.Bool.{cases_eq}
 use Rattle.std.proofs.lemmas.List.{length-set, get_or-set_same, get_or-set_other, get_or-drop, length-drop, take_more}
 use Rattle.std.proofs.lemmas.Option.{slice_get-get_or}
 use Rattle.memchr.specs.Find.{NoneBefore, Passes, is_byte}
+use Rattle.hx_board.specs.Lists.{StandsIn}
 use Rattle.hx_linkset.specs.Marks.{IsMarked, MarksMore, IsFirstMarkFrom}
-use Rattle.hx_linkset.specs.Derivations.{StandsIn}
 use Rattle.hx_board.proofs.ListLaws.{get-push, get-push_before, get-push_last}
 
 pub marked-inside : (marks : List ℕ) (place : ℕ) → IsMarked marks place → place < length marks

@@ -11,17 +11,11 @@ use Rattle.hx_linkset.specs.States.{Standing, IsLive, IsRight}
 use Rattle.hx_linkset.specs.Rings.{Rings}
 use Rattle.hx_linkset.specs.Held.{IsHeadBetween, head_for, head_of, head_at, IsLinked, RingsHold, IsLiveThere}
 use Rattle.hx_linkset.specs.LiveOf.{IsLiveOf, IsFirstFrom}
-use Rattle.hx_board.proofs.ListLaws.{get-lt}
+use Rattle.hx_board.proofs.ListLaws.{get-lt, get-there}
 use Rattle.hx_linkset.proofs.OrderLaws.{ends-to, ends-from}
 use Rattle.hx_linkset.proofs.HeadLaws.{head-small, live-some, live-same}
 use Rattle.hx_linkset.proofs.PassLaws.{head_at-link, head_at-low}
 use Rattle.hx_linkset.proofs.WalkLaws.{LinkAt, none_past, goes_up, walk-link}
-
--- at each place below the length is an element
-get-there : {A : Type 0} → (xs : List A) (place : ℕ) → place < length xs → (x : A) × (slice_get xs place ≡ Some x)
-get-there [] place lt = absurd (omega arith)
-get-there (y ∷ ys) zero lt = (y, refl)
-get-there (y ∷ ys) (suc place) lt = get-there ys place (omega arith)
 
 module _ (set : Standing) (right : IsRight set.player set.present) where
   -- a live link is one that there can be on the board

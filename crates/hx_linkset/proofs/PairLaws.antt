@@ -3,7 +3,7 @@
 -- The plan: from a number on, both walks have come to the first node of their ring that is not below it (`Reaches`). The
 -- lower of the two nodes is then the next link of either ring, and after it both walks reach on from the next number. No
 -- more come than there are links, so the bound on their number never cuts the walk short.
-use Rattle.std.proofs.lemmas.Bool.{cases_lt, cases_eq}
+use Rattle.std.proofs.lemmas.Bool.{cases_lt, cases_eq, ltb-true, ltb-false}
 use Rattle.std.proofs.lemmas.Bool.Decides.{nat_tests}
 use Rattle.std.proofs.Common.{◌≡◌, ◌≢◌, ℕ, zero, suc, ◌+◌, ◌-◌, ◌<◌, ◌≤◌, Bool, true, false, List, [], ◌∷◌, length, get_or, refl, sym, ap, ◌∙◌, subst, inl, inr, Some, None, Option, ◌⊎◌, ⊎_elim, arith, ltb}
 use Rattle.std.specs.Prelude.{slice_get}
@@ -18,10 +18,11 @@ use Rattle.hx_linkset.specs.Rings.{Rings}
 use Rattle.hx_linkset.specs.Held.{AreInOrder, head_for, head_of, head_at, IsLinked, RingsHold, IsLiveThere}
 use Rattle.hx_linkset.specs.LivePairs.{IsLivePair, AreLivePairs, turn_by, turn_of, from_turn, pairs_from}
 use Rattle.hx_board.proofs.ListLaws.{get-lt}
+use Rattle.hx_board.proofs.VertexSetLaws.{code-small}
 use Rattle.hx_linkset.proofs.RisingLists.{AreAllFrom, all-rising, all-each, all-contains}
 use Rattle.hx_linkset.proofs.OrderLaws.{ends-to, ends-from}
 use Rattle.hx_linkset.proofs.NextLaws.{live-is_link}
-use Rattle.hx_linkset.proofs.HeadLaws.{code-small, head-small, live-same}
+use Rattle.hx_linkset.proofs.HeadLaws.{head-small, live-same}
 use Rattle.hx_linkset.proofs.PassLaws.{head_at-link, head_at-low}
 use Rattle.hx_linkset.proofs.WalkLaws.{none_past, goes_up}
 
@@ -74,20 +75,14 @@ turned-semi true false r e = (refl, inl refl)
 turned-semi false false true e = cc
 turned-semi false false false e = (refl, inr refl)
 
-is_less : (a b : ℕ) → ltb a b ≡ true → a < b
-is_less a b h = grind (arith, nat_tests)
-
-is_not_less : (a b : ℕ) → ltb a b ≡ false → b ≤ a
-is_not_less a b h = grind (arith, nat_tests)
-
 turn-none : (full semi : ℕ) → turn_of full semi ≡ None → (full < 30258) × (semi < 30258)
-turn-none full semi e = let w = turned-none _ _ _ e in (is_less _ _ w.0, is_less _ _ w.1)
+turn-none full semi e = let w = turned-none _ _ _ e in (ltb-true _ _ w.0, ltb-true _ _ w.1)
 
 pub turn-full : (full semi : ℕ) → turn_of full semi ≡ Some Full → (30258 ≤ full) × ((semi < 30258) ⊎ (full < semi))
-turn-full full semi e = let w = turned-full _ _ _ e in (is_not_less _ _ w.0, ⊎_elim (λ k. inl (is_less _ _ k)) (λ k. inr (is_less _ _ k)) w.1)
+turn-full full semi e = let w = turned-full _ _ _ e in (ltb-false _ _ w.0, ⊎_elim (λ k. inl (ltb-true _ _ k)) (λ k. inr (ltb-true _ _ k)) w.1)
 
 pub turn-semi : (full semi : ℕ) → turn_of full semi ≡ Some Semi → (30258 ≤ semi) × ((full < 30258) ⊎ (semi ≤ full))
-turn-semi full semi e = let w = turned-semi _ _ _ e in (is_not_less _ _ w.0, ⊎_elim (λ k. inl (is_less _ _ k)) (λ k. inr (is_not_less _ _ k)) w.1)
+turn-semi full semi e = let w = turned-semi _ _ _ e in (ltb-false _ _ w.0, ⊎_elim (λ k. inl (ltb-true _ _ k)) (λ k. inr (ltb-false _ _ k)) w.1)
 
 -- ---- one ring
 

@@ -10,17 +10,15 @@ use Rattle.hx_link.specs.declared.links.Link.{Link}
 use Rattle.hx_link.specs.declared.steps.Step.{Step}
 use Rattle.hx_link.specs.declared.steps.Step.TheVariants.{Base, AndStone, AndCell, Or}
 use Rattle.hx_link.specs.Steps.{MeetAt, GivesByRule, StepGives, links_at}
+use Rattle.hx_link.proofs.LinkLaws.{same_front}
 use Rattle.hx_linkset.specs.States.{Names}
 use Rattle.hx_linkset.specs.Derivations.{renamed}
 
 module _ (name : ℕ → ℕ) (before after : List Link) where
-  both : {x y : Option Link} {xs ys : List (Option Link)} → x ≡ y → xs ≡ ys → x ∷ xs ≡ y ∷ ys
-  both a b = cc
-
   links_at-renamed : (parts : List ℕ) → ((k place : ℕ) → slice_get parts k ≡ Some place → slice_get after (name place) ≡ slice_get before place)
       → links_at after (map name parts) ≡ links_at before parts
   links_at-renamed [] same = refl
-  links_at-renamed (p ∷ ps) same = both (same 0 p refl) (links_at-renamed ps (λ k place h. same (suc k) place h))
+  links_at-renamed (p ∷ ps) same = same_front (same 0 p refl) (links_at-renamed ps (λ k place h. same (suc k) place h))
 
   meet-renamed : (left right : ℕ) (from middle to : Vertex) (first second : Link) → slice_get after (name left) ≡ slice_get before left → slice_get after (name right) ≡ slice_get before right
       → MeetAt before left right from middle to first second → MeetAt after (name left) (name right) from middle to first second

@@ -4,7 +4,8 @@ use Rattle.std.proofs.lemmas.List.{reverse-append, length-reverse, take_all, tak
 use Rattle.std.proofs.Common.{◌≡◌, ℕ, zero, suc, ◌≤◌, ◌<◌, ◌+◌, Bool, true, false, List, [], ◌∷◌, ◌++◌, length, take, reverse, refl, sym, ap, ◌∙◌, subst, arith, length-append, if◌then◌else◌}
 use Rattle.hx_board.specs.declared.colours.Colour.{Colour}
 use Rattle.hx_board.specs.Positions.{Board, IsBoard}
-use Rattle.hx_board.specs.Counts.{is_empty, empty_below, empty_count}
+use Rattle.hx_board.specs.Counts.{empty_count}
+use Rattle.hx_board.proofs.EmptyCells.{empty_count-small}
 use Rattle.hx_link.specs.declared.links.Link.{Link}
 use Rattle.hx_link.specs.declared.steps.Step.{Step}
 use Rattle.hx_linkset.specs.declared.plays.Stage.{Stage}
@@ -68,19 +69,6 @@ module _ (player : Colour) (state : State) where
 pub reverse-push : (plays : List Stage) (play : Stage) → reverse (plays ++ play ∷ []) ≡ play ∷ reverse plays
 reverse-push plays play = simp reverse-append
 
-one_at_most : (b : Bool) (n bound : ℕ) → n ≤ bound → (if b then 1 else 0) + n ≤ suc bound
-one_at_most true n bound le = omega arith
-one_at_most false n bound le = omega arith
-
-empty_below-le : (bound : ℕ) (board : Board) → empty_below bound board ≤ bound
-unfolding empty_below
-empty_below-le zero board = omega arith
-empty_below-le (suc bound) board = one_at_most (is_empty board bound) (empty_below bound board) bound (empty_below-le bound board)
-
-empty_count-le : (board : Board) → empty_count board ≤ 121
-unfolding empty_count
-empty_count-le board = empty_below-le 121 board
-
 length-past : (state : State) (plays : List Stage) → length (past_of state plays) ≡ length plays
 length-past state [] = refl
 length-past state (p ∷ ps) = ap suc (length-past (undone state p) ps)
@@ -128,6 +116,6 @@ module _ (player : Colour) (state : State) (plays : List Stage) where
 pub keeps-none : (player : Colour) (board : Board) → IsBoard board → Keeps player (record { board = board; links = []; steps = [] }) []
 keeps-none player board is_board = record {
   stands = record { is_board = is_board; steps_of = refl; given = λ place l s there. cc };
-  room = empty_count-le board;
+  room = empty_count-small board;
   few = omega arith;
 }

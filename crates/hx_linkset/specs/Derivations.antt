@@ -2,6 +2,7 @@
 use Rattle.std.specs.Prelude.{◌≡◌, ℕ, suc, ◌<◌, ◌≤◌, List, [], map, length, slice_get, slice_index}
 use Rattle.std.specs.declared.option.Option.TheVariants.{Some}
 use Rattle.hx_board.specs.declared.colours.Colour.{Colour}
+use Rattle.hx_board.specs.Lists.{StandsIn}
 use Rattle.hx_board.specs.Positions.{Board}
 use Rattle.hx_link.specs.declared.links.Link.{Link}
 use Rattle.hx_link.specs.declared.steps.Step.{Step}
@@ -9,10 +10,6 @@ use Rattle.hx_link.specs.declared.steps.Step.TheVariants.{Base, AndStone, AndCel
 use Rattle.hx_link.specs.Steps.{AreRightSteps}
 use Rattle.hx_linkset.specs.States.{State, IsLiveAt, Names}
 use Rattle.hx_linkset.specs.Marks.{IsMarked}
-
--- the number is one of these
-abbrev pub StandsIn : List ℕ → ℕ → Type 0
-StandsIn places place = (k : ℕ) × (slice_get places k ≡ Some place)
 
 -- right steps of their own, no more than there are links, and for each named link the place of a step that gives it; of one
 -- named link alone the last step gives it

@@ -4,8 +4,9 @@
 //! pass up takes the marked steps, each with the new numbers of the links that it names.
 
 ghost use Rattle.std.specs.Prelude.{◌≡◌, ℕ, ◌≤◌, length, IfOk};
+ghost use Rattle.hx_board.specs.Lists.{StandsIn};
 ghost use Rattle.hx_linkset.specs.States.{IsLiveAt, IsRight};
-ghost use Rattle.hx_linkset.specs.Derivations.{StandsIn, IsDerived, AreClosedFrom, AreMarkedUnder, AreKeptBelow};
+ghost use Rattle.hx_linkset.specs.Derivations.{IsDerived, AreClosedFrom, AreMarkedUnder, AreKeptBelow};
 
 use crate::marks::{first_from, last_below, mark_all, mark_parts, no_marks};
 use crate::renaming::{names_of, renamed_step};
@@ -46,9 +47,13 @@ fn wanted_for(
     steps: &[Step],
     named: &[u32],
 ) -> Result<Wanted, Memory>
-    requires right { IsRight player record { board = position.now; links = links.now; steps = steps.now } }
-    requires live { (place : ℕ) → StandsIn named.now place → IsLiveAt position.now player links.now place }
-    ensures closed { IfOk result (λ wanted. AreClosedFrom player record { board = position.now; links = links.now; steps = steps.now } 0 wanted.marks.items) }
+    requires right { IsRight player
+        record { board = position.now; links = links.now; steps = steps.now } }
+    requires live { (place : ℕ) → StandsIn named.now place
+        → IsLiveAt position.now player links.now place }
+    ensures closed { IfOk result (λ wanted. AreClosedFrom player
+        record { board = position.now; links = links.now; steps = steps.now } 0
+        wanted.marks.items) }
     ensures named { IfOk result (λ wanted. AreMarkedUnder named.now wanted.marks.items) }
 {
     let Ok(mut marks) = no_marks(alloc, links.len()) else {
@@ -74,11 +79,15 @@ fn kept_for(
     steps: &[Step],
     wanted: &Wanted,
 ) -> Result<Kept, Memory>
-    requires right { IsRight player record { board = position.now; links = links.now; steps = steps.now } }
+    requires right { IsRight player
+        record { board = position.now; links = links.now; steps = steps.now } }
     requires few { length links.now ≤ MOST_LINKS }
-    requires closed { AreClosedFrom player record { board = position.now; links = links.now; steps = steps.now } 0 wanted.now.marks.items }
-    ensures { IfOk result (λ kept. AreKeptBelow player record { board = position.now; links = links.now; steps = steps.now } wanted.now.marks.items
-        (length links.now) kept.steps.items kept.names.items) }
+    requires closed { AreClosedFrom player
+        record { board = position.now; links = links.now; steps = steps.now } 0
+        wanted.now.marks.items }
+    ensures { IfOk result (λ kept. AreKeptBelow player
+        record { board = position.now; links = links.now; steps = steps.now }
+        wanted.now.marks.items (length links.now) kept.steps.items kept.names.items) }
 {
     let Ok(mut names) = vec![in alloc; 0u16; links.len()] else {
         return Err(Memory);
@@ -110,10 +119,13 @@ pub(crate) fn derivation_of(
     steps: &[Step],
     named: &[u32],
 ) -> Result<Derived, Memory>
-    requires right { IsRight player record { board = position.now; links = links.now; steps = steps.now } }
+    requires right { IsRight player
+        record { board = position.now; links = links.now; steps = steps.now } }
     requires few { length links.now ≤ MOST_LINKS }
-    requires live { (place : ℕ) → StandsIn named.now place → IsLiveAt position.now player links.now place }
-    ensures { IfOk result (λ derived. IsDerived position.now player links.now named.now derived.steps derived.places.items) }
+    requires live { (place : ℕ) → StandsIn named.now place
+        → IsLiveAt position.now player links.now place }
+    ensures { IfOk result (λ derived.
+        IsDerived position.now player links.now named.now derived.steps derived.places.items) }
 {
     let Ok(wanted) = wanted_for(alloc, position, player, links, steps, named) else {
         return Err(Memory);

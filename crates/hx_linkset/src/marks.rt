@@ -1,9 +1,9 @@
 //! Marks on places. A byte stands for each place, so that a search for the next mark reads many places at a time.
 
 ghost use Rattle.std.specs.Prelude.{◌≡◌, ℕ, ◌<◌, ◌≤◌, length, IfOk, MatchOption, ◌⊎◌};
+ghost use Rattle.hx_board.specs.Lists.{StandsIn};
 ghost use Rattle.hx_linkset.specs.States.{Names};
 ghost use Rattle.hx_linkset.specs.Marks.{IsMarked, AreUnmarked, MarksMore, IsLastMarkBelow, IsFirstMarkFrom};
-ghost use Rattle.hx_linkset.specs.Derivations.{StandsIn};
 
 use hx_board::Memory;
 use hx_link::Step;

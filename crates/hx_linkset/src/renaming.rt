@@ -1,8 +1,9 @@
 //! Steps with other numbers for the links that they name.
 
 ghost use Rattle.std.specs.Prelude.{◌≡◌, ℕ, ◌<◌, map, length, slice_index, IfOk};
+ghost use Rattle.hx_board.specs.Lists.{StandsIn};
 ghost use Rattle.hx_linkset.specs.States.{Names};
-ghost use Rattle.hx_linkset.specs.Derivations.{StandsIn, renamed};
+ghost use Rattle.hx_linkset.specs.Derivations.{renamed};
 
 use hx_board::Memory;
 use hx_link::{Parts, Step};
@@ -12,7 +13,8 @@ use std::alloc::Global;
 /// The parts of an Or, each under its new name.
 fn renamed_parts(alloc: Global, names: &[u16], parts: &[u32]) -> Result<Parts, Memory>
     requires { (place : ℕ) → StandsIn parts.now place → place < length names.now }
-    ensures { IfOk result (λ new. new ≡ map (λ (place : ℕ). slice_index names.now place) parts.now) }
+    ensures { IfOk result (λ new.
+        new ≡ map (λ (place : ℕ). slice_index names.now place) parts.now) }
 {
     let mut items: SmallVec<u32, 8> = SmallVec::new(alloc);
     for place in parts {
@@ -27,7 +29,8 @@ fn renamed_parts(alloc: Global, names: &[u16], parts: &[u32]) -> Result<Parts, M
 /// The step with each link that it names under its new name.
 pub(crate) fn renamed_step(alloc: Global, names: &[u16], step: &Step) -> Result<Step, Memory>
     requires { (place : ℕ) → Names step.now place → place < length names.now }
-    ensures { IfOk result (λ new. new ≡ renamed (λ (place : ℕ). slice_index names.now place) step.now) }
+    ensures { IfOk result (λ new.
+        new ≡ renamed (λ (place : ℕ). slice_index names.now place) step.now) }
 {
     match step {
         Step::Base { a, b } => Ok(Step::Base { a: *a, b: *b }),
@@ -53,7 +56,8 @@ pub(crate) fn renamed_step(alloc: Global, names: &[u16], step: &Step) -> Result<
 /// The new names of these places.
 pub(crate) fn names_of(alloc: Global, names: &[u16], places: &[u32]) -> Result<Vec<u32>, Memory>
     requires { (place : ℕ) → StandsIn places.now place → place < length names.now }
-    ensures { IfOk result (λ new. new.items ≡ map (λ (place : ℕ). slice_index names.now place) places.now) }
+    ensures { IfOk result (λ new.
+        new.items ≡ map (λ (place : ℕ). slice_index names.now place) places.now) }
 {
     let Ok(mut new) = Vec::with_capacity(alloc, places.len()) else {
         return Err(Memory);

@@ -7,13 +7,15 @@
 //! the logged ones back in opposite order, which makes the chains what they were. The Full links stand
 //! once more in a list for each of their ends.
 //!
-//! Memory is taken by `new` and `add` alone. A board has at most `CELLS` empty cells and each play fills
-//! one or more, so no more plays stand at once; and the log names each link once at most, since only a
-//! live link is dropped, so it needs no more room than there are links.
+//! Of the calls that change the set `add` alone takes memory, and `new` takes all that `play` and `undo`
+//! need; `derivation` takes the memory of what it answers. A board has at most `CELLS` empty cells and
+//! each play fills one or more, so no more plays stand at once; and the log names each link once at most,
+//! since only a live link is dropped, so it needs no more room than there are links.
 
 ghost use Rattle.std.specs.Prelude.{◌≡◌, ◌≢◌, ℕ, ◌+◌, ◌<◌, ◌≤◌, [], ◌∷◌, length, slice_get, ◌↔◌, IsTrue, IfOk, OnErr, MatchOption};
 ghost use Rattle.hx_board.specs.declared.vertices.Vertex.{Vertex};
 ghost use Rattle.hx_board.specs.Finds.{Finds};
+ghost use Rattle.hx_board.specs.Lists.{StandsIn};
 ghost use Rattle.hx_board.specs.Positions.{IsEmpty};
 ghost use Rattle.hx_link.specs.declared.links.Kind.{Kind};
 ghost use Rattle.hx_link.specs.declared.links.Link.{Link};
@@ -25,7 +27,7 @@ ghost use Rattle.hx_linkset.specs.LivePairs.{AreLivePairs};
 ghost use Rattle.hx_linkset.specs.LastStones.{board_before, AreDropped};
 ghost use Rattle.hx_linkset.specs.Fulls.{AreFullAt, AreFullWithin};
 ghost use Rattle.hx_linkset.specs.Plays.{HasMore};
-ghost use Rattle.hx_linkset.specs.Derivations.{StandsIn, IsDerived};
+ghost use Rattle.hx_linkset.specs.Derivations.{IsDerived};
 
 use crate::chains::{Chains, FIRST_NODE, head_for};
 use crate::derivations::{Derived, derivation_of};
@@ -186,9 +188,7 @@ impl LinkSet {
 
     /// The live link at an index. None exactly where there is none.
     pub fn link(&self, index: u32) -> Option<Link>
-        ensures { MatchOption result
-            (IsLiveAt self.now.present.board self.now.player self.now.present.links index → ⊥)
-            (λ link. (slice_get self.now.present.links index ≡ Some link)
+        ensures { Finds result (λ link. (slice_get self.now.present.links index ≡ Some link)
             × IsLive self.now.present.board self.now.player link) }
     {
         match self.links.as_slice().get(index as usize) {
@@ -404,7 +404,8 @@ impl LinkSet {
     /// Whether these stones can be put as one play: there is one at least, and each comes to an empty
     /// cell, when they are put one after the other.
     pub fn can_play(&self, stones: &[(Colour, Cell)]) -> bool
-        ensures { IsTrue result ↔ ((stones.now ≢ []) × CanPut self.now.present.board stones.now) }
+        ensures { IsTrue result
+            ↔ ((stones.now ≢ []) × CanPut self.now.present.board stones.now) }
     {
         !stones.is_empty() && can_put(&self.position, stones)
     }

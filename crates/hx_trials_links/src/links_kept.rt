@@ -2,8 +2,8 @@
 //! that a derivation has no more steps than it needs.
 
 ghost use Rattle.std.specs.Prelude.{◌≡◌, ℕ, ◌∷◌, IsTrue};
+ghost use Rattle.hx_board.specs.Lists.{StandsIn};
 ghost use Rattle.hx_linkset.specs.States.{IsLiveAt};
-ghost use Rattle.hx_linkset.specs.Derivations.{StandsIn};
 
 use super::made::{Plan, cell, planned};
 use hx_board::Colour::{Black, White};

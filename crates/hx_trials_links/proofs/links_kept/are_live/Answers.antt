@@ -1,7 +1,7 @@
 use Rattle.std.proofs.Common.{ℕ, List, sym, subst, ⊎_elim}
 use Rattle.std.proofs.lemmas.List.{take_all}
 use Rattle.hx_linkset.specs.States.{IsLiveAt}
-use Rattle.hx_linkset.specs.Derivations.{StandsIn}
+use Rattle.hx_board.specs.Lists.{StandsIn}
 use Rattle.hx_linkset.proofs.MarkLaws.{stands_from}
 use Rattle.hx_trials_links.proofs.links_kept.are_live.Goals as goal
 

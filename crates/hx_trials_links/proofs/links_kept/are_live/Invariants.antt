@@ -1,6 +1,6 @@
 use Rattle.std.proofs.Common.{ℕ, take}
 use Rattle.hx_linkset.specs.States.{IsLiveAt}
-use Rattle.hx_linkset.specs.Derivations.{StandsIn}
+use Rattle.hx_board.specs.Lists.{StandsIn}
 use Rattle.hx_trials_links.proofs.links_kept.are_live.Given as goal
 
 abbrev pub invariant-loop-index : goal.invariant-loop-index
