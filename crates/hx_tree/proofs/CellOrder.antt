@@ -1,14 +1,34 @@
 -- A list of cells that is read from its front: they rise so far, and they are the members of a set. For the checker of
 -- nodes that answer each move of the opponent. It keeps this set, and the first index that may come next. At the end the
 -- set that it kept is the wanted one, or it is not; a cell below the index that may come next shows that they do not rise.
-use Rattle.std.proofs.Common.{◌≡◌, ℕ, ◌+◌, ◌-◌, ◌<◌, ◌≤◌, true, List, length, get_or, refl, sym, ◌∙◌, arith, ◌↔◌, ⊎_elim}
+use Rattle.std.proofs.Common.{◌≡◌, ℕ, ◌+◌, ◌-◌, ◌<◌, ◌≤◌, true, List, [], ◌∷◌, ◌++◌, length, length-append, get_or, refl, sym, ◌∙◌, arith, ◌↔◌, ⊎_elim}
 use Rattle.std.proofs.lemmas.Bool.{cases_lt, false≢true}
-use Rattle.std.proofs.lemmas.List.{get_or_default}
+use Rattle.std.proofs.lemmas.List.{get_or_append_left, get_or_default}
+use Rattle.std.proofs.lemmas.List.Elements.{Contains-get_or}
+use Rattle.std.proofs.Math.Seq.{get_or-append_seam}
 use Rattle.std.specs.Cmp.{both_ways}
 use Rattle.std.specs.List.{All, Contains}
+use Rattle.std.specs.List.Sorted.{IsStrictlyIncreasing}
 use Rattle.hx_board.specs.Sets.{has, insert}
 use Rattle.hx_board.proofs.SetLaws.{has-empty, has-insert_same, has-insert_other, has-insert_cases, same_set}
 use Rattle.hx_tree.specs.Answers.{AreInOrder}
+
+-- a list that rises still does with a number more that is greater than all of its numbers
+pub increasing-push : (numbers : List ℕ) (number : ℕ) → IsStrictlyIncreasing numbers → ((n : ℕ) → Contains numbers n → n < number)
+    → IsStrictlyIncreasing (numbers ++ number ∷ [])
+increasing-push numbers number rises below k less = ⊎_elim inside at_end (cases_lt (k + 1) (length numbers))
+  where
+    inside : k + 1 < length numbers → get_or (numbers ++ number ∷ []) k 0 < get_or (numbers ++ number ∷ []) (k + 1) 0
+    inside small =
+        let here : k < length numbers = omega arith in
+        rw (get_or_append_left numbers (number ∷ []) 0 k here, get_or_append_left numbers (number ∷ []) 0 (k + 1) small) (rises k small)
+
+    at_end : length numbers ≤ k + 1 → get_or (numbers ++ number ∷ []) k 0 < get_or (numbers ++ number ∷ []) (k + 1) 0
+    at_end large =
+        let last : k + 1 ≡ length numbers = omega (arith, length-append numbers (number ∷ [])) in
+        let here : k < length numbers = omega arith in
+        rw (get_or_append_left numbers (number ∷ []) 0 k here, last, get_or-append_seam numbers number [] 0)
+        (below (get_or numbers k 0) (Contains-get_or numbers k 0 here))
 
 -- one of the first cells of the list
 pub record IsTaken (cells : List ℕ) (count cell : ℕ) : Type 0 where
@@ -23,9 +43,9 @@ pub record AreTaken (cells : List ℕ) (count taken next : ℕ) : Type 0 where
   pub last : (k : ℕ) → k + 1 ≡ count → next ≡ get_or cells k 0 + 1
   pub members : (cell : ℕ) → (has taken cell ≡ true) ↔ IsTaken cells count cell
 
--- a list is in order for two kinds alike, where the same cells are of both
-pub same_kind : (Kind Other : ℕ → Type 0) (cells : List ℕ) → ((cell : ℕ) → Kind cell ↔ Other cell) → AreInOrder Kind cells → AreInOrder Other cells
-same_kind Kind Other cells same in_order = record {
+-- a list is in order for two facts alike, where both hold of the same cells
+pub same_kind : (Fact Other : ℕ → Type 0) (cells : List ℕ) → ((cell : ℕ) → Fact cell ↔ Other cell) → AreInOrder Fact cells → AreInOrder Other cells
+same_kind Fact Other cells same in_order = record {
   each = λ cell is. in_order.each cell ((same cell).1 is);
   only = λ k d less. (same _).0 (in_order.only k d less);
   in_order = in_order.in_order;
@@ -74,8 +94,8 @@ module _ (cells : List ℕ) (count taken next cell : ℕ) (before : AreTaken cel
   }
 
   -- a cell below the index that may come next
-  pub out_of_order : (Kind : ℕ → Type 0) → count < length cells → cell < next → ¬ AreInOrder Kind cells
-  out_of_order Kind less falls in_order =
+  pub out_of_order : (Fact : ℕ → Type 0) → count < length cells → cell < next → ¬ AreInOrder Fact cells
+  out_of_order Fact less falls in_order =
       ⊎_elim
       (λ some. let k : ℕ = count - 1 in
       let e : k + 1 ≡ count = omega arith in

@@ -1,73 +1,36 @@
 -- The lines of a node, made one by one in cell order: the cells of the lines so far are the empty cells that are not left, and
 -- they come before those that are left. So when no cell is left, there is a line for each empty cell, in cell order. For
 -- programs that answer each move of the opponent by a child.
-use Rattle.std.proofs.Common.{◌≡◌, ℕ, zero, suc, ◌+◌, ◌<◌, ◌≤◌, Bool, true, false, ◌&&◌, not, eqb, eqb-true, eq-eqb, List, [], ◌∷◌, ◌++◌, length, get_or, refl, sym, ap, ◌∙◌, arith, ◌⊎◌, inl, inr, ⊎_elim, ◌↔◌, length-append, Option, Some, None}
+use Rattle.std.proofs.Common.{◌≡◌, ℕ, zero, suc, ◌+◌, ◌<◌, ◌≤◌, true, false, List, [], ◌∷◌, ◌++◌, length, refl, sym, ◌∙◌, arith, ◌⊎◌, inl, inr, ⊎_elim, ◌↔◌, length-append, Option, Some, None}
 use Rattle.std.specs.Prelude.{slice_get, IfSome}
-use Rattle.std.specs.List.Sorted.{IsStrictlyIncreasing}
 use Rattle.std.proofs.lemmas.Bool.{false≢true, cases_lt}
-use Rattle.std.proofs.lemmas.List.{get_or_append_left, map-append}
-use Rattle.std.proofs.lemmas.List.Elements.{All-push, All-weaker, Contains-append_left, Contains-append_right}
-use Rattle.std.proofs.Math.Seq.{get_or-append_seam}
+use Rattle.std.proofs.lemmas.List.{map-append}
+use Rattle.std.proofs.lemmas.List.Elements.{All-contains, All-push, All-weaker, Contains-append_left, Contains-append_right}
 use Rattle.hx_board.specs.Colours.{other_of}
 use Rattle.hx_board.specs.Sets.{has, remove, count_below}
 use Rattle.hx_board.specs.Cells.{OnBoard, IsLeastOn}
 use Rattle.hx_board.specs.Positions.{Board, IsBoard, IsEmpty}
 use Rattle.hx_board.specs.Counts.{empty_count}
-use Rattle.hx_board.proofs.SetLaws.{has-remove, has-remove_before, is_false}
+use Rattle.hx_board.proofs.SetLaws.{has-remove_before, removed, removed_cases, removed_still}
 use Rattle.hx_board.proofs.CellLaws.{on_board-small}
 use Rattle.hx_board.proofs.Tallies.{count_below-remove}
 use Rattle.hx_tree.specs.declared.nodes.Heading.{Heading}
 use Rattle.hx_tree.specs.declared.nodes.Line.{Line}
 use Rattle.hx_tree.specs.declared.nodes.Line.TheVariants.{Child, Under}
 use Rattle.hx_tree.specs.Answers.{AreInOrder, IsToAnswer, IsRightChild, IsRightLine, IsRightAll, cell_of, cells_of}
-use Rattle.hx_tree.proofs.CellOrder.{same_kind}
+use Rattle.hx_tree.proofs.CellOrder.{increasing-push, same_kind}
 use Rattle.hx_tree.proofs.RightNodeGrowth.{some_and-append}
-
--- ---- a cell is taken out of a set
-
--- a cell that is no more in the set is the one that was taken out, or was not in it before
-gone_cases : (set cell n : ℕ) → has (remove set cell) n ≡ false → (n ≡ cell) ⊎ (has set n ≡ false)
-gone_cases set cell n gone = cases (has set n) (eqb n cell) refl refl
-  where
-    cases : (member same : Bool) → has set n ≡ member → eqb n cell ≡ same → (n ≡ cell) ⊎ (has set n ≡ false)
-    cases true true e f = inl (eqb-true n cell f)
-    cases true false e f = absurd (false≢true (sym gone ∙ has-remove set cell n ∙ ap (λ b. b && not (eqb n cell)) e ∙ ap not f))
-    cases false same e f = inr e
-
-gone_itself : (set cell : ℕ) → has (remove set cell) cell ≡ false
-gone_itself set cell = has-remove set cell cell ∙ ap (λ b. has set cell && not b) (eq-eqb cell cell refl) ∙ and_false (has set cell)
-  where
-    and_false : (b : Bool) → (b && false) ≡ false
-    and_false true = refl
-    and_false false = refl
-
-gone_before : (set cell n : ℕ) → has set n ≡ false → has (remove set cell) n ≡ false
-gone_before set cell n gone = is_false _ (λ member. false≢true (sym gone ∙ has-remove_before set cell n member))
 
 -- ---- one cell more in order
 
-module _ (Kind Next : ℕ → Type 0) (cells : List ℕ) (cell : ℕ) (before : AreInOrder Kind cells) (later : (n : ℕ) → Kind n → n < cell) where
-  rise : IsStrictlyIncreasing (cells ++ cell ∷ [])
-  rise k less = ⊎_elim inside at_end (cases_lt (k + 1) (length cells))
-    where
-      inside : k + 1 < length cells → get_or (cells ++ cell ∷ []) k 0 < get_or (cells ++ cell ∷ []) (k + 1) 0
-      inside small =
-          let here : k < length cells = omega arith in
-          rw (get_or_append_left cells (cell ∷ []) 0 k here, get_or_append_left cells (cell ∷ []) 0 (k + 1) small) (before.in_order k small)
-
-      at_end : length cells ≤ k + 1 → get_or (cells ++ cell ∷ []) k 0 < get_or (cells ++ cell ∷ []) (k + 1) 0
-      at_end large =
-          let last : k + 1 ≡ length cells = omega (arith, length-append cells (cell ∷ [])) in
-          let here : k < length cells = omega arith in
-          rw (get_or_append_left cells (cell ∷ []) 0 k here, last, get_or-append_seam cells cell [] 0) (later _ (before.only k 0 here))
-
-  pub in_order_more : ((n : ℕ) → Next n → (n ≡ cell) ⊎ Kind n) → ((n : ℕ) → Kind n → Next n) → Next cell → AreInOrder Next (cells ++ cell ∷ [])
+module _ (Fact Next : ℕ → Type 0) (cells : List ℕ) (cell : ℕ) (before : AreInOrder Fact cells) (later : (n : ℕ) → Fact n → n < cell) where
+  pub in_order_more : ((n : ℕ) → Next n → (n ≡ cell) ⊎ Fact n) → ((n : ℕ) → Fact n → Next n) → Next cell → AreInOrder Next (cells ++ cell ∷ [])
   in_order_more cases keeps here = record {
     each = λ n next. ⊎_elim
         (λ same. Contains-append_right cells (cell ∷ []) n (0, omega arith, sym same))
-        (λ kind. Contains-append_left cells (cell ∷ []) n (before.each n kind)) (cases n next);
-    only = All-push Next cells cell (All-weaker Kind Next keeps cells before.only) here;
-    in_order = rise;
+        (λ was. Contains-append_left cells (cell ∷ []) n (before.each n was)) (cases n next);
+    only = All-push Next cells cell (All-weaker Fact Next keeps cells before.only) here;
+    in_order = increasing-push cells cell before.in_order (λ n contains. later n (All-contains Fact cells n before.only contains));
   }
 
 -- ---- the lines so far
@@ -126,13 +89,13 @@ pub one_more_answered : (headings more : List Heading) (heading : Heading) (left
 one_more_answered headings more heading left lines cell child valid before least leads = record {
   inside = λ n member. before.inside n (has-remove_before left cell n member);
   earlier = λ done n is member. ⊎_elim
-      (λ same. rw same (later n member)) (λ gone. before.earlier done n (is.0, gone) (has-remove_before left cell n member)) (gone_cases left cell done is.1);
+      (λ same. rw same (later n member)) (λ gone. before.earlier done n (is.0, gone) (has-remove_before left cell n member)) (removed_cases left cell done is.1);
   in_order = rw (map-append cell_of lines (Child cell child ∷ []))
       (in_order_more (IsDone heading.position left) (IsDone heading.position (remove left cell)) (cells_of lines) cell before.in_order
       (λ n is. before.earlier n cell is least.member)
-      (λ n is. ⊎_elim inl (λ gone. inr (is.0, gone)) (gone_cases left cell n is.1))
-      (λ n is. (is.0, gone_before left cell n is.1))
-      (before.inside cell least.member, gone_itself left cell));
+      (λ n is. ⊎_elim inl (λ gone. inr (is.0, gone)) (removed_cases left cell n is.1))
+      (λ n is. (is.0, removed_still left cell n is.1))
+      (before.inside cell least.member, removed left cell));
   lines_right = right_lines-append headings more heading lines (Child cell child) before.lines_right leads;
   count =
       let small : cell < 121 = on_board-small heading.position.size cell valid.0 least.on_board in
@@ -142,7 +105,7 @@ one_more_answered headings more heading left lines cell child valid before least
     later : (n : ℕ) → has (remove left cell) n ≡ true → cell < n
     later n member = ⊎_elim
         (λ less. absurd (false≢true (sym (least.first n less (before.inside n (has-remove_before left cell n member)).on_board) ∙ has-remove_before left cell n member)))
-        (λ more. ⊎_elim (λ less. less) (λ least_too. let same : n ≡ cell = omega arith in absurd (false≢true (sym (gone_itself left cell) ∙ rw same at member))) (cases_lt cell n))
+        (λ more. ⊎_elim (λ less. less) (λ least_too. let same : n ≡ cell = omega arith in absurd (false≢true (sym (removed left cell) ∙ rw same at member))) (cases_lt cell n))
         (cases_lt n cell)
 
 -- while a cell is left, fewer are answered than were empty

@@ -1,12 +1,12 @@
 -- A list of nodes with one node more: whether a node is right depends on the headings before it alone, so a node that is
 -- right or wrong stays so whatever follows. For the checker of trees, and for callers that judge nodes one by one.
-use Rattle.std.proofs.Common.{◌≡◌, ◌≢◌, ℕ, zero, suc, ◌<◌, ◌≤◌, List, [], ◌∷◌, ◌++◌, length, refl, arith, ⊎_elim, length-append}
-use Rattle.std.specs.Prelude.{slice_get, ◌↔◌}
+use Rattle.std.proofs.Common.{◌≡◌, ◌≢◌, ℕ, ◌<◌, ◌≤◌, List, [], ◌∷◌, ◌++◌, length, arith, ⊎_elim, length-append}
+use Rattle.std.specs.Prelude.{◌↔◌}
 use Rattle.std.proofs.lemmas.Bool.{cases_lt}
 use Rattle.std.proofs.lemmas.Option.{slice_get_past}
 use Rattle.std.proofs.lemmas.List.{map-append, take-append-le}
 use Rattle.std.proofs.Math.Seq.{take-append_seam}
-use Rattle.hx_board.proofs.ListLaws.{get-push_last}
+use Rattle.hx_board.proofs.ListLaws.{get-append_before, get-push_last}
 use Rattle.hx_tree.specs.declared.nodes.Node.{Node}
 use Rattle.hx_tree.specs.Rules.{IsRightNode}
 use Rattle.hx_tree.specs.Trees.{headings_of, IsRightNodeAt, AreRight, IsValidTree, IsLeastWrong}
@@ -14,16 +14,11 @@ use Rattle.hx_tree.specs.Trees.{headings_of, IsRightNodeAt, AreRight, IsValidTre
 pub headings_of-append : (nodes more : List Node) → headings_of (nodes ++ more) ≡ headings_of nodes ++ headings_of more
 headings_of-append nodes more = map-append (λ (node : Node). node.heading) nodes more
 
-slice_get-append : (nodes more : List Node) (k : ℕ) → k < length nodes → slice_get (nodes ++ more) k ≡ slice_get nodes k
-slice_get-append [] more k less = absurd (omega arith)
-slice_get-append (node ∷ nodes) more zero less = refl
-slice_get-append (node ∷ nodes) more (suc k) less = slice_get-append nodes more k (omega arith)
-
 -- whether a node is right does not depend on the nodes after it
 pub right_at-append : (nodes more : List Node) (k : ℕ) → k < length nodes → IsRightNodeAt (nodes ++ more) k ↔ IsRightNodeAt nodes k
 right_at-append nodes more k less = (
-  (λ right. rw (slice_get-append nodes more k less, take-append-le k nodes more (omega arith)) at right),
-  (λ right. rw (slice_get-append nodes more k less, take-append-le k nodes more (omega arith)) right),
+  (λ right. rw (get-append_before nodes more k less, take-append-le k nodes more (omega arith)) at right),
+  (λ right. rw (get-append_before nodes more k less, take-append-le k nodes more (omega arith)) right),
 )
 
 right_at-last : (nodes : List Node) (node : Node) → IsRightNodeAt (nodes ++ node ∷ []) (length nodes) ↔ IsRightNode (headings_of nodes) node

@@ -22,10 +22,10 @@ cell_of (Under cell better kill) = cell
 abbrev pub cells_of : List Line → List ℕ
 cells_of lines = map cell_of lines
 
--- the cells of this kind, each once and in cell order, and nothing else
-pub record AreInOrder (Kind : ℕ → Type 0) (cells : List ℕ) : Type 0 where
-  pub each : (cell : ℕ) → Kind cell → Contains cells cell
-  pub only : All Kind cells
+-- the cells of which the fact holds, each once and in cell order, and nothing else
+pub record AreInOrder (Fact : ℕ → Type 0) (cells : List ℕ) : Type 0 where
+  pub each : (cell : ℕ) → Fact cell → Contains cells cell
+  pub only : All Fact cells
   pub in_order : IsStrictlyIncreasing cells
 
 -- a move that breaks all threats: an empty cell in the carriers of them all, and so any empty cell where there is no threat

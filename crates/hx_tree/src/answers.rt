@@ -27,7 +27,8 @@ pub(crate) fn check_all(
     lines: &Lines,
 ) -> Result<bool, Memory>
     ensures answers { steps.now ≡ [] → IsOk result }
-    ensures right { IfOk result (λ answer. IsTrue answer ↔ IsRightAll before.now heading.now steps.now threats.now lines.now) }
+    ensures right { IfOk result (λ answer. IsTrue answer
+        ↔ IsRightAll before.now heading.now steps.now threats.now lines.now) }
 {
     if heading.to_move != heading.winner.other() || !has_move(&heading.position) {
         return Ok(false);
@@ -106,7 +107,8 @@ fn are_lines_of(cells: Mask, lines: &[Line]) -> bool
 /// Whether each line is right, given the moves of the opponent that lose.
 fn are_right(before: &[Heading], heading: &Heading, lost: Mask, lines: &[Line]) -> bool
     requires { All (λ line. IsEmpty heading.now.position (cell_of line)) lines.now }
-    ensures { IsTrue result ↔ ((k : ℕ) → IfSome (slice_get lines.now k) (IsRightGiven before.now heading.now lost)) }
+    ensures { IsTrue result
+        ↔ ((k : ℕ) → IfSome (slice_get lines.now k) (IsRightGiven before.now heading.now lost)) }
 {
     for line in lines {
         if !check_line(before, heading, lost, line) {

@@ -29,7 +29,8 @@ pub(crate) fn check_fill(
 
 /// The position after the steps. None where one of them may not be done where it stands.
 fn fill_all(position: &Position, winner: Colour, steps: &[FillStep]) -> Option<Position>
-    ensures { SomeIff result (MayFillAll position.now winner steps.now) (filled_all position.now winner steps.now) }
+    ensures { SomeIff result (MayFillAll position.now winner steps.now)
+        (filled_all position.now winner steps.now) }
 {
     let mut filled = *position;
     for step in steps {

@@ -32,7 +32,8 @@ pub(crate) fn says(
     mover: Colour,
     winner: Colour,
 ) -> bool
-    ensures { IsTrue result ↔ IsSomeAnd (slice_get before.now child) (IsHeading position.now mover winner) }
+    ensures { IsTrue result
+        ↔ IsSomeAnd (slice_get before.now child) (IsHeading position.now mover winner) }
 {
     match before.get(child as usize) {
         None => false,

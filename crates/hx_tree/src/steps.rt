@@ -27,7 +27,8 @@ pub(crate) fn links_of(
 ) -> Result<Option<Vec<Link>>, Memory>
     // No memory is taken for no steps.
     ensures answers { steps.now ≡ [] → IsOk result }
-    ensures links { IfOk result (λ links. MatchOption links ((all : List LinkOf) → GiveLinks position.now colour steps.now all → ⊥)
+    ensures links { IfOk result (λ links. MatchOption links
+        ((all : List LinkOf) → GiveLinks position.now colour steps.now all → ⊥)
         (λ found. GiveLinks position.now colour steps.now found.items)) }
 {
     if steps.is_empty() {
@@ -76,7 +77,8 @@ fn shows_win(heading: &Heading, links: &[Link]) -> bool
 pub(crate) fn cells_to_answer(position: &Position, links: &[Link], threats: &[u32]) -> Option<Mask>
     ensures { MatchOption result (AreThreats links.now threats.now → ⊥)
         (λ cells. AreThreats links.now threats.now
-        × ((cell : ℕ) → (has cells cell ≡ true) ↔ IsToAnswer position.now links.now threats.now cell)) }
+        × ((cell : ℕ) → (has cells cell ≡ true)
+        ↔ IsToAnswer position.now links.now threats.now cell)) }
 {
     if MOST_THREATS < threats.len() {
         return None;
@@ -93,7 +95,8 @@ pub(crate) fn cells_to_answer(position: &Position, links: &[Link], threats: &[u3
 
 /// The carrier of the link at a place, where it joins the two sides.
 fn threat_at(links: &[Link], place: u32) -> Option<Mask>
-    ensures { MatchOption result (¬ IsThreat links.now place) (λ carrier. IsThreatOn links.now place carrier) }
+    ensures { MatchOption result (¬ IsThreat links.now place)
+        (λ carrier. IsThreatOn links.now place carrier) }
 {
     match links.get(place as usize) {
         Some(link) => {
