@@ -1,9 +1,9 @@
 -- The chain of a bucket, walked from its head: below the link that was reached stands what was not looked at yet. What is
 -- looked for is a property of nodes, and each node that has it is in the bucket.
-use Rattle.std.proofs.Common.{◌≡◌, ◌≢◌, ℕ, ◌-◌, ◌<◌, ◌≤◌, List, length, get_or, refl, sym, ap, ◌∙◌, subst, ⊎_elim, arith, Some}
+use Rattle.std.proofs.Common.{◌≡◌, ◌≢◌, ℕ, ◌-◌, ◌<◌, ◌≤◌, List, length, get_or, sym, ◌∙◌, subst, ⊎_elim, arith, Some}
 use Rattle.std.specs.Prelude.{slice_get, slice_index}
 use Rattle.std.proofs.lemmas.Bool.{cases_lt, cases_eq}
-use Rattle.hx_board.proofs.ListLaws.{get-lt, read-get, read-index, same_some}
+use Rattle.hx_board.proofs.ListLaws.{get-lt, read-get, same_some}
 use Rattle.hx_tree.specs.declared.nodes.Node.{Node}
 use Rattle.hx_book.specs.Chains.{IsIn, IsNewestBelow, AreChains}
 

@@ -1,32 +1,26 @@
 -- What the two searches of a book look for, and what they find.
-use Rattle.std.proofs.Common.{◌≡◌, ℕ, ◌<◌, List, refl, sym, ap, ◌∙◌, arith, Some}
+use Rattle.std.proofs.Common.{◌≡◌, ℕ, List, refl, sym, ap, ◌∙◌, arith, Some}
 use Rattle.std.specs.Prelude.{slice_get}
 use Rattle.hx_board.specs.declared.colours.Colour.{Colour}
 use Rattle.hx_board.specs.declared.colours.Colour.TheVariants.{Black, White}
-use Rattle.hx_board.specs.Cells.{Extent}
 use Rattle.hx_board.specs.Positions.{Board, stones_of}
 use Rattle.hx_tree.specs.declared.nodes.Node.{Node}
-use Rattle.hx_tree.specs.declared.nodes.Heading.{Heading}
 use Rattle.hx_tree.specs.Entries.{IsOf, IsEntry, HasNoEntry, AreDistinctEntries, IsFirstFound}
 use Rattle.hx_book.specs.WiderEntry.{IsWider, HasNoWider, IsWiderFound}
 use Rattle.hx_book.specs.Buckets.{bucket_of, alone_of, stones_bucket_of, position_key, stones_key}
 
 -- ---- a position and mover
 
--- the heading that was compared is of the position and mover
-abbrev pub HasEntry : Board → Colour → Node → Type 0
-HasEntry board mover node = (node.heading.position ≡ board) × (node.heading.to_move ≡ mover)
-
 pub entry-bucket : (buckets : ℕ) (board : Board) (mover : Colour) (bucket : ℕ) → bucket ≡ bucket_of buckets board mover
-    → (node : Node) → HasEntry board mover node → position_key buckets node ≡ bucket
+    → (node : Node) → IsOf board mover node → position_key buckets node ≡ bucket
 entry-bucket buckets board mover bucket is_bucket node has =
-    ap (λ (b : Board). bucket_of buckets b node.heading.to_move) has.0 ∙ ap (λ (m : Colour). bucket_of buckets board m) has.1 ∙ sym is_bucket
+    ap (λ (b : Board). bucket_of buckets b node.heading.to_move) has.same_position ∙ ap (λ (m : Colour). bucket_of buckets board m) has.same_mover ∙ sym is_bucket
 
 module _ (nodes : List Node) (board : Board) (mover : Colour) where
-  entry-there : (place : ℕ) (node : Node) → slice_get nodes place ≡ Some node → HasEntry board mover node → IsEntry nodes board mover place
-  entry-there place node there has = record { node = node; there = there; is_of = record { same_position = has.0; same_mover = has.1 } }
+  entry-there : (place : ℕ) (node : Node) → slice_get nodes place ≡ Some node → IsOf board mover node → IsEntry nodes board mover place
+  entry-there place node there has = record { node = node; there = there; is_of = has }
 
-  pub entry-first : (place : ℕ) (node : Node) → slice_get nodes place ≡ Some node → AreDistinctEntries nodes → HasEntry board mover node
+  pub entry-first : (place : ℕ) (node : Node) → slice_get nodes place ≡ Some node → AreDistinctEntries nodes → IsOf board mover node
       → IsFirstFound nodes board mover (record { index = place; winner = node.heading.winner })
   unfolding entry-there
   entry-first place node there distinct has = record {
@@ -37,8 +31,8 @@ module _ (nodes : List Node) (board : Board) (mover : Colour) where
     same_winner = refl;
   }
 
-  pub entry-none : ((place : ℕ) (node : Node) → slice_get nodes place ≡ Some node → HasEntry board mover node → ⊥) → HasNoEntry nodes board mover
-  entry-none none place entry = none place entry.node entry.there (entry.is_of.same_position, entry.is_of.same_mover)
+  pub entry-none : ((place : ℕ) (node : Node) → slice_get nodes place ≡ Some node → IsOf board mover node → ⊥) → HasNoEntry nodes board mover
+  entry-none none place entry = none place entry.node entry.there entry.is_of
 
 -- ---- a position, mover and winner
 

@@ -4,13 +4,14 @@ use Rattle.std.proofs.Common.{◌≡◌, ◌≢◌, ℕ, zero, suc, ◌+◌, ◌
 use Rattle.std.specs.Prelude.{slice_get, slice_index, slice_index_or, Result, Ok, Err, OnOk, is_err}
 use Rattle.std.proofs.lemmas.Bool.{cases_eq, false≢true}
 use Rattle.std.proofs.lemmas.List.{length-set, get_or-set_same, get_or-set_other}
+use Rattle.hx_board.specs.Lists.{StandsIn}
 use Rattle.hx_board.proofs.ListLaws.{get-lt, get-push, get-push_before, get-push_last, same_some}
 use Rattle.hx_tree.specs.declared.nodes.Heading.{Heading}
 use Rattle.hx_tree.specs.declared.nodes.Node.{Node}
 use Rattle.hx_tree.specs.Rules.{IsRightNode}
 use Rattle.hx_tree.specs.Trees.{headings_of, AreRight}
 use Rattle.hx_tree.proofs.TreeGrowth.{headings_of-append, one_more_right, valid_tree}
-use Rattle.hx_book.specs.Trees.{Names, IsNeeded, IsAt, IsTreeOf, renamed_node}
+use Rattle.hx_book.specs.Trees.{Names, IsNeeded, IsTreeOf, renamed_node}
 use Rattle.hx_book.specs.Renaming.{IsMarked, AreMarkedFrom, IsKept, IsRest, EndsInRoot, AreKeptBelow}
 use Rattle.hx_book.proofs.ChildLaws.{get-heading, take-heading, right-at, child-before, needed-size}
 use Rattle.hx_book.proofs.RenamingLaws.{node-renamed, node-same}
@@ -211,7 +212,7 @@ module _ (nodes : List Node) (right : AreRight nodes) (root : ℕ) (marks : List
         ∙ ap Some (node-before bound node (omega arith) there ∙ ap (λ (n : Node). renamed_node new_name n) same))
         (get-push old.places bound place k e)
 
-    each-more : (place : ℕ) → IsMarked marks place → place < bound + 1 → IsAt new_places place
+    each-more : (place : ℕ) → IsMarked marks place → place < bound + 1 → StandsIn new_places place
     each-more place h less = ⊎_elim
         (λ (same : place ≡ bound). (length old.places, get-push_last old.places bound ∙ ap Some (sym same)))
         (λ (different : place ≡ bound → ⊥). let was = old.each place h (omega (arith, less, different)) in (was.0, get-push_before old.places bound was.0 place was.1))

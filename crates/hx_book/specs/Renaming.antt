@@ -1,9 +1,10 @@
 -- Marks on the nodes that a root needs, and those that were kept so far, for the functions inside the crate.
 use Rattle.std.specs.Prelude.{◌≡◌, ◌≤◌, ◌<◌, ◌+◌, ℕ, List, [], ◌∷◌, ◌++◌, length, set, slice_get, slice_index, slice_index_or, Bool, true, false, ◌⊎◌}
 use Rattle.std.specs.declared.option.Option.TheVariants.{Some}
+use Rattle.hx_board.specs.Lists.{StandsIn}
 use Rattle.hx_tree.specs.declared.nodes.Node.{Node}
 use Rattle.hx_tree.specs.Trees.{headings_of, AreRight}
-use Rattle.hx_book.specs.Trees.{HasChildAt, IsNeeded, renamed_node, IsAt, AreNeeded}
+use Rattle.hx_book.specs.Trees.{HasChildAt, IsNeeded, renamed_node, AreNeeded}
 
 abbrev pub IsMarked : List Bool → ℕ → Type 0
 IsMarked marks place = slice_index_or marks place false ≡ true
@@ -53,6 +54,6 @@ pub record AreKeptBelow (nodes : List Node) (root : ℕ) (marks : List Bool) (bo
   pub gives : (place : ℕ) → IsMarked marks place → place < bound → slice_get (headings_of kept) (slice_index names place) ≡ slice_get (headings_of nodes) place
   pub places : List ℕ
   pub needed : AreNeeded nodes root kept places (λ (place : ℕ). slice_index names place)
-  pub each : (place : ℕ) → IsMarked marks place → place < bound → IsAt places place
+  pub each : (place : ℕ) → IsMarked marks place → place < bound → StandsIn places place
   pub below : (k place : ℕ) → slice_get places k ≡ Some place → place < bound
   pub last : root < bound → EndsInRoot nodes root kept

@@ -1,6 +1,7 @@
 -- The tree of an entry: the nodes that it needs, in their order, with new numbers for their children.
 use Rattle.std.specs.Prelude.{◌≡◌, ◌≤◌, ◌<◌, ℕ, List, [], ◌∷◌, map, length, slice_get}
 use Rattle.std.specs.declared.option.Option.TheVariants.{Some}
+use Rattle.hx_board.specs.Lists.{StandsIn}
 use Rattle.hx_tree.specs.declared.nodes.Line.{Line}
 use Rattle.hx_tree.specs.declared.nodes.Line.TheVariants.{Child, Under}
 use Rattle.hx_tree.specs.declared.nodes.Node.{Node}
@@ -65,10 +66,6 @@ renamed_node name node = record { heading = node.heading; rule = renamed_rule na
 
 -- ---- the tree
 
--- the list has the place
-abbrev pub IsAt : List ℕ → ℕ → Type 0
-IsAt places place = (k : ℕ) × (slice_get places k ≡ Some place)
-
 -- the nodes of the tree are those at these places, which the root needs, in rising order. Each has its children renamed, and
 -- the new number of a place is where its node stands in the tree.
 pub record AreNeeded (nodes : List Node) (root : ℕ) (tree : List Node) (places : List ℕ) (name : ℕ → ℕ) : Type 0 where
@@ -90,5 +87,5 @@ pub record IsTreeOf (nodes : List Node) (place : ℕ) (tree : List Node) : Type 
   pub places : List ℕ
   pub name : ℕ → ℕ
   pub needed : AreNeeded nodes place tree places name
-  pub each : (other : ℕ) → IsNeeded nodes place other → IsAt places other
+  pub each : (other : ℕ) → IsNeeded nodes place other → StandsIn places other
   pub one_size : (k : ℕ) (node : Node) → slice_get tree k ≡ Some node → node.heading.position.size ≡ root.heading.position.size

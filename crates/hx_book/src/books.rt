@@ -2,7 +2,8 @@
 //!
 //! The nodes stand in the order in which they came. So that a position is found fast, each node has a bucket, computed from
 //! its position and mover, and a second one, from its winner's stones and mover; the entries of a bucket are chained. What
-//! `find` answers does not depend on the buckets, nor does whether `find_wider` answers. All memory is taken at the start.
+//! `find` answers does not depend on the buckets, nor does whether `find_wider` answers. All memory is taken at the start, but
+//! for what `into_tree` takes.
 
 ghost use Rattle.std.specs.Prelude.{◌≡◌, ◌≢◌, ◌<◌, ◌≤◌, ◌↔◌, IsTrue, [], length, IfOk};
 ghost use Rattle.hx_tree.specs.Rules.{IsRightNode};
@@ -54,7 +55,8 @@ impl Model for Book {
 
     ghost view = { λ b. contents b.slots b.nodes.items };
 
-    ghost invariant = { λ b. FieldsKeep b.slots b.nodes.items b.by_position b.by_stones (vec_capacity b.nodes) };
+    ghost invariant = { λ b. FieldsKeep b.slots b.nodes.items b.by_position b.by_stones
+        (vec_capacity b.nodes) };
 }
 
 impl Book {
@@ -192,7 +194,8 @@ impl Book {
 
 /// Whether a heading has this position and mover.
 fn is_of(heading: &Heading, position: &Position, to_move: Colour) -> bool
-    ensures { IsTrue result ↔ (heading.now.position ≡ position.now) × (heading.now.to_move ≡ to_move) }
+    ensures { IsTrue result
+        ↔ (heading.now.position ≡ position.now) × (heading.now.to_move ≡ to_move) }
 {
     heading.position == *position && heading.to_move == to_move
 }

@@ -31,7 +31,8 @@ pub fn look_either<P: Proofs, R: Wait>(
     ensures slots { P.slots proofs.new ≡ P.slots proofs.old }
     ensures over { P.over proofs.new ≡ P.over proofs.old }
     ensures seen { Extends (P.list proofs.new) (P.list proofs.old) }
-    ensures found { FindsEither (P.list proofs.old) (P.list proofs.new) position.now to_move result }
+    ensures found { FindsEither (P.list proofs.old) (P.list proofs.new) position.now to_move
+        result }
 {
     if let Some(found) = proofs.look(rt, position, to_move) {
         let turned = false;

@@ -18,7 +18,10 @@ fn row(cols: u8, black: u128, white: u128) -> Result<Position, Fail> {
 }
 
 fn by_chain(position: Position, to_move: Colour, winner: Colour) -> Node
-    ensures { result ≡ record { heading = record { position = position; to_move = to_move; winner = winner }; rule = Chain } }
+    ensures { result ≡ record {
+      rule = Chain;
+      heading = record { position = position; to_move = to_move; winner = winner };
+    } }
 {
     let heading = Heading {
         position,
@@ -30,7 +33,10 @@ fn by_chain(position: Position, to_move: Colour, winner: Colour) -> Node
 }
 
 fn by_move(position: Position, winner: Colour, cell: Cell, child: u32) -> Node
-    ensures { result ≡ record { heading = record { position = position; to_move = winner; winner = winner }; rule = Move cell child } }
+    ensures { result ≡ record {
+      rule = Move cell child;
+      heading = record { position = position; to_move = winner; winner = winner };
+    } }
 {
     let heading = Heading {
         position,
@@ -80,7 +86,10 @@ fn put_move(
 }
 
 fn by_turn(position: Position, to_move: Colour, found: Found) -> Node
-    ensures { result ≡ record { heading = record { position = position; to_move = to_move; winner = found.winner }; rule = Turned found.index } }
+    ensures { result ≡ record {
+      rule = Turned found.index;
+      heading = record { position = position; to_move = to_move; winner = found.winner };
+    } }
 {
     let heading = Heading {
         position,

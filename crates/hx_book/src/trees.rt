@@ -162,8 +162,11 @@ fn keep_needed(kept: &mut Kept, place: usize, node: Node, is_needed: bool) -> Re
     requires inside { place < length kept.old.names.items }
     requires children { (child : ℕ) → Names node.rule child → child < length kept.old.names.items }
     requires few { length kept.old.nodes.items < 4294967296 }
-    ensures needed { is_needed ≡ true → OnOk result (IsKept kept.old.nodes.items kept.old.names.items place node kept.new.nodes.items kept.new.names.items) }
-    ensures dropped { is_needed ≡ false → OnOk result ((kept.new.nodes.items ≡ kept.old.nodes.items) × (kept.new.names.items ≡ kept.old.names.items)) }
+    ensures needed { is_needed ≡ true → OnOk result (IsKept kept.old.nodes.items
+        kept.old.names.items place node kept.new.nodes.items kept.new.names.items) }
+    ensures dropped { is_needed ≡ false → OnOk result
+        ((kept.new.nodes.items ≡ kept.old.nodes.items)
+        × (kept.new.names.items ≡ kept.old.names.items)) }
 {
     if !is_needed {
         return Ok(());

@@ -1,4 +1,4 @@
-use Rattle.std.proofs.Common.{◌≡◌, ◌≢◌, ◌<◌, length, vec_capacity, sym, arith}
+use Rattle.std.proofs.Common.{◌≡◌, ◌≢◌, ◌<◌, length, vec_capacity, arith}
 use Rattle.hx_book.specs.Buckets.{position_key, stones_key}
 use Rattle.hx_book.proofs.GrowthLaws.{fields-more}
 use Rattle.hx_book.proofs.books.Book.put.Goals as goal
