@@ -5,6 +5,7 @@ use Rattle.std.proofs.lemmas.Bool.{false≢true}
 use Rattle.std.proofs.lemmas.Bool.Decides.{eqb_tells}
 use Rattle.std.proofs.lemmas.List.{get_or-set_same, get_or-set_other, length-set}
 use Rattle.hx_board.specs.declared.colours.Colour.{Colour}
+use Rattle.hx_board.specs.declared.cells.TheConstants.{CELLS}
 use Rattle.hx_board.specs.Sets.{has, insert, remove, intersection, IsSubset}
 use Rattle.hx_board.specs.Cells.{OnBoard}
 use Rattle.hx_board.specs.Positions.{Board}
@@ -16,12 +17,12 @@ use Rattle.hx_fill.specs.Unders.{AreKillers, HoldDominated}
 
 -- the sets of some places but those that are left have the cell, and each set has what it had
 pub record AreAdded (size : ℕ → Type 0) (places cell : ℕ) (before after : List ℕ) (left : ℕ) : Type 0 where
-  pub count : length after ≡ 121
+  pub count : length after ≡ CELLS
   pub kept : (n m : ℕ) → has (slice_index before n) m ≡ true → has (slice_index after n) m ≡ true
   pub added : (n : ℕ) → size n → has places n ≡ true → has left n ≡ false → has (slice_index after n) cell ≡ true
 
 module _ (OnIt : ℕ → Type 0) (places cell : ℕ) (before : List ℕ) where
-  pub added_none : length before ≡ 121 → AreAdded OnIt places cell before before places
+  pub added_none : length before ≡ CELLS → AreAdded OnIt places cell before before places
   added_none count = record { count = count; kept = λ n m h. h; added = λ n on here out. absurd (false≢true (sym out ∙ here)) }
 
   pub added_more : (after : List ℕ) (left place row : ℕ) → place < 121 → row ≡ slice_index after place → AreAdded OnIt places cell before after left
@@ -51,11 +52,11 @@ module _ (OnIt : ℕ → Type 0) (places cell : ℕ) (before : List ℕ) where
 -- ---- all worse cells
 
 module _ (board : Board) (mover : Colour) (cells : ℕ) where
-  pub hold_none : (sets : List ℕ) → length sets ≡ 121 → HoldDominated board mover cells cells sets
+  pub hold_none : (sets : List ℕ) → length sets ≡ CELLS → HoldDominated board mover cells cells sets
   hold_none sets count = record { count = count; held = λ better worse kill _ here out. absurd (false≢true (sym out ∙ here)) }
 
   pub hold_more : (left next killers places : ℕ) (sets more : List ℕ) → places ≡ intersection killers cells → AreKillers board mover next killers
-      → length more ≡ 121 → ((n m : ℕ) → has (slice_index sets n) m ≡ true → has (slice_index more n) m ≡ true)
+      → length more ≡ CELLS → ((n m : ℕ) → has (slice_index sets n) m ≡ true → has (slice_index more n) m ≡ true)
       → ((n : ℕ) → OnBoard board.size n → has places n ≡ true → has (slice_index more n) next ≡ true)
       → HoldDominated board mover cells left sets → HoldDominated board mover cells (remove left next) more
   hold_more left next killers places sets more same are count kept added k = record {

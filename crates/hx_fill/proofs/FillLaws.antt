@@ -1,41 +1,23 @@
 -- Steps that are right for their own players: those of two lists one after the other, the board that they lead to, and how many
 -- cells they leave empty.
-use Rattle.std.proofs.Common.{◌≡◌, ℕ, ◌+◌, ◌<◌, ◌≤◌, List, [], ◌∷◌, ◌++◌, length, sym, ap, subst, arith}
+use Rattle.std.proofs.Common.{◌≡◌, ◌+◌, ◌<◌, ◌≤◌, List, [], ◌∷◌, ◌++◌, length, sym, ap, subst, arith}
 use Rattle.hx_board.specs.declared.colours.Colour.{Colour}
 use Rattle.hx_board.specs.Colours.{other_of}
-use Rattle.hx_board.specs.Positions.{Board, IsBoard, IsEmpty, put}
+use Rattle.hx_board.specs.Positions.{Board, IsBoard, put}
 use Rattle.hx_board.specs.Counts.{empty_count}
-use Rattle.hx_board.proofs.StoneLaws.{board-put, empty-put}
-use Rattle.hx_board.proofs.EmptyCells.{empty_count-put}
 use Rattle.hx_inferior.specs.declared.fills.FillStep.{FillStep}
 use Rattle.hx_inferior.specs.declared.fills.FillStep.TheVariants.{Other, Dead, Pair}
-use Rattle.hx_inferior.specs.Inferior.{IsPair, MayFill, filled}
+use Rattle.hx_inferior.specs.Inferior.{MayFill, filled}
+use Rattle.hx_tree.proofs.FilledBoards.{board-filled, empty_count-filled}
 use Rattle.hx_fill.specs.declared.fills.Fill.{Fill}
 use Rattle.hx_fill.specs.Fills.{FillsTo}
 use Rattle.hx_fill.specs.Rounds.{HasNoStoneLess}
 use Rattle.hx_fill.proofs.GrowthLaws.{grown-trans, grown-put}
 
-pub second_empty : (board : Board) (player : Colour) (a b : ℕ) → IsPair board player a b → IsEmpty (put board player a) b
-second_empty board player a b pair = (empty-put board player a b).1 (pair.b_empty, λ e. pair.differ (sym e))
-
 pub grown-filled : (board : Board) (player : Colour) (step : FillStep) → HasNoStoneLess board (filled board player step)
 grown-filled board player (Other cell) = grown-put board (other_of player) cell
 grown-filled board player (Dead cell) = grown-put board player cell
 grown-filled board player (Pair a b) = grown-trans _ _ _ (grown-put board player a) (grown-put (put board player a) player b)
-
-board-filled : (board : Board) (player : Colour) (step : FillStep) → IsBoard board → MayFill board player step → IsBoard (filled board player step)
-board-filled board player (Other cell) is may = board-put board (other_of player) cell is may
-board-filled board player (Dead cell) is may = board-put board player cell is may.empty
-board-filled board player (Pair a b) is may = board-put (put board player a) player b (board-put board player a is may.a_empty) (second_empty board player a b may)
-
--- a step leaves fewer empty cells
-count-filled : (board : Board) (player : Colour) (step : FillStep) → IsBoard board → MayFill board player step → empty_count (filled board player step) < empty_count board
-count-filled board player (Other cell) is may = let one = empty_count-put board (other_of player) cell is may in omega arith
-count-filled board player (Dead cell) is may = let one = empty_count-put board player cell is may.empty in omega arith
-count-filled board player (Pair a b) is may =
-    let one = empty_count-put board player a is may.a_empty in
-    let two = empty_count-put (put board player a) player b (board-put board player a is may.a_empty) (second_empty board player a b may) in
-    omega arith
 
 pub fills_to-append : (first second : List Fill) (board mid final : Board) → FillsTo board first mid → FillsTo mid second final → FillsTo board (first ++ second) final
 fills_to-append [] second board mid final one two = let P : Board → Type 0 = λ b. FillsTo b second final in subst P (sym one) two
@@ -50,8 +32,8 @@ fills_to-one board final player step may is = (may, sym is)
 count-fills_to : (fills : List Fill) (board final : Board) → IsBoard board → FillsTo board fills final → empty_count final + length fills ≤ empty_count board
 count-fills_to [] board final is to = let same = ap empty_count to in omega arith
 count-fills_to (fill ∷ rest) board final is to =
-    let one = count-filled board fill.colour fill.step is to.0 in
-    let more = count-fills_to rest (filled board fill.colour fill.step) final (board-filled board fill.colour fill.step is to.0) to.1 in
+    let one = empty_count-filled board fill.colour is fill.step to.0 in
+    let more = count-fills_to rest (filled board fill.colour fill.step) final (board-filled board fill.colour is fill.step to.0) to.1 in
     omega arith
 
 pub fewer_empty : (fills : List Fill) (board final : Board) → IsBoard board → FillsTo board fills final → 0 < length fills → empty_count final < empty_count board

@@ -1,10 +1,9 @@
 -- Lines for dominated cells, one for each cell that got a better one. They are pushed cell by cell, so they come in cell order.
-use Rattle.std.proofs.Common.{◌≡◌, ◌≢◌, ℕ, ◌+◌, ◌<◌, ◌≤◌, true, false, zero, suc, List, [], ◌∷◌, ◌++◌, map, length, length-append, get_or, refl, sym, ap, ◌∙◌, subst, Some, None, ⊎_elim, arith}
+use Rattle.std.proofs.Common.{◌≡◌, ◌≢◌, ℕ, ◌<◌, true, false, zero, suc, List, [], ◌∷◌, ◌++◌, map, length, get_or, refl, sym, ap, ◌∙◌, subst, Some, None, ⊎_elim, arith}
 use Rattle.std.specs.Prelude.{Contains}
 use Rattle.std.specs.declared.option.Option.{Option}
-use Rattle.std.specs.List.Sorted.{IsStrictlyIncreasing}
 use Rattle.std.proofs.lemmas.Bool.{false≢true, cases_lt}
-use Rattle.std.proofs.lemmas.List.{get_or_append_left, get_or_push, map-append, length-map}
+use Rattle.std.proofs.lemmas.List.{map-append, length-map}
 use Rattle.std.proofs.lemmas.List.Elements.{All-nil, All-push, All-map, All-weaker, All-contains, Contains-push, Contains-push_cases, Contains-append_left, Contains-get_or}
 use Rattle.hx_board.specs.declared.colours.Colour.{Colour}
 use Rattle.hx_board.specs.Sets.{has, remove, difference}
@@ -17,26 +16,9 @@ use Rattle.hx_inferior.specs.Inferior.{IsDominated}
 use Rattle.hx_tree.specs.declared.nodes.Line.{Line}
 use Rattle.hx_tree.specs.declared.nodes.Line.TheVariants.{Child, Under}
 use Rattle.hx_tree.specs.Answers.{cell_of, cells_of}
+use Rattle.hx_tree.proofs.CellOrder.{increasing-push}
 use Rattle.hx_fill.specs.declared.choices.Better.{Better}
 use Rattle.hx_fill.specs.Unders.{IsUnderLine, HasLine, IsBetterIn, AreUnder, ComesBefore, AreByOrder, better_for, HasBetter, IsSifted, AreGiven, AddsLine, IsLineFor, AreLinesFor}
-
--- ---- lists that rise
-
-increasing-push : (xs : List ℕ) (x : ℕ) → IsStrictlyIncreasing xs → ((y : ℕ) → Contains xs y → y < x) → IsStrictlyIncreasing (xs ++ x ∷ [])
-increasing-push xs x rises below k low = ⊎_elim inner last (cases_lt (k + 1) (length xs))
-  where
-    long : length (xs ++ x ∷ []) ≡ length xs + 1
-    long = length-append xs (x ∷ [])
-
-    inner : k + 1 < length xs → get_or (xs ++ x ∷ []) k 0 < get_or (xs ++ x ∷ []) (k + 1) 0
-    inner lt = let here : k < length xs = omega arith in rw (get_or_append_left xs (x ∷ []) 0 k here, get_or_append_left xs (x ∷ []) 0 (k + 1) lt) (rises k lt)
-
-    last : length xs ≤ k + 1 → get_or (xs ++ x ∷ []) k 0 < get_or (xs ++ x ∷ []) (k + 1) 0
-    last le =
-        let more = long in
-        let here : k < length xs = omega arith in
-        let end : length xs ≡ k + 1 = omega arith in
-        rw (get_or_append_left xs (x ∷ []) 0 k here, get_or_push xs x 0 (k + 1) end) (below (get_or xs k 0) (Contains-get_or xs k 0 here))
 
 -- an element of a mapped list is that of some element
 mapped_from : (lines : List Line) (n : ℕ) → HasLine lines n → (line : Line) × (Contains lines line) × (cell_of line ≡ n)

@@ -10,42 +10,39 @@ use Rattle.hx_board.specs.Positions.{Board, IsEmpty, put}
 use Rattle.hx_inferior.specs.declared.fills.FillStep.{FillStep}
 use Rattle.hx_inferior.specs.declared.fills.FillStep.TheVariants.{Other, Dead, Pair}
 use Rattle.hx_inferior.specs.Inferior.{MayFill, filled}
-use Rattle.hx_tree.specs.Fills.{MayFillAll, filled_all}
+use Rattle.hx_tree.specs.Fills.{LeadTo}
+use Rattle.hx_tree.proofs.FilledBoards.{second_empty}
 use Rattle.hx_fill.specs.declared.fills.Fill.{Fill}
 use Rattle.hx_fill.specs.Fills.{IsDeadOrPair, AreDeadOrPairs, FillsTo, single_stones, winner_steps, winner_steps_all}
-use Rattle.hx_fill.proofs.FillLaws.{second_empty}
-
--- the steps are right, and lead to the board
-abbrev pub LeadTo : Board → Colour → List FillStep → Board → Type 0
-LeadTo board winner steps final = MayFillAll board winner steps × (filled_all board winner steps ≡ final)
 
 lead_to-append : (first second : List FillStep) (board mid final : Board) (winner : Colour) → LeadTo board winner first mid → LeadTo mid winner second final
     → LeadTo board winner (first ++ second) final
-lead_to-append [] second board mid final winner one two = let P : Board → Type 0 = λ b. LeadTo b winner second final in subst P (sym one.1) two
+lead_to-append [] second board mid final winner one two = let P : Board → Type 0 = λ b. LeadTo b winner second final in subst P (sym one.same) two
 lead_to-append (step ∷ rest) second board mid final winner one two =
-    let more : LeadTo (filled board winner step) winner (rest ++ second) final = lead_to-append rest second (filled board winner step) mid final winner (one.0.1, one.1) two in
-    ((one.0.0, more.0), more.1)
+    let more : LeadTo (filled board winner step) winner (rest ++ second) final =
+    lead_to-append rest second (filled board winner step) mid final winner (record { right = one.right.1; same = one.same }) two in
+    record { right = (one.right.0, more.right); same = more.same }
 
 single-lead : (winner who : Colour) → who ≡ other_of winner → (board : Board) (step : FillStep) → IsDeadOrPair step → MayFill board who step
     → LeadTo board winner (single_stones step) (filled board who step)
 single-lead winner who is board (Other cell) kind may = absurd kind
 single-lead winner who is board (Dead cell) kind may =
     let P : Colour → Type 0 = λ player. LeadTo board winner (single_stones (Dead cell)) (put board player cell) in
-    subst P (sym is) ((may.empty, tt), refl)
+    subst P (sym is) (record { right = (may.empty, tt); same = refl })
 single-lead winner who is board (Pair a b) kind may =
     let empties : IsEmpty board a × IsEmpty (put board who a) b = (may.a_empty, second_empty board who a b may) in
     let P : Colour → Type 0 = λ player. IsEmpty board a × IsEmpty (put board player a) b → LeadTo board winner (single_stones (Pair a b)) (put (put board player a) player b) in
-    subst P (sym is) (λ (both : IsEmpty board a × IsEmpty (put board (other_of winner) a) b). ((both.0, (both.1, tt)), refl)) empties
+    subst P (sym is) (λ (both : IsEmpty board a × IsEmpty (put board (other_of winner) a) b). record { right = (both.0, (both.1, tt)); same = refl }) empties
 
 step-leads : (winner who : Colour) (board : Board) (step : FillStep) → IsDeadOrPair step → MayFill board who step → LeadTo board winner (winner_steps winner who step) (filled board who step)
-step-leads Black Black board step kind may = ((may, tt), refl)
+step-leads Black Black board step kind may = record { right = (may, tt); same = refl }
 step-leads Black White board step kind may = single-lead Black White refl board step kind may
 step-leads White Black board step kind may = single-lead White Black refl board step kind may
-step-leads White White board step kind may = ((may, tt), refl)
+step-leads White White board step kind may = record { right = (may, tt); same = refl }
 
 pub winner_steps-lead : (winner : Colour) (fills : List Fill) → AreDeadOrPairs fills → (board final : Board) → FillsTo board fills final
     → LeadTo board winner (winner_steps_all winner fills) final
-winner_steps-lead winner [] kinds board final to = (tt, to)
+winner_steps-lead winner [] kinds board final to = record { right = tt; same = to }
 winner_steps-lead winner (fill ∷ rest) kinds board final to =
     lead_to-append (winner_steps winner fill.colour fill.step) (winner_steps_all winner rest) board (filled board fill.colour fill.step) final winner
     (step-leads winner fill.colour board fill.step (All-head (λ (each : Fill). IsDeadOrPair each.step) fill rest kinds) to.0)

@@ -5,6 +5,7 @@ use Rattle.std.specs.List.Sorted.{IsStrictlyIncreasing}
 use Rattle.hx_board.specs.declared.colours.Colour.{Colour}
 use Rattle.std.specs.declared.option.Option.{Option}
 use Rattle.std.specs.declared.option.Option.TheVariants.{None, Some}
+use Rattle.hx_board.specs.declared.cells.TheConstants.{CELLS}
 use Rattle.hx_board.specs.Sets.{has, remove, difference, IsSubset}
 use Rattle.hx_board.specs.Positions.{Board, IsEmpty}
 use Rattle.hx_inferior.specs.declared.dominations.Kill.{Kill}
@@ -37,8 +38,8 @@ pub record IsBetterIn (lines : List Line) (cell : ℕ) : Type 0 where
 abbrev pub IsDominatedByNone : Board → Colour → ℕ → (ℕ → Type 0) → Type 0
 IsDominatedByNone board mover cell IsIn = (better : ℕ) → IsIn better → (kill : Kill) → IsDominated board mover better cell kill → ⊥
 
--- right lines in cell order, for some of the cells. A better cell is one of these that has no line; and a cell without a line that
--- is no better cell is dominated by no cell without a line.
+-- right lines in cell order, for some of the cells. A better cell is one of these that has no line; and one of these without a line
+-- that is no better cell is dominated by none of these without a line.
 pub record AreUnder (board : Board) (mover : Colour) (cells : ℕ) (lines : List Line) : Type 0 where
   pub right : All (IsUnderLine board mover) lines
   pub in_order : IsStrictlyIncreasing (cells_of lines)
@@ -69,7 +70,7 @@ AreKillers board mover worse killers = (better : ℕ) (kill : Kill) → IsDomina
 
 -- the set of a cell has each cell that it dominates, of some cells but those that are left
 pub record HoldDominated (board : Board) (mover : Colour) (cells left : ℕ) (sets : List ℕ) : Type 0 where
-  pub count : length sets ≡ 121
+  pub count : length sets ≡ CELLS
   pub held : (better worse : ℕ) (kill : Kill) → has cells better ≡ true → has cells worse ≡ true → has left worse ≡ false
       → IsDominated board mover better worse kill → has (slice_index sets better) worse ≡ true
 

@@ -29,7 +29,7 @@ pub(crate) fn candidates_of(turn: &Turn, size: Size, cells: Mask) -> [Mask; CELL
 
 /// Adds a cell to the sets of some cells of the board.
 fn add_to_each(sets: &mut [Mask; CELLS], size: Size, places: Mask, cell: Cell)
-    ensures count { length sets.new ≡ 121 }
+    ensures count { length sets.new ≡ CELLS }
     ensures kept { (n m : ℕ) → has (slice_index sets.old n) m ≡ true
         → has (slice_index sets.new n) m ≡ true }
     ensures added { (n : ℕ) → OnBoard size n → has places n ≡ true

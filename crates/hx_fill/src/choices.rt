@@ -26,13 +26,14 @@ pub(crate) struct Choices {
 impl Model for Choices {
     ghost use Rattle.std.specs.Prelude.{◌≡◌, List, length};
     ghost use Rattle.std.specs.declared.option.Option.{Option};
+    ghost use Rattle.hx_board.specs.declared.cells.TheConstants.{CELLS};
     ghost use Rattle.hx_fill.specs.declared.choices.Better.{Better};
 
     ghost Value = { List (Option Better) };
 
     ghost view = { λ c. c.betters };
 
-    ghost invariant = { λ c. length c.betters ≡ 121 };
+    ghost invariant = { λ c. length c.betters ≡ CELLS };
 }
 
 impl Choices {

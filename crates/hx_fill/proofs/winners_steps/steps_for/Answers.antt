@@ -15,7 +15,8 @@ pub returns-clause-right : goal.returns-clause-right
 returns-clause-right c = λ board final to.
     let past = rw c.as_slice-fill-items.ensures.value at c.loop-fill-test.false in
     let all = rw (take_all c.loop-fill.fill-index c.args.filled.now.steps.items past) at c.loop-fill.invariant in
-    rw (c.new.ensures, all) (winner_steps-lead c.args.winner c.args.filled.now.steps.items c.requires board final to)
+    let lead = winner_steps-lead c.args.winner c.args.filled.now.steps.items c.requires board final to in
+    rw (c.new.ensures, all) (lead.right, lead.same)
 
 pub returns-clause-none : goal.returns-clause-none
 returns-clause-none c =
