@@ -7,6 +7,7 @@ use Rattle.std.proofs.lemmas.List.Elements.{All-contains}
 use Rattle.hx_board.specs.declared.vertices.Vertex.TheVariants.{First, Last}
 use Rattle.hx_board.specs.Colours.{other_of}
 use Rattle.hx_board.specs.Sets.{has}
+use Rattle.hx_board.specs.Lists.{StandsIn}
 use Rattle.hx_board.specs.Positions.{Board, IsEmpty}
 use Rattle.hx_link.specs.declared.links.Link.{Link}
 use Rattle.hx_link.specs.declared.steps.Step.{Step}
@@ -20,9 +21,10 @@ use Rattle.hx_tree.specs.Answers.{IsToAnswer, IsRightLine, cells_of}
 use Rattle.hx_tree.specs.Rules.{IsRightNode}
 use Rattle.hx_tree.proofs.CellOrder.{same_kind}
 use Rattle.std.specs.List.{All as Each}
+use Rattle.hx_linkset.specs.declared.sets.TheConstants.{MOST_LINKS}
 use Rattle.hx_linkset.specs.States.{Standing, IsRight, IsLiveAt}
 use Rattle.hx_linkset.specs.LivePairs.{IsLivePair}
-use Rattle.hx_linkset.specs.Derivations.{StandsIn, IsDerived}
+use Rattle.hx_linkset.specs.Derivations.{IsDerived}
 use Rattle.hx_linkset.proofs.NextLaws.{live-is_link}
 use Rattle.hx_fill.specs.Musts.{IsMust, IsShared, HasCell}
 use Rattle.hx_fill.specs.Unders.{IsUnderLine}
@@ -96,7 +98,7 @@ module _ (set : Standing) (right : IsRight set.player set.present) (threats : Li
     (λ is. (must.same cell).1 (record { empty = is.empty; in_each = in_shared cell is.shared })),
   )
 
-  pub all_right : (headings : List Heading) (lines : List Line) (some : ℕ) → IsEmpty board some → length set.present.links ≤ 8192
+  pub all_right : (headings : List Heading) (lines : List Line) (some : ℕ) → IsEmpty board some → length set.present.links ≤ MOST_LINKS
       → AreLines headings (wins_next board set.player) cells under lines
       → IsRightNode headings (node_of board (other_of set.player) set.player (All steps places lines))
   all_right headings lines some empty few are = record {

@@ -1,11 +1,10 @@
--- What a look finds is a heading with the winner that was found, and no other winner can be found there. So where none or the other
--- winner was found, no entry names the player as the winner.
-use Rattle.std.proofs.Common.{◌≡◌, ◌≢◌, List, sym, ap, ◌∙◌, subst, Option, ⊎_elim, arith}
+-- What a look finds is a heading with the winner that was found. Where none or the other winner was found, the player was not seen to
+-- win.
+use Rattle.std.proofs.Common.{◌≢◌, List, sym, subst, Option, inr, ⊎_elim}
 use Rattle.std.specs.Prelude.{slice_get, IsSomeAnd}
-use Rattle.std.proofs.lemmas.Bool.{cases_lt}
 use Rattle.hx_board.specs.declared.colours.Colour.{Colour}
 use Rattle.hx_board.specs.Positions.{Board}
-use Rattle.hx_board.proofs.ListLaws.{same_some}
+use Rattle.hx_board.proofs.ColourLaws.{one_or_other}
 use Rattle.hx_tree.specs.declared.entries.Found.{Found}
 use Rattle.hx_tree.specs.declared.nodes.Node.{Node}
 use Rattle.hx_tree.specs.declared.nodes.Heading.{Heading}
@@ -15,7 +14,7 @@ use Rattle.hx_tree.specs.Trees.{headings_of}
 use Rattle.hx_book.specs.EitherEntry.{WasMissed}
 use Rattle.hx_book.proofs.ChildLaws.{get-heading}
 use Rattle.hx_nodes.specs.Missing.{NamesNoWin, WasNotWon}
-use Rattle.hx_nodes.proofs.GrowingLists.{extends-same, extends-on}
+use Rattle.hx_tree.proofs.EntryLaws.{extends-itself, extends-on}
 
 pub found-heading : (nodes : List Node) (board : Board) (mover : Colour) (found : Found) → IsFirstFound nodes board mover found
     → IsSomeAnd (slice_get (headings_of nodes) found.index) (IsHeading board mover found.winner)
@@ -26,33 +25,18 @@ found-heading nodes board mover found is =
 
 -- ---- no win
 
-module _ (nodes : List Node) (board : Board) (mover : Colour) where
-  one_place : (one other : Found) → IsFirstFound nodes board mover one → IsFirstFound nodes board mover other → one.index ≡ other.index
-  one_place one other is too =
-      ⊎_elim
-      (λ less. absurd (too.first.first one.index less is.first.entry))
-      (λ from. ⊎_elim (λ more. absurd (is.first.first other.index more too.first.entry)) (λ to. omega arith) (cases_lt other.index one.index))
-      (cases_lt one.index other.index)
-
-  one_winner : (one other : Found) → IsFirstFound nodes board mover one → IsFirstFound nodes board mover other → one.winner ≡ other.winner
-  one_winner one other is too =
-      let place : one.index ≡ other.index = one_place one other is too in
-      let node : is.first.entry.node ≡ too.first.entry.node = same_some _ _ (sym is.first.entry.there ∙ ap (slice_get nodes) place ∙ too.first.entry.there) in
-      is.same_winner ∙ ap (λ (n : Node). n.heading.winner) node ∙ sym too.same_winner
-
-  pub none-no_win : (player : Colour) → HasNoEntry nodes board mover → NamesNoWin nodes board mover player
-  none-no_win player none found is won = none found.index is.first.entry
-
-  pub other-no_win : (player : Colour) (found : Found) → IsFirstFound nodes board mover found → found.winner ≢ player → NamesNoWin nodes board mover player
-  other-no_win player found is other one first won = other (one_winner found one is first ∙ won)
+pub other-no_win : (nodes : List Node) (board : Board) (mover player : Colour) (found : Found) → IsFirstFound nodes board mover found → found.winner ≢ player
+    → NamesNoWin nodes board mover player
+other-no_win nodes board mover player found is differs =
+    inr (record { found = found; first = is; other = ⊎_elim (λ same. absurd (differs same)) (λ other. other) (one_or_other found.winner player) })
 
 -- what holds of the list that is seen last
 pub not_won-now : (old new : List Node) (board : Board) (mover player : Colour) → Extends new old → NamesNoWin new board mover player
     → WasNotWon old new board mover player
-not_won-now old new board mover player grown none = record { seen = new; after_old = grown; before_new = extends-same new; no_win = none }
+not_won-now old new board mover player grown none = record { seen = new; after_old = grown; before_new = extends-itself new; no_win = none }
 
 pub missed-now : (old new : List Node) (board : Board) (mover : Colour) → Extends new old → HasNoEntry new board mover → WasMissed old new board mover
-missed-now old new board mover grown none = record { seen = new; after_old = grown; before_new = extends-same new; none = none }
+missed-now old new board mover grown none = record { seen = new; after_old = grown; before_new = extends-itself new; none = none }
 
 -- what was seen of a list is so of an earlier one
 pub not_won-earlier : (first old new : List Node) (board : Board) (mover player : Colour) → Extends old first → WasNotWon old new board mover player

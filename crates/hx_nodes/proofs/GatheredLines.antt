@@ -10,7 +10,7 @@ use Rattle.hx_board.specs.Colours.{other_of}
 use Rattle.hx_board.specs.Positions.{Board, put}
 use Rattle.hx_board.specs.Sets.{has, remove}
 use Rattle.hx_board.specs.Cells.{Extent, OnBoard, IsLeastOn}
-use Rattle.hx_board.proofs.SetLaws.{has-remove_before}
+use Rattle.hx_board.proofs.SetLaws.{has-remove_before, removed, removed_cases, removed_still}
 use Rattle.hx_tree.specs.declared.nodes.Heading.{Heading}
 use Rattle.hx_tree.specs.declared.nodes.Node.{Node}
 use Rattle.hx_tree.specs.declared.nodes.Line.{Line}
@@ -20,9 +20,9 @@ use Rattle.hx_tree.specs.Answers.{HasChild, cell_of, cells_of}
 use Rattle.hx_tree.specs.Entries.{Extends}
 use Rattle.hx_tree.proofs.LinesInOrder.{in_order_more}
 use Rattle.hx_tree.proofs.RightNodeGrowth.{some_and-append}
-use Rattle.hx_nodes.specs.Lines.{IsGathered, IsLineOf, IsDone, AreGathered, AreLines, IsLacking, HasLacking}
+use Rattle.hx_nodes.specs.Lines.{IsGathered, IsLineOf, IsDone, AreGathered, AreLines}
+use Rattle.hx_nodes.specs.Missing.{IsLacking, HasLacking}
 use Rattle.hx_nodes.proofs.FoundEntries.{not_won-earlier}
-use Rattle.hx_nodes.proofs.TakenCells.{gone_cases, gone_itself, gone_before}
 
 module _ (headings : List Heading) (heading : Heading) (cells : ℕ) (under : List Line) where
   not_done : (cell : ℕ) → IsDone cells cells cell → ⊥
@@ -78,25 +78,25 @@ module _ (headings : List Heading) (heading : Heading) (cells : ℕ) (under : Li
     earlier = λ done n is member. ⊎_elim
         (λ same. rw same (later n member))
         (λ gone. before.earlier done n (record { member = is.member; gone = gone }) (has-remove_before left cell n member))
-        (gone_cases left cell done is.gone);
+        (removed_cases left cell done is.gone);
     in_order = rw (map-append cell_of lines (line ∷ []), is_line.same_cell)
         (in_order_more (IsDone cells left) (IsDone cells (remove left cell)) (cells_of lines) cell before.in_order
         (λ n is. before.earlier n cell is least.member)
-        (λ n is. ⊎_elim inl (λ gone. inr (record { member = is.member; gone = gone })) (gone_cases left cell n is.gone))
-        (λ n is. record { member = is.member; gone = gone_before left cell n is.gone })
-        (record { member = before.inside cell least.member; gone = gone_itself left cell }));
+        (λ n is. ⊎_elim inl (λ gone. inr (record { member = is.member; gone = gone })) (removed_cases left cell n is.gone))
+        (λ n is. record { member = is.member; gone = removed_still left cell n is.gone })
+        (record { member = before.inside cell least.member; gone = removed left cell }));
     each = gathered_all-append more lines line before.each is_line.gathered;
     by_child = λ n is free. ⊎_elim
         (λ same. let here = is_line.by_child (rw same at free) in
         rw same (child_last lines line cell here.0 here.1))
         (λ gone. child_before lines line n (before.by_child n (record { member = is.member; gone = gone }) free))
-        (gone_cases left cell n is.gone);
+        (removed_cases left cell n is.gone);
   }
     where
       later : (n : ℕ) → has (remove left cell) n ≡ true → cell < n
       later n member = ⊎_elim
           (λ less. absurd (false≢true (sym (least.first n less (on_board n (before.inside n (has-remove_before left cell n member)))) ∙ has-remove_before left cell n member)))
-          (λ more_or_same. ⊎_elim (λ less. less) (λ least_too. let same : n ≡ cell = omega arith in absurd (false≢true (sym (gone_itself left cell) ∙ rw same at member))) (cases_lt cell n))
+          (λ more_or_same. ⊎_elim (λ less. less) (λ least_too. let same : n ≡ cell = omega arith in absurd (false≢true (sym (removed left cell) ∙ rw same at member))) (cases_lt cell n))
           (cases_lt n cell)
 
 -- ---- a cell that lacks an answer

@@ -1,6 +1,5 @@
 -- Lists of nodes that grow, and what an answer says where nothing is missing.
-use Rattle.std.proofs.Common.{◌≡◌, List, [], ◌++◌, sym, ap, ◌∙◌, append_assoc}
-use Rattle.std.proofs.lemmas.List.{append-nil}
+use Rattle.std.proofs.Common.{◌≡◌, List, ◌++◌, ap, ◌∙◌}
 use Rattle.hx_tree.specs.declared.nodes.Node.{Node}
 use Rattle.hx_tree.specs.declared.nodes.Heading.{Heading}
 use Rattle.hx_tree.specs.Entries.{Extends}
@@ -9,13 +8,8 @@ use Rattle.hx_tree.proofs.TreeGrowth.{headings_of-append}
 use Rattle.hx_nodes.specs.declared.stored.Stored.{Stored}
 use Rattle.hx_nodes.specs.declared.stored.Stored.TheVariants.{Done, Refused, Missing, Memory}
 use Rattle.hx_nodes.specs.Stored.{MissingFor, IsAnswered}
-
-pub extends-same : (list : List Node) → Extends list list
-extends-same list = ([], sym (append-nil list))
-
-pub extends-on : (first second third : List Node) → Extends second first → Extends third second → Extends third first
-extends-on first second third one two =
-    (one.0 ++ two.0, two.1 ∙ ap (λ (nodes : List Node). nodes ++ two.0) one.1 ∙ append_assoc first one.0 two.0)
+-- proofs above name it by this file
+pub use Rattle.hx_tree.proofs.EntryLaws.{extends-on}
 
 pub extends-headings : (new old : List Node) → Extends new old → (more : List Heading) × (headings_of new ≡ headings_of old ++ more)
 extends-headings new old grown = (headings_of grown.0, ap headings_of grown.1 ∙ headings_of-append old grown.0)

@@ -1,7 +1,6 @@
 pub mod GrowingLists
 pub mod FoundEntries
 pub mod RefusedNodes
-pub mod TakenCells
 pub mod CellLines
 pub mod GatheredLines
 pub mod MoveNodes

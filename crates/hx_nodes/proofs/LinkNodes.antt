@@ -1,5 +1,5 @@
 -- A node by a link is right, where the link is live between the sides, and is Full or the player is to move.
-use Rattle.std.proofs.Common.{◌≡◌, ℕ, suc, ◌+◌, ◌-◌, ◌<◌, ◌≤◌, List, [], ◌∷◌, ◌++◌, length, length-append, refl, sym, ap, ◌∙◌, arith, ◌⊎◌, inl, inr, Some}
+use Rattle.std.proofs.Common.{◌≡◌, ℕ, suc, ◌-◌, ◌<◌, ◌≤◌, List, [], ◌∷◌, length, refl, sym, ap, ◌∙◌, arith, ◌⊎◌, inl, inr, Some}
 use Rattle.std.specs.Prelude.{slice_get}
 use Rattle.hx_board.specs.declared.colours.Colour.{Colour}
 use Rattle.hx_board.specs.declared.vertices.Vertex.TheVariants.{First, Last}
@@ -9,23 +9,18 @@ use Rattle.hx_link.specs.declared.links.Kind.{Kind}
 use Rattle.hx_link.specs.declared.links.Kind.TheVariants.{Full, Semi}
 use Rattle.hx_link.specs.declared.links.Link.{Link}
 use Rattle.hx_link.specs.declared.steps.Step.{Step}
-use Rattle.hx_link.specs.Steps.{AreRightSteps, IsChainLink, IsLink, HasEnds}
+use Rattle.hx_link.specs.Steps.{IsChainLink, IsLink, HasEnds}
+use Rattle.hx_link.proofs.LinkLaws.{steps-length}
 use Rattle.hx_tree.specs.declared.nodes.Heading.{Heading}
 use Rattle.hx_tree.specs.declared.nodes.Rule.TheVariants.{Links}
 use Rattle.hx_tree.specs.Rules.{IsRightNode}
+use Rattle.hx_linkset.specs.declared.sets.TheConstants.{MOST_LINKS}
 use Rattle.hx_linkset.specs.States.{Standing, IsRight}
 use Rattle.hx_linkset.specs.LiveOf.{IsLiveOf}
 use Rattle.hx_linkset.specs.Derivations.{IsDerived}
 use Rattle.hx_linkset.proofs.NextLaws.{live-is_link}
 use Rattle.hx_search.specs.Decided.{Decides}
 use Rattle.hx_nodes.proofs.MoveNodes.{node_of}
-
--- steps give as many links as they are
-pub steps-length : (board : Board) (player : Colour) (before : List Link) (steps : List Step) (links : List Link) → AreRightSteps board player before steps links
-    → length links ≡ length before + length steps
-steps-length board player before [] links right = ap length right ∙ omega arith
-steps-length board player before (step ∷ steps) links right =
-    omega (arith, steps-length board player (before ++ right.0 ∷ []) steps links right.2, length-append before (right.0 ∷ []))
 
 -- a link of the two sides has First as its lower end
 pub sides-chain : (board : Board) (player : Colour) (link : Link) → IsLink board player link → HasEnds link First Last → IsChainLink link
@@ -47,7 +42,7 @@ module _ (set : Standing) (right : IsRight set.player set.present) where
 
   -- a live link between the sides proves that the set's player wins, if it is Full or the player is to move
   pub links_right : (headings : List Heading) (mover : Colour) (kind : Kind) (place : ℕ) (is : IsLiveOf set kind First Last place)
-      (steps : List Step) (places : List ℕ) → (is.link.kind ≡ Full) ⊎ (mover ≡ set.player) → length set.present.links ≤ 8192
+      (steps : List Step) (places : List ℕ) → (is.link.kind ≡ Full) ⊎ (mover ≡ set.player) → length set.present.links ≤ MOST_LINKS
       → IsDerived set.present.board set.player set.present.links (place ∷ []) steps places
       → IsRightNode headings (node_of set.present.board mover set.player (Links steps))
   links_right headings mover kind place is steps places in_time few derived =
@@ -71,7 +66,7 @@ module _ (set : Standing) (right : IsRight set.player set.present) where
       }
 
   pub decided_right : (headings : List Heading) (mover : Colour) (place : ℕ) (steps : List Step) (places : List ℕ) → Decides set mover place
-      → length set.present.links ≤ 8192 → IsDerived set.present.board set.player set.present.links (place ∷ []) steps places
+      → length set.present.links ≤ MOST_LINKS → IsDerived set.present.board set.player set.present.links (place ∷ []) steps places
       → IsRightNode headings (node_of set.present.board mover set.player (Links steps))
   decided_right headings mover place steps places (inl full) few derived = links_right headings mover Full place full steps places (inl full.kind_is) few derived
   decided_right headings mover place steps places (inr semi) few derived = links_right headings mover Semi place semi.0 steps places (inr (sym semi.1)) few derived

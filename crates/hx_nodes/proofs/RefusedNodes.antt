@@ -1,5 +1,5 @@
--- A node that was refused: each slot is taken, and no node is of its position and mover.
-use Rattle.std.proofs.Common.{◌≡◌, ℕ, List, length, ap, ◌∙◌, Err}
+-- A node that was refused: each slot is taken, no node is of its position and mover, and it is handed back.
+use Rattle.std.proofs.Common.{◌≡◌, ℕ, List, length, refl, ap, ◌∙◌, Err}
 use Rattle.hx_tree.specs.declared.nodes.Node.{Node}
 use Rattle.hx_tree.specs.Entries.{IsOf}
 use Rattle.hx_book.specs.Puts.{Refusal, PutsLater}
@@ -11,12 +11,17 @@ refused-out slots old node refusal new later =
     let refused = later.puts.0 in
     let same : refusal.node ≡ node = later.puts.1 in (
       record {
-        full = ap length refused.same ∙ refused.full;
-        same_held = refused.same_held ∙ refused.full;
         none = rw (refused.same, same) refused.none;
+        full = ap length refused.same ∙ refused.full;
+        same_held = rw refused.same refused.same_held;
+        same = refl;
       },
       record {
         same_position = ap (λ (n : Node). n.heading.position) same;
         same_mover = ap (λ (n : Node). n.heading.to_move) same;
       },
     )
+
+pub refused-back : (slots : ℕ) (old : List Node) (node : Node) (refusal : Refusal) (new : List Node) → PutsLater slots old node (Err refusal) new
+    → refusal.node ≡ node
+refused-back slots old node refusal new later = later.puts.1

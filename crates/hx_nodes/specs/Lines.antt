@@ -6,12 +6,10 @@ use Rattle.hx_board.specs.declared.colours.Colour.{Colour}
 use Rattle.hx_board.specs.Colours.{other_of}
 use Rattle.hx_board.specs.Positions.{Board}
 use Rattle.hx_tree.specs.declared.nodes.Heading.{Heading}
-use Rattle.hx_tree.specs.declared.nodes.Node.{Node}
 use Rattle.hx_tree.specs.declared.nodes.Line.{Line}
 use Rattle.hx_tree.specs.declared.nodes.Line.TheVariants.{Child, Under}
 use Rattle.hx_tree.specs.Answers.{AreInOrder, HasChild, IsRightChild, cell_of, cells_of}
 use Rattle.hx_fill.specs.Unders.{HasLine}
-use Rattle.hx_nodes.specs.Missing.{LacksAnswer}
 
 -- that the player wins with the opponent to move
 abbrev pub wins_next : Board → Colour → Heading
@@ -51,14 +49,3 @@ pub record AreLines (headings : List Heading) (heading : Heading) (cells : ℕ) 
   pub in_order : AreInOrder (λ cell. has cells cell ≡ true) (cells_of lines)
   pub each : (k : ℕ) → IfSome (slice_get lines k) (IsGathered headings heading under)
   pub by_child : (cell : ℕ) → has cells cell ≡ true → ¬ HasLine under cell → HasChild lines cell
-
--- a cell with no line among these lacks an answer
-pub record IsLacking (old new : List Node) (board : Board) (player : Colour) (under : List Line) (cell : ℕ) : Type 0 where
-  pub no_line : ¬ HasLine under cell
-  pub lacks : LacksAnswer old new board player cell
-
--- one of the cells does
-pub record HasLacking (old new : List Node) (board : Board) (player : Colour) (cells : ℕ) (under : List Line) : Type 0 where
-  pub cell : ℕ
-  pub among : has cells cell ≡ true
-  pub is : IsLacking old new board player under cell

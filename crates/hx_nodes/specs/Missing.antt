@@ -1,22 +1,28 @@
 -- What a proof lacks, in a list of nodes that only grows.
-use Rattle.std.specs.Prelude.{◌≡◌, ◌≢◌, ◌⊎◌, ℕ, true, List, []}
+use Rattle.std.specs.Prelude.{◌≡◌, ◌⊎◌, ℕ, true, List, []}
 use Rattle.hx_board.specs.declared.colours.Colour.{Colour}
 use Rattle.hx_board.specs.Colours.{other_of}
 use Rattle.hx_board.specs.Sets.{has}
-use Rattle.hx_board.specs.Positions.{Board, IsEmpty, put}
+use Rattle.hx_board.specs.Positions.{Board, IsFull, put}
 use Rattle.hx_tree.specs.declared.entries.Found.{Found}
 use Rattle.hx_tree.specs.declared.nodes.Line.{Line}
 use Rattle.hx_tree.specs.declared.nodes.Node.{Node}
-use Rattle.hx_tree.specs.Entries.{Extends, IsFirstFound}
+use Rattle.hx_tree.specs.Entries.{Extends, HasNoEntry, IsFirstFound}
 use Rattle.hx_book.specs.EitherEntry.{WasMissed}
 use Rattle.hx_linkset.specs.States.{Standing}
 use Rattle.hx_fill.specs.declared.fills.Fill.{Fill}
 use Rattle.hx_fill.specs.Musts.{IsMust}
 use Rattle.hx_fill.specs.Unders.{HasLine, AreByOrder}
 
--- the first entry of the position and mover, if there is one, does not name the player as the winner
+-- the first entry of the position and mover names the player's opponent as the winner
+pub record NamesOther (nodes : List Node) (board : Board) (mover player : Colour) : Type 0 where
+  pub found : Found
+  pub first : IsFirstFound nodes board mover found
+  pub other : found.winner ≡ other_of player
+
+-- the position and mover have no entry, or the first one names the player's opponent
 abbrev pub NamesNoWin : List Node → Board → Colour → Colour → Type 0
-NamesNoWin nodes board mover player = (found : Found) → IsFirstFound nodes board mover found → found.winner ≢ player
+NamesNoWin nodes board mover player = HasNoEntry nodes board mover ⊎ NamesOther nodes board mover player
 
 -- some front of the new list, with the old one at its own front, names no win of the player's for the position and mover
 pub record WasNotWon (old new : List Node) (board : Board) (mover player : Colour) : Type 0 where
@@ -37,22 +43,29 @@ LacksAnswer old new board player cell = WasNotWon old new (put board (other_of p
 abbrev pub LacksFill : List Node → List Node → List Fill → Board → Colour → Type 0
 LacksFill old new fills filled mover = (fills ≡ []) ⊎ WasMissed old new filled mover
 
--- no cell is empty
-abbrev pub IsFull : Board → Type 0
-IsFull board = (cell : ℕ) → IsEmpty board cell → ⊥
+-- a cell with no line among these, where the player was not seen to win after the opponent's move to it
+pub record IsLacking (old new : List Node) (board : Board) (player : Colour) (under : List Line) (cell : ℕ) : Type 0 where
+  pub no_line : ¬ HasLine under cell
+  pub lacks : LacksAnswer old new board player cell
 
--- a cell that must be answered, and that has no line by a better cell, where the better cells were gone through in the order; and
--- after the opponent's move to it the player was not seen to win
+-- one of the cells is such a cell
+pub record HasLacking (old new : List Node) (board : Board) (player : Colour) (cells : ℕ) (under : List Line) : Type 0 where
+  pub cell : ℕ
+  pub among : has cells cell ≡ true
+  pub is : IsLacking old new board player under cell
+
+-- the opponent of the set's player has no move, or one of these cells lacks an answer
+abbrev pub LacksOneOf : List Node → List Node → Standing → ℕ → List Line → Type 0
+LacksOneOf old new set cells under = IsFull set.present.board ⊎ HasLacking old new set.present.board set.player cells under
+
+-- one of the cells that must be answered lacks an answer, where the better cells were gone through in the order
 pub record HasUnanswered (old new : List Node) (set : Standing) (order : List ℕ) : Type 0 where
   pub threats : List ℕ
   pub cells : ℕ
   pub under : List Line
   pub must : IsMust set threats cells under
   pub by_order : AreByOrder set.present.board (other_of set.player) cells order under
-  pub cell : ℕ
-  pub among : has cells cell ≡ true
-  pub no_line : ¬ HasLine under cell
-  pub lacks : LacksAnswer old new set.present.board set.player cell
+  pub lacking : HasLacking old new set.present.board set.player cells under
 
 -- the opponent of the set's player has no move, or one that is not answered
 abbrev pub LacksAnswers : List Node → List Node → Standing → List ℕ → Type 0

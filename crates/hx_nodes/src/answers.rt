@@ -4,7 +4,8 @@ ghost use Rattle.std.specs.Prelude.{◌≡◌};
 ghost use Rattle.hx_board.specs.Colours.{other_of};
 ghost use Rattle.hx_tree.specs.Entries.{Extends};
 ghost use Rattle.hx_nodes.specs.Stored.{IsStored, MissingFor};
-ghost use Rattle.hx_nodes.specs.Missing.{LacksAnswers};
+ghost use Rattle.hx_fill.specs.Musts.{IsMust};
+ghost use Rattle.hx_nodes.specs.Missing.{LacksOneOf, LacksAnswers};
 
 use crate::lines::lines_for;
 use crate::stored::{Stored, store};
@@ -32,29 +33,42 @@ pub fn store_all<P: Proofs, R: Wait>(
     ensures missing { MissingFor (LacksAnswers (P.list proofs.old) (P.list proofs.new)
         set.now order.now) result }
 {
+    let Ok(found) = must(set, order) else {
+        return Stored::Memory;
+    };
+    store_answers(rt, proofs, set, found)
+}
+
+/// Stores the same, where what the opponent must answer was found before. Missing only where the board is full, or no entry says so
+/// after the move to one of the cells that has no line by a better one.
+pub fn store_answers<P: Proofs, R: Wait>(
+    rt: &R,
+    proofs: &mut P,
+    set: &LinkSet,
+    found: Must,
+) -> Stored
+    requires { IsMust set.now found.threats found.cells found.under }
+    ensures slots { P.slots proofs.new ≡ P.slots proofs.old }
+    ensures over { P.over proofs.new ≡ P.over proofs.old }
+    ensures seen { Extends (P.list proofs.new) (P.list proofs.old) }
+    ensures stored { IsStored (P.list proofs.new) (P.slots proofs.new)
+        set.now.present.board (other_of set.now.player) result }
+    ensures missing { MissingFor (LacksOneOf (P.list proofs.old) (P.list proofs.new)
+        set.now found.cells found.under) result }
+{
     set.keeps();
     let winner = set.colour();
     let position = *set.position();
     let Some(_some) = position.empties().least(position.size()) else {
         return Stored::Missing;
     };
-    let Ok(found) = must(set, order) else {
-        return Stored::Memory;
-    };
     let Must {
         threats,
         cells,
         under,
     } = found;
-    let lines = match lines_for(
-        rt,
-        set.allocator(),
-        proofs,
-        &position,
-        winner,
-        cells,
-        under.items(),
-    ) {
+    let alloc = set.allocator();
+    let lines = match lines_for(rt, alloc, proofs, &position, winner, cells, under.items()) {
         Ok(Some(lines)) => lines,
         Ok(None) => return Stored::Missing,
         Err(Memory) => return Stored::Memory,
@@ -68,10 +82,9 @@ pub fn store_all<P: Proofs, R: Wait>(
         to_move: winner.other(),
         winner,
     };
-    let threats = Threats::new(places);
     let rule = Rule::All {
         steps,
-        threats,
+        threats: Threats::new(places),
         lines,
     };
     store(rt, proofs, Node { heading, rule })

@@ -7,7 +7,8 @@ ghost use Rattle.hx_board.specs.Positions.{IsEmpty};
 ghost use Rattle.hx_tree.specs.Answers.{cell_of, cells_of};
 ghost use Rattle.hx_tree.specs.Entries.{Extends};
 ghost use Rattle.hx_tree.specs.Trees.{headings_of};
-ghost use Rattle.hx_nodes.specs.Lines.{wins_next, NamesBetter, IsLineOf, AreLines, IsLacking, HasLacking};
+ghost use Rattle.hx_nodes.specs.Lines.{wins_next, NamesBetter, IsLineOf, AreLines};
+ghost use Rattle.hx_nodes.specs.Missing.{IsLacking, HasLacking};
 
 use hx_board::{Cell, Colour, Mask, Memory, Position};
 use hx_book::Proofs;

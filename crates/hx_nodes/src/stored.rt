@@ -4,7 +4,7 @@ ghost use Rattle.std.specs.Prelude.{◌≡◌};
 ghost use Rattle.hx_tree.specs.Entries.{Extends};
 ghost use Rattle.hx_tree.specs.Rules.{IsRightNode};
 ghost use Rattle.hx_tree.specs.Trees.{headings_of};
-ghost use Rattle.hx_nodes.specs.Stored.{IsStored, IsAnswered, HadMemory};
+ghost use Rattle.hx_nodes.specs.Stored.{IsStored, HandsBack, IsAnswered, HadMemory};
 
 use hx_book::{NoSlot, Proofs};
 use hx_tree::Node;
@@ -13,13 +13,13 @@ use std::sync::Wait;
 /// What became of a proof that was to be stored.
 #[derive(Debug, Drop)]
 pub enum Stored {
-    /// The list of proofs has an entry of the position and mover.
+    /// What was to be stored is there: an entry of the position and mover, or for hx_wide one that serves them.
     Done,
 
-    /// It has none, and no slot was left for it.
+    /// No slot was left for the node.
     Refused(NoSlot),
 
-    /// There is no such proof yet: an entry that it needs is not there, or names the other player as the winner.
+    /// Something that the proof needs is not there; each call says what.
     Missing,
 
     /// Memory was wanting.
@@ -27,7 +27,7 @@ pub enum Stored {
 }
 
 /// Stores a right node. Done where the list of proofs has an entry of its position and mover then, be it this node or an earlier
-/// one; Refused where no slot is left.
+/// one; Refused, with the node, where no slot is left.
 pub fn store<P: Proofs, R: Wait>(rt: &R, proofs: &mut P, node: Node) -> Stored
     requires { IsRightNode (headings_of (P.list proofs.old)) node }
     ensures slots { P.slots proofs.new ≡ P.slots proofs.old }
@@ -35,6 +35,7 @@ pub fn store<P: Proofs, R: Wait>(rt: &R, proofs: &mut P, node: Node) -> Stored
     ensures seen { Extends (P.list proofs.new) (P.list proofs.old) }
     ensures stored { IsStored (P.list proofs.new) (P.slots proofs.new)
         node.heading.position node.heading.to_move result }
+    ensures handed_back { HandsBack node result }
     ensures answered { IsAnswered result }
     ensures memory { HadMemory result }
 {

@@ -1,32 +1,20 @@
-use Rattle.std.proofs.Common.{inr}
-use Rattle.hx_board.specs.Positions.{IsEmpty}
-use Rattle.hx_tree.specs.Trees.{headings_of}
-use Rattle.hx_nodes.proofs.AllNodes.{threats-live, all_right}
+use Rattle.std.proofs.Common.{inl, inr, ⊎_elim}
+use Rattle.hx_nodes.specs.Missing.{LacksOneOf, LacksAnswers}
+use Rattle.hx_nodes.proofs.GrowingLists.{missing-too}
 use Rattle.hx_nodes.proofs.answers.store_all.Goals as goal
 
-pub returns-in-Ok-None-clause-missing : goal.returns-in-Ok-None-clause-missing
-returns-in-Ok-None-clause-missing g c =
-    let lacking = rw (c.position.ensures, c.colour-winner.ensures, c.items.ensures) at (rw c.in-Ok-None.field-0-is at c.in-Ok-None.ensures.lines) in
-    inr (record {
-      threats = c.in-Ok.found.threats;
-      cells = c.in-Ok.found.cells;
-      under = c.in-Ok.found.under;
+pub returns-clause-missing : goal.returns-clause-missing
+returns-clause-missing g c =
+    let old = g.P.Proofs.list c.args.proofs.now in
+    let new = g.P.Proofs.list c.store_answers.new.proofs in
+    let found = c.in-Ok.found in
+    missing-too (LacksOneOf old new c.args.set.now found.cells found.under) (LacksAnswers old new c.args.set.now c.args.order.now) c.store_answers.result
+    (⊎_elim inl (λ lacking. inr (record {
+      threats = found.threats;
+      cells = found.cells;
+      under = found.under;
       must = c.in-Ok.ensures.must;
       by_order = c.in-Ok.ensures.order;
-      cell = lacking.cell;
-      among = lacking.among;
-      no_line = lacking.is.no_line;
-      lacks = lacking.is.lacks;
-    })
-
-pub derivation-requires : goal.derivation-requires
-derivation-requires g c = rw c.items-2.ensures (threats-live c.args.set.now c.in-Ok.found.threats c.in-Ok.ensures.must.live)
-
-pub store-requires : goal.store-requires
-store-requires g c =
-    let derived = rw c.items-2.ensures at c.in-Ok-derivation.ensures in
-    let empty : IsEmpty c.position.result.now c.in-Some._some = (c.empties.ensures c.in-Some._some).0 c.in-Some.ensures.member in
-    let lines = rw c.in-Ok-Some.field-0-is at c.in-Ok-Some.ensures.lines in
-    rw (c.other.ensures, c.new-threats.ensures, c.position.ensures, c.colour-winner.ensures)
-    (all_right c.args.set.now c.keeps.ensures.right _ _ _ c.in-Ok.ensures.must _ _ derived (headings_of (g.P.Proofs.list c.lines_for.new.proofs)) c.in-Ok-Some.lines
-    c.in-Some._some (rw c.position.ensures at empty) c.keeps.ensures.few (rw (c.position.ensures, c.colour-winner.ensures, c.items.ensures) at lines))
+      lacking = lacking;
+    })))
+    c.store_answers.ensures.missing

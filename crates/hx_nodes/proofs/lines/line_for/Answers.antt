@@ -1,9 +1,9 @@
-use Rattle.std.proofs.Common.{rules, ◌≡◌, ◌≢◌}
+use Rattle.std.proofs.Common.{rules, ◌≡◌, ◌≢◌, inl}
 use Rattle.hx_board.specs.Colours.{other_of}
 use Rattle.hx_board.specs.Positions.{put}
 use Rattle.hx_tree.specs.Entries.{HasNoEntry, IsFirstFound}
 use Rattle.hx_nodes.proofs.CellLines.{line_by_better, line_by_child}
-use Rattle.hx_nodes.proofs.FoundEntries.{found-heading, none-no_win, other-no_win, not_won-now}
+use Rattle.hx_nodes.proofs.FoundEntries.{found-heading, other-no_win, not_won-now}
 use Rattle.hx_nodes.proofs.lines.line_for.Goals as goal
 
 pub returns-in-Some-clause-line : goal.returns-in-Some-clause-line
@@ -14,7 +14,7 @@ returns-in_default-look-clause-line g c =
     let none : HasNoEntry (g.P.Proofs.list c.look.new.self) c.with-next.result c.args.winner = c.in_default-look.ensures.found in
     record {
       no_line = c.in_default.ensures;
-      lacks = not_won-now _ _ _ _ _ c.look.ensures.seen (none-no_win _ _ _ _ (rw (c.with-next.ensures, c.other.ensures) at none));
+      lacks = not_won-now _ _ _ _ _ c.look.ensures.seen (inl (rw (c.with-next.ensures, c.other.ensures) at none));
     }
 
 pub returns-then-ne-clause-line : goal.returns-then-ne-clause-line

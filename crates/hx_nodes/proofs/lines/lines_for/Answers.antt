@@ -3,7 +3,8 @@ use Rattle.hx_board.specs.Cells.{IsLeastOn}
 use Rattle.hx_board.proofs.CellLaws.{on_board-small}
 use Rattle.hx_board.proofs.Tallies.{count_below-remove}
 use Rattle.hx_tree.specs.declared.nodes.Line.{Line}
-use Rattle.hx_nodes.proofs.GrowingLists.{extends-on, extends-headings}
+use Rattle.hx_tree.proofs.EntryLaws.{extends-on}
+use Rattle.hx_nodes.proofs.GrowingLists.{extends-headings}
 use Rattle.hx_nodes.proofs.GatheredLines.{one_more_gathered, all_gathered, lacking_among}
 use Rattle.hx_nodes.proofs.lines.lines_for.Goals as goal
 

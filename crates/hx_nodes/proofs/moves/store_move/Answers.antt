@@ -1,13 +1,13 @@
-use Rattle.std.proofs.Common.{rules, ◌≡◌, ◌≢◌}
+use Rattle.std.proofs.Common.{rules, ◌≡◌, ◌≢◌, inl}
 use Rattle.hx_tree.specs.Entries.{HasNoEntry, IsFirstFound}
-use Rattle.hx_nodes.proofs.FoundEntries.{none-no_win, other-no_win, not_won-now}
+use Rattle.hx_nodes.proofs.FoundEntries.{other-no_win, not_won-now}
 use Rattle.hx_nodes.proofs.MoveNodes.{move_right}
 use Rattle.hx_nodes.proofs.moves.store_move.Goals as goal
 
 pub returns-in_default-clause-missing : goal.returns-in_default-clause-missing
 returns-in_default-clause-missing g c =
     let none : HasNoEntry (g.P.Proofs.list c.look.new.self) c.with-next.result c.other.result = c.in_default.ensures.found in
-    not_won-now _ _ _ _ _ c.look.ensures.seen (none-no_win _ _ _ _ (rw (c.with-next.ensures, c.other.ensures) at none))
+    not_won-now _ _ _ _ _ c.look.ensures.seen (inl (rw (c.with-next.ensures, c.other.ensures) at none))
 
 pub returns-then-ne-clause-missing : goal.returns-then-ne-clause-missing
 returns-then-ne-clause-missing g c =

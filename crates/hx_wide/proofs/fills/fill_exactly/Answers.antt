@@ -1,5 +1,0 @@
-use Rattle.hx_nodes.proofs.GrowingLists.{extends-on}
-use Rattle.hx_wide.proofs.fills.fill_exactly.Goals as goal
-
-pub returns-clause-seen : goal.returns-clause-seen
-returns-clause-seen g c = extends-on _ _ _ c.look_wider_either.ensures.seen c.store_wider.ensures.seen
