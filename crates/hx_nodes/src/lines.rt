@@ -34,7 +34,8 @@ pub(crate) fn lines_for<P: Proofs, R: Wait>(
     ensures seen { Extends (P.list proofs.new) (P.list proofs.old) }
     ensures lines { IfOk result (λ found. MatchOption found
         (HasLacking (P.list proofs.old) (P.list proofs.new) position.now winner cells under.now)
-        (AreLines (headings_of (P.list proofs.new)) (wins_next position.now winner) cells under.now)) }
+        (AreLines (headings_of (P.list proofs.new)) (wins_next position.now winner)
+        cells under.now)) }
 {
     let size = position.size();
     let Ok(mut lines) = Vec::with_capacity(alloc, cells.count() as usize) else {
@@ -70,7 +71,8 @@ fn line_for<P: Proofs, R: Wait>(
     ensures seen { Extends (P.list proofs.new) (P.list proofs.old) }
     ensures line { MatchOption result
         (IsLacking (P.list proofs.old) (P.list proofs.new) position.now winner under.now cell)
-        (IsLineOf (headings_of (P.list proofs.new)) (wins_next position.now winner) under.now cell) }
+        (IsLineOf (headings_of (P.list proofs.new)) (wins_next position.now winner)
+        under.now cell) }
 {
     if let Some(line) = line_among(under, cell) {
         return Some(line);

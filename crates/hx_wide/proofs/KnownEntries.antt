@@ -1,7 +1,7 @@
 -- Entries that are known: one more of them, a list that grew, and the children of a node that is right after them.
 use Rattle.std.proofs.Common.{◌≡◌, ℕ, zero, suc, ◌<◌, List, [], ◌∷◌, ◌++◌, length, refl, sym, ap, ◌∙◌, Some, arith}
 use Rattle.std.specs.Prelude.{slice_get, slice_index}
-use Rattle.hx_board.proofs.ListLaws.{get-lt}
+use Rattle.hx_board.proofs.ListLaws.{get-append, get-lt}
 use Rattle.hx_tree.specs.declared.nodes.Heading.{Heading}
 use Rattle.hx_tree.specs.declared.nodes.Node.{Node}
 use Rattle.hx_tree.specs.Entries.{Extends}
@@ -14,6 +14,7 @@ use Rattle.hx_board.specs.declared.colours.Colour.{Colour}
 use Rattle.hx_board.specs.Positions.{Board}
 use Rattle.hx_tree.specs.declared.entries.Found.{Found}
 use Rattle.hx_tree.specs.Entries.{IsFirstFound}
+use Rattle.hx_tree.proofs.EntryLaws.{node-later}
 use Rattle.hx_book.specs.declared.wider.Wider.{Wider}
 use Rattle.hx_book.specs.WiderEntry.{IsWiderFound}
 use Rattle.hx_book.proofs.ChildLaws.{get-heading}
@@ -55,16 +56,11 @@ module _ (list : List Node) where
       (λ child names. known_at headings places child known (child_known headings node child right names)) right
 
 -- what is known stays known in a list that grew
-grown-at : (headings more : List Heading) (place : ℕ) (heading : Heading) → slice_get headings place ≡ Some heading → slice_get (headings ++ more) place ≡ Some heading
-grown-at [] more place heading there = cc
-grown-at (first ∷ headings) more zero heading there = there
-grown-at (first ∷ headings) more (suc place) heading there = grown-at headings more place heading there
-
 module _ (new old : List Node) (grown : Extends new old) where
   at-new : (place : ℕ) (heading : Heading) → slice_get (headings_of old) place ≡ Some heading → slice_get (headings_of new) place ≡ Some heading
   at-new place heading there =
       let more = extends-headings new old grown in
-      rw more.1 (grown-at (headings_of old) more.0 place heading there)
+      rw more.1 (get-append (headings_of old) more.0 place heading there)
 
   pub known_grown : (headings : List Heading) (places : List ℕ) → AreKnown old headings places → AreKnown new headings places
   known_grown [] [] known = tt
@@ -90,3 +86,12 @@ wider_known list board mover wider is =
     let node : Node = is.entry.node in
     get-heading list wider.found.index node is.entry.there
     ∙ ap Some (same_heading node.heading wider.position mover wider.found.winner (sym is.same_position) is.entry.is_wider.same_mover is.entry.is_wider.same_winner)
+
+-- it stays so in a list that grew
+pub wider_found-later : (new old : List Node) (board : Board) (mover : Colour) (wider : Wider) → Extends new old
+    → IsWiderFound old board mover wider.found.winner wider → IsWiderFound new board mover wider.found.winner wider
+wider_found-later new old board mover wider grown is = record {
+  entry = record { node = is.entry.node; there = node-later new old wider.found.index is.entry.node grown is.entry.there; is_wider = is.entry.is_wider };
+  same_winner = is.same_winner;
+  same_position = is.same_position;
+}

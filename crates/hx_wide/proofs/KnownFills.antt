@@ -8,11 +8,10 @@ use Rattle.hx_board.specs.Positions.{Board, IsBoard}
 use Rattle.hx_inferior.specs.declared.fills.FillStep.{FillStep}
 use Rattle.hx_tree.specs.declared.nodes.Heading.{Heading}
 use Rattle.hx_tree.specs.declared.nodes.Rule.TheVariants.{Fill}
-use Rattle.hx_tree.specs.Fills.{filled_all}
+use Rattle.hx_tree.specs.Fills.{filled_all, LeadTo}
 use Rattle.hx_tree.specs.Headings.{IsHeading}
 use Rattle.hx_tree.specs.Rules.{IsRightNode}
 use Rattle.hx_nodes.proofs.MoveNodes.{node_of}
-use Rattle.hx_wide.specs.Inner.{LeadTo}
 
 pub known_fill_right : (headings : List Heading) (board final : Board) (mover winner : Colour) (steps : List FillStep) (child : ℕ) → IsBoard board
     → slice_get headings child ≡ Some (record { position = final; to_move = mover; winner = winner }) → steps ≢ [] → LeadTo board winner steps final

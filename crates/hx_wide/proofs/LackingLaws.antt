@@ -1,24 +1,27 @@
 -- What a proof lacks in a list, where the list is taken from earlier on, or until later.
-use Rattle.std.proofs.Common.{ℕ, List, inl, inr, ⊎_elim, subst, sym}
+use Rattle.std.proofs.Common.{◌≡◌, ℕ, true, List, [], inl, inr, ⊎_elim, subst, sym}
 use Rattle.hx_board.specs.declared.colours.Colour.{Colour}
 use Rattle.hx_board.specs.Colours.{other_of}
+use Rattle.hx_board.specs.Sets.{has}
 use Rattle.hx_board.specs.Positions.{Board, put}
 use Rattle.hx_board.proofs.ColourLaws.{one_or_other}
+use Rattle.hx_tree.specs.declared.nodes.Line.{Line}
 use Rattle.hx_tree.specs.declared.nodes.Node.{Node}
 use Rattle.hx_tree.specs.Entries.{Extends}
 use Rattle.hx_book.specs.WiderEntry.{HasNoWider}
-use Rattle.hx_linkset.specs.States.{Standing}
 use Rattle.hx_fill.specs.declared.fills.Fill.{Fill}
-use Rattle.hx_nodes.specs.Missing.{LacksMove, LacksFill, LacksAnswers}
-use Rattle.hx_wide.specs.Missing.{WasUnserved, WasUnservedByEach, LacksServedMove}
-use Rattle.hx_nodes.proofs.GrowingLists.{extends-same, extends-on}
-use Rattle.hx_nodes.proofs.FoundEntries.{not_won-earlier}
+use Rattle.hx_fill.specs.Unders.{HasLine}
+use Rattle.hx_nodes.specs.Missing.{WasNotWon, LacksFill, HasLacking}
+use Rattle.hx_nodes.specs.Stored.{HasEntry}
+use Rattle.hx_wide.specs.Missing.{WasUnserved, WasUnservedByEach, WasLost, HasUnservedOf}
+use Rattle.hx_wide.specs.Inner.{IsTried}
+use Rattle.hx_tree.proofs.EntryLaws.{extends-itself, extends-on, entry-later}
 
 -- ---- what serves a position
 
 pub unserved-now : (old new : List Node) (board : Board) (mover winner : Colour) → Extends new old → HasNoWider new board mover winner
     → WasUnserved old new board mover winner
-unserved-now old new board mover winner grown none = record { seen = new; after_old = grown; before_new = extends-same new; none = none }
+unserved-now old new board mover winner grown none = record { seen = new; after_old = grown; before_new = extends-itself new; none = none }
 
 pub unserved-within : (first old new last : List Node) (board : Board) (mover winner : Colour) → Extends old first → Extends last new
     → WasUnserved old new board mover winner → WasUnserved first last board mover winner
@@ -39,36 +42,42 @@ pub unserved-twice : (old mid new : List Node) (board : Board) (mover player : C
 unserved-twice old mid new board mover player one two first second winner =
     let P : Colour → Type 0 = λ who. WasUnserved old new board mover who in
     ⊎_elim
-    (λ same. subst P (sym same) (unserved-within old old mid new board mover player (extends-same old) two (unserved-now old mid board mover player one first)))
+    (λ same. subst P (sym same) (unserved-within old old mid new board mover player (extends-itself old) two (unserved-now old mid board mover player one first)))
     (λ same. subst P (sym same) (unserved-now old new board mover (other_of player) (extends-on old mid new one two) second))
     (one_or_other winner player)
 
--- ---- what was seen of a list is so of an earlier one
+-- ---- what is lacking, by what was seen earlier
 
-module _ (first old new : List Node) (grown : Extends old first) where
-  pub lacks_fill-earlier : (fills : List Fill) (filled : Board) (mover : Colour) → LacksFill old new fills filled mover → LacksFill first new fills filled mover
-  lacks_fill-earlier fills filled mover (inl none) = inl none
-  lacks_fill-earlier fills filled mover (inr was) =
-      inr (record { seen = was.seen; after_old = extends-on first old was.seen grown was.after_old; before_new = was.before_new; none = was.none })
+-- where the position has an entry, whose first one does not name the player, that names the opponent
+pub lost-since : (first old new : List Node) (board : Board) (mover player : Colour) → Extends old first → HasEntry old board mover
+    → WasNotWon old new board mover player → WasLost first new board mover player
+lost-since first old new board mover player grown has was = record {
+  seen = was.seen;
+  after_old = extends-on first old was.seen grown was.after_old;
+  before_new = was.before_new;
+  names = ⊎_elim (λ none. absurd (none has.0 (entry-later was.seen old board mover has.0 was.after_old has.1))) (λ names. names) was.no_win;
+}
 
-  pub lacks_answers-earlier : (set : Standing) (order : List ℕ) → LacksAnswers old new set order → LacksAnswers first new set order
-  lacks_answers-earlier set order (inl full) = inl full
-  lacks_answers-earlier set order (inr has) = inr (record {
-    threats = has.threats;
-    cells = has.cells;
-    under = has.under;
-    must = has.must;
-    by_order = has.by_order;
-    cell = has.cell;
-    among = has.among;
-    no_line = has.no_line;
-    lacks = not_won-earlier first old new _ set.player set.player grown has.lacks;
-  })
+-- a position that has an entry was not missed
+pub fill_lacks-nothing : (old new : List Node) (fills : List Fill) (filled : Board) (mover : Colour) → HasEntry old filled mover
+    → LacksFill old new fills filled mover → fills ≡ []
+fill_lacks-nothing old new fills filled mover has (inl none) = none
+fill_lacks-nothing old new fills filled mover has (inr was) =
+    absurd (was.none has.0 (entry-later was.seen old filled mover has.0 was.after_old has.1))
 
-  pub unserved_move-earlier : (board : Board) (player : Colour) (cell : ℕ) → WasUnserved old new (put board player cell) (other_of player) player
-      → LacksServedMove first new board player cell
-  unserved_move-earlier board player cell was =
-      inl (unserved-within first old new new (put board player cell) (other_of player) player grown (extends-same new) was)
-
-  pub lacks_move-earlier : (board : Board) (player : Colour) (cell : ℕ) → LacksMove old new board player cell → LacksServedMove first new board player cell
-  lacks_move-earlier board player cell was = inr (not_won-earlier first old new (put board player cell) (other_of player) player grown was)
+-- where each of the cells without a line was tried, the one that lacks an answer is unserved
+pub unserved_of : (first old mid new : List Node) (board : Board) (player : Colour) (cells tried : ℕ) (under : List Line) → Extends old first → Extends mid old
+    → Extends new mid → ((cell : ℕ) → has cells cell ≡ true → ¬ HasLine under cell → has tried cell ≡ true)
+    → ((cell : ℕ) → has tried cell ≡ true → IsTried old mid (put board (other_of player) cell) player) → HasLacking mid new board player cells under
+    → HasUnservedOf first new board player cells under
+unserved_of first old mid new board player cells tried under one two three all each lacking =
+    let next : Board = put board (other_of player) lacking.cell in
+    record {
+      cell = lacking.cell;
+      among = lacking.among;
+      no_line = lacking.is.no_line;
+      lacks = ⊎_elim
+          (λ has. inr (lost-since first mid new next player player (extends-on first old mid one two) has lacking.is.lacks))
+          (λ was. inl (unserved-within first old mid new next player player one three was))
+          (each lacking.cell (all lacking.cell lacking.among lacking.is.no_line));
+    }

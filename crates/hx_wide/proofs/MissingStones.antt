@@ -7,20 +7,20 @@ use Rattle.hx_board.specs.Colours.{other_of}
 use Rattle.hx_board.specs.Sets.{has, insert, remove, union, difference, IsSubset}
 use Rattle.hx_board.specs.Cells.{Extent, OnBoard}
 use Rattle.hx_board.specs.Positions.{Board, IsBoard, IsEmpty, put, stones_of}
-use Rattle.hx_board.proofs.SetLaws.{has-union, has-insert, has-remove, has-empty, same_set, is_true, is_false, or_right, has-remove_before, has-union_cases, has-union_left, has-union_right, has-difference_left, has-difference_right, has-difference_both, by_member}
+use Rattle.hx_board.proofs.SetLaws.{has-union, has-insert, has-remove, has-empty, same_set, is_true, is_false, or_right, has-remove_before, has-union_cases, has-union_left, has-union_right, has-difference_left, has-difference_right, has-difference_both, by_member, removed, same_test}
 use Rattle.hx_board.proofs.ColourLaws.{one_or_other}
+use Rattle.hx_board.proofs.PositionLaws.{same_board}
 use Rattle.hx_board.proofs.StoneLaws.{empty-put}
 use Rattle.hx_inferior.specs.declared.fills.FillStep.{FillStep}
 use Rattle.hx_inferior.specs.declared.fills.FillStep.TheVariants.{Other}
 use Rattle.hx_inferior.specs.Inferior.{filled}
-use Rattle.hx_tree.specs.Fills.{MayFillAll, filled_all}
+use Rattle.hx_tree.specs.Fills.{MayFillAll, filled_all, LeadTo}
 use Rattle.hx_tree.proofs.FilledBoards.{size-filled_all}
 use Rattle.hx_turn.proofs.TurnedBoards.{stone-on_board}
 use Rattle.hx_tree.specs.declared.nodes.Node.{Node}
 use Rattle.hx_book.specs.declared.wider.Wider.{Wider}
 use Rattle.hx_book.specs.WiderEntry.{IsWiderFound}
-use Rattle.hx_wide.specs.Inner.{put_all, LeadTo}
-use Rattle.hx_nodes.proofs.TakenCells.{gone_itself}
+use Rattle.hx_wide.specs.Inner.{put_all}
 
 -- ---- stones on all cells of a set
 
@@ -82,7 +82,7 @@ module _ (board : Board) (winner : Colour) (cells : ℕ) where
         empty = λ n still. rw (filled-push steps board winner cell)
             ((empty-put mid (other_of winner) cell n).1 (
               is.empty n (has-remove_before left cell n still),
-              λ same. false≢true (sym (gone_itself left cell) ∙ ap (λ (x : ℕ). has (remove left cell) x) (sym same) ∙ still),
+              λ same. false≢true (sym (removed left cell) ∙ ap (λ (x : ℕ). has (remove left cell) x) (sym same) ∙ still),
             ));
         same = rw (filled-push steps board winner cell) (put_all-moved mid (other_of winner) left cell member ∙ is.same);
       }
@@ -113,12 +113,6 @@ no_stone board White n empty = empty.no_white
 apart : (board : Board) (winner : Colour) (n : ℕ) → IsBoard board → has (stones_of board winner) n ≡ true → has (stones_of board (other_of winner)) n ≡ false
 apart board Black n is own = is.1.apart n own
 apart board White n is own = is_false _ (λ black. false≢true (sym (is.1.apart n black) ∙ own))
-
-same_board : (one other : Board) → one.size ≡ other.size → ((player : Colour) → stones_of one player ≡ stones_of other player) → one ≡ other
-same_board one other size stones =
-    ap (λ (s : Extent). record { size = s; black = one.black; white = one.white }) size
-    ∙ ap (λ (black : ℕ). record { size = other.size; black = black; white = one.white }) (stones Black)
-    ∙ ap (λ (white : ℕ). record { size = other.size; black = other.black; white = white }) (stones White)
 
 put_all-size : (board : Board) (who : Colour) (cells : ℕ) → (put_all board who cells).size ≡ board.size
 put_all-size board Black cells = refl
@@ -154,11 +148,6 @@ module _ (board there : Board) (winner : Colour) (is : IsBoard there) (size : th
       has-difference_both here_empties there_empties n ((here n).1 (empty_of board winner n on not_own lacks))
       (is_false _ (λ member. false≢true (sym (no_stone there (other_of winner) n ((after n).0 member)) ∙ stone)))
 
-  same_test : (a b : Bool) → (a ≡ true → b ≡ true) → (b ≡ true → a ≡ true) → a ≡ b
-  same_test true b to back = sym (to refl)
-  same_test false true to back = absurd (false≢true (back refl))
-  same_test false false to back = refl
-
   others : union (stones_of board (other_of winner)) (difference here_empties there_empties) ≡ stones_of there (other_of winner)
   others = same_set _ _ (λ n. same_test _ _
       (λ member. ⊎_elim (inside n) (was_missing n) (has-union_cases (stones_of board (other_of winner)) (difference here_empties there_empties) n member))
@@ -167,12 +156,16 @@ module _ (board there : Board) (winner : Colour) (is : IsBoard there) (size : th
       (λ lacks. has-union_right (stones_of board (other_of winner)) (difference here_empties there_empties) n (is_missing n stone lacks))))
 
   pub put_missing : put_all board (other_of winner) (difference here_empties there_empties) ≡ there
-  put_missing = same_board _ _ (put_all-size board (other_of winner) (difference here_empties there_empties) ∙ sym size) (λ player.
-      let P : Colour → Type 0 = λ who. stones_of (put_all board (other_of winner) (difference here_empties there_empties)) who ≡ stones_of there who in
-      ⊎_elim
-      (λ same. subst P (sym same) (put_all-own board winner (difference here_empties there_empties) ∙ sym own))
-      (λ same. subst P (sym same) (put_all-others board (other_of winner) (difference here_empties there_empties) ∙ others))
-      (one_or_other player winner))
+  put_missing = same_board _ _ (put_all-size board (other_of winner) (difference here_empties there_empties) ∙ sym size) (stones Black) (stones White)
+    where
+      P : Colour → Type 0
+      P who = stones_of (put_all board (other_of winner) (difference here_empties there_empties)) who ≡ stones_of there who
+
+      stones : (player : Colour) → P player
+      stones player = ⊎_elim
+          (λ same. subst P (sym same) (put_all-own board winner (difference here_empties there_empties) ∙ sym own))
+          (λ same. subst P (sym same) (put_all-others board (other_of winner) (difference here_empties there_empties) ∙ others))
+          (one_or_other player winner)
 
 -- what was found of a board is what its missing stones lead to
 pub wider_missing : (list : List Node) (board : Board) (mover : Colour) (wider : Wider) → IsWiderFound list board mover wider.found.winner wider → IsBoard wider.position

@@ -1,8 +1,7 @@
 -- An entry of a position turned back serves whatever the entry of the position serves turned. And where two entries of positions that
 -- are turned into one another name different winners, they clash.
-use Rattle.std.proofs.Common.{◌≡◌, ℕ, List, [], ◌∷◌, ◌++◌, zero, suc, Bool, true, false, refl, sym, ap, ◌∙◌, subst, Some}
+use Rattle.std.proofs.Common.{◌≡◌, ℕ, List, Bool, true, false, refl, sym, ap, ◌∙◌, subst}
 use Rattle.std.proofs.lemmas.Bool.{false≢true}
-use Rattle.std.specs.Prelude.{slice_get}
 use Rattle.hx_board.specs.declared.colours.Colour.{Colour}
 use Rattle.hx_board.specs.Colours.{other_of}
 use Rattle.hx_board.specs.Sets.{has, IsSubset}
@@ -19,7 +18,7 @@ use Rattle.hx_book.specs.EitherEntry.{IsNeitherFound}
 use Rattle.hx_book.specs.WiderEntry.{IsWider, IsWiderFound}
 use Rattle.hx_wide.specs.Missing.{WasUnservedByEach, HasClash}
 use Rattle.hx_nodes.specs.Stored.{HasEntry}
-use Rattle.hx_nodes.proofs.GrowingLists.{extends-on}
+use Rattle.hx_tree.proofs.EntryLaws.{extends-on, node-later, entry-later}
 
 -- ---- turned stones
 
@@ -57,23 +56,6 @@ turned_wider board other wide mover winner from to is turn back wider same same_
       (carried-back board other from.position wide (other_of winner) is turn back wider.same_size wider.has_opponents);
 }
 
--- ---- entries of a list that grew
-
-get-grown : (old more : List Node) (place : ℕ) (node : Node) → slice_get old place ≡ Some node → slice_get (old ++ more) place ≡ Some node
-get-grown [] more place node there = cc
-get-grown (first ∷ old) more zero node there = there
-get-grown (first ∷ old) more (suc place) node there = get-grown old more place node there
-
-node-grown : (new old : List Node) (place : ℕ) (node : Node) → Extends new old → slice_get old place ≡ Some node → slice_get new place ≡ Some node
-node-grown new old place node grown there = rw grown.1 (get-grown old grown.0 place node there)
-
-entry-grown : (new old : List Node) (board : Board) (mover : Colour) (place : ℕ) → Extends new old → IsEntry old board mover place → IsEntry new board mover place
-entry-grown new old board mover place grown entry = record {
-  node = entry.node;
-  there = node-grown new old place entry.node grown entry.there;
-  is_of = entry.is_of;
-}
-
 -- ---- the entry that was found for the turned board
 
 module _ (old : List Node) (board other : Board) (mover : Colour) (wider : Wider) (found : IsWiderFound old other mover wider.found.winner wider) where
@@ -90,16 +72,15 @@ module _ (old : List Node) (board other : Board) (mover : Colour) (wider : Wider
   either_there new wide grown back neither =
       let same : neither.turned ≡ wider.position = back neither.turned neither.is_turned in
       neither.none wider.found.index (subst (λ (b : Board). IsEntry new b mover wider.found.index) (sym same)
-      (entry-grown new old wider.position mover wider.found.index grown own_entry))
+      (entry-later new old wider.position mover wider.found.index grown own_entry))
 
   -- where the wide position has an entry, and yet the board was not served, the two entries clash
   pub clash : (mid new : List Node) (wide : Board) → IsBoard board → IsTurned board other → IsTurned wider.position wide → Extends mid old → Extends new mid
       → HasEntry mid wide mover → WasUnservedByEach mid new board mover → HasClash new mover
-  unfolding entry-grown own_entry
   clash mid new wide is turn back before after has_entry unserved =
       let winner : Colour = wider.found.winner in
       let was = unserved winner in
-      let mine : IsEntry was.seen wide mover has_entry.0 = entry-grown was.seen mid wide mover has_entry.0 was.after_old has_entry.1 in
+      let mine = has_entry.1 in
       let from : IsTurned found.entry.node.heading.position wide = subst (λ (b : Board). IsTurned b wide) found.same_position back in
       record {
         one = wider.position;
@@ -107,12 +88,16 @@ module _ (old : List Node) (board other : Board) (mover : Colour) (wider : Wider
         is_turned = back;
         one_place = wider.found.index;
         other_place = has_entry.0;
-        one_entry = entry-grown new old wider.position mover wider.found.index (extends-on old mid new before after) own_entry;
-        other_entry = entry-grown new mid wide mover has_entry.0 after has_entry.1;
+        one_entry = record {
+          node = found.entry.node;
+          there = node-later new old wider.found.index found.entry.node (extends-on old mid new before after) found.entry.there;
+          is_of = record { same_position = sym found.same_position; same_mover = found.entry.is_wider.same_mover };
+        };
+        other_entry = record { node = mine.node; there = node-later new mid has_entry.0 mine.node after mine.there; is_of = mine.is_of };
         differ = λ same. was.none has_entry.0 (record {
-          node = has_entry.1.node;
-          there = mine.there;
-          is_wider = turned_wider board other wide mover winner found.entry.node.heading has_entry.1.node.heading is turn from found.entry.is_wider
-              has_entry.1.is_of.same_position has_entry.1.is_of.same_mover (sym same ∙ found.entry.is_wider.same_winner);
+          node = mine.node;
+          there = node-later was.seen mid has_entry.0 mine.node was.after_old mine.there;
+          is_wider = turned_wider board other wide mover winner found.entry.node.heading mine.node.heading is turn from found.entry.is_wider
+              mine.is_of.same_position mine.is_of.same_mover (sym same ∙ found.entry.is_wider.same_winner);
         });
       }

@@ -1,15 +1,17 @@
--- What some headings and steps say. These words are for the functions inside the crate alone.
-use Rattle.std.specs.Prelude.{◌≡◌, ℕ, List, [], ◌∷◌, slice_get}
+-- What some headings say, what a try to store an answer leaves, and how it ends. These words are for the functions inside the crate alone.
+use Rattle.std.specs.Prelude.{◌≡◌, ◌⊎◌, ℕ, List, [], ◌∷◌, slice_get}
 use Rattle.std.specs.declared.option.Option.TheVariants.{Some}
 use Rattle.hx_board.specs.declared.colours.Colour.{Colour}
 use Rattle.hx_board.specs.declared.colours.Colour.TheVariants.{Black, White}
 use Rattle.hx_board.specs.Sets.{union}
 use Rattle.hx_board.specs.Positions.{Board}
-use Rattle.hx_inferior.specs.declared.fills.FillStep.{FillStep}
 use Rattle.hx_tree.specs.declared.nodes.Heading.{Heading}
 use Rattle.hx_tree.specs.declared.nodes.Node.{Node}
-use Rattle.hx_tree.specs.Fills.{MayFillAll, filled_all}
 use Rattle.hx_tree.specs.Trees.{headings_of}
+use Rattle.hx_nodes.specs.Stored.{HasEntry, IsOutOfSlots}
+use Rattle.hx_nodes.specs.declared.stored.Stored.{Stored}
+use Rattle.hx_nodes.specs.declared.stored.Stored.TheVariants.{Done, Refused, Missing, Memory}
+use Rattle.hx_wide.specs.Missing.{WasUnserved}
 
 -- the headings are those of the list's nodes at these places
 abbrev pub AreKnown : List Node → List Heading → List ℕ → Type 0
@@ -23,7 +25,13 @@ abbrev pub put_all : Board → Colour → ℕ → Board
 put_all board Black cells = record board { black = union board.black cells }
 put_all board White cells = record board { white = union board.white cells }
 
--- each step may be done on the board after those before it, and they lead from the one board to the other
-pub record LeadTo (board : Board) (winner : Colour) (steps : List FillStep) (final : Board) : Type 0 where
-  pub right : MayFillAll board winner steps
-  pub same : filled_all board winner steps ≡ final
+-- with the player to move the position has an entry, or no entry of the player's was seen to serve it
+abbrev pub IsTried : List Node → List Node → Board → Colour → Type 0
+IsTried old new board player = HasEntry new board player ⊎ WasUnserved old new board player player
+
+-- no slot was left, or memory was wanting
+abbrev pub IsEnd : List Node → ℕ → Stored → Type 0
+IsEnd list slots Done = ⊥
+IsEnd list slots (Refused refusal) = IsOutOfSlots list slots refusal
+IsEnd list slots Missing = ⊥
+IsEnd list slots Memory = Unit {0}

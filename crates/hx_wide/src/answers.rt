@@ -2,11 +2,16 @@
 //! after moves of the opponent's need, so chosen that each other move is outside one of them, and the cells of the lines that name
 //! a better cell.
 
-ghost use Rattle.std.specs.Prelude.{◌≡◌, IfSome};
+ghost use Rattle.std.specs.Prelude.{◌≡◌, ℕ, true, IfSome, IfNone};
 ghost use Rattle.hx_board.specs.Colours.{other_of};
+ghost use Rattle.hx_board.specs.Positions.{IsEmpty, put};
+ghost use Rattle.hx_board.specs.Sets.{has, IsSubset};
 ghost use Rattle.hx_tree.specs.Entries.{Extends};
-ghost use Rattle.hx_nodes.specs.Missing.{LacksAnswers};
+ghost use Rattle.hx_fill.specs.Musts.{IsMust};
+ghost use Rattle.hx_fill.specs.Unders.{HasLine};
 ghost use Rattle.hx_nodes.specs.Stored.{MissingFor};
+ghost use Rattle.hx_wide.specs.Inner.{IsTried, IsEnd};
+ghost use Rattle.hx_wide.specs.Missing.{LacksServedAnswers};
 ghost use Rattle.hx_wide.specs.Wide.{IsTrueRefusal, IsStoredWide};
 
 use crate::known::{Known, store_known};
@@ -17,7 +22,7 @@ use hx_board::{CELLS, Cell, Colour, Mask, Memory, Position};
 use hx_book::Proofs;
 use hx_fill::{Must, must};
 use hx_linkset::LinkSet;
-use hx_nodes::{Stored, store_all};
+use hx_nodes::{Stored, store_answers};
 use hx_tree::{Heading, Line, Lines, Node, Rule, Threats};
 use std::alloc::Global;
 use std::sync::Wait;
@@ -75,7 +80,11 @@ fn empties_after<P: Proofs, R: Wait>(
 }
 
 /// The cells without those of these lines.
-fn without_lines(cells: Mask, lines: &[Line]) -> Mask {
+fn without_lines(cells: Mask, lines: &[Line]) -> Mask
+    ensures inside { IsSubset result cells }
+    ensures kept { (cell : ℕ) → has cells cell ≡ true → ¬ HasLine lines.now cell
+        → has result cell ≡ true }
+{
     let mut left = cells;
     for line in lines {
         left = left.without(line.cell());
@@ -122,8 +131,9 @@ fn all_wide<P: Proofs, R: Wait>(
     rt: &R,
     proofs: &mut P,
     set: &LinkSet,
-    order: &[Cell],
+    found: &Must,
 ) -> Option<Stored>
+    requires { IsMust set.now found.now.threats found.now.cells found.now.under }
     ensures slots { P.slots proofs.new ≡ P.slots proofs.old }
     ensures over { P.over proofs.new ≡ P.over proofs.old }
     ensures seen { Extends (P.list proofs.new) (P.list proofs.old) }
@@ -131,31 +141,17 @@ fn all_wide<P: Proofs, R: Wait>(
 {
     let alloc = set.allocator();
     let winner = set.colour();
-    let Ok(found) = must(set, order) else {
+    let Some(position) = position_for(rt, proofs, set, found) else {
         return None;
     };
-    let Some(position) = position_for(rt, proofs, set, &found) else {
-        return None;
-    };
-    let Must {
-        threats,
-        cells,
-        under,
-    } = found;
+    let (cells, under) = (found.cells, found.under.items());
     let mut known = Known::new(alloc);
     let Some(lines) = lines_at(
-        rt,
-        alloc,
-        proofs,
-        &mut known,
-        &position,
-        winner,
-        cells,
-        under.items(),
+        rt, alloc, proofs, &mut known, &position, winner, cells, under,
     ) else {
         return None;
     };
-    let Ok(derived) = set.derivation(threats.items()) else {
+    let Ok(derived) = set.derivation(found.threats.items()) else {
         return None;
     };
     let heading = Heading {
@@ -172,7 +168,7 @@ fn all_wide<P: Proofs, R: Wait>(
 }
 
 /// Stores an entry of each position after a move of the opponent's to one of these cells, where an entry that serves it names the
-/// winner. Some where no slot is left for one, or memory is wanting.
+/// winner. Some only where no slot is left for one, or memory is wanting.
 fn store_each<P: Proofs, R: Wait>(
     rt: &R,
     alloc: Global,
@@ -181,35 +177,53 @@ fn store_each<P: Proofs, R: Wait>(
     winner: Colour,
     cells: Mask,
 ) -> Option<Stored>
+    requires { (cell : ℕ) → has cells cell ≡ true → IsEmpty position.now cell }
     ensures slots { P.slots proofs.new ≡ P.slots proofs.old }
     ensures over { P.over proofs.new ≡ P.over proofs.old }
     ensures seen { Extends (P.list proofs.new) (P.list proofs.old) }
-    ensures refusal { IfSome result (IsTrueRefusal (P.list proofs.new) (P.slots proofs.new)) }
+    ensures end { IfSome result (IsEnd (P.list proofs.new) (P.slots proofs.new)) }
+    ensures tried { IfNone result ((cell : ℕ) → has cells cell ≡ true →
+        IsTried (P.list proofs.old) (P.list proofs.new)
+        (put position.now (other_of winner) cell) winner) }
 {
     let size = position.size();
-    let mut left = cells.meet(position.empties());
-    for _ in 0..CELLS {
-        let Some(cell) = left.least(size) else {
-            break;
-        };
-        left = left.without(cell);
-        let is_empty = position.empties().has(cell);
-        if !is_empty {
-            break;
-        }
+    let mut left = cells;
+    while let Some(cell) = left.least(size) {
         let next = position.with(winner.other(), cell);
-        match store_wider(rt, alloc, proofs, &next, winner, winner) {
-            Stored::Refused(refusal) => return Some(Stored::Refused(refusal)),
-            Stored::Memory => return Some(Stored::Memory),
-            Stored::Done | Stored::Missing => {}
+        if let Some(end) = store_next(rt, alloc, proofs, &next, winner) {
+            return Some(end);
         }
+        left = left.without(cell);
     }
     None
 }
 
+/// Stores an entry of a position with the winner to move, where an entry that serves it names the winner. Some only where no slot is
+/// left for it, or memory is wanting.
+fn store_next<P: Proofs, R: Wait>(
+    rt: &R,
+    alloc: Global,
+    proofs: &mut P,
+    next: &Position,
+    winner: Colour,
+) -> Option<Stored>
+    ensures slots { P.slots proofs.new ≡ P.slots proofs.old }
+    ensures over { P.over proofs.new ≡ P.over proofs.old }
+    ensures seen { Extends (P.list proofs.new) (P.list proofs.old) }
+    ensures end { IfSome result (IsEnd (P.list proofs.new) (P.slots proofs.new)) }
+    ensures tried { IfNone result
+        (IsTried (P.list proofs.old) (P.list proofs.new) next.now winner) }
+{
+    match store_wider(rt, alloc, proofs, next, winner, winner) {
+        Stored::Refused(refusal) => Some(Stored::Refused(refusal)),
+        Stored::Memory => Some(Stored::Memory),
+        Stored::Done | Stored::Missing => None,
+    }
+}
+
 /// Stores that a set's player wins with the opponent to move, where entries say so of the positions after the moves that have to be
-/// tried: a proof that serves the position, or one of the position itself. Missing only where the board is full, or no entry of the
-/// position after one of the moves that are to be tried says so.
+/// tried: a proof that serves the position, or one of the position itself. Missing only where the board is full, or after one of the
+/// moves that are to be tried no entry was seen to say so, or one of the position itself names the opponent.
 pub fn widen_all<P: Proofs, R: Wait>(
     rt: &R,
     proofs: &mut P,
@@ -221,21 +235,21 @@ pub fn widen_all<P: Proofs, R: Wait>(
     ensures seen { Extends (P.list proofs.new) (P.list proofs.old) }
     ensures stored { IsStoredWide (P.list proofs.new) (P.slots proofs.new)
         set.now.present.board (other_of set.now.player) result }
-    ensures missing { MissingFor (LacksAnswers (P.list proofs.old) (P.list proofs.new)
+    ensures missing { MissingFor (LacksServedAnswers (P.list proofs.old) (P.list proofs.new)
         set.now order.now) result }
 {
-    let tried = all_wide(rt, proofs, set, order);
+    let Ok(found) = must(set, order) else {
+        return Stored::Memory;
+    };
+    let tried = all_wide(rt, proofs, set, &found);
     let to_move = set.colour().other();
     if let Some(stored) = end_of(rt, proofs, set.position(), to_move, tried) {
         return stored;
     }
-    let Ok(found) = must(set, order) else {
-        return Stored::Memory;
-    };
     let alloc = set.allocator();
-    match store_each(rt, alloc, proofs, set.position(), set.colour(), found.cells) {
-        Some(Stored::Refused(refusal)) => Stored::Refused(refusal),
-        Some(Stored::Memory) => Stored::Memory,
-        _ => store_all(rt, proofs, set, order),
+    let cells = without_lines(found.cells, found.under.items());
+    if let Some(stored) = store_each(rt, alloc, proofs, set.position(), set.colour(), cells) {
+        return stored;
     }
+    store_answers(rt, proofs, set, found)
 }

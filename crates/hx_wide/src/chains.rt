@@ -3,7 +3,7 @@
 ghost use Rattle.std.specs.Prelude.{◌≡◌, IfSome};
 ghost use Rattle.hx_board.specs.Graph.{HasChain};
 ghost use Rattle.hx_tree.specs.Entries.{Extends};
-ghost use Rattle.hx_nodes.specs.Stored.{IsAnswered};
+ghost use Rattle.hx_nodes.specs.Stored.{IsAnswered, HadMemory};
 ghost use Rattle.hx_wide.specs.Wide.{IsTrueRefusal, IsStoredWide};
 
 use crate::widened::widened;
@@ -48,8 +48,10 @@ pub fn widen_chain<P: Proofs, R: Wait>(
     ensures slots { P.slots proofs.new ≡ P.slots proofs.old }
     ensures over { P.over proofs.new ≡ P.over proofs.old }
     ensures seen { Extends (P.list proofs.new) (P.list proofs.old) }
-    ensures stored { IsStoredWide (P.list proofs.new) (P.slots proofs.new) position.now to_move result }
+    ensures stored { IsStoredWide (P.list proofs.new) (P.slots proofs.new)
+        position.now to_move result }
     ensures answered { IsAnswered result }
+    ensures memory { HadMemory result }
 {
     let tried = chain_wide(rt, proofs, position, to_move, winner);
     if let Some(stored) = end_of(rt, proofs, position, to_move, tried) {

@@ -4,14 +4,15 @@
 ghost use Rattle.std.specs.Prelude.{◌≡◌, IfSome};
 ghost use Rattle.hx_tree.specs.Entries.{Extends};
 ghost use Rattle.hx_fill.specs.Fills.{IsFillIn};
-ghost use Rattle.hx_nodes.specs.Missing.{LacksFill};
+ghost use Rattle.hx_book.specs.WiderEntry.{IsWiderFound};
 ghost use Rattle.hx_nodes.specs.Stored.{MissingFor};
+ghost use Rattle.hx_wide.specs.Missing.{LacksServedFill};
 ghost use Rattle.hx_wide.specs.Wide.{IsTrueRefusal, IsStoredWide};
 
 use crate::widened::lifted;
-use crate::wider::{end_of, fill_to, look_wider_either, store_wider};
+use crate::wider::{end_of, fill_missing, fill_to, look_wider_either};
 use hx_board::{Colour, Mask, Memory, Position};
-use hx_book::Proofs;
+use hx_book::{Proofs, Wider};
 use hx_fill::{Fill, Filled};
 use hx_inferior::FillStep;
 use hx_nodes::{Stored, store_fill};
@@ -47,22 +48,22 @@ fn all_cells(steps: &[FillStep]) -> Mask {
     cells
 }
 
-/// Stores the winner's own steps where the opponent has all cells that the entry of the filled position does not need.
+/// Stores the winner's own steps where the opponent has all cells that an entry that serves the filled position does not need.
 fn fill_wide<P: Proofs, R: Wait>(
     rt: &R,
     alloc: Global,
     proofs: &mut P,
     to_move: Colour,
     filled: &Filled,
+    wider: &Wider,
 ) -> Option<Stored>
+    requires { IsWiderFound (P.list proofs.old) filled.now.position to_move
+        wider.now.found.winner wider.now }
     ensures slots { P.slots proofs.new ≡ P.slots proofs.old }
     ensures over { P.over proofs.new ≡ P.over proofs.old }
     ensures seen { Extends (P.list proofs.new) (P.list proofs.old) }
     ensures refusal { IfSome result (IsTrueRefusal (P.list proofs.new) (P.slots proofs.new)) }
 {
-    let Some(wider) = look_wider_either(rt, proofs, &filled.position, to_move) else {
-        return None;
-    };
     let winner = wider.found.winner;
     let Ok(steps) = own_steps(alloc, filled.steps.as_slice(), winner) else {
         return None;
@@ -73,39 +74,12 @@ fn fill_wide<P: Proofs, R: Wait>(
     let Some(wide) = lifted(&wider.position, winner, all_cells(steps.as_slice())) else {
         return None;
     };
-    fill_to(
-        rt,
-        alloc,
-        proofs,
-        &wide,
-        &wider,
-        to_move,
-        FillSteps::new(steps),
-    )
-}
-
-/// Stores an entry of the filled position itself, for the winner that an entry that serves it names.
-fn fill_exactly<P: Proofs, R: Wait>(
-    rt: &R,
-    alloc: Global,
-    proofs: &mut P,
-    to_move: Colour,
-    filled: &Filled,
-) -> Option<Stored>
-    ensures slots { P.slots proofs.new ≡ P.slots proofs.old }
-    ensures over { P.over proofs.new ≡ P.over proofs.old }
-    ensures seen { Extends (P.list proofs.new) (P.list proofs.old) }
-    ensures refusal { IfSome result (IsTrueRefusal (P.list proofs.new) (P.slots proofs.new)) }
-{
-    let Some(wider) = look_wider_either(rt, proofs, &filled.position, to_move) else {
-        return None;
-    };
-    let winner = wider.found.winner;
-    Some(store_wider(rt, alloc, proofs, &filled.position, to_move, winner))
+    let steps = FillSteps::new(steps);
+    fill_to(rt, alloc, proofs, &wide, wider, to_move, steps)
 }
 
 /// Stores who wins a position, where an entry that serves the position after fill-in says who wins that: a proof that serves the
-/// position, or one of the position itself. Missing only where no entry of the filled position says so, or where nothing was
+/// position, or one of the position itself. Missing only where no entry was seen to serve the filled position, or where nothing was
 /// filled.
 pub fn widen_fill<P: Proofs, R: Wait>(
     rt: &R,
@@ -119,17 +93,22 @@ pub fn widen_fill<P: Proofs, R: Wait>(
     ensures slots { P.slots proofs.new ≡ P.slots proofs.old }
     ensures over { P.over proofs.new ≡ P.over proofs.old }
     ensures seen { Extends (P.list proofs.new) (P.list proofs.old) }
-    ensures stored { IsStoredWide (P.list proofs.new) (P.slots proofs.new) position.now to_move result }
-    ensures missing { MissingFor (LacksFill (P.list proofs.old) (P.list proofs.new)
+    ensures stored { IsStoredWide (P.list proofs.new) (P.slots proofs.new)
+        position.now to_move result }
+    ensures missing { MissingFor (LacksServedFill (P.list proofs.old) (P.list proofs.new)
         filled.now.steps.items filled.now.position to_move) result }
 {
-    let tried = fill_wide(rt, alloc, proofs, to_move, filled);
+    let Some(wider) = look_wider_either(rt, proofs, &filled.position, to_move) else {
+        return Stored::Missing;
+    };
+    let tried = fill_wide(rt, alloc, proofs, to_move, filled, &wider);
     if let Some(stored) = end_of(rt, proofs, position, to_move, tried) {
         return stored;
     }
-    match fill_exactly(rt, alloc, proofs, to_move, filled) {
-        Some(Stored::Refused(refusal)) => Stored::Refused(refusal),
-        Some(Stored::Memory) => Stored::Memory,
-        _ => store_fill(rt, alloc, proofs, position, to_move, filled),
+    match fill_missing(rt, alloc, proofs, &filled.position, &wider, to_move) {
+        Stored::Done => store_fill(rt, alloc, proofs, position, to_move, filled),
+        Stored::Refused(refusal) => Stored::Refused(refusal),
+        Stored::Memory => Stored::Memory,
+        Stored::Missing => unreachable!(),
     }
 }

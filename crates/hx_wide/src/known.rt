@@ -3,7 +3,7 @@
 //! What a node at a widened position needs is a guess. So such a node names its children by their places in a short list of
 //! entries, is judged by the checker over their headings, and is stored only where the checker says that it is right.
 
-ghost use Rattle.std.specs.Prelude.{◌≡◌, List, [], slice_get, OnOk, IfOk, IfSome, IfNone};
+ghost use Rattle.std.specs.Prelude.{◌≡◌, List, [], slice_get, OnOk, OnErr, IfOk, IfSome, IfNone};
 ghost use Rattle.std.specs.declared.option.Option.TheVariants.{Some};
 ghost use Rattle.hx_tree.specs.declared.nodes.Node.{Node as Proof};
 ghost use Rattle.hx_tree.specs.Entries.{Extends};
@@ -38,22 +38,25 @@ impl Known {
         }
     }
 
-    /// Adds an entry. Its place among the known ones.
+    /// Adds an entry. Its place among the known ones. Where memory is wanting they stay as they are.
     pub(crate) fn add(&mut self, heading: Heading, place: u32) -> Result<u32, Memory>
-        ensures known { OnOk result ((list : List Proof) → AreKnown list self.old.headings.items self.old.places.items
+        ensures known { OnOk result ((list : List Proof)
+            → AreKnown list self.old.headings.items self.old.places.items
             → slice_get (headings_of list) place ≡ Some heading
             → AreKnown list self.new.headings.items self.new.places.items) }
-        ensures there { IfOk result (λ place. slice_get self.new.headings.items place ≡ Some heading) }
+        ensures there { IfOk result (λ place.
+            slice_get self.new.headings.items place ≡ Some heading) }
+        ensures same_headings { OnErr result (self.new.headings.items ≡ self.old.headings.items) }
+        ensures same_places { OnErr result (self.new.places.items ≡ self.old.places.items) }
     {
         let Ok(count) = u32::try_from(self.headings.len()) else {
             return Err(Memory);
         };
-        if self.headings.push(heading).is_err() {
+        if self.headings.reserve(1).is_err() || self.places.reserve(1).is_err() {
             return Err(Memory);
         }
-        if self.places.push(place).is_err() {
-            return Err(Memory);
-        }
+        self.headings.push_reserved(heading);
+        self.places.push_reserved(place);
         Ok(count)
     }
 }

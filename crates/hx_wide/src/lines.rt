@@ -42,7 +42,8 @@ fn know_next<P: Proofs, R: Wait>(
     ensures slots { P.slots proofs.new ≡ P.slots proofs.old }
     ensures over { P.over proofs.new ≡ P.over proofs.old }
     ensures seen { Extends (P.list proofs.new) (P.list proofs.old) }
-    ensures known { IfSome result (λ _. AreKnown (P.list proofs.new) known.new.headings.items known.new.places.items) }
+    ensures known { IfSome result (λ _.
+        AreKnown (P.list proofs.new) known.new.headings.items known.new.places.items) }
 {
     // The proof takes from here that the next position's board is one.
     let _size = next.size();
@@ -76,11 +77,14 @@ pub(crate) fn lines_at<P: Proofs, R: Wait>(
     ensures slots { P.slots proofs.new ≡ P.slots proofs.old }
     ensures over { P.over proofs.new ≡ P.over proofs.old }
     ensures seen { Extends (P.list proofs.new) (P.list proofs.old) }
-    ensures known { IfSome result (λ _. AreKnown (P.list proofs.new) known.new.headings.items known.new.places.items) }
+    ensures known { IfSome result (λ _.
+        AreKnown (P.list proofs.new) known.new.headings.items known.new.places.items) }
 {
     let size = wide.size();
-    let mut lines = Vec::new(alloc);
     let mut left = cells.meet(wide.empties());
+    let Ok(mut lines) = Vec::with_capacity(alloc, left.count() as usize) else {
+        return None;
+    };
     for _ in 0..CELLS {
         let Some(cell) = left.least(size) else {
             break;
@@ -111,7 +115,8 @@ fn line_at<P: Proofs, R: Wait>(
     ensures slots { P.slots proofs.new ≡ P.slots proofs.old }
     ensures over { P.over proofs.new ≡ P.over proofs.old }
     ensures seen { Extends (P.list proofs.new) (P.list proofs.old) }
-    ensures known { IfSome result (λ _. AreKnown (P.list proofs.new) known.new.headings.items known.new.places.items) }
+    ensures known { IfSome result (λ _.
+        AreKnown (P.list proofs.new) known.new.headings.items known.new.places.items) }
 {
     if let Some(line) = line_among(under, cell) {
         return Some(line);

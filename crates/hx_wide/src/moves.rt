@@ -44,7 +44,7 @@ fn move_wide<P: Proofs, R: Wait>(
 
 /// Stores that the player to move wins by a move to the cell, where an entry that serves the position after it says so: a proof
 /// that serves the position, or one of the position itself. Missing only where no entry that says so was seen to serve the
-/// position after the move, or no entry of that position says so.
+/// position after the move, or an entry of that position names the opponent.
 pub fn widen_move<P: Proofs, R: Wait>(
     rt: &R,
     alloc: Global,
@@ -57,7 +57,8 @@ pub fn widen_move<P: Proofs, R: Wait>(
     ensures slots { P.slots proofs.new ≡ P.slots proofs.old }
     ensures over { P.over proofs.new ≡ P.over proofs.old }
     ensures seen { Extends (P.list proofs.new) (P.list proofs.old) }
-    ensures stored { IsStoredWide (P.list proofs.new) (P.slots proofs.new) position.now to_move result }
+    ensures stored { IsStoredWide (P.list proofs.new) (P.slots proofs.new)
+        position.now to_move result }
     ensures missing { MissingFor (LacksServedMove (P.list proofs.old) (P.list proofs.new)
         position.now to_move cell) result }
 {

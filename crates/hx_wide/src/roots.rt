@@ -53,7 +53,8 @@ fn by_some_move<P: Proofs, R: Wait>(
     ensures slots { P.slots proofs.new ≡ P.slots proofs.old }
     ensures over { P.over proofs.new ≡ P.over proofs.old }
     ensures seen { Extends (P.list proofs.new) (P.list proofs.old) }
-    ensures stored { IfSome result (IsStored (P.list proofs.new) (P.slots proofs.new) position.now to_move) }
+    ensures stored { IfSome result
+        (IsStored (P.list proofs.new) (P.slots proofs.new) position.now to_move) }
 {
     if winner != to_move {
         return None;

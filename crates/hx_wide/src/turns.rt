@@ -3,7 +3,7 @@
 ghost use Rattle.std.specs.Prelude.{◌≡◌};
 ghost use Rattle.hx_tree.specs.Entries.{Extends};
 ghost use Rattle.hx_wide.specs.Missing.{LacksTurned};
-ghost use Rattle.hx_nodes.specs.Stored.{MissingFor};
+ghost use Rattle.hx_nodes.specs.Stored.{MissingFor, HadMemory};
 ghost use Rattle.hx_wide.specs.Wide.{IsStoredWide};
 
 use crate::wider::{end_of, look_wider_either};
@@ -25,9 +25,11 @@ pub fn widen_turned<P: Proofs, R: Wait>(
     ensures slots { P.slots proofs.new ≡ P.slots proofs.old }
     ensures over { P.over proofs.new ≡ P.over proofs.old }
     ensures seen { Extends (P.list proofs.new) (P.list proofs.old) }
-    ensures stored { IsStoredWide (P.list proofs.new) (P.slots proofs.new) position.now to_move result }
+    ensures stored { IsStoredWide (P.list proofs.new) (P.slots proofs.new)
+        position.now to_move result }
     ensures missing { MissingFor (LacksTurned (P.list proofs.old) (P.list proofs.new)
         position.now to_move) result }
+    ensures memory { HadMemory result }
 {
     // The proof takes from here that the position's board is one.
     let _size = position.size();

@@ -5,10 +5,11 @@ ghost use Rattle.hx_board.specs.Colours.{other_of};
 ghost use Rattle.hx_board.specs.Sets.{has};
 ghost use Rattle.hx_board.specs.Positions.{Board, IsEmpty};
 ghost use Rattle.hx_tree.specs.Entries.{Extends};
+ghost use Rattle.hx_tree.specs.Fills.{LeadTo};
 ghost use Rattle.hx_book.specs.WiderEntry.{IsWiderFound};
 ghost use Rattle.hx_wide.specs.Missing.{WasUnserved, WasUnservedByEach};
-ghost use Rattle.hx_nodes.specs.Stored.{IsStored, IsAnswered, MissingFor};
-ghost use Rattle.hx_wide.specs.Inner.{put_all, LeadTo};
+ghost use Rattle.hx_nodes.specs.Stored.{IsStored, IsAnswered, MissingFor, HadMemory};
+ghost use Rattle.hx_wide.specs.Inner.{put_all};
 ghost use Rattle.hx_wide.specs.Wide.{IsTrueRefusal, IsStoredWide};
 
 use crate::known::{Known, store_known};
@@ -39,6 +40,7 @@ pub fn look_wider_either<P: Proofs, R: Wait>(
     if let Some(wider) = proofs.look_wider(rt, position, to_move, to_move) {
         return Some(wider);
     }
+    // The two answers are taken apart for the proof: each has a clause of its own.
     match proofs.look_wider(rt, position, to_move, to_move.other()) {
         Some(wider) => Some(wider),
         None => None,
@@ -58,8 +60,10 @@ pub(crate) fn end_of<P: Proofs, R: Wait>(
     ensures slots { P.slots proofs.new ≡ P.slots proofs.old }
     ensures over { P.over proofs.new ≡ P.over proofs.old }
     ensures seen { Extends (P.list proofs.new) (P.list proofs.old) }
-    ensures stored { IfSome result (IsStoredWide (P.list proofs.new) (P.slots proofs.new) position.now to_move) }
+    ensures stored { IfSome result
+        (IsStoredWide (P.list proofs.new) (P.slots proofs.new) position.now to_move) }
     ensures answered { IfSome result IsAnswered }
+    ensures memory { IfSome result HadMemory }
     ensures none { IfNone result
         (WasUnservedByEach (P.list proofs.old) (P.list proofs.new) position.now to_move) }
 {
@@ -84,7 +88,9 @@ fn others_on(
         LeadTo position.now winner steps.items (put_all position.now (other_of winner) cells)) }
 {
     let size = position.size();
-    let mut steps = Vec::new(alloc);
+    let Ok(mut steps) = Vec::with_capacity(alloc, cells.count() as usize) else {
+        return Err(Memory);
+    };
     let mut left = cells;
     while let Some(cell) = left.least(size) {
         if steps.push(FillStep::Other(cell)).is_err() {
@@ -122,7 +128,7 @@ pub fn store_wider<P: Proofs, R: Wait>(
 }
 
 /// Stores that the winner of an entry that serves a position wins it, by a node that fills in each missing stone of the opponent's.
-fn fill_missing<P: Proofs, R: Wait>(
+pub(crate) fn fill_missing<P: Proofs, R: Wait>(
     rt: &R,
     alloc: Global,
     proofs: &mut P,
@@ -130,7 +136,8 @@ fn fill_missing<P: Proofs, R: Wait>(
     wider: &Wider,
     to_move: Colour,
 ) -> Stored
-    requires { IsWiderFound (P.list proofs.old) position.now to_move wider.now.found.winner wider.now }
+    requires { IsWiderFound (P.list proofs.old) position.now to_move
+        wider.now.found.winner wider.now }
     ensures slots { P.slots proofs.new ≡ P.slots proofs.old }
     ensures over { P.over proofs.new ≡ P.over proofs.old }
     ensures seen { Extends (P.list proofs.new) (P.list proofs.old) }
@@ -164,12 +171,14 @@ pub(crate) fn fill_to<P: Proofs, R: Wait>(
     to_move: Colour,
     steps: FillSteps,
 ) -> Option<Stored>
-    requires found { (board : Board) × IsWiderFound (P.list proofs.old) board to_move wider.now.found.winner wider.now }
+    requires found { (board : Board)
+        × IsWiderFound (P.list proofs.old) board to_move wider.now.found.winner wider.now }
     requires some { steps ≢ [] }
     ensures slots { P.slots proofs.new ≡ P.slots proofs.old }
     ensures over { P.over proofs.new ≡ P.over proofs.old }
     ensures seen { Extends (P.list proofs.new) (P.list proofs.old) }
-    ensures stored { IfSome result (IsStored (P.list proofs.new) (P.slots proofs.new) position.now to_move) }
+    ensures stored { IfSome result
+        (IsStored (P.list proofs.new) (P.slots proofs.new) position.now to_move) }
     ensures answered { IfSome result IsAnswered }
     ensures wrong { IfNone result
         (¬ LeadTo position.now wider.now.found.winner steps wider.now.position) }

@@ -1,4 +1,4 @@
-use Rattle.hx_nodes.proofs.GrowingLists.{extends-on}
+use Rattle.hx_tree.proofs.EntryLaws.{extends-on}
 use Rattle.hx_wide.proofs.answers.needed_after.Goals as goal
 
 pub returns-in_default-empties_after-clause-seen : goal.returns-in_default-empties_after-clause-seen

@@ -1,10 +1,20 @@
-use Rattle.std.proofs.Common.{◌≡◌}
+use Rattle.std.proofs.Common.{◌≡◌, ℕ, true, false}
+use Rattle.hx_board.specs.Colours.{other_of}
+use Rattle.hx_board.specs.Positions.{put}
+use Rattle.hx_board.specs.Sets.{has, count_below, IsSubset}
 use Rattle.hx_tree.specs.Entries.{Extends}
+use Rattle.hx_wide.specs.Inner.{IsTried}
 use Rattle.hx_wide.proofs.answers.store_each.Given as goal
 
-abbrev pub invariant-loop : goal.invariant-loop
-invariant-loop g l = record {
+abbrev pub invariant-loop-cell : goal.invariant-loop-cell
+invariant-loop-cell g l = record {
   slots : g.P.Proofs.slots l.proofs ≡ g.P.Proofs.slots l.fn.proofs;
   over : g.P.Proofs.over l.proofs ≡ g.P.Proofs.over l.fn.proofs;
   seen : Extends (g.P.Proofs.list l.proofs) (g.P.Proofs.list l.fn.proofs);
+  inside : IsSubset l.left l.fn.cells;
+  tried : (cell : ℕ) → has l.fn.cells cell ≡ true → has l.left cell ≡ false
+      → IsTried (g.P.Proofs.list l.fn.proofs) (g.P.Proofs.list l.proofs) (put l.fn.position (other_of l.fn.winner) cell) l.fn.winner;
 }
+
+abbrev pub decreases-loop-cell : goal.decreases-loop-cell
+decreases-loop-cell g l = count_below 128 l.left

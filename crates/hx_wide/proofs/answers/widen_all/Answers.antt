@@ -1,38 +1,57 @@
+use Rattle.std.proofs.Common.{inl, inr, ⊎_elim}
 use Rattle.hx_tree.specs.Entries.{Extends}
-use Rattle.hx_nodes.specs.Missing.{LacksAnswers}
-use Rattle.hx_nodes.proofs.GrowingLists.{extends-on, missing-too}
-use Rattle.hx_wide.proofs.LackingLaws.{lacks_answers-earlier}
-use Rattle.hx_wide.proofs.WideLaws.{stored_wide}
+use Rattle.hx_nodes.specs.Missing.{LacksOneOf}
+use Rattle.hx_tree.proofs.EntryLaws.{extends-on}
+use Rattle.hx_nodes.proofs.GrowingLists.{missing-too}
+use Rattle.hx_wide.specs.Missing.{LacksServedAnswers}
+use Rattle.hx_wide.proofs.LackingLaws.{unserved_of}
+use Rattle.hx_wide.proofs.WideLaws.{stored_wide, end_stored, end_answered}
 use Rattle.hx_wide.proofs.answers.widen_all.Goals as goal
 
+pub store_each-requires : goal.store_each-requires
+store_each-requires g c =
+    λ cell member. rw c.position-2.ensures ((c.in-Ok.ensures.must.shared cell).0 (c.without_lines-cells.ensures.inside cell member)).empty
+
+pub returns-in-Some-store_each-clause-stored : goal.returns-in-Some-store_each-clause-stored
+returns-in-Some-store_each-clause-stored g c = end_stored _ _ _ _ _ c.in-Some-store_each.ensures.end
+
+pub returns-in-Some-store_each-clause-missing : goal.returns-in-Some-store_each-clause-missing
+returns-in-Some-store_each-clause-missing g c = end_answered _ _ _ _ c.in-Some-store_each.ensures.end
+
 pub returns-clause-stored : goal.returns-clause-stored
-returns-clause-stored g c = stored_wide _ _ _ _ _ c.store_all.ensures.stored
+returns-clause-stored g c = stored_wide _ _ _ _ _ c.store_answers.ensures.stored
 
 pub returns-clause-missing : goal.returns-clause-missing
 returns-clause-missing g c =
     let old = g.P.Proofs.list c.args.proofs.now in
+    let wide = g.P.Proofs.list c.all_wide-tried.new.proofs in
     let ended = g.P.Proofs.list c.end_of.new.proofs in
     let mid = g.P.Proofs.list c.store_each.new.proofs in
-    let new = g.P.Proofs.list c.store_all.new.proofs in
-    let grown : Extends ended old = extends-on _ _ _ c.all_wide-tried.ensures.seen c.end_of.ensures.seen in
-    missing-too (LacksAnswers mid new c.args.set.now c.args.order.now) (LacksAnswers old new c.args.set.now c.args.order.now) c.store_all.result
-    (lacks_answers-earlier old mid new (extends-on old ended mid grown c.store_each.ensures.seen) c.args.set.now c.args.order.now)
-    c.store_all.ensures.missing
+    let new = g.P.Proofs.list c.store_answers.new.proofs in
+    let set = c.args.set.now in
+    let found = c.in-Ok.found in
+    let grown : Extends ended old = extends-on old wide ended c.all_wide-tried.ensures.seen c.end_of.ensures.seen in
+    missing-too (LacksOneOf mid new set found.cells found.under) (LacksServedAnswers old new set c.args.order.now) c.store_answers.result
+    (⊎_elim inl (λ lacking. inr (record {
+      threats = found.threats;
+      cells = found.cells;
+      under = found.under;
+      must = c.in-Ok.ensures.must;
+      by_order = c.in-Ok.ensures.order;
+      unserved = unserved_of old ended mid new set.present.board set.player found.cells c.without_lines-cells.result found.under grown c.store_each.ensures.seen
+          c.store_answers.ensures.seen (rw c.items.ensures at c.without_lines-cells.ensures.kept)
+          (rw (c.position-2.ensures, c.colour-2.ensures) at c.in_default-store_each.ensures.tried) lacking;
+    })))
+    c.store_answers.ensures.missing
 
 pub returns-in-Some-clause-seen : goal.returns-in-Some-clause-seen
 returns-in-Some-clause-seen g c = extends-on _ _ _ c.all_wide-tried.ensures.seen c.end_of.ensures.seen
 
-pub returns-in_default-must-clause-seen : goal.returns-in_default-must-clause-seen
-returns-in_default-must-clause-seen g c = extends-on _ _ _ c.all_wide-tried.ensures.seen c.end_of.ensures.seen
-
-pub returns-in-Some-Refused-clause-seen : goal.returns-in-Some-Refused-clause-seen
-returns-in-Some-Refused-clause-seen g c =
-    extends-on _ _ _ (extends-on _ _ _ c.all_wide-tried.ensures.seen c.end_of.ensures.seen) c.store_each.ensures.seen
-
-pub returns-in-Some-Memory-clause-seen : goal.returns-in-Some-Memory-clause-seen
-returns-in-Some-Memory-clause-seen g c =
+pub returns-in-Some-store_each-clause-seen : goal.returns-in-Some-store_each-clause-seen
+returns-in-Some-store_each-clause-seen g c =
     extends-on _ _ _ (extends-on _ _ _ c.all_wide-tried.ensures.seen c.end_of.ensures.seen) c.store_each.ensures.seen
 
 pub returns-clause-seen : goal.returns-clause-seen
 returns-clause-seen g c =
-    extends-on _ _ _ (extends-on _ _ _ (extends-on _ _ _ c.all_wide-tried.ensures.seen c.end_of.ensures.seen) c.store_each.ensures.seen) c.store_all.ensures.seen
+    extends-on _ _ _ (extends-on _ _ _ (extends-on _ _ _ c.all_wide-tried.ensures.seen c.end_of.ensures.seen) c.store_each.ensures.seen)
+    c.store_answers.ensures.seen

@@ -1,37 +1,53 @@
+use Rattle.std.proofs.Common.{inl}
 use Rattle.hx_tree.specs.Entries.{Extends}
 use Rattle.hx_nodes.specs.Missing.{LacksFill}
-use Rattle.hx_nodes.proofs.GrowingLists.{extends-on, missing-too}
-use Rattle.hx_wide.proofs.LackingLaws.{lacks_fill-earlier}
+use Rattle.hx_tree.proofs.EntryLaws.{extends-on}
+use Rattle.hx_nodes.proofs.GrowingLists.{missing-too}
+use Rattle.hx_wide.specs.Missing.{LacksServedFill}
+use Rattle.hx_wide.proofs.LackingLaws.{fill_lacks-nothing}
+use Rattle.hx_wide.proofs.KnownEntries.{wider_found-later}
 use Rattle.hx_wide.proofs.WideLaws.{stored_wide}
 use Rattle.hx_wide.proofs.fills.widen_fill.Goals as goal
 
-pub returns-in_default-fill_exactly-clause-stored : goal.returns-in_default-fill_exactly-clause-stored
-returns-in_default-fill_exactly-clause-stored g c = stored_wide _ _ _ _ _ c.store_fill.ensures.stored
-
-pub returns-in_default-fill_exactly-clause-missing : goal.returns-in_default-fill_exactly-clause-missing
-returns-in_default-fill_exactly-clause-missing g c =
-    let old = g.P.Proofs.list c.args.proofs.now in
+pub fill_missing-requires : goal.fill_missing-requires
+fill_missing-requires g c =
+    let found = g.P.Proofs.list c.look_wider_either.new.proofs in
+    let wide = g.P.Proofs.list c.fill_wide-tried.new.proofs in
     let ended = g.P.Proofs.list c.end_of.new.proofs in
-    let mid = g.P.Proofs.list c.fill_exactly.new.proofs in
+    let grown : Extends ended found = extends-on found wide ended c.fill_wide-tried.ensures.seen c.end_of.ensures.seen in
+    wider_found-later ended found c.args.filled.now.position c.args.to_move c.in-Some.wider grown c.in-Some.ensures.found
+
+pub returns-in-Done-clause-stored : goal.returns-in-Done-clause-stored
+returns-in-Done-clause-stored g c = stored_wide _ _ _ _ _ c.store_fill.ensures.stored
+
+pub returns-in-Done-clause-missing : goal.returns-in-Done-clause-missing
+returns-in-Done-clause-missing g c =
+    let old = g.P.Proofs.list c.args.proofs.now in
+    let mid = g.P.Proofs.list c.fill_missing.new.proofs in
     let new = g.P.Proofs.list c.store_fill.new.proofs in
     let fills = c.args.filled.now.steps.items in
     let filled = c.args.filled.now.position in
-    let grown : Extends ended old = extends-on _ _ _ c.fill_wide-tried.ensures.seen c.end_of.ensures.seen in
-    missing-too (LacksFill mid new fills filled c.args.to_move) (LacksFill old new fills filled c.args.to_move) c.store_fill.result
-    (lacks_fill-earlier old mid new (extends-on old ended mid grown c.fill_exactly.ensures.seen) fills filled c.args.to_move)
+    missing-too (LacksFill mid new fills filled c.args.to_move) (LacksServedFill old new fills filled c.args.to_move) c.store_fill.result
+    (λ lacks. inl (fill_lacks-nothing mid new fills filled c.args.to_move c.in-Done.ensures.stored lacks))
     c.store_fill.ensures.missing
 
-pub returns-in-Some-clause-seen : goal.returns-in-Some-clause-seen
-returns-in-Some-clause-seen g c = extends-on _ _ _ c.fill_wide-tried.ensures.seen c.end_of.ensures.seen
+pub returns-in-Some-end_of-clause-seen : goal.returns-in-Some-end_of-clause-seen
+returns-in-Some-end_of-clause-seen g c =
+    extends-on _ _ _ (extends-on _ _ _ c.look_wider_either.ensures.seen c.fill_wide-tried.ensures.seen) c.end_of.ensures.seen
 
-pub returns-in-Some-Refused-clause-seen : goal.returns-in-Some-Refused-clause-seen
-returns-in-Some-Refused-clause-seen g c =
-    extends-on _ _ _ (extends-on _ _ _ c.fill_wide-tried.ensures.seen c.end_of.ensures.seen) c.fill_exactly.ensures.seen
+pub returns-in-Refused-clause-seen : goal.returns-in-Refused-clause-seen
+returns-in-Refused-clause-seen g c =
+    extends-on _ _ _ (extends-on _ _ _ (extends-on _ _ _ c.look_wider_either.ensures.seen c.fill_wide-tried.ensures.seen) c.end_of.ensures.seen)
+    c.fill_missing.ensures.seen
 
-pub returns-in-Some-Memory-clause-seen : goal.returns-in-Some-Memory-clause-seen
-returns-in-Some-Memory-clause-seen g c =
-    extends-on _ _ _ (extends-on _ _ _ c.fill_wide-tried.ensures.seen c.end_of.ensures.seen) c.fill_exactly.ensures.seen
+pub returns-in-Memory-clause-seen : goal.returns-in-Memory-clause-seen
+returns-in-Memory-clause-seen g c =
+    extends-on _ _ _ (extends-on _ _ _ (extends-on _ _ _ c.look_wider_either.ensures.seen c.fill_wide-tried.ensures.seen) c.end_of.ensures.seen)
+    c.fill_missing.ensures.seen
 
-pub returns-in_default-fill_exactly-clause-seen : goal.returns-in_default-fill_exactly-clause-seen
-returns-in_default-fill_exactly-clause-seen g c =
-    extends-on _ _ _ (extends-on _ _ _ (extends-on _ _ _ c.fill_wide-tried.ensures.seen c.end_of.ensures.seen) c.fill_exactly.ensures.seen) c.store_fill.ensures.seen
+pub returns-in-Done-clause-seen : goal.returns-in-Done-clause-seen
+returns-in-Done-clause-seen g c =
+    extends-on _ _ _
+    (extends-on _ _ _ (extends-on _ _ _ (extends-on _ _ _ c.look_wider_either.ensures.seen c.fill_wide-tried.ensures.seen) c.end_of.ensures.seen)
+    c.fill_missing.ensures.seen)
+    c.store_fill.ensures.seen

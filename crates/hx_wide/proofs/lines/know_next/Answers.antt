@@ -1,4 +1,4 @@
-use Rattle.hx_nodes.proofs.GrowingLists.{extends-on}
+use Rattle.hx_tree.proofs.EntryLaws.{extends-on}
 use Rattle.hx_wide.proofs.KnownEntries.{known_grown, found_known}
 use Rattle.hx_wide.proofs.lines.know_next.Goals as goal
 

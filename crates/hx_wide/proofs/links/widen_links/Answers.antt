@@ -1,4 +1,4 @@
-use Rattle.hx_nodes.proofs.GrowingLists.{extends-on}
+use Rattle.hx_tree.proofs.EntryLaws.{extends-on}
 use Rattle.hx_wide.proofs.links.widen_links.Goals as goal
 
 pub returns-in-Some-clause-seen : goal.returns-in-Some-clause-seen

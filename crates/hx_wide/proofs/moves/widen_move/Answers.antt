@@ -1,8 +1,13 @@
+use Rattle.std.proofs.Common.{inl, inr}
+use Rattle.hx_board.specs.Colours.{other_of}
+use Rattle.hx_board.specs.Positions.{Board, put}
 use Rattle.hx_tree.specs.Entries.{Extends}
 use Rattle.hx_nodes.specs.Missing.{LacksMove}
+use Rattle.hx_nodes.specs.Stored.{HasEntry}
 use Rattle.hx_wide.specs.Missing.{WasUnserved, LacksServedMove}
-use Rattle.hx_nodes.proofs.GrowingLists.{extends-on, missing-too}
-use Rattle.hx_wide.proofs.LackingLaws.{unserved_move-earlier, lacks_move-earlier}
+use Rattle.hx_tree.proofs.EntryLaws.{extends-itself, extends-on}
+use Rattle.hx_nodes.proofs.GrowingLists.{missing-too}
+use Rattle.hx_wide.proofs.LackingLaws.{unserved-within, lost-since}
 use Rattle.hx_wide.proofs.WideLaws.{stored_wide}
 use Rattle.hx_wide.proofs.moves.widen_move.Goals as goal
 
@@ -12,22 +17,27 @@ returns-in-Done-clause-stored g c = stored_wide _ _ _ _ _ c.store_move.ensures.s
 pub returns-in-Done-clause-missing : goal.returns-in-Done-clause-missing
 returns-in-Done-clause-missing g c =
     let old = g.P.Proofs.list c.args.proofs.now in
+    let wide = g.P.Proofs.list c.move_wide-tried.new.proofs in
     let ended = g.P.Proofs.list c.end_of.new.proofs in
     let mid = g.P.Proofs.list c.store_wider.new.proofs in
     let new = g.P.Proofs.list c.store_move.new.proofs in
-    let grown : Extends ended old = extends-on _ _ _ c.move_wide-tried.ensures.seen c.end_of.ensures.seen in
-    missing-too (LacksMove mid new c.args.position.now c.args.to_move c.args.cell) (LacksServedMove old new c.args.position.now c.args.to_move c.args.cell) c.store_move.result
-    (lacks_move-earlier old mid new (extends-on old ended mid grown c.store_wider.ensures.seen) c.args.position.now c.args.to_move c.args.cell)
+    let player = c.args.to_move in
+    let next : Board = put c.args.position.now player c.args.cell in
+    let grown : Extends mid old = extends-on old ended mid (extends-on old wide ended c.move_wide-tried.ensures.seen c.end_of.ensures.seen) c.store_wider.ensures.seen in
+    let has : HasEntry mid c.with-next.result c.other.result = c.in-Done.ensures.stored in
+    missing-too (LacksMove mid new c.args.position.now player c.args.cell) (LacksServedMove old new c.args.position.now player c.args.cell) c.store_move.result
+    (λ was. inr (lost-since old mid new next (other_of player) player grown (rw (c.with-next.ensures, c.other.ensures) at has) was))
     c.store_move.ensures.missing
 
 pub returns-in-Missing-clause-missing : goal.returns-in-Missing-clause-missing
 returns-in-Missing-clause-missing g c =
     let old = g.P.Proofs.list c.args.proofs.now in
+    let wide = g.P.Proofs.list c.move_wide-tried.new.proofs in
     let ended = g.P.Proofs.list c.end_of.new.proofs in
     let new = g.P.Proofs.list c.store_wider.new.proofs in
+    let grown : Extends ended old = extends-on old wide ended c.move_wide-tried.ensures.seen c.end_of.ensures.seen in
     let was : WasUnserved ended new c.with-next.result c.other.result c.args.to_move = c.in-Missing.ensures.missing in
-    unserved_move-earlier old ended new (extends-on _ _ _ c.move_wide-tried.ensures.seen c.end_of.ensures.seen) c.args.position.now c.args.to_move c.args.cell
-    (rw (c.with-next.ensures, c.other.ensures) at was)
+    inl (unserved-within old ended new new _ _ _ grown (extends-itself new) (rw (c.with-next.ensures, c.other.ensures) at was))
 
 pub returns-in-Some-clause-seen : goal.returns-in-Some-clause-seen
 returns-in-Some-clause-seen g c = extends-on _ _ _ c.move_wide-tried.ensures.seen c.end_of.ensures.seen

@@ -5,7 +5,7 @@ use Rattle.hx_book.specs.WiderEntry.{IsWiderFound}
 use Rattle.hx_nodes.specs.declared.stored.Stored.{Stored}
 use Rattle.hx_wide.specs.Missing.{WasUnservedByEach}
 use Rattle.hx_nodes.specs.Stored.{MissingFor, HadMemory}
-use Rattle.hx_nodes.proofs.GrowingLists.{extends-same, extends-on}
+use Rattle.hx_tree.proofs.EntryLaws.{extends-itself, extends-on}
 use Rattle.hx_wide.proofs.LackingLaws.{unserved_by_each-within}
 use Rattle.hx_wide.proofs.TurnedEntries.{either_there, clash}
 use Rattle.hx_wide.proofs.turns.widen_turned.Goals as goal
@@ -17,11 +17,11 @@ returns-in_default-look_wider_either-clause-missing g c =
     let new = g.P.Proofs.list c.look_wider_either.new.proofs in
     let here : WasUnservedByEach old mid c.args.position.now c.args.to_move = c.in_default.ensures.none in
     let turned : WasUnservedByEach mid new c.turned-other.result c.args.to_move = c.in_default-look_wider_either.ensures.none in (
-      unserved_by_each-within old old mid new c.args.position.now c.args.to_move (extends-same old) c.look_wider_either.ensures.seen here,
+      unserved_by_each-within old old mid new c.args.position.now c.args.to_move (extends-itself old) c.look_wider_either.ensures.seen here,
       inl (record {
         turned = c.turned-other.result;
         is_turned = c.turned-other.ensures.turned;
-        unserved = unserved_by_each-within old mid new new c.turned-other.result c.args.to_move c.end_of.ensures.seen (extends-same new) turned;
+        unserved = unserved_by_each-within old mid new new c.turned-other.result c.args.to_move c.end_of.ensures.seen (extends-itself new) turned;
       }),
     )
 
@@ -50,7 +50,7 @@ returns-in-None-clause-missing g c =
     let found : IsWiderFound list c.turned-other.result c.args.to_move wider.found.winner wider = c.in-Some-look_wider_either.ensures.found in
     let unserved : WasUnservedByEach mid new c.args.position.now c.args.to_move = c.in-None.ensures.none in
     let grown : Extends mid old = extends-on old before mid c.end_of.ensures.seen (extends-on before list mid c.look_wider_either.ensures.seen c.store_turned.ensures.seen) in (
-      unserved_by_each-within old mid new new c.args.position.now c.args.to_move grown (extends-same new) unserved,
+      unserved_by_each-within old mid new new c.args.position.now c.args.to_move grown (extends-itself new) unserved,
       inr (clash list c.args.position.now c.turned-other.result c.args.to_move wider found mid new c.turned-wide.result c.size-size.ensures.valid
           c.turned-other.ensures.turned c.turned-wide.ensures.turned c.store_turned.ensures.seen c.look_wider_either-in-Done.ensures.seen c.in-Done.ensures.stored unserved),
     )

@@ -1,5 +1,5 @@
 use Rattle.hx_book.specs.WiderEntry.{HasNoWider}
-use Rattle.hx_nodes.proofs.GrowingLists.{extends-on}
+use Rattle.hx_tree.proofs.EntryLaws.{extends-on}
 use Rattle.hx_wide.proofs.LackingLaws.{unserved-twice}
 use Rattle.hx_wide.proofs.wider.look_wider_either.Goals as goal
 

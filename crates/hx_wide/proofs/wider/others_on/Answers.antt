@@ -19,5 +19,5 @@ loop-cell-preserved c =
 
 pub returns : goal.returns
 returns c =
-    let none = rw c.size-size.ensures.value at c.in_default.ensures in
+    let none = rw c.size-size.ensures.value at c.in_default-least.ensures in
     none_left c.args.position.now c.args.winner c.args.cells c.loop-cell.left c.loop-cell.steps.items c.loop-cell.invariant none

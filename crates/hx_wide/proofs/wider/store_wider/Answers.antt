@@ -1,7 +1,7 @@
 use Rattle.std.proofs.Common.{sym, subst}
 use Rattle.hx_board.specs.declared.colours.Colour.{Colour}
 use Rattle.hx_book.specs.WiderEntry.{IsWiderFound}
-use Rattle.hx_nodes.proofs.GrowingLists.{extends-on}
+use Rattle.hx_tree.proofs.EntryLaws.{extends-on}
 use Rattle.hx_wide.proofs.LackingLaws.{unserved-now}
 use Rattle.hx_wide.proofs.wider.store_wider.Goals as goal
 
