@@ -1,2 +1,3 @@
+pub mod CauseLaws
 pub mod SinkLaws
 pub mod SourceLaws

@@ -37,7 +37,8 @@ impl Model for MemorySink {
       faults = s.faults;
     } };
 
-    ghost invariant = { λ s. (vec_len s.bytes ≤ s.room) × (s.room ≤ vec_capacity s.bytes) × (0 < s.piece) };
+    ghost invariant = { λ s. (vec_len s.bytes ≤ s.room) × (s.room ≤ vec_capacity s.bytes)
+        × (0 < s.piece) };
 }
 
 impl MemorySink {
@@ -52,7 +53,14 @@ impl MemorySink {
         fail: Vec<u64>,
     ) -> Result<MemorySink, Memory>
         requires { 0 < piece }
-        ensures { IfOk result (λ sink. sink ≡ record { taken = []; room = room; piece = piece; fail = fail.items; calls = 0; faults = 0 }) }
+        ensures { IfOk result (λ sink. sink ≡ record {
+          taken = [];
+          room = room;
+          piece = piece;
+          fail = fail.items;
+          calls = 0;
+          faults = 0;
+        }) }
     {
         match Vec::with_capacity(alloc, room) {
             Ok(bytes) => Ok(MemorySink {
@@ -102,9 +110,11 @@ impl Sink for MemorySink {
         ensures cause { HasCause self.old.faults self.new.faults result }
 
         // It fails at the calls whose numbers were given and where the room is used up, and at no other.
-        ensures fails { IsErr result ↔ (Contains self.old.fail self.old.calls ⊎ (length self.old.taken ≡ self.old.room)) }
+        ensures fails { IsErr result
+            ↔ (Contains self.old.fail self.old.calls ⊎ (length self.old.taken ≡ self.old.room)) }
         // It takes as much as its piece, the given piece and the room left allow.
-        ensures count { IfOk result (λ n. n ≡ min (min self.old.piece (length piece.now)) (self.old.room - length self.old.taken)) }
+        ensures count { IfOk result (λ n.
+            n ≡ min (min self.old.piece (length piece.now)) (self.old.room - length self.old.taken)) }
 
         // Nothing else changes.
         ensures ok { IfOk result (λ n. self.new ≡ record self.old {

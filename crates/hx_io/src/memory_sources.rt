@@ -99,7 +99,13 @@ impl MemorySource {
     /// number: how many reads of this source came before it, up to 2^64 - 1.
     pub fn new(bytes: Vec<u8>, piece: usize, fail: Vec<u64>) -> MemorySource
         requires { 0 < piece }
-        ensures { result ≡ record { left = bytes.items; piece = piece; fail = fail.items; calls = 0; faults = 0 } }
+        ensures { result ≡ record {
+          left = bytes.items;
+          piece = piece;
+          fail = fail.items;
+          calls = 0;
+          faults = 0;
+        } }
     {
         MemorySource {
             source: SureSource::new(bytes),
@@ -140,7 +146,8 @@ impl Source for MemorySource {
         // It fails at the calls whose numbers were given, and at no other.
         ensures fails { IsErr result ↔ Contains self.old.fail self.old.calls }
         // It gives as much as the piece, the buffer and what is left allow.
-        ensures count { IfOk result (λ n. n ≡ min (min self.old.piece (length buffer.old)) (length self.old.left)) }
+        ensures count { IfOk result (λ n.
+            n ≡ min (min self.old.piece (length buffer.old)) (length self.old.left)) }
 
         // Nothing else changes.
         ensures ok { IfOk result (λ n. self.new ≡ record self.old {

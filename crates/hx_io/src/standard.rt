@@ -52,7 +52,8 @@ impl<R: Read> Source for StdSource<R> {
         ensures cause { HasCause self.old.faults self.new.faults result }
 
         // What the reader says of its bytes is passed on.
-        ensures passes { ReadConsumes (R.remaining self.old.inner) (R.remaining self.new.inner) result buffer.new }
+        ensures passes { ReadConsumes (R.remaining self.old.inner) (R.remaining self.new.inner)
+            result buffer.new }
         ensures unfailed { OnOk result (self.new.faults ≡ self.old.faults) }
         ensures counted { OnErr result (self.new.faults ≡ next_count self.old.faults) }
     {
@@ -103,7 +104,8 @@ impl<W: Write> Sink for StdSink<W> {
         ensures cause { HasCause self.old.faults self.new.faults result }
 
         // What the writer says of its bytes is passed on.
-        ensures passes { WriteAppends (W.contents self.old.inner) (W.contents self.new.inner) result piece.now }
+        ensures passes { WriteAppends (W.contents self.old.inner) (W.contents self.new.inner)
+            result piece.now }
         ensures unfailed { OnOk result (self.new.faults ≡ self.old.faults) }
         ensures counted { OnErr result (self.new.faults ≡ next_count self.old.faults) }
     {
