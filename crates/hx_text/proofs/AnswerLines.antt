@@ -5,13 +5,15 @@ use Rattle.std.proofs.Common.{◌≡◌, ℕ, ◌≤◌, List, [], ◌∷◌, re
 use Rattle.std.specs.Prelude.{codes}
 use Rattle.std.specs.Fmt.{decimal}
 use Rattle.hx_board.specs.Cells.{Extent, IsExtent, OnBoard}
+use Rattle.hx_board.specs.Finds.{Finds}
 use Rattle.hx_inferior.specs.declared.dominations.Kill.TheVariants.{ByDead, ByPair}
 use Rattle.hx_tree.specs.declared.nodes.Line.{Line}
 use Rattle.hx_tree.specs.declared.nodes.Line.TheVariants.{Child, Under}
 use Rattle.hx_tree.specs.Answers.{cell_of}
-use Rattle.hx_text.specs.Words.{Reads, cell_word, words_in}
+use Rattle.hx_text.specs.Words.{Reads, IsNumber, cell_word, words_in}
 use Rattle.hx_text.specs.Entries.{reason_words, answer_words, answer_line, ReasonFits, AnswersAt, AnswerFits}
 use Rattle.hx_text.proofs.Cursors.{first_same, rest_same, word_then}
+use Rattle.hx_text.proofs.StepWords.{first_letter}
 use Rattle.hx_text.proofs.Spacing.{IsLine, words_in-spaced, line_from_words}
 use Rattle.hx_text.proofs.HighBytes.{AllHigh, is_high, IsHigh-test, IsHigh-decimal, IsHigh-cell_word, IsLine-high}
 use Rattle.hx_text.proofs.Injective.{cell_injective}
@@ -42,6 +44,54 @@ words_in-answer_line size text line extent fits e =
     ap words_in e ∙ words_in-spaced (answer_words line) (IsLine-answer_words size line extent.1 fits)
 
 -- ---- what is read after the cell
+
+-- what is found in the words after the first is read from all the words
+
+pub child_reads : (size : Extent) (cell : ℕ) (words rest : List (List ℕ)) (found : Option Line) → words ≡ codes "child" ∷ rest
+    → Finds found (λ line. (child : ℕ) × (line ≡ Child cell child) × IsNumber child × (rest ≡ decimal child ∷ []))
+    → Reads reason_words (AnswersAt size cell) words found
+child_reads size cell words rest (Some line) first is = rw is.1 ((refl, is.2), word_then first is.3)
+child_reads size cell words rest None first none = λ value fits e. no_child value fits e
+  where
+    no_child : (value : Line) → AnswersAt size cell value → words ≡ reason_words value → ⊥
+    no_child (Child at child) fits e = none (Child at child) (child, ap (λ (c : ℕ). Child c child) fits.0, fits.1, rest_same first e)
+    no_child (Under at better ByDead) fits e =
+        let letters : first_letter (codes "child" ∷ rest) ≡ first_letter (reason_words (Under at better ByDead)) = ap first_letter (sym first ∙ e) in
+        absurd (omega (arith, letters))
+    no_child (Under at better (ByPair partner)) fits e =
+        let letters : first_letter (codes "child" ∷ rest) ≡ first_letter (reason_words (Under at better (ByPair partner))) = ap first_letter (sym first ∙ e) in
+        absurd (omega (arith, letters))
+
+pub dead_reads : (size : Extent) (cell : ℕ) (words rest : List (List ℕ)) (found : Option Line) → words ≡ codes "dead" ∷ rest
+    → Finds found (λ line. (better : ℕ) × (line ≡ Under cell better ByDead) × OnBoard size better × (rest ≡ cell_word better ∷ []))
+    → Reads reason_words (AnswersAt size cell) words found
+dead_reads size cell words rest (Some line) first is = rw is.1 ((refl, is.2), word_then first is.3)
+dead_reads size cell words rest None first none = λ value fits e. no_dead value fits e
+  where
+    no_dead : (value : Line) → AnswersAt size cell value → words ≡ reason_words value → ⊥
+    no_dead (Under at better ByDead) fits e = none (Under at better ByDead) (better, ap (λ (c : ℕ). Under c better ByDead) fits.0, fits.1, rest_same first e)
+    no_dead (Child at child) fits e =
+        let letters : first_letter (codes "dead" ∷ rest) ≡ first_letter (reason_words (Child at child)) = ap first_letter (sym first ∙ e) in
+        absurd (omega (arith, letters))
+    no_dead (Under at better (ByPair partner)) fits e =
+        let letters : first_letter (codes "dead" ∷ rest) ≡ first_letter (reason_words (Under at better (ByPair partner))) = ap first_letter (sym first ∙ e) in
+        absurd (omega (arith, letters))
+
+pub pair_reads : (size : Extent) (cell : ℕ) (words rest : List (List ℕ)) (found : Option Line) → words ≡ codes "pair" ∷ rest
+    → Finds found (λ line. (better partner : ℕ) × (line ≡ Under cell better (ByPair partner)) × OnBoard size better × OnBoard size partner
+    × (rest ≡ cell_word better ∷ cell_word partner ∷ []))
+    → Reads reason_words (AnswersAt size cell) words found
+pair_reads size cell words rest (Some line) first is = rw is.2 ((refl, (is.3, is.4)), word_then first is.5)
+pair_reads size cell words rest None first none = λ value fits e. no_pair value fits e
+  where
+    no_pair : (value : Line) → AnswersAt size cell value → words ≡ reason_words value → ⊥
+    no_pair (Under at better (ByPair partner)) fits e = none (Under at better (ByPair partner)) (better, partner, ap (λ (c : ℕ). Under c better (ByPair partner)) fits.0, fits.1.0, fits.1.1, rest_same first e)
+    no_pair (Child at child) fits e =
+        let letters : first_letter (codes "pair" ∷ rest) ≡ first_letter (reason_words (Child at child)) = ap first_letter (sym first ∙ e) in
+        absurd (omega (arith, letters))
+    no_pair (Under at better ByDead) fits e =
+        let letters : first_letter (codes "pair" ∷ rest) ≡ first_letter (reason_words (Under at better ByDead)) = ap first_letter (sym first ∙ e) in
+        absurd (omega (arith, letters))
 
 -- the words begin with none of the three
 pub no_reason : {words : List (List ℕ)} → ((rest : List (List ℕ)) → words ≡ codes "child" ∷ rest → ⊥)

@@ -5,7 +5,8 @@ use Rattle.std.specs.Option.{MatchOption, IfNone, is_some}
 use Rattle.std.specs.declared.option.Option.{Option}
 use Rattle.std.specs.declared.option.Option.TheVariants.{None, Some}
 use Rattle.std.proofs.lemmas.Bool.{false≢true}
-use Rattle.hx_text.specs.Words.{Reads, Takes, Lacks, IsCut, split_at_marks, words_left}
+use Rattle.hx_text.specs.Words.{Reads, Takes, split_at_marks, words_left}
+use Rattle.hx_text.specs.Marks.{Lacks, IsCut}
 use Rattle.hx_text.proofs.Splits.{split_at_marks-cut, split_at_marks-lacks, split_at_marks-some}
 
 pub words_left-cut : (more : Bool) (rest word later : List ℕ) → more ≡ true → IsCut 32 rest word later

@@ -1,7 +1,7 @@
 -- The three ways in which the first faulty line of a text is found: it is missing or has no LF, it is not right, or no
 -- line may follow those before it.
 use Rattle.std.proofs.Common.{◌≡◌, ◌≢◌, ℕ, ◌+◌, List, [], ◌∷◌, ◌++◌, length, sym, subst}
-use Rattle.hx_text.specs.Words.{Lacks}
+use Rattle.hx_text.specs.Marks.{Lacks}
 use Rattle.hx_text.specs.Grammars.{text_of, Begins, IsFaultyLine}
 use Rattle.hx_text.specs.TreeTexts.{AreTreeLines}
 use Rattle.hx_text.proofs.Cuts.{cut_same, Lacks-append_mark, ended-some}

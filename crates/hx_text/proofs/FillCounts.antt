@@ -1,11 +1,11 @@
 -- Fill steps that may be done one after the other: each fills an empty cell at least, so they are no more than the empty cells, of
 -- which a board has at most 121; and their cells are on the board.
-use Rattle.std.proofs.Common.{◌≡◌, ℕ, zero, suc, ◌≤◌, Bool, true, false, List, [], ◌∷◌, length, map, ◌∙◌, arith}
-use Rattle.std.specs.Prelude.{if◌then◌else◌}
+use Rattle.std.proofs.Common.{◌≡◌, ◌≤◌, List, [], ◌∷◌, length, map, ◌∙◌, arith}
 use Rattle.hx_board.specs.declared.colours.Colour.{Colour}
 use Rattle.hx_board.specs.Cells.{Extent}
 use Rattle.hx_board.specs.Positions.{Board, IsBoard}
-use Rattle.hx_board.specs.Counts.{is_empty, empty_below, empty_count}
+use Rattle.hx_board.specs.Counts.{empty_count}
+use Rattle.hx_board.proofs.EmptyCells.{empty_count-small}
 use Rattle.hx_inferior.specs.declared.fills.FillStep.{FillStep}
 use Rattle.hx_inferior.specs.declared.fills.FillStep.TheVariants.{Other, Dead, Pair}
 use Rattle.hx_inferior.specs.Inferior.{MayFill, filled}
@@ -25,19 +25,6 @@ fill_fits board winner (Pair a b) pair = (pair.a_empty.on_board, pair.b_empty.on
 
 -- ---- all steps
 
-at_most_one : (test : Bool) → (if test then 1 else 0) ≤ 1
-at_most_one true = omega arith
-at_most_one false = omega arith
-
-empty_below-bound : (bound : ℕ) (board : Board) → empty_below bound board ≤ bound
-unfolding empty_below
-empty_below-bound zero board = omega arith
-empty_below-bound (suc bound) board = omega (arith, at_most_one (is_empty board bound), empty_below-bound bound board)
-
-few_empty : (board : Board) → empty_count board ≤ CELLS
-unfolding empty_count
-few_empty board = empty_below-bound 121 board
-
 no_more_than_empty : (board : Board) (winner : Colour) (steps : List FillStep) → IsBoard board → MayFillAll board winner steps
     → length steps ≤ empty_count board
 no_more_than_empty board winner [] is may = omega arith
@@ -48,7 +35,7 @@ no_more_than_empty board winner (step ∷ steps) is may =
 
 pub few_fill_steps : (board : Board) (winner : Colour) (steps : List FillStep) → IsBoard board → MayFillAll board winner steps
     → length steps ≤ CELLS
-few_fill_steps board winner steps is may = omega (arith, no_more_than_empty board winner steps is may, few_empty board)
+few_fill_steps board winner steps is may = omega (arith, no_more_than_empty board winner steps is may, empty_count-small board)
 
 pub fill_steps_fit : (size : Extent) (board : Board) (winner : Colour) (steps : List FillStep) → board.size ≡ size → MayFillAll board winner steps
     → EachEntryFits size (map fill_entry steps)

@@ -1,25 +1,26 @@
--- The first word of a line tells what its other words are: those of a step by `base`, `stone` or `cell`, and those of a rule's
--- opening by `links`, `fill` or `turned`. Where the other words are none of that kind, the line's words are those of no step and of no opening,
--- since the first words of each kind begin with different letters.
-use Rattle.std.proofs.Common.{◌≡◌, ℕ, zero, suc, ◌+◌, ◌<◌, ◌≤◌, List, [], ◌∷◌, length, get_or, sym, ap, ◌∙◌, arith, add-zero, Option, Some, None, Result, Ok, Err}
+-- The first word of a line tells what its other words are: those of a step, or those of a rule's opening. Where the other words
+-- are none of that kind, the line's words are those of no step and of no opening, since the first words of each kind begin with
+-- different letters.
+use Rattle.std.proofs.Common.{◌≡◌, ℕ, zero, suc, ◌+◌, ◌<◌, ◌≤◌, List, [], ◌∷◌, length, map, get_or, refl, sym, ap, ◌∙◌, arith, add-zero, Option, Some, None, Result, Ok, Err}
 use Rattle.std.proofs.lemmas.Grind.{same_number_lists}
 use Rattle.std.specs.Prelude.{codes}
-use Rattle.std.specs.Option.{MatchOption, IfSome, IfNone}
 use Rattle.std.specs.Result.{IfOk, OnErr}
 use Rattle.std.specs.Fmt.{decimal}
 use Rattle.hx_board.specs.declared.vertices.Vertex.{Vertex}
-use Rattle.hx_board.specs.Cells.{Extent, IsExtent}
+use Rattle.hx_board.specs.Cells.{Extent, IsExtent, OnBoard}
+use Rattle.hx_board.specs.Finds.{Finds}
 use Rattle.hx_board.specs.Graph.{IsVertex}
 use Rattle.hx_link.specs.declared.steps.Step.{Step}
-use Rattle.hx_link.specs.declared.steps.Step.TheVariants.{Base, AndStone, AndCell}
+use Rattle.hx_link.specs.declared.steps.Step.TheVariants.{Base, AndStone, AndCell, Or}
 use Rattle.hx_board.specs.declared.cells.TheConstants.{CELLS}
-use Rattle.hx_tree.specs.declared.steps.TheConstants.{MOST_STEPS}
+use Rattle.hx_link.specs.declared.parts.TheConstants.{MOST_PARTS}
+use Rattle.hx_tree.specs.declared.steps.TheConstants.{MOST_STEPS, MOST_THREATS}
 use Rattle.hx_text.specs.declared.node_lines.Opening.{Opening}
 use Rattle.hx_text.specs.declared.node_lines.Opening.TheVariants.{Chain, Links, Move, All, Fill, Turned}
 use Rattle.hx_text.specs.declared.versions.Version.TheVariants.{Two}
 use Rattle.hx_text.specs.declared.versions.Preamble.{Preamble}
-use Rattle.hx_text.specs.Words.{Reads, IsNumber, words_in}
-use Rattle.hx_text.specs.StepTexts.{vertex_word, step_words, step_line, StepFits, BeginWithManyParts, BeginsLongOr}
+use Rattle.hx_text.specs.Words.{Reads, IsNumber, words_in, cell_word}
+use Rattle.hx_text.specs.StepTexts.{vertex_word, step_words, step_line, StepFits, AreNumbers, BeginWithManyParts, BeginsLongOr}
 use Rattle.hx_text.specs.TreeTexts.{opening_words, OpeningFits, UnturnedFits}
 use Rattle.hx_text.proofs.Cursors.{rest_same, word_then}
 use Rattle.hx_text.proofs.Spacing.{line_from_words}
@@ -54,53 +55,70 @@ bytes_are word bytes are =
 
 -- ---- steps
 
+-- the words after `base` are those of this step
+abbrev AreBaseWords : Extent → List (List ℕ) → Step → Type 0
+AreBaseWords size rest step = (a b : Vertex) × (step ≡ Base a b) × IsVertex size a × IsVertex size b × (rest ≡ vertex_word a ∷ vertex_word b ∷ [])
+
 no_base : (size : Extent) (value : Step) (words rest : List (List ℕ)) → words ≡ codes "base" ∷ rest
-    → ((a b : Vertex) → IsVertex size a → IsVertex size b → rest ≡ vertex_word a ∷ vertex_word b ∷ [] → ⊥)
-    → StepFits size value → words ≡ step_words value → ⊥
-no_base size (Base a b) words rest first none fits e = none a b fits.0 fits.1 (rest_same first e)
+    → ((step : Step) → AreBaseWords size rest step → ⊥) → StepFits size value → words ≡ step_words value → ⊥
+no_base size (Base a b) words rest first none fits e = none (Base a b) (a, b, refl, fits.0, fits.1, rest_same first e)
 no_base size value words rest first none fits e =
     let letters : first_letter (codes "base" ∷ rest) ≡ first_letter (step_words value) = ap first_letter (sym first ∙ e) in
     absurd (omega (arith, letters))
 
 pub base_reads : (size : Extent) (words rest : List (List ℕ)) (found : Option Step) → words ≡ codes "base" ∷ rest
-    → MatchOption found
-    ((a b : Vertex) → IsVertex size a → IsVertex size b → rest ≡ vertex_word a ∷ vertex_word b ∷ [] → ⊥)
-    (λ step. (a b : Vertex) × (step ≡ Base a b) × IsVertex size a × IsVertex size b × (rest ≡ vertex_word a ∷ vertex_word b ∷ []))
+    → Finds found (AreBaseWords size rest)
     → Reads step_words (StepFits size) words found
 base_reads size words rest (Some step) first is = rw is.2 ((is.3, is.4), word_then first is.5)
 base_reads size words rest None first none = λ value fits e. no_base size value words rest first none fits e
 
+-- the words after `stone` are those of this step
+abbrev AreStoneWords : List (List ℕ) → Step → Type 0
+AreStoneWords rest step = (left right : ℕ) × (step ≡ AndStone left right) × IsNumber left × IsNumber right × (rest ≡ decimal left ∷ decimal right ∷ [])
+
 no_stone : (size : Extent) (value : Step) (words rest : List (List ℕ)) → words ≡ codes "stone" ∷ rest
-    → ((left right : ℕ) → IsNumber left → IsNumber right → rest ≡ decimal left ∷ decimal right ∷ [] → ⊥)
-    → StepFits size value → words ≡ step_words value → ⊥
-no_stone size (AndStone left right) words rest first none fits e = none left right fits.0 fits.1 (rest_same first e)
+    → ((step : Step) → AreStoneWords rest step → ⊥) → StepFits size value → words ≡ step_words value → ⊥
+no_stone size (AndStone left right) words rest first none fits e = none (AndStone left right) (left, right, refl, fits.0, fits.1, rest_same first e)
 no_stone size value words rest first none fits e =
     let letters : first_letter (codes "stone" ∷ rest) ≡ first_letter (step_words value) = ap first_letter (sym first ∙ e) in
     absurd (omega (arith, letters))
 
 pub stone_reads : (size : Extent) (words rest : List (List ℕ)) (found : Option Step) → words ≡ codes "stone" ∷ rest
-    → MatchOption found
-    ((left right : ℕ) → IsNumber left → IsNumber right → rest ≡ decimal left ∷ decimal right ∷ [] → ⊥)
-    (λ step. (left right : ℕ) × (step ≡ AndStone left right) × IsNumber left × IsNumber right × (rest ≡ decimal left ∷ decimal right ∷ []))
+    → Finds found (AreStoneWords rest)
     → Reads step_words (StepFits size) words found
 stone_reads size words rest (Some step) first is = rw is.2 ((is.3, is.4), word_then first is.5)
 stone_reads size words rest None first none = λ value fits e. no_stone size value words rest first none fits e
 
+-- the words after `cell` are those of this step
+abbrev AreCellWords : List (List ℕ) → Step → Type 0
+AreCellWords rest step = (left right : ℕ) × (step ≡ AndCell left right) × IsNumber left × IsNumber right × (rest ≡ decimal left ∷ decimal right ∷ [])
+
 no_cell : (size : Extent) (value : Step) (words rest : List (List ℕ)) → words ≡ codes "cell" ∷ rest
-    → ((left right : ℕ) → IsNumber left → IsNumber right → rest ≡ decimal left ∷ decimal right ∷ [] → ⊥)
-    → StepFits size value → words ≡ step_words value → ⊥
-no_cell size (AndCell left right) words rest first none fits e = none left right fits.0 fits.1 (rest_same first e)
+    → ((step : Step) → AreCellWords rest step → ⊥) → StepFits size value → words ≡ step_words value → ⊥
+no_cell size (AndCell left right) words rest first none fits e = none (AndCell left right) (left, right, refl, fits.0, fits.1, rest_same first e)
 no_cell size value words rest first none fits e =
     let letters : first_letter (codes "cell" ∷ rest) ≡ first_letter (step_words value) = ap first_letter (sym first ∙ e) in
     absurd (omega (arith, letters))
 
 pub cell_step_reads : (size : Extent) (words rest : List (List ℕ)) (found : Option Step) → words ≡ codes "cell" ∷ rest
-    → MatchOption found
-    ((left right : ℕ) → IsNumber left → IsNumber right → rest ≡ decimal left ∷ decimal right ∷ [] → ⊥)
-    (λ step. (left right : ℕ) × (step ≡ AndCell left right) × IsNumber left × IsNumber right × (rest ≡ decimal left ∷ decimal right ∷ []))
+    → Finds found (AreCellWords rest)
     → Reads step_words (StepFits size) words found
 cell_step_reads size words rest (Some step) first is = rw is.2 ((is.3, is.4), word_then first is.5)
 cell_step_reads size words rest None first none = λ value fits e. no_cell size value words rest first none fits e
+
+pub or_reads : {E : Type 0} (size : Extent) (words rest : List (List ℕ)) (found : Result (Option Step) E) → words ≡ codes "or" ∷ rest
+    → IfOk found (λ read. Finds read (λ step. (parts : List ℕ) × (step ≡ Or parts) × (length parts ≤ MOST_PARTS) × AreNumbers parts
+    × (rest ≡ map decimal parts)))
+    → IfOk found (Reads step_words (StepFits size) words)
+or_reads size words rest (Ok (Some step)) first is = rw is.1 ((is.2, is.3), word_then first is.4)
+or_reads size words rest (Err error) first is = tt
+or_reads size words rest (Ok None) first none = λ value fits e. no_or value fits e
+  where
+    no_or : (value : Step) → StepFits size value → words ≡ step_words value → ⊥
+    no_or (Or parts) fits e = none (Or parts) (parts, refl, fits.0, fits.1, rest_same first e)
+    no_or value fits e =
+        let letters : first_letter (codes "or" ∷ rest) ≡ first_letter (step_words value) = ap first_letter (sym first ∙ e) in
+        absurd (omega (arith, letters))
 
 -- what is read from a line's words is read from the line
 pub step_reads : {E : Type 0} (size : Extent) (line : List ℕ) (words : List (List ℕ)) (found : Result (Option Step) E)
@@ -118,46 +136,78 @@ long_or_line line words (Err error) same is = record { words = is.0; many = is.2
 
 -- ---- openings
 
-no_links : (preamble : Preamble) (value : Opening) (words rest : List (List ℕ)) → words ≡ codes "links" ∷ rest
-    → ((steps : ℕ) → steps ≤ MOST_STEPS → rest ≡ decimal steps ∷ [] → ⊥) → UnturnedFits preamble value → words ≡ opening_words value → ⊥
-no_links preamble (Links steps) words rest first none fits e = none steps fits.0 (rest_same first e)
-no_links preamble value words rest first none fits e =
-    let letters : first_letter (codes "links" ∷ rest) ≡ first_letter (opening_words value) = ap first_letter (sym first ∙ e) in
-    absurd (omega (arith, letters))
+pub chain_reads : (preamble : Preamble) (words rest : List (List ℕ)) (found : Option Opening) → words ≡ codes "chain" ∷ rest
+    → Finds found (λ opening. (opening ≡ Chain) × (rest ≡ []))
+    → Reads opening_words (UnturnedFits preamble) words found
+chain_reads preamble words rest (Some opening) first is = rw is.0 ((tt, tt), word_then first is.1)
+chain_reads preamble words rest None first none = λ value fits e. no_chain value fits e
+  where
+    no_chain : (value : Opening) → UnturnedFits preamble value → words ≡ opening_words value → ⊥
+    no_chain Chain fits e = none Chain (refl, rest_same first e)
+    no_chain value fits e =
+        let letters : first_letter (codes "chain" ∷ rest) ≡ first_letter (opening_words value) = ap first_letter (sym first ∙ e) in
+        absurd (omega (arith, letters))
 
 pub links_reads : (preamble : Preamble) (words rest : List (List ℕ)) (found : Option Opening) → words ≡ codes "links" ∷ rest
-    → IfSome found (λ opening. (steps : ℕ) × (opening ≡ Links steps) × (steps ≤ MOST_STEPS) × (rest ≡ decimal steps ∷ []))
-    → IfNone found ((steps : ℕ) → steps ≤ MOST_STEPS → rest ≡ decimal steps ∷ [] → ⊥)
+    → Finds found (λ opening. (steps : ℕ) × (opening ≡ Links steps) × (steps ≤ MOST_STEPS) × (rest ≡ decimal steps ∷ []))
     → Reads opening_words (UnturnedFits preamble) words found
-links_reads preamble words rest (Some opening) first is none = rw is.1 ((is.2, tt), word_then first is.3)
-links_reads preamble words rest None first is none = λ value fits e. no_links preamble value words rest first none fits e
+links_reads preamble words rest (Some opening) first is = rw is.1 ((is.2, tt), word_then first is.3)
+links_reads preamble words rest None first none = λ value fits e. no_links value fits e
+  where
+    no_links : (value : Opening) → UnturnedFits preamble value → words ≡ opening_words value → ⊥
+    no_links (Links steps) fits e = none (Links steps) (steps, refl, fits.0, rest_same first e)
+    no_links value fits e =
+        let letters : first_letter (codes "links" ∷ rest) ≡ first_letter (opening_words value) = ap first_letter (sym first ∙ e) in
+        absurd (omega (arith, letters))
 
-no_fills : (preamble : Preamble) (value : Opening) (words rest : List (List ℕ)) → words ≡ codes "fill" ∷ rest
-    → ((fills child : ℕ) → fills ≤ CELLS → IsNumber child → rest ≡ decimal fills ∷ decimal child ∷ [] → ⊥) → UnturnedFits preamble value
-    → words ≡ opening_words value → ⊥
-no_fills preamble (Fill fills child) words rest first none fits e = none fills child fits.0.0 fits.0.1 (rest_same first e)
-no_fills preamble value words rest first none fits e =
-    let letters : first_letter (codes "fill" ∷ rest) ≡ first_letter (opening_words value) = ap first_letter (sym first ∙ e) in
-    absurd (omega (arith, letters))
+pub move_reads : (preamble : Preamble) (words rest : List (List ℕ)) (found : Option Opening) → words ≡ codes "move" ∷ rest
+    → Finds found (λ opening. (cell child : ℕ) × (opening ≡ Move cell child) × OnBoard preamble.size cell × IsNumber child
+    × (rest ≡ cell_word cell ∷ decimal child ∷ []))
+    → Reads opening_words (UnturnedFits preamble) words found
+move_reads preamble words rest (Some opening) first is = rw is.2 (((is.3, is.4), tt), word_then first is.5)
+move_reads preamble words rest None first none = λ value fits e. no_move value fits e
+  where
+    no_move : (value : Opening) → UnturnedFits preamble value → words ≡ opening_words value → ⊥
+    no_move (Move cell child) fits e = none (Move cell child) (cell, child, refl, fits.0.0, fits.0.1, rest_same first e)
+    no_move value fits e =
+        let letters : first_letter (codes "move" ∷ rest) ≡ first_letter (opening_words value) = ap first_letter (sym first ∙ e) in
+        absurd (omega (arith, letters))
+
+pub all_reads : (preamble : Preamble) (words rest : List (List ℕ)) (found : Option Opening) → words ≡ codes "all" ∷ rest
+    → Finds found (λ opening. (steps threats lines : ℕ) × (opening ≡ All steps threats lines) × (steps ≤ MOST_STEPS) × (threats ≤ MOST_THREATS)
+    × (lines ≤ CELLS) × (rest ≡ decimal steps ∷ decimal threats ∷ decimal lines ∷ []))
+    → Reads opening_words (UnturnedFits preamble) words found
+all_reads preamble words rest (Some opening) first is = rw is.3 (((is.4, is.5, is.6), tt), word_then first is.7)
+all_reads preamble words rest None first none = λ value fits e. no_all value fits e
+  where
+    no_all : (value : Opening) → UnturnedFits preamble value → words ≡ opening_words value → ⊥
+    no_all (All steps threats lines) fits e = none (All steps threats lines) (steps, threats, lines, refl, fits.0.0, fits.0.1, fits.0.2, rest_same first e)
+    no_all value fits e =
+        let letters : first_letter (codes "all" ∷ rest) ≡ first_letter (opening_words value) = ap first_letter (sym first ∙ e) in
+        absurd (omega (arith, letters))
 
 pub fills_reads : (preamble : Preamble) (words rest : List (List ℕ)) (found : Option Opening) → words ≡ codes "fill" ∷ rest
-    → IfSome found (λ opening. (fills child : ℕ) × (opening ≡ Fill fills child) × (fills ≤ CELLS) × IsNumber child
+    → Finds found (λ opening. (fills child : ℕ) × (opening ≡ Fill fills child) × (fills ≤ CELLS) × IsNumber child
     × (rest ≡ decimal fills ∷ decimal child ∷ []))
-    → IfNone found ((fills child : ℕ) → fills ≤ CELLS → IsNumber child → rest ≡ decimal fills ∷ decimal child ∷ [] → ⊥)
     → Reads opening_words (UnturnedFits preamble) words found
-fills_reads preamble words rest (Some opening) first is none = rw is.2 (((is.3, is.4), tt), word_then first is.5)
-fills_reads preamble words rest None first is none = λ value fits e. no_fills preamble value words rest first none fits e
+fills_reads preamble words rest (Some opening) first is = rw is.2 (((is.3, is.4), tt), word_then first is.5)
+fills_reads preamble words rest None first none = λ value fits e. no_fills value fits e
+  where
+    no_fills : (value : Opening) → UnturnedFits preamble value → words ≡ opening_words value → ⊥
+    no_fills (Fill fills child) fits e = none (Fill fills child) (fills, child, refl, fits.0.0, fits.0.1, rest_same first e)
+    no_fills value fits e =
+        let letters : first_letter (codes "fill" ∷ rest) ≡ first_letter (opening_words value) = ap first_letter (sym first ∙ e) in
+        absurd (omega (arith, letters))
 
 -- the words of an opening that begin with `turned`, or with no such word
 pub turned_reads : (preamble : Preamble) (words rest : List (List ℕ)) (found : Option Opening) → words ≡ codes "turned" ∷ rest
-    → IfSome found (λ opening. (child : ℕ) × (opening ≡ Turned child) × (preamble.version ≡ Two) × IsNumber child × (rest ≡ decimal child ∷ []))
-    → IfNone found ((child : ℕ) → preamble.version ≡ Two → IsNumber child → rest ≡ decimal child ∷ [] → ⊥)
+    → Finds found (λ opening. (child : ℕ) × (opening ≡ Turned child) × (preamble.version ≡ Two) × IsNumber child × (rest ≡ decimal child ∷ []))
     → Reads opening_words (OpeningFits preamble) words found
-turned_reads preamble words rest (Some opening) first is none = rw is.1 ((is.2, is.3), word_then first is.4)
-turned_reads preamble words rest None first is none = λ value fits e. no_turned value fits e
+turned_reads preamble words rest (Some opening) first is = rw is.1 ((is.2, is.3), word_then first is.4)
+turned_reads preamble words rest None first none = λ value fits e. no_turned value fits e
   where
     no_turned : (value : Opening) → OpeningFits preamble value → words ≡ opening_words value → ⊥
-    no_turned (Turned child) fits e = none child fits.0 fits.1 (rest_same first e)
+    no_turned (Turned child) fits e = none (Turned child) (child, refl, fits.0, fits.1, rest_same first e)
     no_turned value fits e =
         let letters : first_letter (codes "turned" ∷ rest) ≡ first_letter (opening_words value) = ap first_letter (sym first ∙ e) in
         absurd (omega (arith, letters))

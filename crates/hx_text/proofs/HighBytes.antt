@@ -10,7 +10,8 @@ use Rattle.std.proofs.lemmas.Str.Parse.{digit_from_value}
 use Rattle.hx_board.specs.declared.colours.Colour.{Colour}
 use Rattle.hx_board.specs.declared.colours.Colour.TheVariants.{Black, White}
 use Rattle.hx_board.specs.Cells.{row_of}
-use Rattle.hx_text.specs.Words.{Lacks, hex, hex_digit, colour_word, cell_word, spaced, IsNumber}
+use Rattle.hx_text.specs.Words.{hex, hex_digit, colour_word, cell_word, spaced, IsNumber}
+use Rattle.hx_text.specs.Marks.{Lacks}
 use Rattle.hx_text.proofs.Numbers.{decimal_digits}
 use Rattle.hx_text.proofs.Spacing.{AreWords, IsLine}
 

@@ -8,7 +8,6 @@ use Rattle.std.proofs.lemmas.Str.Parse.{digit_from_value}
 use Rattle.hx_board.specs.declared.colours.Colour.{Colour}
 use Rattle.hx_board.specs.declared.colours.Colour.TheVariants.{Black, White}
 use Rattle.hx_board.specs.Cells.{Extent, IsExtent, OnBoard, row_of, col_of}
-use Rattle.hx_board.specs.Positions.{Board}
 use Rattle.hx_board.specs.declared.vertices.Vertex.{Vertex}
 use Rattle.hx_board.specs.declared.vertices.Vertex.TheVariants.{Of, First, Last}
 use Rattle.hx_board.specs.Graph.{IsVertex}
@@ -67,14 +66,6 @@ vertex_injective size First (Of b) few on_a on_b e = absurd (cell_not_first size
 vertex_injective size Last (Of b) few on_a on_b e = absurd (cell_not_last size b few on_b (sym e))
 vertex_injective size First Last few on_a on_b e = absurd (first_not_last e)
 vertex_injective size Last First few on_a on_b e = absurd (first_not_last (sym e))
-
--- the board of this size with these stones
-abbrev pub board_of : Extent → ℕ → ℕ → Board
-board_of size black white = record { size = size; black = black; white = white }
-
-pub board_same : (a b : Board) → a.size ≡ b.size → a.black ≡ b.black → a.white ≡ b.white → a ≡ b
-board_same a b s k w = ap (λ (x : Extent). board_of x a.black a.white) s ∙ ap (λ (x : ℕ). board_of b.size x a.white) k
-    ∙ ap (λ (x : ℕ). board_of b.size b.black x) w
 
 abbrev extent_of : ℕ → ℕ → Extent
 extent_of rows cols = record { rows = rows; cols = cols }

@@ -5,7 +5,8 @@ use Rattle.std.specs.Cmp.Lexicographic.{pointwise, same_text, other_text}
 use Rattle.std.proofs.lemmas.Bool.{false≢true, eqb-true}
 use Rattle.std.proofs.lemmas.List.{append-nil, take-append-drop}
 use Rattle.std.proofs.Math.Seq.{take-append_seam, drop-append_seam}
-use Rattle.hx_text.specs.Words.{Lacks, in_first, split_at_marks, words_left}
+use Rattle.hx_text.specs.Words.{in_first, split_at_marks, words_left}
+use Rattle.hx_text.specs.Marks.{Lacks}
 use Rattle.hx_text.proofs.Splits.{split_at_marks-cut, split_at_marks-lacks, split_at_marks-some}
 
 record BeginsWith (mark : ℕ) (bytes word : List ℕ) : Type 0 where

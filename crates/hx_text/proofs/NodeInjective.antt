@@ -7,6 +7,7 @@ use Rattle.std.specs.Fmt.{decimal}
 use Rattle.hx_board.specs.declared.colours.Colour.{Colour}
 use Rattle.hx_board.specs.Cells.{Extent, IsExtent}
 use Rattle.hx_board.specs.Positions.{Board}
+use Rattle.hx_board.proofs.PositionLaws.{same_board}
 use Rattle.hx_inferior.specs.declared.fills.FillStep.{FillStep}
 use Rattle.hx_link.specs.declared.steps.Step.{Step}
 use Rattle.hx_tree.specs.declared.nodes.Heading.{Heading}
@@ -14,6 +15,7 @@ use Rattle.hx_tree.specs.declared.nodes.Line.{Line}
 use Rattle.hx_tree.specs.declared.nodes.Rule.{Rule}
 use Rattle.hx_tree.specs.declared.nodes.Rule.TheVariants.{Chain, Links, Move, All, Fill, Turned}
 use Rattle.hx_tree.specs.declared.nodes.Node.{Node}
+use Rattle.hx_tree.specs.Headings.{heading_of}
 use Rattle.hx_text.specs.declared.node_lines.Opening.{Opening}
 use Rattle.hx_text.specs.declared.node_lines.Opening.TheVariants.{Chain as Chain_opening, Links as Links_opening, Move as Move_opening, All as All_opening, Fill as Fill_opening, Turned as Turned_opening}
 use Rattle.hx_text.specs.declared.node_lines.Head.{Head}
@@ -29,7 +31,7 @@ use Rattle.hx_text.proofs.Masks.{mask_injective}
 use Rattle.hx_text.proofs.LineWords.{end_words, words_in-end_line}
 use Rattle.hx_text.proofs.StepWords.{first_letter}
 use Rattle.hx_text.proofs.HeadLines.{IsLine-head_words, words_in-head_line, black_small, white_small}
-use Rattle.hx_text.proofs.Injective.{number_injective, colour_injective, cell_injective, board_same}
+use Rattle.hx_text.proofs.Injective.{number_injective, colour_injective, cell_injective}
 use Rattle.hx_text.proofs.EntryLists.{step_entry, threat_entry, answer_entry, fill_entry, entries_for-parts}
 use Rattle.hx_text.proofs.EntryInjective.{step_injective, threat_injective, answer_injective, fill_injective}
 
@@ -68,9 +70,6 @@ opening_injective preamble a b few fits_a fits_b e =
     let letters : first_letter (opening_words a) ≡ first_letter (opening_words b) = ap first_letter e in
     absurd (omega (arith, letters))
 
-abbrev heading_of : Board → Colour → Colour → Heading
-heading_of position to_move winner = record { position = position; to_move = to_move; winner = winner }
-
 heading_same : (a b : Heading) → a.position ≡ b.position → a.to_move ≡ b.to_move → a.winner ≡ b.winner → a ≡ b
 heading_same a b p t w = ap (λ (x : Board). heading_of x a.to_move a.winner) p
     ∙ ap (λ (x : Colour). heading_of b.position x a.winner) t ∙ ap (λ (x : Colour). heading_of b.position b.to_move x) w
@@ -93,7 +92,7 @@ head_injective preamble a b extent fits_a fits_b e =
     let winners : colour_word a.heading.winner ≡ colour_word b.heading.winner = cc in
     let openings : opening_words a.opening ≡ opening_words b.opening = cc in
     let sizes : a.heading.position.size ≡ b.heading.position.size = fits_a.heading.size_is ∙ sym fits_b.heading.size_is in
-    let board = board_same a.heading.position b.heading.position sizes
+    let board = same_board a.heading.position b.heading.position sizes
     (mask_injective a.heading.position.black b.heading.position.black (black_small a.heading fits_a.heading)
     (black_small b.heading fits_b.heading) blacks)
     (mask_injective a.heading.position.white b.heading.position.white (white_small a.heading fits_a.heading)

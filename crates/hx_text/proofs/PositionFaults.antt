@@ -1,23 +1,25 @@
 -- The first faulty line of a position's text, at each of its lines: it is missing or has no LF, or it is not right. The
 -- lines before it begin a text, since a board may be empty.
 use Rattle.std.proofs.Common.{◌≡◌, ◌≢◌, ℕ, ◌+◌, ◌<◌, List, [], ◌∷◌, ◌++◌, length, refl, sym, ap, ◌∙◌, subst, arith, Option, Some, None}
-use Rattle.std.specs.Option.{SomeIff, IfNone}
+use Rattle.std.specs.Option.{SomeIff}
 use Rattle.std.specs.declared.result.Result.{Result}
 use Rattle.std.specs.declared.result.Result.TheVariants.{Ok, Err}
 use Rattle.std.proofs.lemmas.List.{append-nil}
 use Rattle.hx_board.specs.declared.colours.Colour.{Colour}
 use Rattle.hx_board.specs.declared.colours.Colour.TheVariants.{Black, White}
 use Rattle.hx_board.specs.Cells.{Extent, IsExtent}
+use Rattle.hx_board.specs.Finds.{Finds}
 use Rattle.hx_board.specs.Positions.{Board, IsBoard, IsPosition}
 use Rattle.hx_board.proofs.PositionLaws.{empty-is_position}
 use Rattle.hx_text.specs.declared.positions.TextFault.{TextFault}
-use Rattle.hx_text.specs.Words.{Lacks, IsCut, IsSet}
+use Rattle.hx_text.specs.Words.{IsSet}
+use Rattle.hx_text.specs.Marks.{Lacks, IsCut}
 use Rattle.hx_text.specs.Grammars.{text_of, Begins, IsFaultyLine}
 use Rattle.hx_text.specs.PositionTexts.{position_title, size_line, stones_line, move_line, position_lines, ArePositionLines}
 use Rattle.hx_text.specs.PositionReads.{ReadsFrom}
-use Rattle.hx_text.proofs.Injective.{board_of, size_injective}
+use Rattle.hx_text.proofs.Injective.{size_injective}
 use Rattle.hx_text.proofs.Cuts.{text_of-push, cut_same, Lacks-append_mark, Lacks-middle, ended-some}
-use Rattle.hx_text.proofs.PositionLines.{stones_injective, AllLack-position_lines, without_white, black_small, white_small}
+use Rattle.hx_text.proofs.PositionLines.{stones_injective, AllLack-position_lines, without_white, board_of, black_small, white_small}
 
 Lacks-begun : (before : List (List ℕ)) (line : List ℕ) → Begins ArePositionLines (before ++ line ∷ []) → Lacks 10 line
 Lacks-begun before line begins =
@@ -161,7 +163,8 @@ missing_4 size black rest extent fits lacks =
     missing (lines_3 size black) rest 4 (omega arith) (begins_3 size black extent fits) (partial (lines_3 size black) (omega arith)) lacks
 
 pub wrong_4 : (size : Extent) (black : ℕ) (rest text later : List ℕ) → IsExtent size.rows size.cols → IsPosition size black 0
-    → IsCut 10 rest text later → ((white : ℕ) → IsPosition size black white → text ≡ stones_line White white → ⊥)
+    → IsCut 10 rest text later
+    → ((board : Board) → IsBoard board × (board.size ≡ size) × (board.black ≡ black) × (text ≡ stones_line White board.white) → ⊥)
     → IsFaultyLine ArePositionLines (text_of (lines_3 size black) ++ rest) 4
 wrong_4 size black rest text later extent fits cut other = wrong_line (lines_3 size black) rest text later 4 (omega arith) (begins_3 size black extent fits) cut (λ b.
     let same : (lines_3 size black ++ text ∷ []) ++ b.0 ≡ position_lines b.1.board b.1.mover = b.1.same in
@@ -172,7 +175,7 @@ wrong_4 size black rest text later extent fits cut other = wrong_line (lines_3 s
     let blacks : black ≡ b.1.board.black =
     stones_injective Black black b.1.board.black (black_small size black 0 extent fits)
     (black_small b.1.board.size b.1.board.black b.1.board.white b.1.is_board.0 b.1.is_board.1) third in
-    other b.1.board.white (rw (sizes, blacks) b.1.is_board.1) fourth)
+    other b.1.board (b.1.is_board, sym sizes, sym blacks, fourth))
 
 -- ---- line 5
 
@@ -210,15 +213,15 @@ black_misfits size black none value line extent small e misfits read fits f =
     let same : black ≡ value = stones_injective Black black value small (black_small size value 0 extent fits) (sym read ∙ f) in
     misfits (rw (e, same) fits)
 
-pub white_none : (size : Extent) (black white : ℕ) (line : List ℕ) (found : Option Board) → IsExtent size.rows size.cols
+pub white_found : (size : Extent) (black white : ℕ) (line : List ℕ) (found : Option Board) → IsExtent size.rows size.cols
     → IsSet white → line ≡ stones_line White white
     → SomeIff found (IsPosition size black white) (board_of size black white)
-    → IfNone found ((value : ℕ) → IsPosition size black value → line ≡ stones_line White value → ⊥)
-white_none size black white line (Some position) extent small e found = tt
-white_none size black white line None extent small e found = λ value fits f.
-    let same : white ≡ value =
-    stones_injective White white value small (white_small size black value extent fits) (sym e ∙ f) in
-    found (subst (λ (w : ℕ). IsPosition size black w) (sym same) fits)
+    → Finds found (λ board. IsBoard board × (board.size ≡ size) × (board.black ≡ black) × (line ≡ stones_line White board.white))
+white_found size black white line (Some board) extent small e found = rw found.1 ((extent, found.0), refl, refl, e)
+white_found size black white line None extent small e found = λ board is.
+    let whites : white ≡ board.white =
+    stones_injective White white board.white small (white_small board.size board.black board.white is.0.0 is.0.1) (sym e ∙ is.3) in
+    found (rw (sym is.1, sym is.2, whites) is.0.1)
 
 pub with_white : (size : Extent) (black : ℕ) (board : Board) (later : List ℕ) (read : Result (Board × Colour) TextFault)
     → board.size ≡ size → board.black ≡ black → ReadsFrom (lines_4 board) later read

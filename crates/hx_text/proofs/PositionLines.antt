@@ -14,7 +14,7 @@ use Rattle.hx_text.proofs.Spacing.{IsLine, words_in-spaced, spaced_injective}
 use Rattle.hx_text.proofs.HighBytes.{AllHigh, is_high, IsHigh-test, IsHigh-hex, IsHigh-colour_word, IsLine-high, Lacks-spaced}
 use Rattle.hx_text.proofs.Masks.{mask_injective}
 use Rattle.hx_text.proofs.LineWords.{size_words, AllHigh-size_words}
-use Rattle.hx_text.proofs.Injective.{board_of, colour_injective}
+use Rattle.hx_text.proofs.Injective.{colour_injective}
 use Rattle.hx_text.proofs.Cuts.{AllLack}
 
 abbrev pub stones_words : Colour → ℕ → List (List ℕ)
@@ -87,6 +87,10 @@ without_white {size} {black} {white} fits = record {
   black_inside = fits.black_inside;
   white_inside = λ cell h. absurd (false≢true (sym (has-empty cell) ∙ h));
 }
+
+-- the board of this size with these stones
+abbrev pub board_of : Extent → ℕ → ℕ → Board
+board_of size black white = record { size = size; black = black; white = white }
 
 pub black_small : (size : Extent) (black white : ℕ) → IsExtent size.rows size.cols → IsPosition size black white → IsSet black
 black_small size black white extent fits = (board-small (board_of size black white) (extent, fits)).0

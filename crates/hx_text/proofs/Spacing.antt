@@ -2,7 +2,8 @@
 -- without a space have one line, and a line has one list of words.
 use Rattle.std.proofs.Common.{◌≡◌, ℕ, List, [], ◌∷◌, refl, sym, ap, ◌∙◌, Bool, true, false, eqb, cond}
 use Rattle.std.proofs.lemmas.Bool.{eqb-true}
-use Rattle.hx_text.specs.Words.{Lacks, in_first, split_at_marks, words_in, spaced}
+use Rattle.hx_text.specs.Words.{in_first, split_at_marks, words_in, spaced}
+use Rattle.hx_text.specs.Marks.{Lacks}
 use Rattle.hx_text.proofs.Splits.{split_at_marks-cut, split_at_marks-lacks, split_at_marks-some}
 
 -- words without a space

@@ -2,7 +2,8 @@
 -- mark are the first part.
 use Rattle.std.proofs.Common.{◌≡◌, ℕ, List, [], ◌∷◌, ◌++◌, refl, ap, Bool, true, false, eqb, cond}
 use Rattle.std.proofs.lemmas.Bool.{eq-eqb, ne_eqb}
-use Rattle.hx_text.specs.Words.{Lacks, in_first, split_at_marks}
+use Rattle.hx_text.specs.Words.{in_first, split_at_marks}
+use Rattle.hx_text.specs.Marks.{Lacks}
 
 pub split_at_marks-cut : (mark : ℕ) (before after : List ℕ) → Lacks mark before
     → split_at_marks mark (before ++ mark ∷ after) ≡ before ∷ split_at_marks mark after

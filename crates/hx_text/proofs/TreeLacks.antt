@@ -8,7 +8,8 @@ use Rattle.hx_tree.specs.declared.nodes.Node.{Node}
 use Rattle.hx_text.specs.declared.entries.Entry.{Entry}
 use Rattle.hx_text.specs.declared.entries.Entry.TheVariants.{Step as Step_entry, Threat as Threat_entry, Answer as Answer_entry, Fill as Fill_entry}
 use Rattle.hx_text.specs.declared.versions.Preamble.{Preamble}
-use Rattle.hx_text.specs.Words.{Lacks, IsNumber}
+use Rattle.hx_text.specs.Words.{IsNumber}
+use Rattle.hx_text.specs.Marks.{Lacks}
 use Rattle.hx_text.specs.Grammars.{Begins}
 use Rattle.hx_text.specs.StepTexts.{step_words}
 use Rattle.hx_text.specs.FillTexts.{fill_words}

@@ -1,7 +1,7 @@
 -- The nodes of a valid tree on boards of one size, of no more nodes than a text may have, are within the limits of a text:
 -- each cell is on the board, a child is an earlier node, what a step or a threat names is an earlier link, as each cell to
 -- answer has one line there are at most 121 lines, and as each fill step fills an empty cell there are at most 121 fill steps.
-use Rattle.std.proofs.Common.{◌≡◌, refl, ℕ, zero, suc, ◌+◌, ◌<◌, ◌≤◌, List, [], ◌∷◌, ◌++◌, length, map, take, get_or, ap, subst, arith, Option, Some, None, inl, inr, length-append}
+use Rattle.std.proofs.Common.{◌≡◌, refl, ℕ, zero, suc, ◌+◌, ◌<◌, ◌≤◌, List, [], ◌∷◌, ◌++◌, length, map, take, get_or, subst, arith, Option, Some, None, inl, inr, length-append}
 use Rattle.std.specs.Prelude.{slice_get, IfSome, IsSomeAnd}
 use Rattle.std.specs.List.{All as EachItem}
 use Rattle.std.proofs.lemmas.List.{length-map}
@@ -10,7 +10,6 @@ use Rattle.std.proofs.lemmas.Map.Keys.{sorted_from_strictly_increasing}
 use Rattle.std.proofs.lemmas.Map.Views.{length-le_from_below}
 use Rattle.hx_board.specs.declared.colours.Colour.{Colour}
 use Rattle.hx_board.specs.declared.vertices.Vertex.{Vertex}
-use Rattle.hx_board.specs.declared.vertices.Vertex.TheVariants.{Of, First, Last}
 use Rattle.hx_board.specs.Cells.{Extent, IsExtent, OnBoard}
 use Rattle.hx_board.specs.Graph.{IsVertex}
 use Rattle.hx_board.specs.Colours.{other_of}
@@ -23,7 +22,8 @@ use Rattle.hx_inferior.specs.Inferior.{IsKilled}
 use Rattle.hx_link.specs.declared.links.Link.{Link}
 use Rattle.hx_link.specs.declared.steps.Step.{Step}
 use Rattle.hx_link.specs.declared.steps.Step.TheVariants.{Base, AndStone, AndCell, Or}
-use Rattle.hx_link.specs.Steps.{IsEnd, IsLink, HasEnds, StepGives, AreRightSteps, links_at}
+use Rattle.hx_link.specs.Steps.{IsLink, HasEnds, StepGives, AreRightSteps, links_at}
+use Rattle.hx_link.proofs.LinkLaws.{end-vertex, steps-length}
 use Rattle.hx_tree.specs.declared.nodes.Heading.{Heading}
 use Rattle.hx_tree.specs.declared.nodes.Line.{Line}
 use Rattle.hx_tree.specs.declared.nodes.Line.TheVariants.{Child, Under}
@@ -53,9 +53,9 @@ place_below P (first ∷ before) zero there = omega arith
 place_below P (first ∷ before) (suc k) there = omega (arith, place_below P before k there)
 
 -- each cell of a list in order has its place below 121, so there are at most 121
-few_cells : (size : Extent) (cells : List ℕ) (Kind : ℕ → Type 0) → IsExtent size.rows size.cols → ((cell : ℕ) → Kind cell → OnBoard size cell)
-    → AreInOrder Kind cells → length cells ≤ CELLS
-few_cells size cells Kind extent on order =
+few_cells : (size : Extent) (cells : List ℕ) (Fact : ℕ → Type 0) → IsExtent size.rows size.cols → ((cell : ℕ) → Fact cell → OnBoard size cell)
+    → AreInOrder Fact cells → length cells ≤ CELLS
+few_cells size cells Fact extent on order =
     length-le_from_below 121 cells (sorted_from_strictly_increasing cells order.in_order)
     (λ k d less. on_board-small size (get_or cells k d) extent (on (get_or cells k d) (order.only k d less)))
 
@@ -91,16 +91,11 @@ lines_fit size before heading links threats all (line ∷ lines) same few on rig
 link_below : (links : List Link) (place : ℕ) (link : Link) → slice_get links place ≡ Some link → place < length links
 link_below links place link there = slice_get_within links place link there
 
-vertex_of_end : (board : Board) (player : Colour) (vertex : Vertex) → IsEnd board player vertex → IsVertex board.size vertex
-vertex_of_end board player (Of cell) is = is.0
-vertex_of_end board player First is = tt
-vertex_of_end board player Last is = tt
-
 base_fits : (board : Board) (player : Colour) (a b : Vertex) (link : Link) → IsLink board player link → HasEnds link a b → IsVertex board.size a × IsVertex board.size b
 base_fits board player a b link ok (inl ends) =
-    (rw ends.0 at (vertex_of_end board player link.a ok.a_end), rw ends.1 at (vertex_of_end board player link.b ok.b_end))
+    (rw ends.0 at (end-vertex board player link.a ok.a_end), rw ends.1 at (end-vertex board player link.b ok.b_end))
 base_fits board player a b link ok (inr ends) =
-    (rw ends.1 at (vertex_of_end board player link.b ok.b_end), rw ends.0 at (vertex_of_end board player link.a ok.a_end))
+    (rw ends.1 at (end-vertex board player link.b ok.b_end), rw ends.0 at (end-vertex board player link.a ok.a_end))
 
 parts_fit : (before : List Link) (places : List ℕ) (links : List Link) → length before ≤ MOST_STEPS
     → links_at before places ≡ map (λ (part : Link). Some part) links → AreNumbers places
@@ -132,13 +127,6 @@ steps_fit board player before (step ∷ steps) links few right = (
   step_fits board player before step right.0 (omega arith) right.1,
   steps_fit board player (before ++ right.0 ∷ []) steps links (omega (arith, length-append before (right.0 ∷ []))) right.2,
 )
-
-as_many_links : (board : Board) (player : Colour) (before : List Link) (steps : List Step) (links : List Link)
-    → AreRightSteps board player before steps links → length links ≡ length before + length steps
-as_many_links board player before [] links right = omega (arith, ap length right)
-as_many_links board player before (step ∷ steps) links right =
-    let later = as_many_links board player (before ++ right.0 ∷ []) steps links right.2 in
-    omega (arith, later, length-append before (right.0 ∷ []))
 
 -- ---- threats
 
@@ -189,7 +177,7 @@ rule_fits size before heading (Move cell child) same few right = tt
 rule_fits size before heading (All steps threats lines) same few right =
     let each : EachEntryFits heading.position.size (map step_entry steps) =
     steps_fit heading.position heading.winner [] steps right.links (omega (arith, right.steps_right.few)) right.steps_right.right in
-    let count : length right.links ≡ length steps = omega (arith, as_many_links heading.position heading.winner [] steps right.links right.steps_right.right) in
+    let count : length right.links ≡ length steps = omega (arith, steps-length heading.position heading.winner [] steps right.links right.steps_right.right) in
     EachEntryFits-entries_for size steps threats lines [] (rw same at each)
     (threats_fit size right.links threats (omega (arith, count, right.steps_right.few)) right.answered.threats_right.each)
     (lines_fit size before heading right.links threats lines lines same few

@@ -7,11 +7,12 @@ use Rattle.std.proofs.lemmas.List.{append-nil}
 use Rattle.hx_board.specs.declared.colours.Colour.{Colour}
 use Rattle.hx_board.specs.declared.colours.Colour.TheVariants.{Black, White}
 use Rattle.hx_board.specs.Positions.{Board, IsBoard}
+use Rattle.hx_board.proofs.PositionLaws.{same_board}
 use Rattle.hx_text.specs.declared.positions.TextFault.{TextFault}
 use Rattle.hx_text.specs.Grammars.{text_of, Begins, IsFaultyLine}
 use Rattle.hx_text.specs.PositionTexts.{position_lines, position_text, size_line, stones_line, move_line, ArePositionLines}
 use Rattle.hx_text.specs.PositionReads.{ReadsFrom}
-use Rattle.hx_text.proofs.Injective.{size_injective, board_same}
+use Rattle.hx_text.proofs.Injective.{size_injective}
 use Rattle.hx_text.proofs.Cuts.{AllLack, AllLack-front, ended-some, Agree, Second_goes_on, First_goes_on, agree, text_injective}
 use Rattle.hx_text.proofs.PositionLines.{stones_injective, move_injective, black_small, white_small, AllLack-position_lines}
 
@@ -35,7 +36,7 @@ position_injective a b m n fits_a fits_b e =
     let blacks : stones_line Black a.black ≡ stones_line Black b.black = cc in
     let whites : stones_line White a.white ≡ stones_line White b.white = cc in
     let moves : move_line m ≡ move_line n = cc in (
-      board_same a b (size_injective a.size b.size fits_a.0 fits_b.0 sizes)
+      same_board a b (size_injective a.size b.size fits_a.0 fits_b.0 sizes)
           (stones_injective Black a.black b.black (black_small a.size a.black a.white fits_a.0 fits_a.1)
           (black_small b.size b.black b.white fits_b.0 fits_b.1) blacks)
           (stones_injective White a.white b.white (white_small a.size a.black a.white fits_a.0 fits_a.1)

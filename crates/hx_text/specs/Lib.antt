@@ -1,8 +1,7 @@
+pub mod Marks
 pub mod Words
 pub mod Grammars
 pub mod PositionTexts
-pub mod PositionReads
-pub mod Spelling
 pub mod StepTexts
 pub mod FillTexts
 pub mod Entries
@@ -11,3 +10,6 @@ pub mod TreeTexts
 pub mod Places
 pub mod Reader
 pub mod Lengths
+-- ---- words for the functions inside the crate alone
+pub mod PositionReads
+pub mod Spelling

@@ -1,5 +1,5 @@
 -- What a reader of a tree's text has read, and what it says of one more line.
-use Rattle.std.specs.Prelude.{◌≡◌, ℕ, ◌+◌, ◌-◌, ◌^◌, List, [], ◌∷◌, ◌++◌, min, Bool}
+use Rattle.std.specs.Prelude.{◌≡◌, ℕ, List, [], ◌∷◌, ◌++◌, Bool}
 use Rattle.std.specs.declared.option.Option.{Option}
 use Rattle.std.specs.declared.option.Option.TheVariants.{None, Some}
 use Rattle.std.specs.declared.result.Result.{Result}
@@ -31,10 +31,6 @@ IsVersionIn (Some version) lines = (rest : List (List ℕ)) × (lines ≡ title_
 -- how many lines were fed, up to the last value of the count
 abbrev pub lines_fed : TreeReader → ℕ
 lines_fed reader = reader.fed
-
--- the next value of a count of 64 bits, which stands at its last value
-abbrev pub one_more : ℕ → ℕ
-one_more count = min (count + 1) (2 ^ 64 - 1)
 
 -- what a reader says of one more line, after it handed out these nodes and was fed with these lines
 abbrev pub Says : TreeReader → TreeReader → List Node → List (List ℕ) → List ℕ → Bool → Result Fed TreeFault → Type 0

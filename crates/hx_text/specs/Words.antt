@@ -1,5 +1,5 @@
 -- The spelling of numbers, masks, colours and cells, and of lines of words.
-use Rattle.std.specs.Prelude.{◌≡◌, ℕ, zero, suc, ◌+◌, ◌/◌, ◌%◌, ◌<◌, ◌^◌, ◌≢◌, ◌==◌, Bool, true, false, nat_lt, if◌then◌else◌, List, [], ◌∷◌, ◌++◌, codes, length, ◌≤◌, slice_index}
+use Rattle.std.specs.Prelude.{◌≡◌, ℕ, zero, suc, ◌+◌, ◌/◌, ◌%◌, ◌<◌, ◌^◌, ◌==◌, Bool, true, false, nat_lt, if◌then◌else◌, List, [], ◌∷◌, ◌++◌, codes, length, ◌≤◌, slice_index}
 use Rattle.std.specs.Fmt.{decimal}
 use Rattle.std.specs.declared.option.Option.{Option}
 use Rattle.std.specs.declared.option.Option.TheVariants.{None, Some}
@@ -32,15 +32,6 @@ unfoldable pub spaced : List (List ℕ) → List ℕ
 spaced [] = []
 spaced (word ∷ []) = word
 spaced (word ∷ next ∷ words) = word ++ 32 ∷ spaced (next ∷ words)
-
--- no byte is the mark
-abbrev pub Lacks : ℕ → List ℕ → Type 0
-Lacks mark [] = Unit {0}
-Lacks mark (byte ∷ bytes) = (byte ≢ mark) × Lacks mark bytes
-
--- the bytes before the first mark and after it, if there is one
-abbrev pub IsCut : ℕ → List ℕ → List ℕ → List ℕ → Type 0
-IsCut mark bytes before after = Lacks mark before × (bytes ≡ before ++ mark ∷ after)
 
 -- what a reader of a text answers: the value that is spelled so; and nothing only where no value is. Fit and spelling are two
 -- premises, as proofs take them, and no `Finds` of both

@@ -1,8 +1,9 @@
 //! The line of an answer to a move of the opponent: the cell that he moves to, and why the winner wins after it.
 
-ghost use Rattle.std.specs.Prelude.{◌≡◌, ℕ, ◌∷◌, [], MatchOption};
+ghost use Rattle.std.specs.Prelude.{◌≡◌, ℕ, ◌∷◌, []};
 ghost use Rattle.std.specs.Fmt.{decimal};
 ghost use Rattle.hx_board.specs.Cells.{OnBoard};
+ghost use Rattle.hx_board.specs.Finds.{Finds};
 ghost use Rattle.hx_inferior.specs.declared.dominations.Kill.TheVariants.{ByDead, ByPair};
 ghost use Rattle.hx_tree.specs.declared.nodes.Line.TheVariants.{Child, Under};
 ghost use Rattle.hx_text.specs.Words.{Reads, IsNumber, cell_word};
@@ -43,9 +44,8 @@ fn read_reason(size: Size, cell: Cell, words: &mut Words<'_>) -> Option<Line>
 
 /// The rest of a reason `child`: the number of a node.
 fn read_child(cell: Cell, words: &mut Words<'_>) -> Option<Line>
-    ensures { MatchOption result
-        ((child : ℕ) → IsNumber child → words.old ≡ decimal child ∷ [] → ⊥)
-        (λ line. (child : ℕ) × (line ≡ Child cell child) × IsNumber child × (words.old ≡ decimal child ∷ [])) }
+    ensures { Finds result (λ line. (child : ℕ) × (line ≡ Child cell child) × IsNumber child
+        × (words.old ≡ decimal child ∷ [])) }
 {
     let child = words.number()?;
     words.end()?;
@@ -54,9 +54,8 @@ fn read_child(cell: Cell, words: &mut Words<'_>) -> Option<Line>
 
 /// The rest of a reason `dead`: the better cell.
 fn read_dead(size: Size, cell: Cell, words: &mut Words<'_>) -> Option<Line>
-    ensures { MatchOption result
-        ((better : ℕ) → OnBoard size better → words.old ≡ cell_word better ∷ [] → ⊥)
-        (λ line. (better : ℕ) × (line ≡ Under cell better ByDead) × OnBoard size better × (words.old ≡ cell_word better ∷ [])) }
+    ensures { Finds result (λ line. (better : ℕ) × (line ≡ Under cell better ByDead)
+        × OnBoard size better × (words.old ≡ cell_word better ∷ [])) }
 {
     let better = words.cell(size)?;
     words.end()?;
@@ -66,9 +65,8 @@ fn read_dead(size: Size, cell: Cell, words: &mut Words<'_>) -> Option<Line>
 
 /// The rest of a reason `pair`: the better cell, and the other cell of the pair.
 fn read_pair(size: Size, cell: Cell, words: &mut Words<'_>) -> Option<Line>
-    ensures { MatchOption result
-        ((better partner : ℕ) → OnBoard size better → OnBoard size partner → words.old ≡ cell_word better ∷ cell_word partner ∷ [] → ⊥)
-        (λ line. (better partner : ℕ) × (line ≡ Under cell better (ByPair partner)) × OnBoard size better × OnBoard size partner
+    ensures { Finds result (λ line. (better partner : ℕ)
+        × (line ≡ Under cell better (ByPair partner)) × OnBoard size better × OnBoard size partner
         × (words.old ≡ cell_word better ∷ cell_word partner ∷ [])) }
 {
     let better = words.cell(size)?;

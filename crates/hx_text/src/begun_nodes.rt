@@ -157,7 +157,8 @@ fn list_for<T>(alloc: Global, entries: u32) -> Option<Vec<T>>
 
 /// Takes an entry that more entries follow, and says whether it did. Where it did not, the node is as it was.
 pub(crate) fn goes_on(alloc: Global, begun: &mut Begun, line: &[u8]) -> bool
-    ensures yes { IsTrue result → GoesOn (Place.Inside begun.old) line.now (Place.Inside begun.new) }
+    ensures yes { IsTrue result
+        → GoesOn (Place.Inside begun.old) line.now (Place.Inside begun.new) }
     ensures no { result ≡ false → begun.new ≡ begun.old }
 {
     if begun.missing < 2 {
@@ -178,7 +179,8 @@ pub(crate) fn goes_on(alloc: Global, begun: &mut Begun, line: &[u8]) -> bool
 fn step_goes_on(alloc: Global, begun: &mut Begun, line: &[u8]) -> bool
     requires more { 1 < begun.old.missing }
     requires due { kind_due begun.old ≡ EntryKind.Step }
-    ensures yes { IsTrue result → GoesOn (Place.Inside begun.old) line.now (Place.Inside begun.new) }
+    ensures yes { IsTrue result
+        → GoesOn (Place.Inside begun.old) line.now (Place.Inside begun.new) }
     ensures no { result ≡ false → begun.new ≡ begun.old }
 {
     match read_step(alloc, begun.size(), line) {
@@ -191,7 +193,8 @@ fn step_goes_on(alloc: Global, begun: &mut Begun, line: &[u8]) -> bool
 fn threat_goes_on(begun: &mut Begun, line: &[u8]) -> bool
     requires more { 1 < begun.old.missing }
     requires due { kind_due begun.old ≡ EntryKind.Threat }
-    ensures yes { IsTrue result → GoesOn (Place.Inside begun.old) line.now (Place.Inside begun.new) }
+    ensures yes { IsTrue result
+        → GoesOn (Place.Inside begun.old) line.now (Place.Inside begun.new) }
     ensures no { result ≡ false → begun.new ≡ begun.old }
 {
     match read_threat(line) {
@@ -204,7 +207,8 @@ fn threat_goes_on(begun: &mut Begun, line: &[u8]) -> bool
 fn answer_goes_on(begun: &mut Begun, line: &[u8]) -> bool
     requires more { 1 < begun.old.missing }
     requires due { kind_due begun.old ≡ EntryKind.Answer }
-    ensures yes { IsTrue result → GoesOn (Place.Inside begun.old) line.now (Place.Inside begun.new) }
+    ensures yes { IsTrue result
+        → GoesOn (Place.Inside begun.old) line.now (Place.Inside begun.new) }
     ensures no { result ≡ false → begun.new ≡ begun.old }
 {
     match read_answer(begun.size(), line) {
@@ -217,7 +221,8 @@ fn answer_goes_on(begun: &mut Begun, line: &[u8]) -> bool
 fn fill_goes_on(begun: &mut Begun, line: &[u8]) -> bool
     requires more { 1 < begun.old.missing }
     requires due { kind_due begun.old ≡ EntryKind.Fill }
-    ensures yes { IsTrue result → GoesOn (Place.Inside begun.old) line.now (Place.Inside begun.new) }
+    ensures yes { IsTrue result
+        → GoesOn (Place.Inside begun.old) line.now (Place.Inside begun.new) }
     ensures no { result ≡ false → begun.new ≡ begun.old }
 {
     match read_fill(begun.size(), line) {

@@ -1,7 +1,8 @@
 //! The lines of a node's fill steps.
 
-ghost use Rattle.std.specs.Prelude.{◌≡◌, ℕ, ◌∷◌, [], MatchOption};
+ghost use Rattle.std.specs.Prelude.{◌≡◌, ℕ, ◌∷◌, []};
 ghost use Rattle.hx_board.specs.Cells.{OnBoard};
+ghost use Rattle.hx_board.specs.Finds.{Finds};
 ghost use Rattle.hx_inferior.specs.declared.fills.FillStep.TheVariants.{Other, Dead, Pair};
 ghost use Rattle.hx_text.specs.Words.{Reads, cell_word};
 ghost use Rattle.hx_text.specs.FillTexts.{fill_words, fill_line, FillFits};
@@ -38,9 +39,8 @@ fn read_words(size: Size, words: &mut Words<'_>) -> Option<FillStep>
 
 /// The rest of a line `other`: a cell.
 fn read_other(size: Size, words: &mut Words<'_>) -> Option<FillStep>
-    ensures { MatchOption result
-        ((cell : ℕ) → OnBoard size cell → words.old ≡ cell_word cell ∷ [] → ⊥)
-        (λ fill. (cell : ℕ) × (fill ≡ Other cell) × OnBoard size cell × (words.old ≡ cell_word cell ∷ [])) }
+    ensures { Finds result (λ fill. (cell : ℕ) × (fill ≡ Other cell) × OnBoard size cell
+        × (words.old ≡ cell_word cell ∷ [])) }
 {
     let cell = words.cell(size)?;
     words.end()?;
@@ -49,9 +49,8 @@ fn read_other(size: Size, words: &mut Words<'_>) -> Option<FillStep>
 
 /// The rest of a line `dead`: a cell.
 fn read_dead(size: Size, words: &mut Words<'_>) -> Option<FillStep>
-    ensures { MatchOption result
-        ((cell : ℕ) → OnBoard size cell → words.old ≡ cell_word cell ∷ [] → ⊥)
-        (λ fill. (cell : ℕ) × (fill ≡ Dead cell) × OnBoard size cell × (words.old ≡ cell_word cell ∷ [])) }
+    ensures { Finds result (λ fill. (cell : ℕ) × (fill ≡ Dead cell) × OnBoard size cell
+        × (words.old ≡ cell_word cell ∷ [])) }
 {
     let cell = words.cell(size)?;
     words.end()?;
@@ -60,9 +59,8 @@ fn read_dead(size: Size, words: &mut Words<'_>) -> Option<FillStep>
 
 /// The rest of a line `pair`: two cells.
 fn read_pair(size: Size, words: &mut Words<'_>) -> Option<FillStep>
-    ensures { MatchOption result
-        ((a b : ℕ) → OnBoard size a → OnBoard size b → words.old ≡ cell_word a ∷ cell_word b ∷ [] → ⊥)
-        (λ fill. (a b : ℕ) × (fill ≡ Pair a b) × OnBoard size a × OnBoard size b × (words.old ≡ cell_word a ∷ cell_word b ∷ [])) }
+    ensures { Finds result (λ fill. (a b : ℕ) × (fill ≡ Pair a b) × OnBoard size a × OnBoard size b
+        × (words.old ≡ cell_word a ∷ cell_word b ∷ [])) }
 {
     let a = words.cell(size)?;
     let b = words.cell(size)?;

@@ -14,8 +14,8 @@ ghost use Rattle.hx_text.specs.Lengths.{AreShortLines};
 
 /// A text tells its position and the player to move: two of them with the same text are the same.
 pub fn text_tells_position()
-    ensures { (a b : Board) (m n : Player) → IsBoard a → IsBoard b → position_text a m ≡ position_text b n
-        → (a ≡ b) × (m ≡ n) }
+    ensures { (a b : Board) (m n : Player) → IsBoard a → IsBoard b
+        → position_text a m ≡ position_text b n → (a ≡ b) × (m ≡ n) }
 {}
 
 /// A text tells its nodes: two lists of nodes with the same text are the same.

@@ -1,7 +1,8 @@
 //! The lines of the texts outside of nodes, with a reader for each kind. A line that is not of the kind is answered with None.
 
-ghost use Rattle.std.specs.Prelude.{◌≡◌, ◌↔◌, IsTrue, IfSome, IfNone};
+ghost use Rattle.std.specs.Prelude.{◌≡◌, ◌↔◌, IsTrue};
 ghost use Rattle.hx_board.specs.Cells.{IsExtent};
+ghost use Rattle.hx_board.specs.Finds.{Finds};
 ghost use Rattle.hx_text.specs.Words.{Reads, IsNumber, IsSet};
 ghost use Rattle.hx_text.specs.PositionTexts.{position_title, size_line, stones_line, move_line};
 ghost use Rattle.hx_text.specs.TreeTexts.{title_line, end_line};
@@ -77,8 +78,7 @@ pub(crate) fn read_mover(line: &[u8]) -> Option<Colour>
 
 /// The size of so many rows and columns, if there is a board of that size.
 fn size_of(rows: u32, cols: u32) -> Option<Size>
-    ensures some { IfSome result (λ s. IsExtent s.rows s.cols × (s.rows ≡ rows) × (s.cols ≡ cols)) }
-    ensures none { IfNone result (IsExtent rows cols → ⊥) }
+    ensures { Finds result (λ s. IsExtent s.rows s.cols × (s.rows ≡ rows) × (s.cols ≡ cols)) }
 {
     let rows = u8::try_from(rows).ok()?;
     let cols = u8::try_from(cols).ok()?;

@@ -2,11 +2,11 @@
 //! bytes after the last one, so no byte is looked at twice.
 
 ghost use Rattle.std.specs.Prelude.{MatchOption};
-ghost use Rattle.hx_text.specs.Words.{IsCut, Lacks};
+ghost use Rattle.hx_text.specs.Marks.{IsCut, Lacks};
 
 use memchr::memchr;
 
-/// The bytes before the first mark, and those after it.
+/// The bytes before the first mark, and those after it. None where there is no mark.
 // A call that is not put in place would hand over both parts through memory, word by word.
 #[inline(always)]
 pub fn cut(bytes: &[u8], mark: u8) -> Option<(&[u8], &[u8])>

@@ -1,8 +1,9 @@
 //! A node's first line, which tells its position, its mover, its winner, how its rule begins and how many entries follow.
 
-ghost use Rattle.std.specs.Prelude.{◌≡◌, ◌≢◌, ℕ, ◌≤◌, ◌∷◌, [], codes, IfSome, IfNone, MatchOption};
+ghost use Rattle.std.specs.Prelude.{◌≡◌, ℕ, ◌≤◌, ◌∷◌, [], codes};
 ghost use Rattle.std.specs.Fmt.{decimal};
 ghost use Rattle.hx_board.specs.Cells.{OnBoard};
+ghost use Rattle.hx_board.specs.Finds.{Finds};
 ghost use Rattle.hx_text.specs.Words.{Reads, IsNumber, cell_word};
 ghost use Rattle.hx_text.specs.Entries.{steps_told, threats_told, answers_told, fills_told};
 ghost use Rattle.hx_text.specs.TreeTexts.{opening_words, OpeningFits, UnturnedFits, head_line, HeadFits};
@@ -139,7 +140,7 @@ fn read_unturned(preamble: &Preamble, words: &mut Words<'_>) -> Option<Opening>
 
 /// The rest of the opening `chain`: no word.
 fn read_chain(words: &Words<'_>) -> Option<Opening>
-    ensures { MatchOption result (words.now ≢ []) (λ opening. (opening ≡ Opening.Chain) × (words.now ≡ [])) }
+    ensures { Finds result (λ opening. (opening ≡ Opening.Chain) × (words.now ≡ [])) }
 {
     words.end()?;
     Some(Opening::Chain)
@@ -147,10 +148,8 @@ fn read_chain(words: &Words<'_>) -> Option<Opening>
 
 /// The rest of the opening `move`: the words `CELL CHILD`.
 fn read_move(size: Size, words: &mut Words<'_>) -> Option<Opening>
-    ensures some { IfSome result (λ opening. (cell child : ℕ) × (opening ≡ Opening.Move cell child) × OnBoard size cell × IsNumber child
-        × (words.old ≡ cell_word cell ∷ decimal child ∷ [])) }
-    ensures none { IfNone result ((cell child : ℕ) → OnBoard size cell → IsNumber child
-        → words.old ≡ cell_word cell ∷ decimal child ∷ [] → ⊥) }
+    ensures { Finds result (λ opening. (cell child : ℕ) × (opening ≡ Opening.Move cell child)
+        × OnBoard size cell × IsNumber child × (words.old ≡ cell_word cell ∷ decimal child ∷ [])) }
 {
     let cell = words.cell(size)?;
     let child = words.number()?;
@@ -160,8 +159,8 @@ fn read_move(size: Size, words: &mut Words<'_>) -> Option<Opening>
 
 /// The rest of the opening `links`: the word `STEPS`.
 fn read_links(words: &mut Words<'_>) -> Option<Opening>
-    ensures some { IfSome result (λ opening. (steps : ℕ) × (opening ≡ Opening.Links steps) × (steps ≤ MOST_STEPS) × (words.old ≡ decimal steps ∷ [])) }
-    ensures none { IfNone result ((steps : ℕ) → steps ≤ MOST_STEPS → words.old ≡ decimal steps ∷ [] → ⊥) }
+    ensures { Finds result (λ opening. (steps : ℕ) × (opening ≡ Opening.Links steps)
+        × (steps ≤ MOST_STEPS) × (words.old ≡ decimal steps ∷ [])) }
 {
     let steps = words.count(MOST_STEPS)?;
     words.end()?;
@@ -170,11 +169,10 @@ fn read_links(words: &mut Words<'_>) -> Option<Opening>
 
 /// The rest of the opening `all`: the words `STEPS THREATS LINES`.
 fn read_all(words: &mut Words<'_>) -> Option<Opening>
-    ensures some { IfSome result (λ opening. (steps threats lines : ℕ) × (opening ≡ Opening.All steps threats lines)
+    ensures { Finds result (λ opening. (steps threats lines : ℕ)
+        × (opening ≡ Opening.All steps threats lines)
         × (steps ≤ MOST_STEPS) × (threats ≤ MOST_THREATS) × (lines ≤ CELLS)
         × (words.old ≡ decimal steps ∷ decimal threats ∷ decimal lines ∷ [])) }
-    ensures none { IfNone result ((steps threats lines : ℕ) → steps ≤ MOST_STEPS → threats ≤ MOST_THREATS → lines ≤ CELLS
-        → words.old ≡ decimal steps ∷ decimal threats ∷ decimal lines ∷ [] → ⊥) }
 {
     let steps = words.count(MOST_STEPS)?;
     let threats = words.count(MOST_THREATS)?;
@@ -189,10 +187,8 @@ fn read_all(words: &mut Words<'_>) -> Option<Opening>
 
 /// The rest of the opening `fill`: the words `FILLS CHILD`.
 fn read_fills(words: &mut Words<'_>) -> Option<Opening>
-    ensures some { IfSome result (λ opening. (fills child : ℕ) × (opening ≡ Opening.Fill fills child) × (fills ≤ CELLS) × IsNumber child
-        × (words.old ≡ decimal fills ∷ decimal child ∷ [])) }
-    ensures none { IfNone result ((fills child : ℕ) → fills ≤ CELLS → IsNumber child
-        → words.old ≡ decimal fills ∷ decimal child ∷ [] → ⊥) }
+    ensures { Finds result (λ opening. (fills child : ℕ) × (opening ≡ Opening.Fill fills child)
+        × (fills ≤ CELLS) × IsNumber child × (words.old ≡ decimal fills ∷ decimal child ∷ [])) }
 {
     let fills = words.count(CELLS)?;
     let child = words.number()?;
@@ -202,9 +198,8 @@ fn read_fills(words: &mut Words<'_>) -> Option<Opening>
 
 /// The rest of the opening `turned`: the word `CHILD`. The first version has no such opening.
 fn read_turned(version: Version, words: &mut Words<'_>) -> Option<Opening>
-    ensures some { IfSome result (λ opening. (child : ℕ) × (opening ≡ Opening.Turned child) × (version ≡ Version.Two) × IsNumber child
-        × (words.old ≡ decimal child ∷ [])) }
-    ensures none { IfNone result ((child : ℕ) → version ≡ Version.Two → IsNumber child → words.old ≡ decimal child ∷ [] → ⊥) }
+    ensures { Finds result (λ opening. (child : ℕ) × (opening ≡ Opening.Turned child)
+        × (version ≡ Version.Two) × IsNumber child × (words.old ≡ decimal child ∷ [])) }
 {
     if version == Version::One {
         return None;

@@ -1,9 +1,10 @@
 //! The reader of a position's text. Each of its five lines is read in its place, so the first that is wrong is named.
 
-ghost use Rattle.std.specs.Prelude.{◌≡◌, ℕ, [], ◌∷◌, IfSome, IfNone, IfOk, IfErr, Ok};
+ghost use Rattle.std.specs.Prelude.{◌≡◌, ℕ, [], ◌∷◌, IfOk, IfErr, Ok};
 ghost use Rattle.hx_board.specs.declared.colours.Colour.{Colour as Mover};
 ghost use Rattle.hx_board.specs.declared.colours.Colour.TheVariants.{Black, White};
 ghost use Rattle.hx_board.specs.Cells.{IsExtent};
+ghost use Rattle.hx_board.specs.Finds.{Finds};
 ghost use Rattle.hx_board.specs.Positions.{Board, IsBoard, IsPosition};
 ghost use Rattle.hx_text.specs.Words.{Reads};
 ghost use Rattle.hx_text.specs.Grammars.{IsFaultyLine};
@@ -26,10 +27,11 @@ pub struct TextFault {
 /// by LF is wrong at its own number, and whatever follows the fifth line is wrong as the sixth.
 pub fn read_position(bytes: &[u8]) -> Result<(Position, Colour), TextFault>
     // What is read is spelled so.
-    ensures read { IfOk result (λ found. IsBoard found.0 × (bytes.now ≡ position_text found.0 found.1)) }
+    ensures read { IfOk result (λ found.
+        IsBoard found.0 × (bytes.now ≡ position_text found.0 found.1)) }
     // What is spelled so is read.
-    ensures all { (board : Board) (to_move : Mover) → IsBoard board → bytes.now ≡ position_text board to_move
-        → result ≡ Ok (board, to_move) }
+    ensures all { (board : Board) (to_move : Mover) → IsBoard board
+        → bytes.now ≡ position_text board to_move → result ≡ Ok (board, to_move) }
     ensures fault { IfErr result (λ fault. IsFaultyLine ArePositionLines bytes.now fault.line) }
 {
     at_title(bytes)
@@ -92,7 +94,8 @@ fn black_stones(size: Size, line: &[u8]) -> Option<Mask>
 fn at_white(size: Size, black: Mask, bytes: &[u8]) -> Result<(Position, Colour), TextFault>
     requires extent { IsExtent size.rows size.cols }
     requires fits { IsPosition size black 0 }
-    ensures { ReadsFrom (position_title ∷ size_line size ∷ stones_line Black black ∷ []) bytes.now result }
+    ensures { ReadsFrom (position_title ∷ size_line size ∷ stones_line Black black ∷ [])
+        bytes.now result }
 {
     match cut(bytes, b'\n') {
         Some((line, rest)) => match with_white_stones(size, black, line) {
@@ -106,9 +109,8 @@ fn at_white(size: Size, black: Mask, bytes: &[u8]) -> Result<(Position, Colour),
 /// The position with White's stones too.
 fn with_white_stones(size: Size, black: Mask, line: &[u8]) -> Option<Position>
     requires { IsExtent size.rows size.cols }
-    ensures some { IfSome result (λ position. IsBoard position × (position.size ≡ size) × (position.black ≡ black)
-        × (line.now ≡ stones_line White position.white)) }
-    ensures none { IfNone result ((white : ℕ) → IsPosition size black white → line.now ≡ stones_line White white → ⊥) }
+    ensures { Finds result (λ position. IsBoard position × (position.size ≡ size)
+        × (position.black ≡ black) × (line.now ≡ stones_line White position.white)) }
 {
     let white = lines::read_stones(Colour::White, line)?;
     Position::from_masks(size, black, white)
@@ -117,8 +119,9 @@ fn with_white_stones(size: Size, black: Mask, line: &[u8]) -> Option<Position>
 /// Reads on from the line of the player to move.
 fn at_move(position: &Position, bytes: &[u8]) -> Result<(Position, Colour), TextFault>
     requires { IsBoard position.now }
-    ensures { ReadsFrom (position_title ∷ size_line position.now.size ∷ stones_line Black position.now.black
-        ∷ stones_line White position.now.white ∷ []) bytes.now result }
+    ensures { ReadsFrom (position_title ∷ size_line position.now.size
+        ∷ stones_line Black position.now.black ∷ stones_line White position.now.white ∷ [])
+        bytes.now result }
 {
     match cut(bytes, b'\n') {
         Some((line, rest)) => match lines::read_mover(line) {
@@ -136,8 +139,9 @@ fn at_end(
     bytes: &[u8],
 ) -> Result<(Position, Colour), TextFault>
     requires { IsBoard position.now }
-    ensures { ReadsFrom (position_title ∷ size_line position.now.size ∷ stones_line Black position.now.black
-        ∷ stones_line White position.now.white ∷ move_line to_move ∷ []) bytes.now result }
+    ensures { ReadsFrom (position_title ∷ size_line position.now.size
+        ∷ stones_line Black position.now.black ∷ stones_line White position.now.white
+        ∷ move_line to_move ∷ []) bytes.now result }
 {
     if bytes.is_empty() {
         Ok((*position, to_move))

@@ -5,7 +5,8 @@ ghost use Rattle.std.specs.Prelude.{◌≡◌, ◌∷◌, ◌++◌, [], ℕ, Lis
 ghost use Rattle.hx_tree.specs.declared.nodes.Node.{Node as TreeNode};
 ghost use Rattle.hx_text.specs.declared.places.TreeFault.{TreeFault as Fault};
 ghost use Rattle.hx_text.specs.Places.{Stands, Told, IsFailed, fault_of_stop, version_at};
-ghost use Rattle.hx_text.specs.Reader.{HasRead, HasFailed, Says, IsVersionIn, version_read, lines_fed, one_more};
+ghost use Rattle.hx_io.specs.Causes.{next_count};
+ghost use Rattle.hx_text.specs.Reader.{HasRead, HasFailed, Says, IsVersionIn, version_read, lines_fed};
 
 use crate::places::{self, Fed, Place, Step, Stop, TreeFault};
 use crate::versions::Version;
@@ -51,8 +52,8 @@ impl TreeReader {
     /// The version of the text, which its first line tells. None exactly until that line was read without a fault.
     pub fn version(&self) -> Option<Version>
         ensures same { result ≡ version_read self.now }
-        ensures read { (nodes : List TreeNode) (lines : List (List ℕ)) → HasRead self.now nodes lines
-            → IsVersionIn result lines }
+        ensures read { (nodes : List TreeNode) (lines : List (List ℕ))
+            → HasRead self.now nodes lines → IsVersionIn result lines }
     {
         self.place.version()
     }
@@ -60,8 +61,9 @@ impl TreeReader {
     /// Takes one more line, without its LF, and whether an LF followed. Memory is wanting only at a line that takes it: a right
     /// first line of a node that tells of entries, or a line of a step that begins as that of an Or of more than eight parts.
     pub fn feed(&mut self, line: &[u8], ended: bool) -> Result<Fed, TreeFault>
-        ensures count { lines_fed self.new ≡ one_more (lines_fed self.old) }
-        ensures says { (nodes : List TreeNode) (lines : List (List ℕ)) → HasRead self.old nodes lines
+        ensures count { lines_fed self.new ≡ next_count (lines_fed self.old) }
+        ensures says { (nodes : List TreeNode) (lines : List (List ℕ))
+            → HasRead self.old nodes lines
             → Says self.old self.new nodes lines line.now ended result }
         ensures failed { IfErr result (λ fault. HasFailed self.new fault) }
         // At a fault the version stays what it was.
@@ -85,7 +87,8 @@ impl TreeReader {
     #[inline(never)]
     fn step_on(&mut self, line: &[u8], ended: bool) -> Result<Fed, TreeFault>
         ensures count { lines_fed self.new ≡ lines_fed self.old }
-        ensures says { (nodes : List TreeNode) (lines : List (List ℕ)) → HasRead self.old nodes lines
+        ensures says { (nodes : List TreeNode) (lines : List (List ℕ))
+            → HasRead self.old nodes lines
             → Says self.old self.new nodes lines line.now ended result }
         ensures failed { IfErr result (λ fault. HasFailed self.new fault) }
         ensures version { IfErr result (λ _. version_read self.new ≡ version_read self.old) }
@@ -102,7 +105,8 @@ impl TreeReader {
 fn take_line(alloc: Global, place: Place, line: &[u8], ended: bool, number: u64) -> Taken
     ensures says { (nodes : List TreeNode) (lines : List (List ℕ)) → Stands place nodes lines
         → Told place line.now ended number nodes (lines ++ line.now ∷ []) result.place result.told }
-    ensures failed { IfErr result.told (λ fault. result.place ≡ Place.Failed fault (version_at place)) }
+    ensures failed { IfErr result.told (λ fault.
+        result.place ≡ Place.Failed fault (version_at place)) }
     ensures again { (fault : Fault) → IsFailed place fault → result.told ≡ Err fault }
 {
     if let Place::Failed { fault, .. } = place {
@@ -131,7 +135,8 @@ fn failed(fault: TreeFault, version: Option<Version>) -> Taken
 fn stepped(alloc: Global, place: Place, line: &[u8], number: u64) -> Taken
     ensures says { (nodes : List TreeNode) (lines : List (List ℕ)) → Stands place nodes lines
         → Told place line.now true number nodes (lines ++ line.now ∷ []) result.place result.told }
-    ensures failed { IfErr result.told (λ fault. result.place ≡ Place.Failed fault (version_at place)) }
+    ensures failed { IfErr result.told (λ fault.
+        result.place ≡ Place.Failed fault (version_at place)) }
 {
     let version = place.version();
     match places::advance(alloc, place, line) {

@@ -1,5 +1,5 @@
 //! Spelling the texts of positions and trees, line by line. The longest that is put in as a whole is the first line of a node,
-//! with 120 bytes; a node with many lines goes out in pieces.
+//! for which 120 bytes are kept; a node with many lines goes out in pieces.
 
 ghost use Rattle.std.specs.Prelude.{◌≡◌, ◌+◌, ◌≤◌, ◌++◌, ◌∷◌, [], length};
 ghost use Rattle.std.specs.Fmt.{decimal};
@@ -75,7 +75,8 @@ impl Text {
     /// Puts the lines of a tree's text before its nodes: the title and the size of the board.
     pub(crate) fn put_heading(&mut self, version: Version, size: Size)
         requires { length self.old + 21 ≤ TEXT_ROOM }
-        ensures { self.new ≡ self.old ++ text_of (front_lines (record { version = version; size = size })) }
+        ensures { self.new ≡ self.old
+            ++ text_of (front_lines (record { version = version; size = size })) }
     {
         self.put_title(version);
         self.put_size(size);
@@ -150,7 +151,8 @@ impl Text {
     fn put_and(&mut self, word: &[u8], left: u32, right: u32)
         requires room { length self.old + 28 ≤ TEXT_ROOM }
         requires short { length word.now ≤ 6 }
-        ensures { self.new ≡ self.old ++ (word.now ++ decimal left ++ 32 ∷ decimal right ++ 10 ∷ []) }
+        ensures { self.new ≡ self.old
+            ++ (word.now ++ decimal left ++ 32 ∷ decimal right ++ 10 ∷ []) }
     {
         self.put(word);
         self.put_number(left);
@@ -218,7 +220,8 @@ impl Text {
     /// Puts the line of an answer by a better cell, with which the cell is one of a pair with its partner.
     fn put_under_pair(&mut self, cell: Cell, better: Cell, partner: Cell)
         requires { length self.old + 22 ≤ TEXT_ROOM }
-        ensures { self.new ≡ self.old ++ (answer_line (Under cell better (ByPair partner)) ++ 10 ∷ []) }
+        ensures { self.new ≡ self.old
+            ++ (answer_line (Under cell better (ByPair partner)) ++ 10 ∷ []) }
     {
         self.put(b"line ");
         self.put_cell(cell);
@@ -279,7 +282,8 @@ impl Text {
     /// Puts the masks of both players' stones, each with the space after it.
     fn put_masks(&mut self, position: &Position)
         requires { length self.old + 66 ≤ TEXT_ROOM }
-        ensures text { self.new ≡ self.old ++ (mask_word position.now.black ++ 32 ∷ mask_word position.now.white ++ 32 ∷ []) }
+        ensures text { self.new ≡ self.old
+            ++ (mask_word position.now.black ++ 32 ∷ mask_word position.now.white ++ 32 ∷ []) }
         ensures short { length self.new ≤ length self.old + 66 }
     {
         self.put_mask(position.stones(Colour::Black));
@@ -291,7 +295,8 @@ impl Text {
     /// Puts the player to move and the winner, each with the space after it.
     fn put_colours(&mut self, to_move: Colour, winner: Colour)
         requires { length self.old + 12 ≤ TEXT_ROOM }
-        ensures text { self.new ≡ self.old ++ (colour_word to_move ++ 32 ∷ colour_word winner ++ 32 ∷ []) }
+        ensures text { self.new ≡ self.old
+            ++ (colour_word to_move ++ 32 ∷ colour_word winner ++ 32 ∷ []) }
         ensures short { length self.new ≤ length self.old + 12 }
     {
         self.put_colour(to_move);

@@ -1,8 +1,9 @@
 //! The lines of a node's steps and threats.
 
-ghost use Rattle.std.specs.Prelude.{◌≡◌, ℕ, ◌≤◌, ◌∷◌, [], map, length, codes, List, IfOk, OnErr, MatchOption};
+ghost use Rattle.std.specs.Prelude.{◌≡◌, ℕ, ◌≤◌, ◌∷◌, [], map, length, codes, List, IfOk, OnErr};
 ghost use Rattle.std.specs.Fmt.{decimal};
 ghost use Rattle.hx_board.specs.declared.vertices.Vertex.{Vertex};
+ghost use Rattle.hx_board.specs.Finds.{Finds};
 ghost use Rattle.hx_board.specs.Graph.{IsVertex};
 ghost use Rattle.hx_text.specs.Words.{Reads, IsNumber};
 ghost use Rattle.hx_text.specs.StepTexts.{step_words, step_line, StepFits, BeginsLongOr, BeginWithManyParts, threat_line, vertex_word, AreNumbers};
@@ -28,7 +29,8 @@ pub(crate) fn read_step(alloc: Global, size: Size, line: &[u8]) -> Result<Option
 /// The words of a step's line.
 fn read_words(alloc: Global, size: Size, words: &mut Words<'_>) -> Result<Option<Step>, Memory>
     ensures reads { IfOk result (Reads step_words (StepFits size) words.old) }
-    ensures memory { OnErr result ((parts : List (List ℕ)) × (words.old ≡ codes "or" ∷ parts) × BeginWithManyParts parts) }
+    ensures memory { OnErr result ((parts : List (List ℕ)) × (words.old ≡ codes "or" ∷ parts)
+        × BeginWithManyParts parts) }
 {
     let Some(word) = words.next() else {
         return Ok(None);
@@ -44,10 +46,8 @@ fn read_words(alloc: Global, size: Size, words: &mut Words<'_>) -> Result<Option
 
 /// The rest of a line `base`: two vertices.
 fn read_base(size: Size, words: &mut Words<'_>) -> Option<Step>
-    ensures { MatchOption result
-        ((a b : Vertex) → IsVertex size a → IsVertex size b → words.old ≡ vertex_word a ∷ vertex_word b ∷ [] → ⊥)
-        (λ step. (a b : Vertex) × (step ≡ Step.Base a b) × IsVertex size a × IsVertex size b
-        × (words.old ≡ vertex_word a ∷ vertex_word b ∷ [])) }
+    ensures { Finds result (λ step. (a b : Vertex) × (step ≡ Step.Base a b)
+        × IsVertex size a × IsVertex size b × (words.old ≡ vertex_word a ∷ vertex_word b ∷ [])) }
 {
     let a = words.vertex(size)?;
     let b = words.vertex(size)?;
@@ -64,9 +64,8 @@ struct Pair {
 
 /// Two numbers that are the last words.
 fn read_pair(words: &mut Words<'_>) -> Option<Pair>
-    ensures { MatchOption result
-        ((left right : ℕ) → IsNumber left → IsNumber right → words.old ≡ decimal left ∷ decimal right ∷ [] → ⊥)
-        (λ pair. IsNumber pair.left × IsNumber pair.right × (words.old ≡ decimal pair.left ∷ decimal pair.right ∷ [])) }
+    ensures { Finds result (λ pair. IsNumber pair.left × IsNumber pair.right
+        × (words.old ≡ decimal pair.left ∷ decimal pair.right ∷ [])) }
 {
     let left = words.number()?;
     let right = words.number()?;
@@ -76,10 +75,8 @@ fn read_pair(words: &mut Words<'_>) -> Option<Pair>
 
 /// The rest of a line `stone`: two numbers.
 fn read_stone(words: &mut Words<'_>) -> Option<Step>
-    ensures { MatchOption result
-        ((left right : ℕ) → IsNumber left → IsNumber right → words.old ≡ decimal left ∷ decimal right ∷ [] → ⊥)
-        (λ step. (left right : ℕ) × (step ≡ Step.AndStone left right) × IsNumber left × IsNumber right
-        × (words.old ≡ decimal left ∷ decimal right ∷ [])) }
+    ensures { Finds result (λ step. (left right : ℕ) × (step ≡ Step.AndStone left right)
+        × IsNumber left × IsNumber right × (words.old ≡ decimal left ∷ decimal right ∷ [])) }
 {
     let Pair { left, right } = read_pair(words)?;
     Some(Step::AndStone { left, right })
@@ -87,10 +84,8 @@ fn read_stone(words: &mut Words<'_>) -> Option<Step>
 
 /// The rest of a line `cell`: two numbers.
 fn read_cell(words: &mut Words<'_>) -> Option<Step>
-    ensures { MatchOption result
-        ((left right : ℕ) → IsNumber left → IsNumber right → words.old ≡ decimal left ∷ decimal right ∷ [] → ⊥)
-        (λ step. (left right : ℕ) × (step ≡ Step.AndCell left right) × IsNumber left × IsNumber right
-        × (words.old ≡ decimal left ∷ decimal right ∷ [])) }
+    ensures { Finds result (λ step. (left right : ℕ) × (step ≡ Step.AndCell left right)
+        × IsNumber left × IsNumber right × (words.old ≡ decimal left ∷ decimal right ∷ [])) }
 {
     let Pair { left, right } = read_pair(words)?;
     Some(Step::AndCell { left, right })
@@ -98,9 +93,8 @@ fn read_cell(words: &mut Words<'_>) -> Option<Step>
 
 /// The rest of a line `or`: at most 128 numbers, the places of its parts.
 fn read_or(alloc: Global, words: &mut Words<'_>) -> Result<Option<Step>, Memory>
-    ensures reads { IfOk result (λ found. MatchOption found
-        ((parts : List ℕ) → length parts ≤ MOST_PARTS → AreNumbers parts → words.old ≡ map decimal parts → ⊥)
-        (λ step. (parts : List ℕ) × (step ≡ Step.Or parts) × (length parts ≤ MOST_PARTS) × AreNumbers parts
+    ensures reads { IfOk result (λ found. Finds found (λ step. (parts : List ℕ)
+        × (step ≡ Step.Or parts) × (length parts ≤ MOST_PARTS) × AreNumbers parts
         × (words.old ≡ map decimal parts))) }
     ensures memory { OnErr result (BeginWithManyParts words.old) }
 {

@@ -1,7 +1,7 @@
 //! The values that single words stand for: numbers, masks, colours and cells. Each value has one word, so what is
 //! spelled in another way, as a number with a leading zero, is none.
 
-ghost use Rattle.std.specs.Prelude.{◌≡◌, ◌+◌, ◌<◌, ◌≤◌, ◌^◌, ◌↔◌, IsTrue, IfSome, IfNone, ℕ, length};
+ghost use Rattle.std.specs.Prelude.{◌≡◌, ◌+◌, ◌<◌, ◌≤◌, ◌^◌, ◌↔◌, IsTrue, ℕ, length};
 ghost use Rattle.std.specs.Fmt.{decimal};
 ghost use Rattle.std.specs.Str.Parse.{AllDigits, digits_value};
 ghost use Rattle.hx_board.specs.Cells.{OnBoard, row_of, col_of};
@@ -141,8 +141,8 @@ pub(crate) fn cell(size: Size, word: &[u8]) -> Option<Cell>
 
 /// The cell in a column by its letter, and in a row counted from 1.
 fn cell_at(size: Size, letter: u8, row: u32) -> Option<Cell>
-    ensures some { IfSome result (λ cell. OnBoard size cell × (letter ≡ 97 + col_of cell) × (row ≡ row_of cell + 1)) }
-    ensures none { IfNone result ((cell : ℕ) → OnBoard size cell → letter ≡ 97 + col_of cell → row ≡ row_of cell + 1 → ⊥) }
+    ensures { Finds result (λ cell. OnBoard size cell × (letter ≡ 97 + col_of cell)
+        × (row ≡ row_of cell + 1)) }
 {
     // The proof takes from here that a board has at most eleven rows and columns.
     let _rows = size.rows();

@@ -6,7 +6,8 @@ ghost use Rattle.std.specs.Fmt.{decimal};
 ghost use Rattle.hx_board.specs.Cells.{OnBoard};
 ghost use Rattle.hx_board.specs.Graph.{IsVertex};
 ghost use Rattle.hx_text.specs.StepTexts.{vertex_word};
-ghost use Rattle.hx_text.specs.Words.{Takes, IsNumber, IsSet, Lacks, words_in, mask_word, colour_word, cell_word};
+ghost use Rattle.hx_text.specs.Words.{Takes, IsNumber, IsSet, words_in, mask_word, colour_word, cell_word};
+ghost use Rattle.hx_text.specs.Marks.{Lacks};
 
 use crate::marks::cut;
 use crate::values::{self, MASK};

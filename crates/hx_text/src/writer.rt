@@ -43,7 +43,8 @@ pub fn write_position<K: Sink>(
     position: &Position,
     to_move: Colour,
 ) -> Result<(), Failed>
-    ensures bytes { TakesAll (K.taken sink.old) (K.taken sink.new) result (position_text position.now to_move) }
+    ensures bytes { TakesAll (K.taken sink.old) (K.taken sink.new) result
+        (position_text position.now to_move) }
     ensures cause { HasCause (K.faults sink.old) (K.faults sink.new) result }
 {
     let mut text = Text::new();
@@ -68,7 +69,8 @@ pub fn write_heading<K: Sink>(sink: &mut K, version: Version, size: Size) -> Res
 pub fn write_node<K: Sink>(sink: &mut K, node: &Node) -> Result<(), Failed>
     // A text has no more entries of a node.
     requires { ListsFit node.now.rule }
-    ensures bytes { TakesAll (K.taken sink.old) (K.taken sink.new) result (text_of (node_lines node.now)) }
+    ensures bytes { TakesAll (K.taken sink.old) (K.taken sink.new) result
+        (text_of (node_lines node.now)) }
     ensures cause { HasCause (K.faults sink.old) (K.faults sink.new) result }
 {
     let mut text = Text::new();
@@ -80,7 +82,8 @@ pub fn write_node<K: Sink>(sink: &mut K, node: &Node) -> Result<(), Failed>
 /// Spells the lines of a node after the first.
 #[tactic(auto, unfolding(crate::specs::Grammars::text_of))]
 fn write_rule<K: Sink>(sink: &mut K, text: &mut Text, rule: &Rule) -> Result<(), Failed>
-    ensures bytes { Spells (K.taken sink.old) text.old (K.taken sink.new) text.new result (text_of (map entry_line (entries_of rule.now))) }
+    ensures bytes { Spells (K.taken sink.old) text.old (K.taken sink.new) text.new result
+        (text_of (map entry_line (entries_of rule.now))) }
     ensures cause { HasCause (K.faults sink.old) (K.faults sink.new) result }
 {
     match rule {
@@ -103,7 +106,8 @@ fn write_entries<K: Sink>(
     threats: &[u32],
     lines: &[Line],
 ) -> Result<(), Failed>
-    ensures bytes { Spells (K.taken sink.old) text.old (K.taken sink.new) text.new result (text_of (map entry_line (entries_for steps.now threats.now lines.now []))) }
+    ensures bytes { Spells (K.taken sink.old) text.old (K.taken sink.new) text.new result
+        (text_of (map entry_line (entries_for steps.now threats.now lines.now []))) }
     ensures cause { HasCause (K.faults sink.old) (K.faults sink.new) result }
 {
     write_steps(sink, text, steps)?;
@@ -113,7 +117,8 @@ fn write_entries<K: Sink>(
 
 /// Spells the line of each step.
 fn write_steps<K: Sink>(sink: &mut K, text: &mut Text, steps: &[Step]) -> Result<(), Failed>
-    ensures bytes { Spells (K.taken sink.old) text.old (K.taken sink.new) text.new result (each_line step_line steps.now) }
+    ensures bytes { Spells (K.taken sink.old) text.old (K.taken sink.new) text.new result
+        (each_line step_line steps.now) }
     ensures cause { HasCause (K.faults sink.old) (K.faults sink.new) result }
 {
     for step in steps {
@@ -124,7 +129,8 @@ fn write_steps<K: Sink>(sink: &mut K, text: &mut Text, steps: &[Step]) -> Result
 
 /// Spells the line of a step.
 fn write_step<K: Sink>(sink: &mut K, text: &mut Text, step: &Step) -> Result<(), Failed>
-    ensures bytes { Spells (K.taken sink.old) text.old (K.taken sink.new) text.new result (step_line step.now ++ 10 ∷ []) }
+    ensures bytes { Spells (K.taken sink.old) text.old (K.taken sink.new) text.new result
+        (step_line step.now ++ 10 ∷ []) }
     ensures cause { HasCause (K.faults sink.old) (K.faults sink.new) result }
 {
     match step {
@@ -139,7 +145,8 @@ fn write_step<K: Sink>(sink: &mut K, text: &mut Text, step: &Step) -> Result<(),
 
 /// Spells the line of an Or, part by part.
 fn write_or<K: Sink>(sink: &mut K, text: &mut Text, parts: &[u32]) -> Result<(), Failed>
-    ensures bytes { Spells (K.taken sink.old) text.old (K.taken sink.new) text.new result (step_line (Or_of parts.now) ++ 10 ∷ []) }
+    ensures bytes { Spells (K.taken sink.old) text.old (K.taken sink.new) text.new result
+        (step_line (Or_of parts.now) ++ 10 ∷ []) }
     ensures cause { HasCause (K.faults sink.old) (K.faults sink.new) result }
 {
     write_bytes(sink, text, b"or")?;
@@ -149,7 +156,8 @@ fn write_or<K: Sink>(sink: &mut K, text: &mut Text, parts: &[u32]) -> Result<(),
 
 /// Spells the parts of an Or, each with the space before it.
 fn write_parts<K: Sink>(sink: &mut K, text: &mut Text, parts: &[u32]) -> Result<(), Failed>
-    ensures bytes { Spells (K.taken sink.old) text.old (K.taken sink.new) text.new result (parts_text parts.now) }
+    ensures bytes { Spells (K.taken sink.old) text.old (K.taken sink.new) text.new result
+        (parts_text parts.now) }
     ensures cause { HasCause (K.faults sink.old) (K.faults sink.new) result }
 {
     for part in parts {
@@ -160,7 +168,8 @@ fn write_parts<K: Sink>(sink: &mut K, text: &mut Text, parts: &[u32]) -> Result<
 
 /// Spells one more part of an Or.
 fn write_part<K: Sink>(sink: &mut K, text: &mut Text, part: u32) -> Result<(), Failed>
-    ensures bytes { Spells (K.taken sink.old) text.old (K.taken sink.new) text.new result (part_text part) }
+    ensures bytes { Spells (K.taken sink.old) text.old (K.taken sink.new) text.new result
+        (part_text part) }
     ensures cause { HasCause (K.faults sink.old) (K.faults sink.new) result }
 {
     make_room(sink, text, PART_BYTES)?;
@@ -170,7 +179,8 @@ fn write_part<K: Sink>(sink: &mut K, text: &mut Text, part: u32) -> Result<(), F
 
 /// Spells the line of each threat.
 fn write_threats<K: Sink>(sink: &mut K, text: &mut Text, threats: &[u32]) -> Result<(), Failed>
-    ensures bytes { Spells (K.taken sink.old) text.old (K.taken sink.new) text.new result (each_line threat_line threats.now) }
+    ensures bytes { Spells (K.taken sink.old) text.old (K.taken sink.new) text.new result
+        (each_line threat_line threats.now) }
     ensures cause { HasCause (K.faults sink.old) (K.faults sink.new) result }
 {
     for place in threats {
@@ -181,7 +191,8 @@ fn write_threats<K: Sink>(sink: &mut K, text: &mut Text, threats: &[u32]) -> Res
 
 /// Spells the line of a threat.
 fn write_threat<K: Sink>(sink: &mut K, text: &mut Text, place: u32) -> Result<(), Failed>
-    ensures bytes { Spells (K.taken sink.old) text.old (K.taken sink.new) text.new result (threat_line place ++ 10 ∷ []) }
+    ensures bytes { Spells (K.taken sink.old) text.old (K.taken sink.new) text.new result
+        (threat_line place ++ 10 ∷ []) }
     ensures cause { HasCause (K.faults sink.old) (K.faults sink.new) result }
 {
     make_room(sink, text, THREAT_BYTES)?;
@@ -191,7 +202,8 @@ fn write_threat<K: Sink>(sink: &mut K, text: &mut Text, place: u32) -> Result<()
 
 /// Spells the line of each answer.
 fn write_answers<K: Sink>(sink: &mut K, text: &mut Text, lines: &[Line]) -> Result<(), Failed>
-    ensures bytes { Spells (K.taken sink.old) text.old (K.taken sink.new) text.new result (each_line answer_line lines.now) }
+    ensures bytes { Spells (K.taken sink.old) text.old (K.taken sink.new) text.new result
+        (each_line answer_line lines.now) }
     ensures cause { HasCause (K.faults sink.old) (K.faults sink.new) result }
 {
     for line in lines {
@@ -202,7 +214,8 @@ fn write_answers<K: Sink>(sink: &mut K, text: &mut Text, lines: &[Line]) -> Resu
 
 /// Spells the line of an answer.
 fn write_answer<K: Sink>(sink: &mut K, text: &mut Text, line: &Line) -> Result<(), Failed>
-    ensures bytes { Spells (K.taken sink.old) text.old (K.taken sink.new) text.new result (answer_line line.now ++ 10 ∷ []) }
+    ensures bytes { Spells (K.taken sink.old) text.old (K.taken sink.new) text.new result
+        (answer_line line.now ++ 10 ∷ []) }
     ensures cause { HasCause (K.faults sink.old) (K.faults sink.new) result }
 {
     make_room(sink, text, ANSWER_BYTES)?;
@@ -212,7 +225,8 @@ fn write_answer<K: Sink>(sink: &mut K, text: &mut Text, line: &Line) -> Result<(
 
 /// Spells the line of each fill step.
 fn write_fills<K: Sink>(sink: &mut K, text: &mut Text, fills: &[FillStep]) -> Result<(), Failed>
-    ensures bytes { Spells (K.taken sink.old) text.old (K.taken sink.new) text.new result (each_line fill_line fills.now) }
+    ensures bytes { Spells (K.taken sink.old) text.old (K.taken sink.new) text.new result
+        (each_line fill_line fills.now) }
     ensures cause { HasCause (K.faults sink.old) (K.faults sink.new) result }
 {
     for fill in fills {
@@ -223,7 +237,8 @@ fn write_fills<K: Sink>(sink: &mut K, text: &mut Text, fills: &[FillStep]) -> Re
 
 /// Spells the line of a fill step.
 fn write_fill<K: Sink>(sink: &mut K, text: &mut Text, fill: &FillStep) -> Result<(), Failed>
-    ensures bytes { Spells (K.taken sink.old) text.old (K.taken sink.new) text.new result (fill_line fill.now ++ 10 ∷ []) }
+    ensures bytes { Spells (K.taken sink.old) text.old (K.taken sink.new) text.new result
+        (fill_line fill.now ++ 10 ∷ []) }
     ensures cause { HasCause (K.faults sink.old) (K.faults sink.new) result }
 {
     make_room(sink, text, FILL_BYTES)?;
@@ -234,7 +249,8 @@ fn write_fill<K: Sink>(sink: &mut K, text: &mut Text, fill: &FillStep) -> Result
 /// Spells these bytes.
 fn write_bytes<K: Sink>(sink: &mut K, text: &mut Text, bytes: &[u8]) -> Result<(), Failed>
     requires { length bytes.now ≤ TEXT_ROOM }
-    ensures bytes { Spells (K.taken sink.old) text.old (K.taken sink.new) text.new result bytes.now }
+    ensures bytes { Spells (K.taken sink.old) text.old (K.taken sink.new) text.new result
+        bytes.now }
     ensures cause { HasCause (K.faults sink.old) (K.faults sink.new) result }
 {
     make_room(sink, text, bytes.len())?;
@@ -259,7 +275,8 @@ fn make_room<K: Sink>(sink: &mut K, text: &mut Text, bytes: usize) -> Result<(),
 /// Writes the last line of a tree's text, which says how many nodes came before it and who wins the last one's
 /// position. After `Failed` the sink has taken no more than a part of it, from its beginning.
 pub fn write_end<K: Sink>(sink: &mut K, nodes: u32, winner: Colour) -> Result<(), Failed>
-    ensures bytes { TakesAll (K.taken sink.old) (K.taken sink.new) result (text_of (end_line nodes winner ∷ [])) }
+    ensures bytes { TakesAll (K.taken sink.old) (K.taken sink.new) result
+        (text_of (end_line nodes winner ∷ [])) }
     ensures cause { HasCause (K.faults sink.old) (K.faults sink.new) result }
 {
     let mut text = Text::new();

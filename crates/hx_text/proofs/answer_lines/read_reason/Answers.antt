@@ -1,8 +1,25 @@
--- The words begin with none of the three words of a reason.
+-- The words begin with one of the three words of a reason, or with none.
 use Rattle.std.proofs.Common.{sym, ◌∙◌}
-use Rattle.hx_text.proofs.Cursors.{word_missing, words_kept}
-use Rattle.hx_text.proofs.AnswerLines.{no_reason}
+use Rattle.hx_text.proofs.Cursors.{word_missing, word_taken, words_kept}
+use Rattle.hx_text.proofs.AnswerLines.{child_reads, dead_reads, pair_reads, no_reason}
 use Rattle.hx_text.proofs.answer_lines.read_reason.Goals as goal
+
+pub returns-then-is_some : goal.returns-then-is_some
+returns-then-is_some c =
+    child_reads c.args.size c.args.cell _ _ _ (word_taken _ c.keyword.ensures.takes (sym c.if-is_some.true ∙ c.is_some.ensures)) c.read_child.ensures
+
+pub returns-then-is_some-2 : goal.returns-then-is_some-2
+returns-then-is_some-2 c =
+    let after_child = words_kept _ c.keyword.ensures.same (sym c.if-is_some.false ∙ c.is_some.ensures) in
+    dead_reads c.args.size c.args.cell _ _ _
+    (sym after_child ∙ word_taken _ c.keyword-2.ensures.takes (sym c.if-is_some-2.true ∙ c.is_some-2.ensures)) c.read_dead.ensures
+
+pub returns-then-is_some-3 : goal.returns-then-is_some-3
+returns-then-is_some-3 c =
+    let after_child = words_kept _ c.keyword.ensures.same (sym c.if-is_some.false ∙ c.is_some.ensures) in
+    let after_dead = words_kept _ c.keyword-2.ensures.same (sym c.if-is_some-2.false ∙ c.is_some-2.ensures) in
+    pair_reads c.args.size c.args.cell _ _ _
+    (sym after_child ∙ sym after_dead ∙ word_taken _ c.keyword-3.ensures.takes (sym c.if-is_some-3.true ∙ c.is_some-3.ensures)) c.read_pair.ensures
 
 pub returns : goal.returns
 returns c = λ value fits e.

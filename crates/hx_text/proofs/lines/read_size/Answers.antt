@@ -35,5 +35,4 @@ pub returns : goal.returns
 returns c = size_reads _ _ _ _ c.in_ok-rows.ensures.0 c.in_ok-cols.ensures.0
     (line_from_words c.of-words.ensures
     (word_then c.in_ok-keyword.ensures.takes.1
-    (word_then c.in_ok-rows.ensures.1 (word_then c.in_ok-cols.ensures.1 (c.in_ok-end.ensures))))) c.size_of.ensures.some
-    c.size_of.ensures.none
+    (word_then c.in_ok-rows.ensures.1 (word_then c.in_ok-cols.ensures.1 (c.in_ok-end.ensures))))) c.size_of.ensures

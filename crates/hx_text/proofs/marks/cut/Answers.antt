@@ -3,7 +3,7 @@ use Rattle.std.proofs.Common.{arith, ◌≡◌, ◌≢◌, ℕ, suc, ◌+◌, �
 use Rattle.std.proofs.lemmas.Bool.{eq-eqb, eqb-true}
 use Rattle.std.proofs.lemmas.List.{get_or-take, take-append-drop, take_rest}
 use Rattle.memchr.specs.Find.{Nowhere, Passes, is_byte}
-use Rattle.hx_text.specs.Words.{Lacks}
+use Rattle.hx_text.specs.Marks.{Lacks}
 use Rattle.hx_text.proofs.marks.cut.Goals as goal
 
 Lacks-each : (mark : ℕ) (bytes : List ℕ) → ((i : ℕ) → i < length bytes → get_or bytes i 0 ≢ mark) → Lacks mark bytes

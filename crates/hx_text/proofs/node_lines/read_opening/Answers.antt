@@ -6,7 +6,7 @@ use Rattle.hx_text.proofs.node_lines.read_opening.Goals as goal
 pub returns-then-is_some : goal.returns-then-is_some
 returns-then-is_some c =
     turned_reads c.args.preamble.now _ _ _ (word_taken _ c.keyword.ensures.takes (sym c.if-is_some.true ∙ c.is_some.ensures))
-    c.read_turned.ensures.some c.read_turned.ensures.none
+    c.read_turned.ensures
 
 pub returns : goal.returns
 returns c =

@@ -20,8 +20,8 @@ returns-then-is_some-clause-reads c =
     )
 
 pub returns-in_default-clause-reads : goal.returns-in_default-clause-reads
-returns-in_default-clause-reads c = λ parts few small e.
-    no_part_next c.loop.invariant.0 (goes_on_here _ c.end.ensures (sym c.if-is_some.false ∙ c.is_some.ensures)) c.in_default.ensures parts small e
+returns-in_default-clause-reads c = λ step is.
+    no_part_next c.loop.invariant.0 (goes_on_here _ c.end.ensures (sym c.if-is_some.false ∙ c.is_some.ensures)) c.in_default.ensures is.0 is.3 is.4
 
 -- what a push that went well says
 at_ok : {T E P : Type 0} (result : Result T E) → true ≡ is_ok result → OnOk result P → P
@@ -64,4 +64,4 @@ returns-in-Some-end-clause-reads c = (
 
 pub returns-in-None-clause-reads : goal.returns-in-None-clause-reads
 returns-in-None-clause-reads c =
-    λ parts few small e. too_many_parts c.loop.invariant.0 c.in-None.ensures (omega (arith, c.loop-test.false)) parts few small e
+    λ step is. too_many_parts c.loop.invariant.0 c.in-None.ensures (omega (arith, c.loop-test.false)) is.0 is.2 is.3 is.4

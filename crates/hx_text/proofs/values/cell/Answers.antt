@@ -3,4 +3,4 @@ use Rattle.hx_text.proofs.CellWords.{cell_reads}
 use Rattle.hx_text.proofs.values.cell.Goals as goal
 
 pub returns : goal.returns
-returns c = cell_reads _ _ _ _ _ _ c.rows-rows.ensures.valid.1 (search rules) c.in_ok-row.ensures c.cell_at.ensures.some c.cell_at.ensures.none
+returns c = cell_reads _ _ _ _ _ _ c.rows-rows.ensures.valid.1 (search rules) c.in_ok-row.ensures c.cell_at.ensures
