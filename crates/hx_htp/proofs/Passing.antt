@@ -15,7 +15,7 @@ use Rattle.hx_board.proofs.EmptyCells.{empty_count-put}
 use Rattle.hx_law.proofs.OneWinner.{not_both_win}
 use Rattle.hx_htp.specs.declared.answerers.Told.{Told}
 use Rattle.hx_htp.specs.declared.answerers.Told.TheVariants.{Winner}
-use Rattle.hx_htp.specs.Accounts.{Account, Continues, SomeRose, IsOpen, MayTell}
+use Rattle.hx_htp.specs.Accounts.{Account, Continues, SomeRose, LeavesOpen, MayTell}
 use Rattle.hx_htp.specs.Answers.{IsFirstEmpty, MayPlay}
 use Rattle.hx_htp.specs.Answers.MayPlay.{Of_no_win, Left_open}
 use Rattle.hx_htp.specs.Parts.{IsPassed}
@@ -39,7 +39,7 @@ rose_after : (a b c : ℕ) → Rose a b → b ≤ c → Rose a c
 rose_after a b c rose above = omega (arith, rose, above)
 
 -- what was left open is so from an earlier account on, and up to a later one
-pub open_from : (start mid now : Account) (board : Board) → Continues start mid → IsOpen mid now board → IsOpen start now board
+pub open_from : (start mid now : Account) (board : Board) → Continues start mid → LeavesOpen mid now board → LeavesOpen start now board
 open_from start mid now board earlier left = record {
   rose = rose left.rose;
   large = λ small. left.large (let P : ℕ → Type 0 = IsSmall board in subst P (sym earlier.budget) small);
@@ -49,7 +49,7 @@ open_from start mid now board earlier left = record {
     rose (inl b) = inl (rose_before start.budgets mid.budgets now.budgets earlier.budgets b)
     rose (inr p) = inr (rose_before start.proofs mid.proofs now.proofs earlier.proofs p)
 
-pub open_up_to : (start mid now : Account) (board : Board) → IsOpen start mid board → Continues mid now → IsOpen start now board
+pub open_up_to : (start mid now : Account) (board : Board) → LeavesOpen start mid board → Continues mid now → LeavesOpen start now board
 open_up_to start mid now board left later = record { rose = rose left.rose; large = left.large }
   where
     rose : SomeRose start mid → SomeRose start now
@@ -65,7 +65,7 @@ counts_moved board player a b is at_a at_b =
     omega (arith, first, second)
 
 pub open_moved : (before after : Account) (board : Board) (player : Colour) (a b : ℕ) → IsBoard board → IsEmpty board a → IsEmpty board b
-    → IsOpen before after (put board player a) → IsOpen before after (put board player b)
+    → LeavesOpen before after (put board player a) → LeavesOpen before after (put board player b)
 open_moved before after board player a b is at_a at_b left = record {
   rose = left.rose;
   large = λ small. left.large (record {
@@ -107,8 +107,8 @@ lost_here board player cell left next members lost here = λ n at_n gone. go n a
 
 pub passed_on : (start mid now : Account) (board : Board) (player : Colour) (first cell left next : ℕ) → IsBoard board → IsEmpty board first → IsEmpty board cell
     → Continues start mid → Continues mid now → ((n : ℕ) → has next n ≡ (has left n && not (eqb n cell)))
-    → AllLost board player left ⊎ IsOpen start mid (put board player first) → IsPassed mid now board player cell
-    → AllLost board player next ⊎ IsOpen start now (put board player first)
+    → AllLost board player left ⊎ LeavesOpen start mid (put board player first) → IsPassed mid now board player cell
+    → AllLost board player next ⊎ LeavesOpen start now (put board player first)
 passed_on start mid now board player first cell left next is at_first at_cell earlier later members (inr left_open) passed =
     inr (open_up_to start mid now (put board player first) left_open later)
 passed_on start mid now board player first cell left next is at_first at_cell earlier later members (inl lost) (Lost here) =
@@ -118,7 +118,7 @@ passed_on start mid now board player first cell left next is at_first at_cell ea
 
 -- all moves were passed
 pub passed_all : (before after : Account) (board : Board) (player : Colour) (first left : ℕ) → IsBoard board → IsFirstEmpty board first
-    → ((n : ℕ) → IsEmpty board n → has left n ≡ false) → AllLost board player left ⊎ IsOpen before after (put board player first)
+    → ((n : ℕ) → IsEmpty board n → has left n ≡ false) → AllLost board player left ⊎ LeavesOpen before after (put board player first)
     → MayPlay before after board player first
 passed_all before after board player first left is here none (inl lost) =
     Of_no_win here (no_win board player first is here.empty (λ cell at_cell. lost cell at_cell (none cell at_cell)))

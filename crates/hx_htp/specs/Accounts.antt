@@ -26,8 +26,8 @@ pub record Continues (before after : Account) : Type 0 where
 abbrev pub SomeRose : Account → Account → Type 0
 SomeRose before after = Rose before.budgets after.budgets ⊎ Rose before.proofs after.proofs
 
--- some question was left open, and the position is not small
-pub record IsOpen (before after : Account) (board : Board) : Type 0 where
+-- some question was left open between these two, and the position is not small
+pub record LeavesOpen (before after : Account) (board : Board) : Type 0 where
   pub rose : SomeRose before after
   pub large : ¬ IsSmall board before.budget
 

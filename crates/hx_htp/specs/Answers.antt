@@ -8,10 +8,9 @@ use Rattle.hx_io.specs.Causes.{Rose}
 use Rattle.hx_board.specs.declared.colours.Colour.{Colour}
 use Rattle.hx_board.specs.Colours.{other_of}
 use Rattle.hx_board.specs.Cells.{IsExtent}
-use Rattle.hx_board.specs.Positions.{Board, IsEmpty, put}
+use Rattle.hx_board.specs.Positions.{Board, IsEmpty, IsFull, put}
 use Rattle.hx_board.specs.Counts.{IsSmall}
 use Rattle.hx_board.specs.Game.{Wins}
-use Rattle.hx_law.specs.Laws.{IsFull}
 use Rattle.hx_htp.specs.declared.moves.Move.{Move}
 use Rattle.hx_htp.specs.declared.requests.Request.{Request}
 use Rattle.hx_htp.specs.declared.requests.Request.TheVariants as request
@@ -20,7 +19,7 @@ use Rattle.hx_htp.specs.declared.answers.Refusal.TheVariants as refusal
 use Rattle.hx_htp.specs.declared.answers.Answer.{Answer}
 use Rattle.hx_htp.specs.declared.answers.Answer.TheVariants as answer
 use Rattle.hx_htp.specs.States.{State, board_of, mover_of, no_moves, with_move}
-use Rattle.hx_htp.specs.Accounts.{Account, Continues, IsOpen}
+use Rattle.hx_htp.specs.Accounts.{Account, Continues, LeavesOpen}
 use Rattle.hx_htp.specs.Sessions.{Moment, moment}
 
 -- what is given back: an answer, or why there is none
@@ -55,7 +54,7 @@ pub record IsFirstEmpty (board : Board) (cell : ℕ) : Type 0 where
 pub data MayPlay (before after : Account) (board : Board) (player : Colour) (cell : ℕ) : Type 0 where
   Keeps_win : IsEmpty board cell → Wins player (put board player cell) (other_of player) → MayPlay before after board player cell
   Of_no_win : IsFirstEmpty board cell → ¬ Wins player board player → MayPlay before after board player cell
-  Left_open : IsFirstEmpty board cell → IsOpen before after (put board player cell) → MayPlay before after board player cell
+  Left_open : IsFirstEmpty board cell → LeavesOpen before after (put board player cell) → MayPlay before after board player cell
 
 -- memory was wanting for an answer, and the state is as before
 abbrev pub LacksMemory : Moment → Moment → Type 0

@@ -9,7 +9,7 @@ use Rattle.hx_htp.specs.declared.requests.Request.{Request}
 use Rattle.hx_htp.specs.declared.answers.Refusal.{Refusal}
 use Rattle.hx_htp.specs.Words.{is_space, number_of_line, command_words}
 use Rattle.hx_htp.specs.Commands.{asked}
-use Rattle.hx_htp.specs.Accounts.{Account, IsOpen}
+use Rattle.hx_htp.specs.Accounts.{Account, LeavesOpen}
 
 -- no byte is left, or a word begins
 abbrev pub BeginsWord : List ℕ → Type 0
@@ -26,4 +26,4 @@ pub record IsCommand (words : List (List ℕ)) (number : List ℕ) (what : Resul
 -- A move that is not known to keep a win: the other player wins after it, or that was left open.
 pub data IsPassed (before after : Account) (board : Board) (player : Colour) (cell : ℕ) : Type 0 where
   Lost : Wins (other_of player) (put board player cell) (other_of player) → IsPassed before after board player cell
-  Unknown : IsOpen before after (put board player cell) → IsPassed before after board player cell
+  Unknown : LeavesOpen before after (put board player cell) → IsPassed before after board player cell

@@ -11,7 +11,7 @@ pub enum Answer {
     Protocol,
     /// The name of the program.
     Program,
-    /// The version of the program.
+    /// The version of the commands.
     Release,
     /// Whether a command is known.
     Known(bool),
@@ -32,11 +32,18 @@ pub enum Answer {
 /// Why there is no answer.
 #[derive(Clone, Copy, Debug, PartialEq, Eq)]
 pub enum Refusal {
+    /// The words name no command.
     UnknownCommand,
+    /// An argument is missing, or not of its form.
     SyntaxError,
+    /// No board has so many columns and rows.
     UnacceptableSize,
+    /// The cell lies off the board, or has a stone.
     IllegalMove,
+    /// No move is left to take away.
     CannotUndo,
+    /// No cell is left to play.
     NoEmptyCell,
+    /// Memory was wanting.
     OutOfMemory,
 }

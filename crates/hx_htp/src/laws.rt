@@ -11,7 +11,8 @@ ghost use Rattle.hx_htp.specs.Laws.{IsCounted, NamesWinners};
 pub fn open_questions_are_counted()
     ensures { (before after : Account) (lines : List (List ℕ)) (replies : List ℕ)
         (run : SessionRun before lines replies after)
-        → before.budgets ≡ 0 → before.proofs ≡ 0 → length (until_quit lines) < 2 ^ 64 → IsCounted run }
+        → before.budgets ≡ 0 → before.proofs ≡ 0 → length (until_quit lines) < 2 ^ 64
+        → IsCounted run }
 {}
 
 /// Each player whom a session names to `solve` wins the position, and the other one does not.

@@ -7,18 +7,31 @@ ghost use Rattle.hx_htp.specs.Commands.{name_word, name_of};
 /// The name of a command.
 #[derive(Clone, Copy, Debug, PartialEq, Eq)]
 pub enum Name {
+    /// Asks for the version of the protocol.
     ProtocolVersion,
+    /// Asks for the name of the program.
     Name,
+    /// Asks for the version of the commands.
     Version,
+    /// Asks whether a word is the name of a command.
     KnownCommand,
+    /// Asks for the names of all commands.
     ListCommands,
+    /// Ends the session.
     Quit,
+    /// Takes a board of another size, without moves.
     BoardSize,
+    /// Takes all moves away.
     ClearBoard,
+    /// Makes a move.
     Play,
+    /// Takes the last move away.
     Undo,
+    /// Chooses a move and makes it.
     GenMove,
+    /// Shows the board.
     ShowBoard,
+    /// Asks who wins.
     Solve,
 }
 

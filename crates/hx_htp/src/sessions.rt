@@ -2,9 +2,8 @@
 //! made again: `undo` lifts the last stone.
 
 ghost use Rattle.std.specs.Prelude.{◌≡◌, ◌≤◌, ◌↔◌, IsTrue, MatchOption, SomeIff, Ok, [], length};
-ghost use Rattle.hx_board.specs.Positions.{IsEmpty};
+ghost use Rattle.hx_board.specs.Positions.{IsEmpty, IsFull};
 ghost use Rattle.hx_board.specs.Cells.{IsExtent};
-ghost use Rattle.hx_law.specs.Laws.{IsFull};
 ghost use Rattle.hx_htp.specs.declared.requests.Request.TheVariants as request;
 ghost use Rattle.hx_htp.specs.Words.{words_of};
 ghost use Rattle.hx_htp.specs.States.{fresh, no_moves, with_move, board_of, mover_of};
@@ -24,19 +23,17 @@ use crate::requests::Request;
 use crate::texts::{ROOM, spelled};
 use crate::words::shown;
 use arrayvec::ArrayVec;
-use hx_board::{Cell, Colour, Memory, Position, Size};
+use hx_board::{CELLS, Cell, Colour, Memory, Position, Size};
 use std::marker::Model;
 use std::sync::Wait;
 use std::thread::Threads;
 
-/// The most moves: each fills a cell.
-const MOST_MOVES: usize = 121;
-
-/// A board and the moves that were made on it, seen as the board's size and the moves from the first to the last.
+/// A board and the moves that were made on it, seen as the board's size and the moves from the first to the last. Each move fills
+/// a cell.
 #[derive(Drop)]
 pub struct Session {
     position: Position,
-    moves: ArrayVec<Move, MOST_MOVES>,
+    moves: ArrayVec<Move, CELLS>,
 }
 
 impl Model for Session {
@@ -246,7 +243,8 @@ impl Session {
 
     /// The first empty cell, in cell order.
     fn first_empty(&self) -> Option<Cell>
-        ensures { MatchOption result (IsFull (board_of self.now)) (IsFirstEmpty (board_of self.now)) }
+        ensures { MatchOption result
+            (IsFull (board_of self.now)) (IsFirstEmpty (board_of self.now)) }
     {
         self.position.empties().least(self.position.size())
     }

@@ -1,7 +1,8 @@
 -- The lines of bytes that begin with a line, and what cuts tell of them.
 -- Each lemma goes over the bytes of one line; none of them is an LF, so `lines_of` puts each to the front of the first line.
 use Rattle.std.proofs.Common.{◌≡◌, ℕ, suc, ◌<◌, ◌≤◌, Bool, true, false, cond, List, [], ◌∷◌, ◌++◌, length, eqb, refl, sym, ap, ◌∙◌, subst, append_assoc, append-nil, arith}
-use Rattle.std.proofs.lemmas.Bool.{eqb-true}
+use Rattle.std.proofs.lemmas.Bool.{eqb-true, false_from_ne_true}
+use Rattle.std.proofs.lemmas.Option.{same_Some}
 use Rattle.std.proofs.lemmas.List.Elements.{All-head, All-tail}
 use Rattle.std.specs.Prelude.{Some, All}
 use Rattle.hx_lines.specs.Lines.{HasLf, longest, ended_lines, onto_first, lines_of}
@@ -9,12 +10,8 @@ use Rattle.hx_lines.specs.declared.cutters.Cut.{Cut}
 use Rattle.hx_lines.specs.declared.cutters.Cut.TheVariants.{Line, TooLong, Over}
 use Rattle.hx_lines.specs.Cutters.{Cutter, Loses, CutsLine, IsCut, BeginLong, TellsLines}
 
-is_false : (b : Bool) → ¬ (b ≡ true) → b ≡ false
-is_false true h = absurd (h refl)
-is_false false h = refl
-
 first_is_no_lf : (byte : ℕ) (bytes : List ℕ) → ¬ HasLf (byte ∷ bytes) → eqb byte 10 ≡ false
-first_is_no_lf byte bytes plain = is_false (eqb byte 10) (λ e. plain (0, omega arith, eqb-true byte 10 e))
+first_is_no_lf byte bytes plain = false_from_ne_true (eqb byte 10) (λ e. plain (0, omega arith, eqb-true byte 10 e))
 
 rest_has_no_lf : (byte : ℕ) (bytes : List ℕ) → ¬ HasLf (byte ∷ bytes) → ¬ HasLf bytes
 rest_has_no_lf byte bytes plain lf = plain (suc lf.0, omega (arith, lf.1), lf.2)
@@ -83,14 +80,11 @@ pub begin_long-front : (front rest : List ℕ) → ¬ HasLf front → longest < 
 begin_long-front front rest plain long =
     begin_long (length front) (lines_of (front ++ rest)) long (first_has-front front rest plain (omega (arith, long)))
 
-some_injective : (a b : List ℕ) → Some a ≡ Some b → a ≡ b
-some_injective a b e = cc
-
 -- what is held and left, before and after
 pub stream-loses : (bytes held_before held_after left_before left_after : List ℕ) → Loses bytes held_before held_after (Some left_before) (Some left_after)
     → held_before ++ left_before ≡ bytes ++ (held_after ++ left_after)
 stream-loses bytes held_before held_after left_before left_after loses =
-    ap (λ left. held_before ++ left) (some_injective left_before (loses.read ++ left_after) loses.took)
+    ap (λ left. held_before ++ left) (same_Some left_before (loses.read ++ left_after) loses.took)
     ∙ sym (append_assoc held_before loses.read left_after)
     ∙ ap (λ held. held ++ left_after) loses.moved
     ∙ append_assoc bytes held_after left_after

@@ -48,10 +48,10 @@ IsCut before after left_before left_after TooLong = Stays before after left_befo
 IsCut before after left_before left_after Over = Stays before after left_before left_after × (after.held ≡ []) × IsAtEnd left_after
 
 -- what is held tells the answer: the next line is whole or too long, or nothing comes any more
-pub data IsSettled (cutter : Cutter) : Type 0 where
-  Has_lf : HasLf cutter.held → IsSettled cutter
-  Is_long : longest < length cutter.held → IsSettled cutter
-  Met_end : cutter.met_end ≡ true → IsSettled cutter
+pub data TellsAnswer (cutter : Cutter) : Type 0 where
+  Has_lf : HasLf cutter.held → TellsAnswer cutter
+  Is_long : longest < length cutter.held → TellsAnswer cutter
+  Met_end : cutter.met_end ≡ true → TellsAnswer cutter
 
 -- the first of some lines has more bytes than a line may have
 abbrev pub BeginLong : List (List ℕ) → Type 0

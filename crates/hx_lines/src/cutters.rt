@@ -61,7 +61,7 @@ impl Model for LineCutter {
 }
 
 impl LineCutter {
-    ghost use Rattle.hx_lines.specs.Cutters.{IsCut, IsSettled, Stays};
+    ghost use Rattle.hx_lines.specs.Cutters.{IsCut, TellsAnswer, Stays};
 
     /// A cutter that has read nothing.
     pub fn new() -> LineCutter
@@ -88,19 +88,21 @@ impl LineCutter {
     /// Cuts the next line off what is held and what the source has left. One cutter goes with one source.
     pub fn next<S: Source>(&mut self, source: &mut S) -> Result<Cut, Failed>
         requires { self.old.met_end ≡ true → IsAtEnd (S.left source.old) }
-        ensures cut { IfOk result (IsCut self.old self.new (S.left source.old) (S.left source.new)) }
+        ensures cut { IfOk result
+            (IsCut self.old self.new (S.left source.old) (S.left source.new)) }
         ensures met_end { self.new.met_end ≡ true → IsAtEnd (S.left source.new) }
 
         // A fault loses nothing, and comes only when all lines whose LF was read have been cut and no line is known to be too
         // long.
-        ensures failed { OnErr result (Stays self.old self.new (S.left source.old) (S.left source.new)) }
+        ensures failed { OnErr result
+            (Stays self.old self.new (S.left source.old) (S.left source.new)) }
         ensures plain { OnErr result (¬ HasLf self.new.held) }
         ensures short { OnErr result (length self.new.held ≤ longest) }
         ensures cause { HasCause (S.faults source.old) (S.faults source.new) result }
 
         // Where what is held tells the answer, nothing is read: so after `TooLong` and after `Over`.
-        ensures reads { IsSettled self.old → source.new ≡ source.old }
-        ensures sure { IsSettled self.old → IsOk result }
+        ensures reads { TellsAnswer self.old → source.new ≡ source.old }
+        ensures sure { TellsAnswer self.old → IsOk result }
     {
         loop {
             if let Some(cut) = self.cut() {
@@ -120,10 +122,11 @@ impl LineCutter {
 
     /// Reads once.
     fn refill<S: Source>(&mut self, source: &mut S) -> Result<(), Failed>
-        requires { ¬ IsSettled self.old }
+        requires { ¬ TellsAnswer self.old }
         ensures stays { Stays self.old self.new (S.left source.old) (S.left source.new) }
         ensures met_end { self.new.met_end ≡ true → IsAtEnd (S.left source.new) }
-        ensures more { OnOk result ((self.new.met_end ≡ true) ⊎ (length self.old.held < length self.new.held)) }
+        ensures more { OnOk result
+            ((self.new.met_end ≡ true) ⊎ (length self.old.held < length self.new.held)) }
         ensures err { OnErr result (self.new ≡ self.old) }
         ensures cause { HasCause (S.faults source.old) (S.faults source.new) result }
     {
@@ -139,9 +142,9 @@ impl LineCutter {
 
     /// Cuts the next line off what is held. None only where that does not tell the answer, and then all is as it was.
     fn cut(&mut self) -> Option<Cut>
-        ensures cut { IfSome result (λ cut. (left : Option (List ℕ)) → (self.old.met_end ≡ true → IsAtEnd left)
-            → IsCut self.old self.new left left cut) }
-        ensures unsettled { IfNone result (¬ IsSettled self.old) }
+        ensures cut { IfSome result (λ cut. (left : Option (List ℕ))
+            → (self.old.met_end ≡ true → IsAtEnd left) → IsCut self.old self.new left left cut) }
+        ensures nothing_told { IfNone result (¬ TellsAnswer self.old) }
         ensures same { IfNone result (self.new ≡ self.old) }
         ensures met_end { self.new.met_end ≡ self.old.met_end }
     {
@@ -204,7 +207,8 @@ fn read_behind<S: Source>(source: &mut S, buffer: &mut [u8], place: usize) -> Re
     requires { place < length buffer.old }
     ensures front { take place buffer.new ≡ take place buffer.old }
     ensures bound { IfOk result (λ count. place + count ≤ length buffer.new) }
-    ensures bytes { ReadTakes (S.left source.old) (S.left source.new) result (drop place buffer.new) }
+    ensures bytes { ReadTakes (S.left source.old) (S.left source.new) result
+        (drop place buffer.new) }
     ensures end { IfOk result (λ count. count ≡ 0 → IsAtEnd (S.left source.new)) }
     ensures cause { HasCause (S.faults source.old) (S.faults source.new) result }
 {
@@ -214,7 +218,8 @@ fn read_behind<S: Source>(source: &mut S, buffer: &mut [u8], place: usize) -> Re
 /// The place of the first LF.
 fn find_lf(bytes: &[u8]) -> Option<usize>
     ensures { MatchOption result (¬ HasLf bytes.now)
-        (λ place. (place < length bytes.now) × (slice_index bytes.now place ≡ 10) × ¬ HasLf (take place bytes.now)) }
+        (λ place. (place < length bytes.now) × (slice_index bytes.now place ≡ 10)
+        × ¬ HasLf (take place bytes.now)) }
 {
     memchr(b'\n', bytes)
 }

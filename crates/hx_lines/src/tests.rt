@@ -1,7 +1,8 @@
-// Lines in small pieces, past faults and at the limits.
+//! Lines in small pieces, past faults and at the limits.
+
 ghost use Rattle.std.specs.Prelude.{None};
 
-use super::{Cut, LineCutter, cut_lines_come_first, each_cut_is_the_next_line};
+use super::{Cut, LineCutter};
 use hx_io::{Failed, MemorySource, Source};
 use std::alloc::Global;
 use std::process::Abort;
@@ -110,10 +111,4 @@ fn a_source_without_an_end_is_answered(rt: HostRuntime) -> Result<(), Fail> {
         b"+".as_slice()
     );
     Ok(())
-}
-
-#[test]
-fn laws() {
-    each_cut_is_the_next_line();
-    cut_lines_come_first();
 }

@@ -1,18 +1,18 @@
 use Rattle.std.proofs.Common.{◌≡◌, arith, subst, sym}
-use Rattle.hx_lines.specs.Cutters.{Cutter, IsSettled, Stays}
+use Rattle.hx_lines.specs.Cutters.{Cutter, TellsAnswer, Stays}
 use Rattle.hx_lines.proofs.CutterLaws.{stays_then, is_cut_then}
 use Rattle.hx_lines.proofs.cutters.LineCutter.next.Goals as goal
 
 pub loop-cut-preserved : goal.loop-cut-preserved
 loop-cut-preserved g c =
     let same : c.cut.new.self ≡ c.loop-cut.self = c.in_default.ensures.same in
-    let going : ¬ IsSettled c.args.self.now = λ settled. c.in_default.ensures.unsettled (subst IsSettled (sym (c.loop-cut.invariant.same settled)) settled) in
+    let going : ¬ TellsAnswer c.args.self.now = λ told. c.in_default.ensures.nothing_told (subst TellsAnswer (sym (c.loop-cut.invariant.same told)) told) in
     record {
       stays = stays_then c.args.self.now c.loop-cut.self c.refill.new.self _ _ _ c.loop-cut.invariant.stays (subst (λ (v : Cutter). Stays v c.refill.new.self (g.S.Source.left c.loop-cut.source) (g.S.Source.left c.refill.new.source)) same c.in_ok-refill.ensures.stays);
       met_end = c.in_ok-refill.ensures.met_end;
       later = omega (arith, c.in_ok-refill.ensures.cause.later, c.loop-cut.invariant.later);
-      reads = λ settled. absurd (going settled);
-      same = λ settled. absurd (going settled);
+      reads = λ told. absurd (going told);
+      same = λ told. absurd (going told);
     }
 
 pub returns-in-Some-clause-cut : goal.returns-in-Some-clause-cut

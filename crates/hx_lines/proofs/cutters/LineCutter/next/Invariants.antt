@@ -1,6 +1,6 @@
 use Rattle.std.proofs.Common.{◌≡◌, ◌-◌, ◌≤◌, true, if◌then◌else◌, length}
 use Rattle.hx_io.specs.Sources.{IsAtEnd}
-use Rattle.hx_lines.specs.Cutters.{IsSettled, Stays}
+use Rattle.hx_lines.specs.Cutters.{TellsAnswer, Stays}
 use Rattle.hx_lines.proofs.cutters.LineCutter.next.Given as goal
 
 abbrev pub invariant-loop-cut : goal.invariant-loop-cut
@@ -8,8 +8,8 @@ invariant-loop-cut g l = record {
   stays : Stays l.initial.self l.self (g.S.Source.left l.initial.source) (g.S.Source.left l.source);
   met_end : l.self.met_end ≡ true → IsAtEnd (g.S.Source.left l.source);
   later : g.S.Source.faults l.initial.source ≤ g.S.Source.faults l.source;
-  reads : IsSettled l.initial.self → l.source ≡ l.initial.source;
-  same : IsSettled l.initial.self → l.self ≡ l.initial.self;
+  reads : TellsAnswer l.initial.self → l.source ≡ l.initial.source;
+  same : TellsAnswer l.initial.self → l.self ≡ l.initial.self;
 }
 
 abbrev pub decreases-loop-cut : goal.decreases-loop-cut
