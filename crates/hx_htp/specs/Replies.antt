@@ -7,23 +7,15 @@ use Rattle.std.specs.Fmt.{decimal}
 use Rattle.std.specs.List.{join_with_byte}
 use Rattle.hx_board.specs.declared.colours.Colour.{Colour}
 use Rattle.hx_board.specs.declared.colours.Colour.TheVariants.{Black, White}
-use Rattle.hx_board.specs.Cells.{index_of, row_of, col_of}
+use Rattle.hx_board.specs.Cells.{index_of}
 use Rattle.hx_board.specs.Positions.{Board, stone_at}
+use Rattle.hx_text.specs.Words.{colour_word, cell_word}
 use Rattle.hx_htp.specs.declared.answers.Refusal.{Refusal}
 use Rattle.hx_htp.specs.declared.answers.Refusal.TheVariants.{UnknownCommand, SyntaxError, UnacceptableSize, IllegalMove, CannotUndo, NoEmptyCell, OutOfMemory}
 use Rattle.hx_htp.specs.declared.answers.Answer.{Answer}
 use Rattle.hx_htp.specs.declared.answers.Answer.TheVariants.{Empty, Protocol, Program, Release, Known, Names, Cell, Shown, Winner, UnknownBudget, UnknownProofs}
 use Rattle.hx_htp.specs.Commands.{name_word, names}
 use Rattle.hx_htp.specs.Answers.{Given}
-
--- the word of a player
-abbrev pub colour_word : Colour → List ℕ
-colour_word Black = codes "black"
-colour_word White = codes "white"
-
--- the word of a cell: the column's letter, and the row counted from 1
-abbrev pub cell_word : ℕ → List ℕ
-cell_word cell = (97 + col_of cell) ∷ decimal (row_of cell + 1)
 
 abbrev pub known_word : Bool → List ℕ
 known_word true = codes "true"

@@ -20,10 +20,11 @@ use crate::generating::generate;
 use crate::lines::{is_quit, read};
 use crate::moves::Move;
 use crate::requests::Request;
-use crate::texts::{ROOM, spelled};
+use crate::texts::spelled;
 use crate::words::shown;
 use arrayvec::ArrayVec;
 use hx_board::{CELLS, Cell, Colour, Memory, Position, Size};
+use hx_text::Text;
 use std::marker::Model;
 use std::sync::Wait;
 use std::thread::Threads;
@@ -49,7 +50,7 @@ impl Model for Session {
 /// What is answered to a line: the bytes of the reply, none where the line has no words, and whether the session ends.
 #[derive(Drop)]
 pub struct Reply {
-    pub text: ArrayVec<u8, ROOM>,
+    pub text: Text,
     pub quit: bool,
 }
 
@@ -81,19 +82,19 @@ impl Session {
         requires { length line.now ≤ 4096 }
         // One step of a run: from the moment before to the moment after, with exactly these bytes.
         ensures step { AnswersLine (moment self.old (A.account answerer.old)) line.now
-            result.text.items (moment self.new (A.account answerer.new)) }
+            result.text (moment self.new (A.account answerer.new)) }
         ensures quit { result.quit ≡ asks_quit line.now }
         // A line without words has no reply, and no other.
-        ensures silent { (result.text.items ≡ []) ↔ (words_of line.now ≡ []) }
+        ensures silent { (result.text ≡ []) ↔ (words_of line.now ≡ []) }
         // After a refusal the session is as before.
-        ensures refused { IsRefused result.text.items → self.new ≡ self.old }
+        ensures refused { IsRefused result.text → self.new ≡ self.old }
         // Only `genmove` and `solve` ask the answerer.
         ensures nobody { AsksNobody line.now → answerer.new ≡ answerer.old }
     {
         let kept = shown(line);
         match read(kept.as_slice()) {
             None => Reply {
-                text: ArrayVec::new(),
+                text: Text::new(),
                 quit: false,
             },
             Some(command) => {

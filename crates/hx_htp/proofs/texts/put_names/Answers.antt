@@ -2,7 +2,7 @@ use Rattle.std.proofs.Common.{◌∷◌, [], arith}
 use Rattle.hx_htp.specs.declared.names.Name.TheVariants.{ProtocolVersion}
 use Rattle.hx_htp.proofs.NameLaws.{put_name}
 use Rattle.hx_htp.proofs.TextLaws.{put_length}
-use Rattle.hx_htp.proofs.texts.Text.put_names.Goals as goal
+use Rattle.hx_htp.proofs.texts.put_names.Goals as goal
 
 pub loop-name-preserved : goal.loop-name-preserved
 loop-name-preserved c = record {
@@ -11,7 +11,7 @@ loop-name-preserved c = record {
   short = omega (
     arith,
     c.loop-name.invariant.short,
-    put_length c.loop-name.self c.put-in-loop-name.new.self (10 ∷ []) c.put-in-loop-name.ensures,
+    put_length c.loop-name.text c.put-in-loop-name.new.self (10 ∷ []) c.put-in-loop-name.ensures,
     put_length c.put-in-loop-name.new.self c.put-in-loop-name-2.new.self c.word-in-loop-name.result.now c.put-in-loop-name-2.ensures,
     c.word-in-loop-name.ensures.short,
   );
