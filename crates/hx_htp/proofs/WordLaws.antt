@@ -3,11 +3,11 @@
 use Rattle.std.proofs.Common.{◌≡◌, ℕ, zero, suc, ◌+◌, Bool, true, false, cond, not, List, [], ◌∷◌, ◌++◌, take, drop, length, refl, sym, ap, ◌∙◌, arith, subst, ◌≤◌, ◌<◌, get_or, drop-cons, add-one, append_assoc, append-nil, length-append, ◌-◌, length-drop, eqb}
 use Rattle.std.proofs.lemmas.List.Sums.{position_or_len_is}
 use Rattle.std.proofs.lemmas.List.{take_all}
-use Rattle.std.proofs.lemmas.Bool.{eq-eqb, eqb-true}
-use Rattle.hx_board.proofs.SetLaws.{is_false}
+use Rattle.std.proofs.lemmas.Bool.{eq-eqb, eqb-true, false_from_ne_true}
 use Rattle.arrayvec.specs.ArrayVec.{ArrayVec}
 use Rattle.std.specs.List.{position_or_len, filter}
-use Rattle.hx_htp.specs.Words.{is_kept, is_hash, is_space, shown, parts_between, in_front, has_bytes, words_in}
+use Rattle.hx_text.specs.Words.{in_first}
+use Rattle.hx_htp.specs.Words.{is_kept, is_hash, is_space, shown, parts_between, has_bytes, words_in}
 use Rattle.hx_htp.specs.Parts.{BeginsWord}
 
 one-add : (n : ℕ) → 1 + n ≡ suc n
@@ -19,12 +19,12 @@ after_space [] = []
 after_space (byte ∷ bytes) = parts_between bytes
 
 by_first : (space : Bool) (byte : ℕ) (bytes : List ℕ) (n : ℕ) → parts_between bytes ≡ take n bytes ∷ after_space (drop n bytes)
-    → cond space ([] ∷ parts_between bytes) (in_front byte (parts_between bytes))
+    → cond space ([] ∷ parts_between bytes) (in_first byte (parts_between bytes))
     ≡ take (cond (not space) (1 + n) 0) (byte ∷ bytes) ∷ after_space (drop (cond (not space) (1 + n) 0) (byte ∷ bytes))
 unfolding after_space
 by_first true byte bytes n h = refl
 by_first false byte bytes n h =
-    ap (in_front byte) h ∙ sym (ap (λ k. take k (byte ∷ bytes) ∷ after_space (drop k (byte ∷ bytes))) (one-add n))
+    ap (in_first byte) h ∙ sym (ap (λ k. take k (byte ∷ bytes) ∷ after_space (drop k (byte ∷ bytes))) (one-add n))
 
 parts_at_space : (bytes : List ℕ)
     → parts_between bytes ≡ take (position_or_len is_space bytes) bytes ∷ after_space (drop (position_or_len is_space bytes) bytes)
@@ -51,7 +51,7 @@ behind (byte ∷ bytes) = behind_first (is_space byte) byte bytes (position_or_l
 words_behind : (bytes : List ℕ) → IsBehind bytes → filter has_bytes (after_space bytes) ≡ words_in bytes
 unfolding parts_between after_space IsBehind
 words_behind [] h = refl
-words_behind (byte ∷ bytes) h = sym (ap (λ space. filter has_bytes (cond space ([] ∷ parts_between bytes) (in_front byte (parts_between bytes)))) h)
+words_behind (byte ∷ bytes) h = sym (ap (λ space. filter has_bytes (cond space ([] ∷ parts_between bytes) (in_first byte (parts_between bytes)))) h)
 
 some_first : (bytes : List ℕ) (n : ℕ) → 1 ≤ length bytes → 1 ≤ n → has_bytes (take n bytes) ≡ true
 some_first [] n some one = absurd (omega (arith, some))
@@ -80,7 +80,7 @@ words_cut bytes n is some begun =
 -- a space in front makes no difference
 pub words_in-space : (byte : ℕ) (bytes : List ℕ) → is_space byte ≡ true → words_in (byte ∷ bytes) ≡ words_in bytes
 unfolding parts_between
-words_in-space byte bytes h = ap (λ space. filter has_bytes (cond space ([] ∷ parts_between bytes) (in_front byte (parts_between bytes)))) h
+words_in-space byte bytes h = ap (λ space. filter has_bytes (cond space ([] ∷ parts_between bytes) (in_first byte (parts_between bytes)))) h
 
 pub words_in-none : words_in [] ≡ []
 unfolding parts_between
@@ -144,7 +144,7 @@ pub first_space : (bytes : List ℕ) (i : ℕ) → i ≤ length bytes → ((k : 
 first_space bytes i within none here = sym (position_or_len_is is_space bytes i 0 within none here)
 
 pub not_hash : (byte : ℕ) → (byte ≡ 35 → ⊥) → is_hash byte ≡ false
-not_hash byte h = is_false (is_hash byte) (λ e. h (eqb-true byte 35 e))
+not_hash byte h = false_from_ne_true (is_hash byte) (λ e. h (eqb-true byte 35 e))
 
 pub is_hash_byte : (byte : ℕ) → byte ≡ 35 → is_hash byte ≡ true
 is_hash_byte byte e = eq-eqb byte 35 e

@@ -2,6 +2,7 @@
 use Rattle.std.specs.Prelude.{ℕ, Bool, true, false, ◌&&◌, ◌||◌, not, ◌==◌, nat_le, List, [], ◌∷◌, length, if◌then◌else◌, filter}
 use Rattle.std.specs.List.{before_first, list_all}
 use Rattle.std.specs.Char.{is_ascii_digit}
+use Rattle.hx_text.specs.Words.{in_first}
 
 -- a byte that counts: no control byte but the tabulator
 abbrev pub is_kept : ℕ → Bool
@@ -18,15 +19,10 @@ shown line = before_first is_hash (filter is_kept line)
 abbrev pub is_space : ℕ → Bool
 is_space byte = byte == 32 || byte == 9
 
--- this byte stands at the front of the first part
-abbrev pub in_front : ℕ → List (List ℕ) → List (List ℕ)
-in_front byte [] = (byte ∷ []) ∷ []
-in_front byte (part ∷ parts) = (byte ∷ part) ∷ parts
-
 -- the parts between the spaces, some of which may be empty
 unfoldable pub parts_between : List ℕ → List (List ℕ)
 parts_between [] = [] ∷ []
-parts_between (byte ∷ bytes) = if is_space byte then [] ∷ parts_between bytes else in_front byte (parts_between bytes)
+parts_between (byte ∷ bytes) = if is_space byte then [] ∷ parts_between bytes else in_first byte (parts_between bytes)
 
 abbrev pub has_bytes : List ℕ → Bool
 has_bytes [] = false

@@ -1,13 +1,13 @@
 //! What a word is as an argument: a player, a number or a vertex.
 
-ghost use Rattle.std.specs.Prelude.{◌≡◌, ◌<◌, ◌≤◌, length, true, IfSome};
+ghost use Rattle.std.specs.Prelude.{◌≡◌, ◌<◌, IfSome};
 ghost use Rattle.std.specs.List.{list_all};
 ghost use Rattle.std.specs.Char.{is_ascii_digit};
-ghost use Rattle.std.specs.Str.Parse.{digits_value};
 ghost use Rattle.hx_board.specs.Cells.{index_of};
 ghost use Rattle.hx_htp.specs.Arguments.{colour_of, number_of, column_of, row_of_number, row_of_word, vertex_of};
 
 use hx_board::{Cell, Colour, Size};
+use hx_text::read_digits;
 
 /// The player that a word names, in letters of either case.
 pub(crate) fn colour(word: &[u8]) -> Option<Colour>
@@ -22,14 +22,15 @@ pub(crate) fn colour(word: &[u8]) -> Option<Colour>
     }
 }
 
-/// The number of a word of one to nine decimal digits.
+/// The number of a word of one to nine decimal digits. Leading zeros count too.
 pub(crate) fn number(word: &[u8]) -> Option<u32>
     ensures { result ≡ number_of word.now }
 {
-    if word.is_empty() || word.len() > 9 || !is_digits(word) {
+    if word.is_empty() || word.len() > 9 {
         return None;
     }
-    Some(digits_value(word))
+    let value = read_digits(word)?;
+    u32::try_from(value).ok()
 }
 
 /// Whether each byte is a decimal digit.
@@ -37,19 +38,6 @@ pub(crate) fn is_digits(word: &[u8]) -> bool
     ensures { result ≡ list_all is_ascii_digit word.now }
 {
     word.iter().all(|byte| byte.is_ascii_digit())
-}
-
-/// The number that some digits stand for.
-fn digits_value(word: &[u8]) -> u32
-    requires short { length word.now ≤ 9 }
-    requires digits { list_all is_ascii_digit word.now ≡ true }
-    ensures { result ≡ digits_value 10 word.now }
-{
-    let mut value: u32 = 0;
-    for byte in word {
-        value = 10 * value + u32::from(*byte - b'0');
-    }
-    value
 }
 
 /// The cell that a word names, on a board of eleven rows and columns.

@@ -2,6 +2,7 @@
 -- first lines, and a cut tells the next.
 use Rattle.std.proofs.Common.{◌≡◌, ℕ, List, [], ◌∷◌, ◌++◌, Option, Some, None, ap, ◌∙◌, append_assoc, append-nil}
 use Rattle.std.proofs.lemmas.List.Concat.{flat_map-append}
+use Rattle.std.proofs.lemmas.Option.{same_Some}
 use Rattle.std.specs.Prelude.{IfSome, All}
 use Rattle.hx_io.specs.Sources.{prepend}
 use Rattle.hx_lines.specs.Lines.{HasLf, ended_lines, lines_of}
@@ -22,9 +23,6 @@ pub record TellsNext (lines : List (List ℕ)) (new : Cutter) (then_left : Optio
   pub parts : lines_of input ≡ lines ++ others
   pub tells : TellsLines others new.line (lines_of (new.held ++ rest)) cut
 
-some_injective : (a b : List ℕ) → Some a ≡ Some b → a ≡ b
-some_injective a b is = cc
-
 pub tells_next : (before : Option (List ℕ)) (lines : List (List ℕ)) (old new : Cutter) (left then_left : Option (List ℕ)) (cut : Cut) → All (λ line. ¬ HasLf line) lines
     → before ≡ prepend (ended_lines lines ++ old.held) left → IsCut old new left then_left cut → IfSome before (TellsNext lines new then_left cut)
 tells_next None lines old new left then_left cut plain parts is = tt
@@ -35,7 +33,7 @@ tells_next (Some input) lines old new (Some left) then_left cut plain parts is =
       others = lines_of (old.held ++ left);
       rest = told.later;
       left = told.left;
-      parts = ap lines_of (some_injective input ((ended_lines lines ++ old.held) ++ left) parts ∙ append_assoc (ended_lines lines) old.held left)
+      parts = ap lines_of (same_Some input ((ended_lines lines ++ old.held) ++ left) parts ∙ append_assoc (ended_lines lines) old.held left)
           ∙ lines_of-ended_lines lines (old.held ++ left) plain;
       tells = told.tells;
     }

@@ -72,21 +72,24 @@ fn serve_line<R: Threads + Wait + Sync, S: Source, K: Sink, A: Answerer>(
 ) -> Option<Ended>
     requires { cutter.old.met_end ≡ true → IsAtEnd (S.left source.old) }
     ensures met_end { cutter.new.met_end ≡ true → IsAtEnd (S.left source.new) }
-    ensures step { (start : Account) (before taken : Option (List ℕ)) (count : ℕ) → count < most_lines
+    ensures step { (start : Account) (before taken : Option (List ℕ)) (count : ℕ)
+        → count < most_lines
         → Stands start before taken count cutter.old.held
         (S.left source.old) (K.taken sink.old) session.old (A.account answerer.old)
         → MatchOption result
         (Stands start before taken (count + 1) cutter.new.held
         (S.left source.new) (K.taken sink.new) session.new (A.account answerer.new))
         (Ends start (A.account answerer.new) before (S.left source.new) taken (K.taken sink.new)) }
-    ensures read_fault { result ≡ Some ReadFault → Rose (S.faults source.old) (S.faults source.new) }
+    ensures read_fault { result ≡ Some ReadFault
+        → Rose (S.faults source.old) (S.faults source.new) }
     ensures write_fault { result ≡ Some WriteFault → Rose (K.faults sink.old) (K.faults sink.new) }
-    ensures later { (S.faults source.old ≤ S.faults source.new) × (K.faults sink.old ≤ K.faults sink.new) }
+    ensures later { (S.faults source.old ≤ S.faults source.new)
+        × (K.faults sink.old ≤ K.faults sink.new) }
 {
     match cutter.next(source) {
         Ok(Cut::Line { ended }) => {
             let reply = session.line(rt, cutter.line(), answerer);
-            match write_all(sink, reply.text.as_slice()) {
+            match write_all(sink, reply.text.bytes()) {
                 Ok(()) => end_after(reply.quit, ended),
                 Err(Failed) => Some(Ended::WriteFault),
             }

@@ -4,7 +4,7 @@ mod faults;
 mod limits;
 mod turns;
 
-use crate::{Ended, only_lines_above_a_limit_are_too_long, serve};
+use crate::{Ended, serve};
 use hx_board::{Colour, Memory, Position};
 use hx_htp::{Answerer, Told};
 use hx_io::{MemorySink, MemorySource};
@@ -154,9 +154,4 @@ fn nothing_is_read_behind_quit(rt: HostRuntime) -> Result<(), Fail> {
         assert_eq!(rt; session.reads, 1);
     }
     Ok(())
-}
-
-#[test]
-fn the_law_is_there() {
-    only_lines_above_a_limit_are_too_long();
 }

@@ -89,7 +89,12 @@ impl Wanting {
 }
 
 impl Answerer for Wanting {
-    ghost account = { λ s. record { budget = 986410; slots = 0; budgets = s.swept.budgets; proofs = 0 } };
+    ghost account = { λ s. record {
+      budget = 986410;
+      slots = 0;
+      budgets = s.swept.budgets;
+      proofs = 0;
+    } };
 
     fn solve<R: Threads + Wait + Sync>(
         &mut self,
@@ -122,7 +127,8 @@ pub(crate) fn told(
     position: &Position,
     to_move: Colour,
 ) -> Result<Told, Memory>
-    ensures winner { (player : Player) → result ≡ Ok (Told.Winner player) → Wins player position.now to_move }
+    ensures winner { (player : Player) → result ≡ Ok (Told.Winner player)
+        → Wins player position.now to_move }
     ensures budget { (n : ℕ) → result ≡ Ok (Told.Budget n) → n ≡ 0 }
     ensures slots { (n : ℕ) → result ≡ Ok (Told.Slots n) → n ≡ 0 }
 {
@@ -133,7 +139,8 @@ pub(crate) fn told(
 }
 
 fn told_of_white(alloc: Global, position: &Position, to_move: Colour) -> Result<Told, Memory>
-    ensures winner { (player : Player) → result ≡ Ok (Told.Winner player) → Wins player position.now to_move }
+    ensures winner { (player : Player) → result ≡ Ok (Told.Winner player)
+        → Wins player position.now to_move }
     ensures budget { (n : ℕ) → result ≡ Ok (Told.Budget n) → n ≡ 0 }
     ensures slots { (n : ℕ) → result ≡ Ok (Told.Slots n) → n ≡ 0 }
 {
@@ -148,7 +155,8 @@ fn told_of_white(alloc: Global, position: &Position, to_move: Colour) -> Result<
 }
 
 fn told_of_most(alloc: Global, position: &Position, to_move: Colour) -> Result<Told, Memory>
-    ensures winner { (player : Player) → result ≡ Ok (Told.Winner player) → Wins player position.now to_move }
+    ensures winner { (player : Player) → result ≡ Ok (Told.Winner player)
+        → Wins player position.now to_move }
     ensures budget { (n : ℕ) → result ≡ Ok (Told.Budget n) → n ≡ 0 }
     ensures slots { (n : ℕ) → result ≡ Ok (Told.Slots n) → n ≡ 0 }
 {
@@ -196,7 +204,12 @@ impl Tabled {
 }
 
 impl Answerer for Tabled {
-    ghost account = { λ s. record { budget = 0; slots = 0; budgets = s.budgets; proofs = s.proofs } };
+    ghost account = { λ s. record {
+      budget = 0;
+      slots = 0;
+      budgets = s.budgets;
+      proofs = s.proofs;
+    } };
 
     fn solve<R: Threads + Wait + Sync>(
         &mut self,

@@ -113,11 +113,7 @@ fn compare<R: Abort + Threads + Wait + Sync>(
         }
         let reply = session.line(rt, &line, &mut answerer);
         let expected = plain.reply(&line)?;
-        assert_eq!(rt;
-            reply.text.as_slice(),
-            expected.as_slice(),
-            "{line:?}, {seed}"
-        );
+        assert_eq!(rt; reply.text.bytes(), expected.as_slice(), "{line:?}, {seed}");
         assert_eq!(rt; reply.quit, plain.is_over, "{line:?}, {seed}");
         if reply.quit {
             return Ok(());
