@@ -1,7 +1,7 @@
 -- Each link that right steps give holds, by induction on the steps, and in it by the rule of the step. The player wins where
 -- a link between the two sides holds: the local game is play in a region, and the board is as good for play anywhere. What
 -- holds with the opponent to move does so with the move too, so a Full link wins whoever is to move.
-use Rattle.std.proofs.Common.{◌≡◌, ℕ, zero, suc, List, [], ◌∷◌, ◌++◌, map, true, refl, ◌∙◌, ◌⊎◌, inl, inr, ⊎_elim, Some}
+use Rattle.std.proofs.Common.{◌≡◌, ℕ, zero, suc, List, [], ◌∷◌, ◌++◌, refl, ◌⊎◌, inl, inr, ⊎_elim, Some}
 use Rattle.std.specs.Prelude.{slice_get}
 use Rattle.hx_board.specs.declared.colours.Colour.{Colour}
 use Rattle.hx_board.specs.declared.vertices.Vertex.{Vertex}
@@ -10,7 +10,6 @@ use Rattle.hx_board.specs.Sets.{has, insert, union}
 use Rattle.hx_board.specs.Colours.{other_of}
 use Rattle.hx_board.specs.Positions.{Board}
 use Rattle.hx_board.specs.Game.{Wins}
-use Rattle.hx_board.proofs.SetLaws.{has-union_left, has-union_right}
 use Rattle.hx_law.specs.Play.{By_goal}
 use Rattle.hx_board.proofs.ColourLaws.{one_or_other}
 use Rattle.hx_law.proofs.PlayLaws.{as_good_itself}
@@ -21,7 +20,8 @@ use Rattle.hx_link.specs.declared.links.Kind.TheVariants.{Full, Semi}
 use Rattle.hx_link.specs.declared.links.Link.{Link}
 use Rattle.hx_link.specs.declared.steps.Step.{Step}
 use Rattle.hx_link.specs.declared.steps.Step.TheVariants.{Base, AndStone, AndCell, Or}
-use Rattle.hx_link.specs.Steps.{HasEnds, GivesBase, GivesAndStone, GivesAndCell, GivesOr, GivesByRule, IsOneOf, links_at, carriers_of, AreRightSteps, IsChainLink}
+use Rattle.hx_link.specs.Steps.{HasEnds, GivesBase, GivesAndStone, GivesAndCell, GivesOr, GivesByRule, IsOneOf, carriers_of, AreRightSteps, IsChainLink}
+use Rattle.hx_link.proofs.LinkLaws.{place_of, in_carriers}
 use Rattle.hx_tree.specs.declared.nodes.Heading.{Heading}
 use Rattle.hx_tree.specs.Steps.{AreRightLinks}
 use Rattle.hx_proof.specs.Local.{IsJoined, Secures, mover_for, LinkHolds}
@@ -32,19 +32,6 @@ use Rattle.hx_proof.proofs.AndSoundness.{and_stone_secures, and_cell_secures}
 use Rattle.hx_proof.proofs.OrSoundness.{or_secures}
 
 -- ---- lists of links
-
--- what an Or names are earlier links
-listed : (before : List Link) (places : List ℕ) (links : List Link) → links_at before places ≡ map (λ (part : Link). Some part) links → (k : ℕ) (part : Link) → slice_get links k ≡ Some part → IsOneOf part before
-listed before [] [] e k part h = cc
-listed before [] (l ∷ ls) e k part h = cc
-listed before (p ∷ ps) [] e k part h = cc
-listed before (p ∷ ps) (l ∷ ls) e zero part h = (p, let there : slice_get before p ≡ Some l = cc in there ∙ h)
-listed before (p ∷ ps) (l ∷ ls) e (suc k) part h = listed before ps ls (cc) k part h
-
-in_carriers : (links : List Link) (k : ℕ) (part : Link) → slice_get links k ≡ Some part → (n : ℕ) → has part.carrier n ≡ true → has (carriers_of links) n ≡ true
-in_carriers [] k part h n w = cc
-in_carriers (l ∷ ls) zero part h n w = let same : l ≡ part = cc in has-union_left l.carrier (carriers_of ls) n (rw same w)
-in_carriers (l ∷ ls) (suc k) part h n w = has-union_right l.carrier (carriers_of ls) n (in_carriers ls k part h n w)
 
 one_of_appended : (links : List Link) (link : Link) (k : ℕ) (part : Link) → slice_get (links ++ link ∷ []) k ≡ Some part → IsOneOf part links ⊎ (link ≡ part)
 one_of_appended [] link zero part h = inr cc
@@ -93,7 +80,7 @@ module _ (board : Board) (player : Colour) where
         (or_secures player (carriers_of g.links) link.a link.b (λ c. (part : Link) × (IsOneOf part g.links × (part.carrier ≡ c)))
         (λ c w n h. in_carriers g.links w.1.0.0 w.0 w.1.0.1 n (rw w.1.1 h))
         board
-        (λ c w. rw (← w.1.1) (between w.0 link.a link.b player (g.same_ends w.0 w.1.0) (rw (g.semi w.0 w.1.0) at (holds w.0 (listed before places g.links g.there w.1.0.0 w.0 w.1.0.1)))))
+        (λ c w. rw (← w.1.1) (between w.0 link.a link.b player (g.same_ends w.0 w.1.0) (rw (g.semi w.0 w.1.0) at (holds w.0 (let at = place_of before places g.links g.there w.1.0.0 w.0 w.1.0.1 in (at.0, at.1.1))))))
         (λ n. let w = g.none_in_all n in (w.0.carrier, ((w.0, (w.1.0, refl)), w.1.1))))
 
     step_holds : (step : Step) (link : Link) → GivesByRule board player before step link → LinkHolds board player link

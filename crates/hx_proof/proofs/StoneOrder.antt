@@ -1,21 +1,9 @@
 -- Two stones may be put in either order, since the sets of stones come out the same.
-use Rattle.std.proofs.Common.{◌≡◌, ℕ, Bool, true, false, ◌||◌, eqb, refl, sym, ap, ◌∙◌}
+use Rattle.std.proofs.Common.{◌≡◌, ℕ, refl, ap, ◌∙◌}
 use Rattle.hx_board.specs.declared.colours.Colour.{Colour}
 use Rattle.hx_board.specs.declared.colours.Colour.TheVariants.{Black, White}
-use Rattle.hx_board.specs.Sets.{has, insert}
 use Rattle.hx_board.specs.Positions.{Board, put}
-use Rattle.hx_board.proofs.SetLaws.{has-insert, same_set}
-
-or-swap : (a b c : Bool) → (a || (b || c)) ≡ (b || (a || c))
-or-swap true true c = refl
-or-swap true false c = refl
-or-swap false true c = refl
-or-swap false false c = refl
-
-insert-swap : (set a b : ℕ) → insert (insert set a) b ≡ insert (insert set b) a
-insert-swap set a b =
-    same_set _ _ (λ n. has-insert (insert set a) b n ∙ ap (λ x. eqb n b || x) (has-insert set a n) ∙ or-swap (eqb n b) (eqb n a) (has set n)
-    ∙ sym (has-insert (insert set b) a n ∙ ap (λ x. eqb n a || x) (has-insert set b n)))
+use Rattle.hx_board.proofs.SetLaws.{insert-swap}
 
 pub put-swap : (board : Board) (who whom : Colour) (a b : ℕ) → put (put board who a) whom b ≡ put (put board whom b) who a
 put-swap board Black Black a b = ap (λ (set : ℕ). record board { black = set }) (insert-swap board.black a b)

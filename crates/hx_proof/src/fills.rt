@@ -10,7 +10,8 @@ use hx_inferior::FillStep;
 /// Who wins after a fill step wins before it, whoever is to move.
 pub fn fill_sound(position: &Position, colour: Colour, step: FillStep)
     requires { MayFill position.now colour step }
-    ensures { (mover : Colour) → Wins colour (filled position.now colour step) mover → Wins colour position.now mover }
+    ensures { (mover : Colour) → Wins colour (filled position.now colour step) mover
+        → Wins colour position.now mover }
 {
     // The proof takes from here that the position's board is one.
     let _size = position.size();

@@ -13,5 +13,6 @@ use hx_link::Step;
 pub fn link_sound(position: &Position, colour: Colour, steps: &[Step])
     requires { ShowChain position.now colour steps.now }
     ensures with_the_move { Wins colour position.now colour }
-    ensures without_it { EndInChainLink position.now colour Full steps.now → Wins colour position.now (other_of colour) }
+    ensures without_it { EndInChainLink position.now colour Full steps.now
+        → Wins colour position.now (other_of colour) }
 {}

@@ -142,7 +142,8 @@ fn steps_that_join_the_sides_win(rt: HostRuntime) -> Result<(), Fail> {
 
 /// The position after a fill step, where it may be done, and so who wins there wins here.
 fn filled_by(position: &Position, colour: Colour, step: &FillStep) -> Option<Position>
-    ensures { IfSome result (λ after. (mover : Colour) → Wins colour after mover → Wins colour position.now mover) }
+    ensures { IfSome result (λ after. (mover : Colour) → Wins colour after mover
+        → Wins colour position.now mover) }
 {
     let after = fill_one(position, colour, *step)?;
     fill_sound(position, colour, *step);
