@@ -1,7 +1,7 @@
 -- The Ands of a link with all earlier ones, from those along the chains at its two ends. Two links that give something share
 -- one end, the middle, so the earlier one is in a chain at that end of the later one. It is own for an And over a stone or
 -- a side, and no own vertex for an And over an empty cell.
-use Rattle.std.proofs.Common.{◌≡◌, ◌≢◌, ℕ, suc, ◌<◌, ◌≤◌, ◌+◌, ◌-◌, Bool, true, false, length, refl, sym, ap, ◌∙◌, subst, inl, inr, Some, None, Option, ◌⊎◌, ⊎_elim, arith}
+use Rattle.std.proofs.Common.{◌≡◌, ℕ, suc, ◌<◌, ◌≤◌, ◌+◌, ◌-◌, Bool, true, false, length, refl, sym, ◌∙◌, subst, inl, inr, Some, None, Option, ◌⊎◌, ⊎_elim, arith}
 use Rattle.std.specs.Prelude.{slice_get, MatchOption, ◌↔◌, IsTrue}
 use Rattle.std.proofs.lemmas.Bool.{false≢true, cases_eq, cases_lt}
 use Rattle.hx_board.specs.declared.colours.Colour.{Colour}
@@ -18,10 +18,11 @@ use Rattle.hx_link.specs.Steps.{HasEnds, MeetAt, GivesAndStone, GivesAndCell}
 use Rattle.hx_linkset.specs.States.{Standing, IsLive, IsLiveAt, Names}
 use Rattle.hx_linkset.specs.LiveOf.{IsLiveOf, IsFirstFrom}
 use Rattle.hx_board.proofs.ListLaws.{same_some}
+use Rattle.hx_board.proofs.VertexSetLaws.{some-vertex, code-small}
 use Rattle.hx_search.specs.Closed.{IsSettled, IsGrown, IsStuck}
 use Rattle.hx_search.specs.Progress.{IsUnsettled, IsPairSettled, AreRowsSettled, and_at, IsChainSettled, IsChainSettledTo, IsEndSettledBelow, IsEndSettled}
 use Rattle.hx_search.proofs.GrowthLaws.{settled-on, live_of-on, live_of-back}
-use Rattle.hx_search.proofs.VertexLaws.{vertex-small, below-more, below-skip, turned, live_of-turned, live_of-vertex, empty-not_own}
+use Rattle.hx_search.proofs.VertexLaws.{below-more, below-skip, turned, live_of-turned, live_of-vertex, empty-not_own}
 
 pub stuck-and : (set : Standing) (own : Bool) (left right : ℕ) → IsUnsettled set (and_at own left right) → IsStuck set
 stuck-and set true left right u = record { full = u.full; not_closed = λ closed. u.not_settled (closed.and_stones left right) }
@@ -119,7 +120,7 @@ module _ (set : Standing) (extent : IsExtent set.present.board.size.rows set.pre
   pub end-done : (own : Bool) (code : ℕ) → 123 ≤ code → IsTrue own ↔ IsOwn set.present.board set.player end → IsEndSettledBelow set own end right code → IsEndSettled set end right
   end-done own code le iff s to left lt is =
       let vertex : IsVertex set.present.board.size to = live_of-vertex set Full to end left (live_of-turned set Full end to left is) in
-      by_own own left iff (s to vertex (omega (arith, vertex-small set.present.board.size to extent vertex, le)) left lt is)
+      by_own own left iff (s to vertex (omega (arith, code-small to (some-vertex set.present.board.size extent to vertex), le)) left lt is)
 
 -- the test of an own vertex, of the position and the player as they were read
 pub own-is : (set : Standing) (end : Vertex) (own : Bool) (position : Board) (colour : Colour) → position ≡ set.present.board → colour ≡ set.player → IsTrue own ↔ IsOwn position colour end → IsTrue own ↔ IsOwn set.present.board set.player end
@@ -138,19 +139,10 @@ own-on was now end own g iff =
 -- ---- of one link
 
 module _ (set : Standing) (right : ℕ) where
-  pub row-dead : (IsLiveAt set.present.board set.player set.present.links right → ⊥) → (left : ℕ) → left < right → IsPairSettled set left right
-  row-dead dead left lt = (λ link h. absurd (dead (h.from_live right (inr refl))), λ link h. absurd (dead (h.from_live right (inr refl))))
+  pub row-dead : ((link : Link) → (slice_get set.present.links right ≡ Some link) × IsLive set.present.board set.player link → ⊥) → (left : ℕ) → left < right → IsPairSettled set left right
+  row-dead dead left lt = (λ link h. let w = h.from_live right (inr refl) in absurd (dead w.0 w.1), λ link h. let w = h.from_live right (inr refl) in absurd (dead w.0 w.1))
 
   module _ (later : Link) (there : slice_get set.present.links right ≡ Some later) where
-    pub row-semi : later.kind ≢ Full → (left : ℕ) → left < right → IsPairSettled set left right
-    row-semi semi left lt = (
-      λ link h. let g : GivesAndStone set.present.board set.player set.present.links left right link = h.gives.rule in absurd (not_full g.second g.meet.second_there g.meet.second_full),
-      λ link h. let g : GivesAndCell set.present.board set.player set.present.links left right link = h.gives.rule in absurd (not_full g.second g.meet.second_there g.meet.second_full),
-    )
-      where
-        not_full : (second : Link) → slice_get set.present.links right ≡ Some second → second.kind ≡ Full → ⊥
-        not_full second here full = semi (ap (λ (l : Link). l.kind) (same_some later second (sym there ∙ here)) ∙ full)
-
     module _ (over_a : IsEndSettled set later.a right) (over_b : IsEndSettled set later.b right) (left : ℕ) (less : left < right) where
       module _ (from middle to : Vertex) (first second : Link) (meet : MeetAt set.present.links left right from middle to first second) (at_left : IsLiveAt set.present.board set.player set.present.links left) where
         first_is : IsLiveOf set Full middle from left

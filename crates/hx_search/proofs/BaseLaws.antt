@@ -6,15 +6,17 @@ use Rattle.hx_board.specs.Positions.{Board}
 use Rattle.hx_board.specs.Graph.{IsVertex, Joined}
 use Rattle.hx_board.specs.VertexSets.{code_of, IsVertexAt}
 use Rattle.hx_board.proofs.Joins.{joined-sym}
+use Rattle.hx_board.proofs.VertexSetLaws.{some-vertex, code-small}
 use Rattle.hx_link.specs.declared.links.Link.{Link}
 use Rattle.hx_link.specs.declared.steps.Step.TheVariants.{Base}
 use Rattle.hx_link.specs.Steps.{HasEnds, GivesBase}
+use Rattle.hx_link.proofs.LinkLaws.{end-vertex}
 use Rattle.hx_linkset.specs.States.{Standing}
 use Rattle.hx_linkset.specs.Answers.{Gives}
 use Rattle.hx_search.specs.Closed.{IsSettled, IsGrown, IsStuck}
 use Rattle.hx_search.specs.Progress.{IsUnsettled, AreBasesOf, AreBasesBelow}
 use Rattle.hx_search.proofs.GrowthLaws.{settled-on}
-use Rattle.hx_search.proofs.VertexLaws.{vertex-small, below-more, below-skip, end-vertex}
+use Rattle.hx_search.proofs.VertexLaws.{below-more, below-skip}
 
 pub stuck-base : (set : Standing) (a b : Vertex) → IsUnsettled set (Base a b) → IsStuck set
 stuck-base set a b u = record { full = u.full; not_closed = λ closed. u.not_settled (closed.bases a b) }
@@ -80,4 +82,4 @@ module _ (set : Standing) (extent : IsExtent set.present.board.size.rows set.pre
       let ok = h.gives.link_ok in
       let va = end-vertex set.present.board set.player link.a ok.a_end in
       let vb = end-vertex set.present.board set.player link.b ok.b_end in
-      all link.a va (vertex-small set.present.board.size link.a extent va) link.b vb (vertex-small set.present.board.size link.b extent vb) (omega (arith, ok.lower_first)) link (in_order link h)
+      all link.a va (code-small link.a (some-vertex set.present.board.size extent link.a va)) link.b vb (code-small link.b (some-vertex set.present.board.size extent link.b vb)) (omega (arith, ok.lower_first)) link (in_order link h)

@@ -1,7 +1,7 @@
 -- Parts for an Or. Each of them lacks a cell that those before it share, so they are few (`parts-more`); what is shared, all
 -- live Semi links of the two ends have (`share-more`). Where a cell is shared in the end, the ends are not forked
 -- (`not-forked`); where none is, each cell is lacking in some part, and then the Or of the parts gives a link (`fork-of`).
-use Rattle.std.proofs.Common.{◌≡◌, ◌≢◌, ℕ, zero, suc, ◌<◌, ◌≤◌, ◌+◌, Bool, true, false, ◌||◌, List, [], ◌∷◌, ◌++◌, map, length, refl, sym, ap, ◌∙◌, subst, inl, inr, Some, Option, ◌⊎◌, ⊎_elim, arith, length-append}
+use Rattle.std.proofs.Common.{◌≡◌, ◌≢◌, ℕ, zero, suc, ◌<◌, ◌≤◌, ◌+◌, Bool, true, false, ◌||◌, List, [], ◌∷◌, ◌++◌, map, length, refl, sym, ap, ◌∙◌, subst, inl, inr, Some, ◌⊎◌, ⊎_elim, arith, length-append}
 use Rattle.std.specs.Prelude.{slice_get}
 use Rattle.std.proofs.lemmas.Bool.{false≢true, cases_lt}
 use Rattle.hx_board.specs.declared.colours.Colour.{Colour}
@@ -16,14 +16,14 @@ use Rattle.hx_link.specs.declared.links.Link.{Link}
 use Rattle.hx_link.specs.declared.steps.Step.{Step}
 use Rattle.hx_link.specs.declared.steps.Step.TheVariants.{Base, AndStone, AndCell, Or}
 use Rattle.hx_link.specs.Steps.{HasEnds, IsLink, IsOutside, IsOneOf, links_at, carriers_of, GivesByRule}
+use Rattle.hx_link.proofs.LinkLaws.{ends_along, one_of_later, same_front, place_of}
 use Rattle.hx_link.proofs.PartLaws.{part_at}
 use Rattle.hx_linkset.specs.States.{Standing, IsRight}
 use Rattle.hx_linkset.specs.LiveOf.{IsLiveOf, IsFirstFrom}
-use Rattle.hx_board.proofs.ListLaws.{get-lt, same_some, get-push, get-push_before, get-push_last}
+use Rattle.hx_board.proofs.ListLaws.{get-lt, get-there, same_some, get-push, get-push_before, get-push_last}
 use Rattle.hx_linkset.proofs.NextLaws.{live-is_link}
 use Rattle.hx_search.specs.Closed.{IsForked}
 use Rattle.hx_search.specs.Progress.{AreParts, AllShare, IsFork}
-use Rattle.hx_search.proofs.GrowthLaws.{get_there}
 use Rattle.hx_board.proofs.CountLaws.{count-small, count-less}
 
 -- ---- sets
@@ -48,7 +48,7 @@ semi_cell board player before (Or parts) link g semi = let e : Full ≡ Semi = s
 module _ (set : Standing) (right : IsRight set.player set.present) (a b : Vertex) where
   some_cell : (place : ℕ) (is : IsLiveOf set Semi a b place) → (n : ℕ) × (has is.link.carrier n ≡ true)
   some_cell place is =
-      let step = get_there set.present.steps place (omega (arith, right.steps_of, get-lt set.present.links place is.link is.there)) in
+      let step = get-there set.present.steps place (omega (arith, right.steps_of, get-lt set.present.links place is.link is.there)) in
       semi_cell set.present.board set.player _ step.0 is.link (right.given place is.link step.0 is.there step.1 is.live).gives.rule is.kind_is
 
   small_cells : (place : ℕ) (is : IsLiveOf set Semi a b place) (n : ℕ) → has is.link.carrier n ≡ true → n < 121
@@ -135,9 +135,6 @@ module _ (set : Standing) (right : IsRight set.player set.present) (a b : Vertex
 
 -- ---- none is shared
 
-both : {x y : Option Link} {xs ys : List (Option Link)} → x ≡ y → xs ≡ ys → x ∷ xs ≡ y ∷ ys
-both h k = cc
-
 -- the links at places at which there are links
 links_there : (held : List Link) (parts : List ℕ) → ((k place : ℕ) → slice_get parts k ≡ Some place → (link : Link) × (slice_get held place ≡ Some link))
     → (links : List Link) × (links_at held parts ≡ map (λ (l : Link). Some l) links)
@@ -145,38 +142,20 @@ links_there held [] there = ([], refl)
 links_there held (p ∷ ps) there =
     let here = there 0 p refl in
     let rest = links_there held ps (λ k place e. there (suc k) place e) in
-    (here.0 ∷ rest.0, both here.1 rest.1)
-
--- the place of one of them
-place_of : (held : List Link) (parts : List ℕ) (links : List Link) → links_at held parts ≡ map (λ (l : Link). Some l) links
-    → (k : ℕ) (part : Link) → slice_get links k ≡ Some part → (place : ℕ) × ((slice_get parts k ≡ Some place) × (slice_get held place ≡ Some part))
-place_of held [] [] e k part h = cc
-place_of held [] (l ∷ ls) e k part h = cc
-place_of held (p ∷ ps) [] e k part h = cc
-place_of held (p ∷ ps) (l ∷ ls) e zero part h = (p, (refl, let there : slice_get held p ≡ Some l = cc in there ∙ h))
-place_of held (p ∷ ps) (l ∷ ls) e (suc k) part h = place_of held ps ls (cc) k part h
+    (here.0 ∷ rest.0, same_front here.1 rest.1)
 
 neither : (x y : Bool) → x ≡ false → y ≡ false → (x || y) ≡ false
 neither x y h k = ap (λ z. z || y) h ∙ k
 
-later : (l x : Link) (xs : List Link) → IsOneOf l xs → IsOneOf l (x ∷ xs)
-later l x xs h = (suc h.0, h.1)
-
 carriers_lack : (links : List Link) (cell : ℕ) → ((part : Link) → IsOneOf part links → has part.carrier cell ≡ false) → has (carriers_of links) cell ≡ false
 carriers_lack [] cell none = has-empty cell
 carriers_lack (l ∷ ls) cell none = has-union l.carrier (carriers_of ls) cell
-    ∙ neither (has l.carrier cell) (has (carriers_of ls) cell) (none l (0, refl)) (carriers_lack ls cell (λ part h. none part (later part l ls h)))
+    ∙ neither (has l.carrier cell) (has (carriers_of ls) cell) (none l (0, refl)) (carriers_lack ls cell (λ part h. none part (one_of_later part l ls h)))
 
 all_outside : (board : Board) (links : List Link) (v : Vertex) → ((part : Link) → IsOneOf part links → IsOutside board part.carrier v) → IsOutside board (carriers_of links) v
 all_outside board links (Of cell) outside = λ empty. carriers_lack links cell (λ part h. outside part h empty)
 all_outside board links First outside = tt
 all_outside board links Last outside = tt
-
-ends_along : (f p : Link) (u v : Vertex) → HasEnds f u v → HasEnds p u v → HasEnds p f.a f.b
-ends_along f p u v (inl h) (inl k) = inl (k.0 ∙ sym h.0, k.1 ∙ sym h.1)
-ends_along f p u v (inl h) (inr k) = inr (k.0 ∙ sym h.1, k.1 ∙ sym h.0)
-ends_along f p u v (inr h) (inl k) = inr (k.0 ∙ sym h.1, k.1 ∙ sym h.0)
-ends_along f p u v (inr h) (inr k) = inl (k.0 ∙ sym h.0, k.1 ∙ sym h.1)
 
 outside_of : (board : Board) (player : Colour) (part : Link) (x y : Vertex) → IsLink board player part → HasEnds part x y → IsOutside board part.carrier x × IsOutside board part.carrier y
 outside_of board player part x y ok h =

@@ -1,6 +1,6 @@
 -- What stays as links are added: each place holds what it held, so a live link stays live, and a settled step of places that
 -- were there stays settled, since it gives the same link.
-use Rattle.std.proofs.Common.{◌≡◌, ℕ, zero, suc, ◌<◌, List, [], ◌∷◌, map, length, refl, sym, ◌∙◌, subst, inl, inr, Some, arith, length-append}
+use Rattle.std.proofs.Common.{◌≡◌, ℕ, suc, ◌<◌, List, [], ◌∷◌, map, length, refl, sym, ◌∙◌, subst, inl, inr, Some, arith, length-append}
 use Rattle.std.specs.Prelude.{slice_get}
 use Rattle.hx_board.specs.declared.colours.Colour.{Colour}
 use Rattle.hx_board.specs.declared.vertices.Vertex.{Vertex}
@@ -15,7 +15,7 @@ use Rattle.hx_linkset.specs.States.{Standing, IsLive, Names, GivesFromLive, adde
 use Rattle.hx_linkset.specs.Answers.{Gives, Covers, IsNew, IsCovered, IsRefused, IsFull}
 use Rattle.hx_linkset.specs.LiveOf.{IsLiveOf}
 use Rattle.hx_linkset.proofs.GivenLaws.{from_live-live}
-use Rattle.hx_board.proofs.ListLaws.{get-lt, get-push_before, get-push_last}
+use Rattle.hx_board.proofs.ListLaws.{get-lt, get-there, get-push_before, get-push_last}
 use Rattle.hx_search.specs.Closed.{IsSettled, IsGrown}
 use Rattle.hx_search.specs.Progress.{IsUnsettled}
 
@@ -32,15 +32,10 @@ grown-on a b c g h = record {
   steps_stay = λ place step e. h.steps_stay place step (g.steps_stay place step e);
 }
 
-pub get_there : {A : Type 0} → (xs : List A) (k : ℕ) → k < length xs → (x : A) × (slice_get xs k ≡ Some x)
-get_there [] k lt = absurd (omega arith)
-get_there (z ∷ zs) zero lt = (z, refl)
-get_there (z ∷ zs) (suc k) lt = get_there zs k (omega arith)
-
 -- a place that was there holds what it held
 module _ (links more : List Link) (kept : (place : ℕ) (link : Link) → slice_get links place ≡ Some link → slice_get more place ≡ Some link) where
   held : (place : ℕ) (link : Link) → place < length links → slice_get more place ≡ Some link → slice_get links place ≡ Some link
-  held place link lt h = let w = get_there links place lt in w.1 ∙ (sym (kept place w.0 w.1) ∙ h)
+  held place link lt h = let w = get-there links place lt in w.1 ∙ (sym (kept place w.0 w.1) ∙ h)
 
   meets_held : (left right : ℕ) (from middle to : Vertex) (first second : Link) → left < length links → right < length links → MeetAt more left right from middle to first second → MeetAt links left right from middle to first second
   meets_held left right from middle to first second l r m = record {

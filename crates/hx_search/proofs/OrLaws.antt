@@ -5,6 +5,7 @@ use Rattle.hx_board.specs.declared.vertices.Vertex.{Vertex}
 use Rattle.hx_board.specs.Cells.{Extent, IsExtent}
 use Rattle.hx_board.specs.Graph.{IsVertex}
 use Rattle.hx_board.specs.VertexSets.{code_of, IsVertexAt}
+use Rattle.hx_board.proofs.VertexSetLaws.{some-vertex, code-small}
 use Rattle.hx_link.specs.declared.links.Kind.TheVariants.{Full, Semi}
 use Rattle.hx_link.specs.declared.links.Link.{Link}
 use Rattle.hx_link.specs.declared.steps.Step.TheVariants.{Or}
@@ -16,7 +17,7 @@ use Rattle.hx_linkset.specs.LiveOf.{IsLiveOf}
 use Rattle.hx_linkset.proofs.NextLaws.{live-is_link}
 use Rattle.hx_search.specs.Closed.{IsForked, HasFull, IsStuck}
 use Rattle.hx_search.specs.Progress.{IsFork, IsJoinedWhereForked, AreForksOf, AreForksBelow}
-use Rattle.hx_search.proofs.VertexLaws.{vertex-small, below-more, below-skip, live_of-turned, live_of-vertex}
+use Rattle.hx_search.proofs.VertexLaws.{below-more, below-skip, live_of-turned, live_of-vertex}
 
 -- ---- one Or
 
@@ -93,7 +94,7 @@ module _ (set : Standing) (right : IsRight set.player set.present) (all : AreFor
   above a b less f =
       let va : IsVertex set.present.board.size a = live_of-vertex set Semi a b f.first f.first_semi in
       let vb : IsVertex set.present.board.size b = live_of-vertex set Semi b a f.first (live_of-turned set Semi a b f.first f.first_semi) in
-      all a va (vertex-small set.present.board.size a extent va) b vb (vertex-small set.present.board.size b extent vb) (omega (arith, less)) f
+      all a va (code-small a (some-vertex set.present.board.size extent a va)) b vb (code-small b (some-vertex set.present.board.size extent b vb)) (omega (arith, less)) f
 
   differ : (a b : Vertex) (place : ℕ) (is : IsLiveOf set Semi a b place) → code_of a ≢ code_of b
   differ a b place is e =

@@ -1,11 +1,11 @@
 -- Ands in either order: that of two links gives what that of the same links in the other order gives, and a link gives
 -- nothing with itself. So where each link is settled with the earlier ones, all Ands are.
-use Rattle.std.proofs.Common.{◌≡◌, ℕ, ◌<◌, ◌≤◌, Bool, true, false, ◌||◌, length, refl, sym, ap, ◌∙◌, subst, inl, inr, ◌⊎◌, ⊎_elim, arith, List}
+use Rattle.std.proofs.Common.{◌≡◌, ℕ, ◌<◌, ◌≤◌, length, refl, sym, ap, ◌∙◌, subst, inl, inr, ◌⊎◌, ⊎_elim, arith, List}
 use Rattle.std.proofs.lemmas.Bool.{false≢true, cases_eq, cases_lt}
 use Rattle.hx_board.specs.declared.vertices.Vertex.{Vertex}
 use Rattle.hx_board.specs.declared.vertices.Vertex.TheVariants.{Of}
-use Rattle.hx_board.specs.Sets.{has, insert, union}
-use Rattle.hx_board.proofs.SetLaws.{has-union, same_set, is_false}
+use Rattle.hx_board.specs.Sets.{has, insert}
+use Rattle.hx_board.proofs.SetLaws.{union-comm, is_false}
 use Rattle.hx_link.specs.declared.links.Link.{Link}
 use Rattle.hx_link.specs.declared.steps.Step.TheVariants.{AndStone, AndCell}
 use Rattle.hx_link.specs.Steps.{HasEnds, MeetAt, GivesAndStone, GivesAndCell}
@@ -14,15 +14,6 @@ use Rattle.hx_linkset.specs.Answers.{Gives, Covers}
 use Rattle.hx_board.proofs.ListLaws.{get-lt, same_some}
 use Rattle.hx_search.specs.Progress.{AreRowsSettled}
 use Rattle.hx_search.proofs.VertexLaws.{turned}
-
-or-comm : (a b : Bool) → (a || b) ≡ (b || a)
-or-comm true true = refl
-or-comm true false = refl
-or-comm false true = refl
-or-comm false false = refl
-
-union-comm : (s t : ℕ) → union s t ≡ union t s
-union-comm s t = same_set (union s t) (union t s) (λ n. has-union s t n ∙ (or-comm (has s n) (has t n) ∙ sym (has-union t s n)))
 
 meet-turned : (links : List Link) (left right : ℕ) (from middle to : Vertex) (f s : Link) → MeetAt links left right from middle to f s → MeetAt links right left to middle from s f
 meet-turned links left right from middle to f s m = record {

@@ -1,43 +1,28 @@
 -- The vertices of a board by number: what holds of those below a bound, and of the one at it, holds below the next bound.
-use Rattle.std.proofs.Common.{◌≡◌, ℕ, ◌<◌, ◌+◌, refl, sym, ap, ◌∙◌, subst, inl, inr, ⊎_elim, arith}
+use Rattle.std.proofs.Common.{◌≡◌, ℕ, ◌<◌, ◌+◌, sym, ap, ◌∙◌, subst, inl, inr, ⊎_elim, arith}
 use Rattle.std.proofs.lemmas.Bool.{false≢true, cases_eq}
 use Rattle.hx_board.specs.declared.colours.Colour.{Colour}
 use Rattle.hx_board.specs.declared.colours.Colour.TheVariants.{Black, White}
 use Rattle.hx_board.specs.declared.vertices.Vertex.{Vertex}
-use Rattle.hx_board.specs.declared.vertices.Vertex.TheVariants.{Of, First, Last}
+use Rattle.hx_board.specs.declared.vertices.Vertex.TheVariants.{Of}
 use Rattle.hx_board.specs.Cells.{Extent, IsExtent}
 use Rattle.hx_board.specs.Positions.{Board, IsEmpty}
 use Rattle.hx_board.specs.Graph.{IsVertex, IsOwn}
 use Rattle.hx_board.specs.VertexSets.{code_of, IsVertexAt}
-use Rattle.hx_board.proofs.CellLaws.{on_board-small}
+use Rattle.hx_board.proofs.VertexSetLaws.{some-vertex, code-same}
 use Rattle.hx_link.specs.declared.links.Kind.{Kind}
 use Rattle.hx_link.specs.declared.links.Link.{Link}
-use Rattle.hx_link.specs.Steps.{IsEnd, HasEnds}
+use Rattle.hx_link.specs.Steps.{HasEnds}
+use Rattle.hx_link.proofs.LinkLaws.{end-vertex}
 use Rattle.hx_linkset.specs.States.{Standing}
 use Rattle.hx_linkset.specs.LiveOf.{IsLiveOf}
 use Rattle.hx_board.specs.Positions.{IsBoard}
 use Rattle.hx_search.specs.Closed.{IsGrown}
 
-pub vertex-small : (size : Extent) (v : Vertex) → IsExtent size.rows size.cols → IsVertex size v → code_of v < 123
-vertex-small size (Of cell) extent is = omega (arith, on_board-small size cell extent is)
-vertex-small size First extent is = omega arith
-vertex-small size Last extent is = omega arith
-
-code-same : (size : Extent) (v w : Vertex) → IsExtent size.rows size.cols → IsVertex size v → IsVertex size w → code_of v ≡ code_of w → v ≡ w
-code-same size (Of cell) (Of other) x h k e = ap Of e
-code-same size (Of cell) First x h k e = absurd (omega (arith, on_board-small size cell x h, e))
-code-same size (Of cell) Last x h k e = absurd (omega (arith, on_board-small size cell x h, e))
-code-same size First (Of other) x h k e = absurd (omega (arith, on_board-small size other x k, e))
-code-same size First First x h k e = refl
-code-same size First Last x h k e = absurd (omega arith)
-code-same size Last (Of other) x h k e = absurd (omega (arith, on_board-small size other x k, e))
-code-same size Last First x h k e = absurd (omega arith)
-code-same size Last Last x h k e = refl
-
 module _ (size : Extent) (P : Vertex → Type 0) (code : ℕ) (below : (w : Vertex) → IsVertex size w → code_of w < code → P w) where
   pub below-more : IsExtent size.rows size.cols → (v : Vertex) → IsVertexAt size code v → P v → (w : Vertex) → IsVertex size w → code_of w < code + 1 → P w
   below-more extent v at here w is less = ⊎_elim
-      (λ e. subst P (code-same size v w extent at.is_vertex is (at.is_code ∙ sym e)) here)
+      (λ e. subst P (code-same v w (some-vertex size extent v at.is_vertex) (some-vertex size extent w is) (at.is_code ∙ sym e)) here)
       (λ ne. below w is (omega (arith, less, ne)))
       (cases_eq (code_of w) code)
 
@@ -48,11 +33,6 @@ module _ (size : Extent) (P : Vertex → Type 0) (code : ℕ) (below : (w : Vert
       (cases_eq (code_of w) code)
 
 -- ---- ends
-
-pub end-vertex : (board : Board) (player : Colour) (v : Vertex) → IsEnd board player v → IsVertex board.size v
-end-vertex board player (Of cell) end = end.0
-end-vertex board player First end = tt
-end-vertex board player Last end = tt
 
 pub turned : (l : Link) (x y : Vertex) → HasEnds l x y → HasEnds l y x
 turned l x y (inl e) = inr e

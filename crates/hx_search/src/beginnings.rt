@@ -11,7 +11,7 @@ use crate::useful_ands::push_ands_over;
 use crate::useful_bases::{push_base, push_bases};
 use crate::useful_ors::push_ors_between;
 use crate::workspaces::Workspace;
-use hx_board::{Groups, Mask, Memory, Position, Vertex, VertexSet};
+use hx_board::{CELLS, Groups, Mask, Memory, Position, Vertex, VertexSet};
 use hx_link::Kind;
 use hx_linkset::LinkSet;
 
@@ -82,7 +82,7 @@ impl Workspace {
         let groups = Groups::of(before, set.colour());
         let former = standing_stones(before, &groups, before.stones(set.colour()));
         let mut rest = fresh.union(former);
-        for _ in 0..121u8 {
+        for _ in 0..CELLS as u8 {
             let Some(stone) = rest.least(position.size()) else {
                 break;
             };
@@ -102,7 +102,7 @@ impl Workspace {
     fn near(&self, position: &Position, stones: Mask) -> Mask {
         let mut near = Mask::empty();
         let mut rest = stones;
-        for _ in 0..121u8 {
+        for _ in 0..CELLS as u8 {
             let Some(stone) = rest.least(position.size()) else {
                 break;
             };

@@ -6,7 +6,7 @@
 
 ghost use Rattle.std.specs.Prelude.{◌≡◌};
 
-use hx_board::{Cell, Groups, Mask, Position, VERTICES, Vertex, VertexSet};
+use hx_board::{CELLS, Cell, Groups, Mask, Position, VERTICES, Vertex, VertexSet};
 use hx_linkset::LinkSet;
 
 /// What each vertex is joined with, and the vertices that links are made of.
@@ -108,7 +108,7 @@ pub(crate) fn standing_stones(position: &Position, groups: &Groups, stones: Mask
 {
     let mut standing = Mask::empty();
     let mut rest = stones.minus(joined_with_sides(groups));
-    for _ in 0..121u8 {
+    for _ in 0..CELLS as u8 {
         let Some(stone) = rest.least(position.size()) else {
             break;
         };

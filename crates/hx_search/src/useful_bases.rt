@@ -9,7 +9,7 @@ ghost use Rattle.hx_board.specs.Cells.{OnBoard};
 use crate::candidates::{Candidates, Rule};
 use crate::covers::is_covered;
 use crate::ends::Ends;
-use hx_board::{Cell, Mask, Memory, Position, Vertex, neighbour_set};
+use hx_board::{CELLS, Cell, Mask, Memory, Position, Vertex, neighbour_set};
 use hx_link::Kind;
 use hx_linkset::LinkSet;
 
@@ -51,7 +51,7 @@ fn push_bases_of(
     cells: Mask,
 ) -> Result<(), Memory> {
     let mut rest = cells;
-    for _ in 0..121u8 {
+    for _ in 0..CELLS as u8 {
         let Some(cell) = rest.least(set.position().size()) else {
             break;
         };
@@ -69,7 +69,7 @@ fn push_bases_between(
     cells: Mask,
 ) -> Result<(), Memory> {
     let mut rest = cells;
-    for _ in 0..121u8 {
+    for _ in 0..CELLS as u8 {
         let Some(cell) = rest.least(set.position().size()) else {
             break;
         };
@@ -96,7 +96,7 @@ pub(crate) fn push_bases(
         push_bases_of(set, candidates, &side, near)?;
     }
     let mut rest = ends.standing().meet(cells);
-    for _ in 0..121u8 {
+    for _ in 0..CELLS as u8 {
         let Some(stone) = rest.least(set.position().size()) else {
             break;
         };

@@ -2,7 +2,7 @@
 
 use crate::candidates::Candidates;
 use crate::covers::is_covered;
-use hx_board::{Mask, Memory, Vertex};
+use hx_board::{CELLS, Mask, Memory, Vertex};
 use hx_link::{Kind, Link};
 use hx_linkset::LinkSet;
 use std::alloc::Global;
@@ -13,8 +13,9 @@ const MOST_FOUND: u32 = 8;
 /// The most parts that are looked at for a new Semi link.
 const MOST_VISITS: u32 = 60;
 
-/// The most parts of an Or that is searched for. Where no such Or is found, one of more parts is tried.
-const MOST_PARTS: usize = 4;
+/// The most parts of an Or that is searched for. Where no such Or is found, one of more parts is tried, up to the most
+/// that an Or unites.
+const MOST_SEARCHED: usize = 4;
 
 /// Room for the Semi links of most two ends.
 const ROOM: usize = 80;
@@ -111,7 +112,7 @@ impl Chosen {
 struct OrSearch {
     a: Vertex,
     b: Vertex,
-    links: [u32; MOST_PARTS],
+    links: [u32; MOST_SEARCHED],
     visits: u32,
     found: u32,
 }
@@ -183,7 +184,7 @@ fn push_wide(
     let mut chosen = Chosen::one(start);
     lists.wide.clear();
     lists.wide.push(start.link).map_err(|_| Memory)?;
-    for _ in 0..121u8 {
+    for _ in 0..CELLS as u8 {
         if chosen.shared.is_empty() {
             break;
         }
@@ -234,12 +235,12 @@ fn push_ors_of(
     let mut search = OrSearch {
         a: *a,
         b: *b,
-        links: [start.link; MOST_PARTS],
+        links: [start.link; MOST_SEARCHED],
         visits: 0,
         found: 0,
     };
     let chosen = Chosen::one(start);
-    for count in 2..=MOST_PARTS {
+    for count in 2..=MOST_SEARCHED {
         search.widen(set, candidates, &chosen, lists.others.as_slice(), count - 1)?;
         if search.found > 0 {
             return Ok(());

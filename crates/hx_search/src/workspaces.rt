@@ -21,6 +21,7 @@ pub struct Workspace {
 }
 
 impl Workspace {
+    /// Empty room, for any set.
     pub fn new(alloc: Global) -> Result<Workspace, Memory> {
         Ok(Workspace {
             ends: Ends::none(),

@@ -1,6 +1,9 @@
 use Rattle.std.proofs.Common.{◌<◌, true, length, arith}
-use Rattle.hx_search.proofs.AndLaws.{end-on, row-full}
+use Rattle.hx_search.proofs.AndLaws.{end-on, row-dead, row-full}
 use Rattle.hx_search.proofs.ands.settle_row.Goals as goal
+
+pub returns-in_default-clause-tried : goal.returns-in_default-clause-tried
+returns-in_default-clause-tried c = row-dead c.args.set.now c.args.right c.in_default.ensures
 
 pub returns-in-Ok-Settled-settle_end-clause-tried : goal.returns-in-Ok-Settled-settle_end-clause-tried
 returns-in-Ok-Settled-settle_end-clause-tried c = λ left less.
