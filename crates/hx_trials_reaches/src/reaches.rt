@@ -2,12 +2,28 @@
 //! new sets of the same positions and beside `close`.
 //!
 //! No clause says which links `reach` adds. That it leaves none out which it looks for shows in two ways: it answers the
-//! same on both sets, and the numbers of links over a whole table are what they were. Each part of it, as the Bases near new
-//! stones or the most links of two ends, changes some of these numbers.
+//! same on both sets, and the numbers of links over a whole table are what they were. With a part of it taken out of
+//! hx_search these numbers change, among others:
+//!
+//! | part left out | row | number | with it | without it |
+//! |---|---|---|---|---|
+//! | links handed over to the vertex that now stands for a group | six_by_six | full | 15447 | 15210 |
+//! | Bases near new stones | four_by_four | not_as_closed | 0 | 8 |
+//! | Ands over a new stone | six_by_six | full | 15447 | 15338 |
+//! | an Or of as many parts as it takes | five_by_five | not_as_closed | 0 | 2 |
+//! | Ors of three and of four parts | six_by_six | full | 15447 | 15165 |
+//! | Ors of four parts | seven_by_seven | semi | 16860 | 16858 |
+//! | at most eight Ors for a Semi link | six_by_six | full | 15447 | 15450 |
+//! | at most sixty looks for a Semi link | six_by_six | full | 15447 | 15214 |
+//! | at most 20 Full and 80 Semi links of two ends | six_by_six | full | 15447 | 15493 |
+//! | fewer of them with more than eight rows or columns | nine_by_four | full | 11691 | 11692 |
+//! | the end at the first link that decides | nine_by_four | full | 11691 | 14167 |
+//! | Ors of the ends of lost Full links | none | | | |
 
 use hx_board::Colour::{Black, White};
-use hx_board::{Cell, Colour, Position, Size};
-use hx_link::Kind;
+use hx_board::{CELLS, Cell, Colour, Position, Size, Vertex};
+use hx_fill::fill_in;
+use hx_link::{Kind, Link};
 use hx_linkset::LinkSet;
 use hx_samples::Draws;
 use hx_search::{Reached, Workspace, close, decided, reach, reach_with};
@@ -29,6 +45,9 @@ struct Tally {
     /// How many answers differ from that of a new set, and from that of a closed one.
     not_as_new: u32,
     not_as_closed: u32,
+
+    /// How many links of the two sides the closed sets have that no such link of the set covers, where the set is not decided.
+    not_found: u32,
 }
 
 const NONE: Tally = Tally {
@@ -40,6 +59,7 @@ const NONE: Tally = Tally {
     new_semi: 0,
     not_as_new: 0,
     not_as_closed: 0,
+    not_found: 0,
 };
 
 /// How many links of a kind are held.
@@ -48,6 +68,30 @@ fn count_of(set: &LinkSet, kind: Kind) -> u32 {
     for index in 0..set.count() {
         if let Some(link) = set.held(index)
             && link.kind == kind
+        {
+            count = count.wrapping_add(1);
+        }
+    }
+    count
+}
+
+/// Whether a set has a link of the two sides that covers this one.
+fn covers(set: &LinkSet, link: &Link) -> bool {
+    let mut is_found = false;
+    for index in set.live(Vertex::First, Vertex::Last) {
+        if let Some(other) = set.held(index) {
+            is_found |= other.kind == link.kind && other.carrier.inside(link.carrier);
+        }
+    }
+    is_found
+}
+
+/// How many links of the two sides a closed set has that none of a set covers.
+fn count_not_found(set: &LinkSet, closed: &LinkSet) -> u32 {
+    let mut count = 0u32;
+    for index in closed.live(Vertex::First, Vertex::Last) {
+        if let Some(link) = closed.held(index)
+            && !covers(set, &link)
         {
             count = count.wrapping_add(1);
         }
@@ -93,6 +137,9 @@ impl Tally {
         let is_decided = decided(&new, to_move) != Reached::Open;
         let differ = kind.is_some() != is_decided;
         self.not_as_closed = self.not_as_closed.wrapping_add(u32::from(differ));
+        if kind.is_none() {
+            self.not_found = self.not_found.wrapping_add(count_not_found(set, &new));
+        }
         Ok(kind.is_some())
     }
 
@@ -119,29 +166,50 @@ impl Tally {
             if self.count(alloc, workspace, &mut set, to_move)? {
                 break;
             }
-            let stones = draw_stones(alloc, &set, &mut draws, turn)?;
-            put_stones(&mut set, stones.as_slice(), round % 2 == 0);
+            // Each second turn is one as in a search: with the stones of fill-in, and all as one play.
+            let is_filled = round % 2 == 0;
+            let stones = draw_stones(alloc, set.position(), &mut draws, turn, is_filled)?;
+            put_stones(&mut set, stones.as_slice(), is_filled);
             turn = turn.other();
         }
         Ok(())
     }
 }
 
-/// A stone of a colour on some empty cell, and up to two more of either colour.
+/// A stone of a colour on some empty cell, up to two more of either colour, and those of fill-in where they are wanted.
 fn draw_stones(
     alloc: Global,
-    set: &LinkSet,
+    before: &Position,
     draws: &mut Draws,
     colour: Colour,
+    is_filled: bool,
 ) -> Result<Vec<(Colour, Cell)>, Fail> {
-    let mut position = *set.position();
+    let mut position = *before;
     let mut stones = Vec::new(alloc);
     put_stone(&mut position, &mut stones, draws, colour)?;
     for _ in 0..draws.below(3) {
         let colour = draws.colour();
         put_stone(&mut position, &mut stones, draws, colour)?;
     }
+    if is_filled {
+        fill(alloc, &position, &mut stones)?;
+    }
     Ok(stones)
+}
+
+/// Adds the stones that fill-in puts on a position.
+fn fill(alloc: Global, position: &Position, stones: &mut Vec<(Colour, Cell)>) -> Result<(), Fail> {
+    let filled = fill_in(alloc, position).ok().ok_or("memory")?.position;
+    let mut rest = position.empties().minus(filled.empties());
+    for _ in 0..CELLS {
+        if let Some(cell) = rest.least(position.size())
+            && let Some(colour) = filled.at(cell)
+        {
+            rest = rest.without(cell);
+            stones.push((colour, cell))?;
+        }
+    }
+    Ok(())
 }
 
 /// Puts a stone on some empty cell, where there is one.
@@ -192,12 +260,13 @@ fn tally_of(alloc: Global, rows: u8, cols: u8, stones: u32, games: u32) -> Resul
 #[test]
 fn four_by_four(rt: HostRuntime) -> Result<(), Fail> {
     let expected = Tally {
-        calls: 69,
-        decided: 17,
-        full: 4682,
-        semi: 9430,
-        new_full: 2376,
-        new_semi: 3983,
+        calls: 76,
+        decided: 16,
+        full: 5253,
+        semi: 10323,
+        new_full: 1929,
+        new_semi: 3410,
+        not_found: 1,
         ..NONE
     };
     assert_eq!(rt; tally_of(rt.alloc(), 4, 4, 2, 20)?, expected);
@@ -207,12 +276,13 @@ fn four_by_four(rt: HostRuntime) -> Result<(), Fail> {
 #[test]
 fn five_by_five(rt: HostRuntime) -> Result<(), Fail> {
     let expected = Tally {
-        calls: 71,
-        decided: 18,
-        full: 8573,
-        semi: 18754,
-        new_full: 5462,
-        new_semi: 10676,
+        calls: 75,
+        decided: 16,
+        full: 8546,
+        semi: 18688,
+        new_full: 4279,
+        new_semi: 8781,
+        not_found: 1,
         ..NONE
     };
     assert_eq!(rt; tally_of(rt.alloc(), 5, 5, 4, 20)?, expected);
@@ -222,12 +292,12 @@ fn five_by_five(rt: HostRuntime) -> Result<(), Fail> {
 #[test]
 fn six_by_six(rt: HostRuntime) -> Result<(), Fail> {
     let expected = Tally {
-        calls: 57,
-        decided: 9,
-        full: 16741,
-        semi: 33207,
-        new_full: 8503,
-        new_semi: 17302,
+        calls: 61,
+        decided: 8,
+        full: 15447,
+        semi: 31031,
+        new_full: 5509,
+        new_semi: 12560,
         ..NONE
     };
     assert_eq!(rt; tally_of(rt.alloc(), 6, 6, 8, 12)?, expected);
@@ -237,12 +307,12 @@ fn six_by_six(rt: HostRuntime) -> Result<(), Fail> {
 #[test]
 fn seven_by_seven(rt: HostRuntime) -> Result<(), Fail> {
     let expected = Tally {
-        calls: 26,
-        decided: 3,
-        full: 8547,
-        semi: 18971,
-        new_full: 5247,
-        new_semi: 9893,
+        calls: 37,
+        decided: 1,
+        full: 7962,
+        semi: 16860,
+        new_full: 1848,
+        new_semi: 4452,
         ..NONE
     };
     assert_eq!(rt; tally_of(rt.alloc(), 7, 7, 14, 4)?, expected);
@@ -255,10 +325,10 @@ fn nine_by_four(rt: HostRuntime) -> Result<(), Fail> {
     let expected = Tally {
         calls: 65,
         decided: 5,
-        full: 15018,
-        semi: 37427,
-        new_full: 5820,
-        new_semi: 10101,
+        full: 11691,
+        semi: 28817,
+        new_full: 2694,
+        new_semi: 5596,
         ..NONE
     };
     assert_eq!(rt; tally_of(rt.alloc(), 9, 4, 6, 10)?, expected);
