@@ -8,7 +8,7 @@ use hx_board::{Colour, Mask, Position};
 use hx_book::Book;
 use hx_linkset::LinkSet;
 use hx_search::reach;
-use hx_wide::{look_wider_either, store_wider, widen_all, widen_turned};
+use hx_wide::{look_wider_either, store_root, store_wider, widen_all, widen_turned};
 use std::sync::Wait;
 use std::test::Fail;
 
@@ -75,6 +75,22 @@ fn a_link_and_a_move(rt: HostRuntime) -> Result<(), Fail> {
     linked_and_moved(&rt, rt.alloc(), Place::Wider, &mut book)?;
     assert_eq!(rt; white_at(&rt, &mut book, &position, White)?, Mask::of(0x1));
     assert_eq!(rt; white_at(&rt, &mut book, &empty, Black)?, Mask::of(0x1));
+    Ok(())
+}
+
+/// The root is stored by the move to b1: before it stands a node of the position after that move, which a root by fill steps would
+/// not need.
+#[test]
+fn a_root_by_a_move(rt: HostRuntime) -> Result<(), Fail> {
+    let empty = board(2, 2, 0)?;
+    let next = board(2, 2, 0x2)?;
+    let mut book = Book::with_slots(rt.alloc(), 4).or(Err("memory"))?;
+    linked_and_moved(&rt, rt.alloc(), Place::Wider, &mut book)?;
+    assert!(rt; book.find(&empty, Black).is_none());
+    assert!(rt; is_done(store_root(&rt, rt.alloc(), &mut book, &empty, Black, Black)));
+    assert!(rt; book.find(&next, White).is_some());
+    assert!(rt; book.find(&empty, Black).is_some());
+    assert_eq!(rt; book.held(), 4);
     Ok(())
 }
 

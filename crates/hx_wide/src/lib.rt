@@ -1,8 +1,9 @@
-//! Proofs at widened positions: a proof of a player's needs few of the empty cells, so it is stored where the opponent has all
-//! others, and serves each position between.
+//! Proofs at widened positions: a proof that a player wins needs few of the empty cells. So it is stored where the opponent has all
+//! others, and serves each position with fewer of these stones.
 //!
-//! What a proof needs is a guess here. So the checker judges each node at a widened position before it is stored, and where it says
-//! that a node is wrong, the proof of the position itself is stored.
+//! What a proof needs is a guess here. A node by links, by fill steps or by answers to all moves is judged by the checker at the
+//! widened position before it is stored. One by a chain, a move or the turned position is right by what was looked up there. Where
+//! either fails, the proof is stored at the position itself.
 #![tactic(auto)]
 
 mod answers;

@@ -67,6 +67,7 @@ pub fn widen_move<P: Proofs, R: Wait>(
     if let Some(stored) = end_of(rt, proofs, position, to_move, tried) {
         return stored;
     }
+    // Each answer has a clause of its own, so each is taken apart for the proof.
     match store_wider(rt, alloc, proofs, &next, to_move.other(), to_move) {
         Stored::Done => store_move(rt, proofs, position, to_move, cell),
         Stored::Refused(refusal) => Stored::Refused(refusal),
