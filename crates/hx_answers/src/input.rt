@@ -11,10 +11,13 @@ use thiserror::Error;
 /// Why not all of an input was read.
 #[derive(Clone, Copy, Debug, Drop, Error, PartialEq, Eq)]
 pub enum Unread {
+    /// A read failed.
     #[error("the source failed")]
     Failed,
+    /// The source has more bytes than the limit.
     #[error("the source has more bytes than are read")]
     TooLong,
+    /// There was not enough memory for the bytes.
     #[error("there is not enough memory")]
     OutOfMemory,
 }

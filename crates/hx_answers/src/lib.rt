@@ -1,5 +1,4 @@
-//! What commands that give one answer to one input share: all of the input is read, up to a limit, one answer is settled, and
-//! then it is written whole, so that a fault of the sink never changes what is said.
+//! How one answer is written with its status, and how the input of `solve` is read up to a limit.
 #![tactic(auto)]
 
 mod counted;

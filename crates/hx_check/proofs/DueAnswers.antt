@@ -4,7 +4,8 @@ use Rattle.std.proofs.lemmas.Bool.{false≢true}
 use Rattle.std.proofs.lemmas.List.{length-map}
 use Rattle.std.specs.Prelude.{IfSome, IsTrue, flat_map, MatchOption}
 use Rattle.std.specs.Option.{IfNone}
-use Rattle.hx_io.specs.Causes.{Rose}
+use Rattle.hx_io.specs.Causes.{next_count}
+use Rattle.hx_board.proofs.ListLaws.{same_some}
 use Rattle.hx_io.specs.Sources.{prepend}
 use Rattle.hx_lines.specs.Lines.{HasLf, longest, lines_of}
 use Rattle.hx_lines.specs.declared.cutters.Cut.{Cut}
@@ -18,11 +19,11 @@ use Rattle.hx_tree.specs.Rules.{IsRightNode}
 use Rattle.hx_tree.proofs.TreeGrowth.{least_wrong-last}
 use Rattle.hx_text.specs.declared.places.Place.{Place}
 use Rattle.hx_text.specs.declared.reader.TreeReader.{TreeReader}
-use Rattle.hx_text.specs.Words.{Lacks}
+use Rattle.hx_text.specs.Marks.{Lacks}
 use Rattle.hx_text.specs.Grammars.{text_of, Begins}
 use Rattle.hx_text.specs.TreeTexts.{AreTreeLines, front_lines, node_lines, head_line}
 use Rattle.hx_text.specs.Places.{Stands, StandsSoFar, most_nodes, IsNextNode}
-use Rattle.hx_text.specs.Reader.{HasRead, lines_fed, one_more}
+use Rattle.hx_text.specs.Reader.{HasRead, lines_fed}
 use Rattle.hx_text.proofs.BegunNodes.{node_of_head}
 use Rattle.hx_text.proofs.Completions.{Begins-stands}
 use Rattle.hx_text.proofs.Cuts.{text_of-push}
@@ -39,16 +40,13 @@ use Rattle.hx_check.proofs.Standings.{ended_in, few_nodes, not_whole}
 
 -- ---- the input, where it is told
 
-some_injective : (a b : List ℕ) → Some a ≡ Some b → a ≡ b
-some_injective a b is = cc
-
 -- what is said of an input whose first lines were read
 pub says_of : (before : Option (List ℕ)) (front held : List ℕ) (left : Option (List ℕ)) (Says : List ℕ → Type 0) → before ≡ prepend (front ++ held) left
     → ((input rest : List ℕ) → left ≡ Some rest → input ≡ front ++ (held ++ rest) → Says input) → IfSome before Says
 says_of None front held left Says parts says = tt
 says_of (Some input) front held None Says parts says = absurd (some_not_none input parts)
 says_of (Some input) front held (Some rest) Says parts says =
-    says input rest refl (some_injective input ((front ++ held) ++ rest) parts ∙ append_assoc front held rest)
+    says input rest refl (same_some input ((front ++ held) ++ rest) parts ∙ append_assoc front held rest)
 
 -- the bytes that come next, where a line was cut off them or nothing was there
 stream_of : (old new : Cutter) (rest : List ℕ) (then_left : Option (List ℕ)) (told : TellsStream old new rest then_left (Line true))
@@ -153,7 +151,7 @@ module _ (before : Option (List ℕ)) (reader : TreeReader) (headings : List Hea
       (lacks_same (old.held ++ rest) new.line (last_of old new rest then_left told) (lacks_of new.line cut.plain))
       (cut_not_long false old new rest then_left told))
 
-  pub wrong_answer : (ended : Bool) (fed number : ℕ) → CutsLine old new left then_left ended → ¬ HasReadAll reader → fed ≡ one_more (lines_fed reader)
+  pub wrong_answer : (ended : Bool) (fed number : ℕ) → CutsLine old new left then_left ended → ¬ HasReadAll reader → fed ≡ next_count (lines_fed reader)
       → (number ≡ fed) × (IsTrue ended → Begins AreTreeLines (upto.judged.lines ++ new.line ∷ []) → ⊥) → IfSome before (λ input. IsNoText input number)
   wrong_answer ended fed number cut unended counts told =
       wrong_by ended number cut unended (told.0 ∙ count_more reader headings fed upto.judged counts) told.1
@@ -213,7 +211,7 @@ module _ (before : Option (List ℕ)) (reader : TreeReader) (headings : List Hea
 
   -- what judging a node answers
   pub node_answer : (rose : Type 0) (new_reader : TreeReader) (now : List Heading) (node : Node) (answer : Option Judgement)
-      → CutsLine old new left then_left true → lines_fed new_reader ≡ one_more (lines_fed reader) → ¬ HasReadAll new_reader
+      → CutsLine old new left then_left true → lines_fed new_reader ≡ next_count (lines_fed reader) → ¬ HasReadAll new_reader
       → HasRead new_reader (upto.judged.nodes ++ node ∷ []) (upto.judged.lines ++ new.line ∷ []) → AnswersNode headings node now answer
       → MatchOption answer (JudgedUpTo before new_reader now new.held then_left) (IsDue before then_left rose)
   node_answer rose new_reader now node None cut counts unended reads says =
@@ -250,7 +248,3 @@ pub due_next : (before after : Option (List ℕ)) (rose : Type 0) (reader : Tree
     → IsDue before after rose answer
 due_next before after rose reader headings answer judged says found =
     subst (IsDue before after rose) (sym (says (omega (arith, few_fed reader headings judged)))) found
-
--- a count that rose later rose from before
-pub rose_from : (before then now : ℕ) → before ≤ then → Rose then now → Rose before now
-rose_from before then now later rose = omega (arith, later, rose)

@@ -13,7 +13,8 @@ use Rattle.hx_tree.proofs.TreeGrowth.{one_more_right, headings_of-append}
 use Rattle.hx_text.specs.declared.reader.TreeReader.{TreeReader}
 use Rattle.hx_text.specs.Grammars.{text_of}
 use Rattle.hx_text.specs.Places.{most_nodes}
-use Rattle.hx_text.specs.Reader.{HasRead, lines_fed, one_more}
+use Rattle.hx_io.specs.Causes.{next_count}
+use Rattle.hx_text.specs.Reader.{HasRead, lines_fed}
 use Rattle.hx_text.proofs.Completions.{Begins-stands}
 use Rattle.hx_text.proofs.Cuts.{text_of-append}
 use Rattle.hx_check.specs.Judging.{AreFaultless}
@@ -51,10 +52,10 @@ pub few_fed : (reader : TreeReader) (headings : List Heading) → HasJudged read
 few_fed reader headings judged =
     omega (arith, judged.counted, ended_few judged.lines judged.nodes (ended_in reader.place judged.nodes judged.lines judged.read judged.few))
 
-pub count_more : (reader : TreeReader) (headings : List Heading) (now : ℕ) (judged : HasJudged reader headings) → now ≡ one_more (lines_fed reader) → now ≡ length judged.lines + 1
+pub count_more : (reader : TreeReader) (headings : List Heading) (now : ℕ) (judged : HasJudged reader headings) → now ≡ next_count (lines_fed reader) → now ≡ length judged.lines + 1
 count_more reader headings now judged is = omega (arith, is, few_fed reader headings judged, judged.counted)
 
-count_with : (reader : TreeReader) (headings : List Heading) (now : ℕ) (line : List ℕ) (judged : HasJudged reader headings) → now ≡ one_more (lines_fed reader)
+count_with : (reader : TreeReader) (headings : List Heading) (now : ℕ) (line : List ℕ) (judged : HasJudged reader headings) → now ≡ next_count (lines_fed reader)
     → now ≡ length (judged.lines ++ line ∷ [])
 count_with reader headings now line judged is = count_more reader headings now judged is ∙ sym (length-append judged.lines (line ∷ []))
 
@@ -65,7 +66,7 @@ text_with lines line held = text_of-append lines (line ∷ [])
 
 module _ (before : Option (List ℕ)) (reader new_reader : TreeReader) (headings : List Heading) (old new : Cutter) (left then_left : Option (List ℕ))
     (upto : JudgedUpTo before reader headings old.held left) (cut : CutsLine old new left then_left true)
-    (counts : lines_fed new_reader ≡ one_more (lines_fed reader)) where
+    (counts : lines_fed new_reader ≡ next_count (lines_fed reader)) where
   with_line : before ≡ prepend (text_of (upto.judged.lines ++ new.line ∷ []) ++ new.held) then_left
   with_line =
       parts-lost before (text_of upto.judged.lines) old.held new.held (new.line ++ 10 ∷ []) left then_left upto.parts cut.loses

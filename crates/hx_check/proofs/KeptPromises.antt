@@ -153,7 +153,7 @@ of_input None after rose judgement Says due says = tt
 of_input (Some input) after rose judgement Says due says = says input due
 
 -- each clause of an input that holds whatever the judgement
-of_any : (left : Option (List ℕ)) (Says : List ℕ → Type 0) → ((input : List ℕ) → Says input) → IfSome left Says
+pub of_any : (left : Option (List ℕ)) (Says : List ℕ → Type 0) → ((input : List ℕ) → Says input) → IfSome left Says
 of_any None Says says = tt
 of_any (Some input) Says says = says input
 

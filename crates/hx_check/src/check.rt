@@ -13,7 +13,8 @@ use std::alloc::Global;
 /// Reads the text of a tree, judges its lines and nodes in their order and writes `yes` with the winner and the position of the
 /// root, or where the first fault is. Answers the exit status.
 ///
-/// It keeps one line and the headings of the nodes, and reads no further than the first fault.
+/// It keeps no more than 12,288 bytes of the input, which are three lines of the longest, the node that is being read and the
+/// headings of those before it; and it makes no read once the first fault is known.
 pub fn run_check<S: Source, K: Sink>(alloc: Global, source: &mut S, sink: &mut K) -> u8
     // Some judgement is due, and it was written whole, or the sink failed before it took all of it.
     ensures run { IsCheckRun

@@ -3,10 +3,10 @@
 
 ghost use Rattle.std.specs.Prelude.{◌≡◌, ◌+◌, ◌-◌, ◌^◌, ◌<◌, ◌≤◌, ℕ, true, List, Option, length, MatchOption};
 ghost use Rattle.std.specs.Option.{IfNone};
-ghost use Rattle.hx_io.specs.Causes.{Rose};
+ghost use Rattle.hx_io.specs.Causes.{Rose, next_count};
 ghost use Rattle.hx_io.specs.Sources.{IsAtEnd};
 ghost use Rattle.hx_text.specs.Places.{most_nodes};
-ghost use Rattle.hx_text.specs.Reader.{lines_fed, one_more};
+ghost use Rattle.hx_text.specs.Reader.{lines_fed};
 ghost use Rattle.hx_check.specs.Judgements.{IsDue};
 ghost use Rattle.hx_check.specs.Standings.{HasJudged, JudgedUpTo, HasReadAll, AnswersNode};
 
@@ -52,7 +52,7 @@ fn judge_line<S: Source>(
         (JudgedUpTo before reader.new checker.new cutter.new.held (S.left source.new))
         (IsDue before (S.left source.new) (Rose (S.faults source.old) (S.faults source.new))) }
     ensures unended { IfNone result (¬ HasReadAll reader.new) }
-    ensures counted { IfNone result (lines_fed reader.new ≡ one_more (lines_fed reader.old)) }
+    ensures counted { IfNone result (lines_fed reader.new ≡ next_count (lines_fed reader.old)) }
     ensures later { S.faults source.old ≤ S.faults source.new }
 {
     match cutter.next(source) {
@@ -96,7 +96,8 @@ fn at_end<S: Source>(
     ensures due { (before : Option (List ℕ))
         → JudgedUpTo before reader.now checker.now cutter.old.held (S.left source.old)
         → HasReadAll reader.now
-        → IsDue before (S.left source.new) (Rose (S.faults source.old) (S.faults source.new)) result }
+        → IsDue before (S.left source.new)
+        (Rose (S.faults source.old) (S.faults source.new)) result }
     ensures later { S.faults source.old ≤ S.faults source.new }
 {
     match cutter.next(source) {

@@ -24,7 +24,7 @@ pub enum Judgement {
     ReadFault,
     /// There was not enough memory.
     OutOfMemory,
-    /// The input has more bytes than are read, or more nodes than a text may have.
+    /// A line has more bytes than a line may have, or there are more nodes than a text may have.
     TooLong,
 }
 

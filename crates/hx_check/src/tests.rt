@@ -5,7 +5,7 @@ mod faults;
 mod limits;
 mod rules;
 
-use crate::{one_fault, run_check};
+use crate::run_check;
 use hx_io::{MemorySink, MemorySource};
 use std::alloc::{AllocError, Global};
 use std::process::Abort;
@@ -116,9 +116,4 @@ fn assert_found(
         let _ = assert_answer(rt, alloc, changed_trial, status, answer)?;
     }
     Ok(())
-}
-
-#[test]
-fn the_law_is_there() {
-    one_fault();
 }

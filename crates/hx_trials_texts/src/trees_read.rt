@@ -4,8 +4,8 @@ use super::entries_read::{answer, cell, fill, step, threat};
 use super::lines::{Taker, pieces_of, words_of_lines};
 use super::read::{size, version};
 use super::values::{colour, mask, number, word};
-use hx_board::{Colour, Position, Size};
-use hx_tree::{FillSteps, Heading, Lines, Node, Rule, Steps, Threats};
+use hx_board::{CELLS, Colour, Position, Size};
+use hx_tree::{FillSteps, Heading, Lines, MOST_STEPS, MOST_THREATS, Node, Rule, Steps, Threats};
 use std::alloc::Global;
 
 /// The nodes that end before the first wrong line, and the winner at the end or the number of that line.
@@ -88,9 +88,13 @@ fn heading(size: Size, words: &[Vec<u8>]) -> Option<Heading> {
 }
 
 /// A number that is at most this one.
-fn count(word: &[u8], most: u32) -> Option<u32> {
+fn count(word: &[u8], most: usize) -> Option<u32> {
     let count = number(word)?;
-    if count <= most { Some(count) } else { None }
+    if count as usize <= most {
+        Some(count)
+    } else {
+        None
+    }
 }
 
 /// The other words of a node's first line, and the lines that they count.
@@ -99,7 +103,7 @@ fn rule(alloc: Global, size: Size, words: &[Vec<u8>], lines: &mut Taker) -> Opti
     if kind == b"chain".as_slice() && words.len() == 6 {
         Some(Rule::Chain)
     } else if kind == b"links".as_slice() && words.len() == 7 {
-        let steps = count(word(words, 6), 8192)?;
+        let steps = count(word(words, 6), MOST_STEPS)?;
         let steps = steps_of(alloc, size, lines, steps)?;
         Some(Rule::Links { steps })
     } else if kind == b"move".as_slice() && words.len() == 8 {
@@ -109,7 +113,7 @@ fn rule(alloc: Global, size: Size, words: &[Vec<u8>], lines: &mut Taker) -> Opti
     } else if kind == b"all".as_slice() && words.len() == 9 {
         all(alloc, size, words, lines)
     } else if kind == b"fill".as_slice() && words.len() == 8 {
-        let fills = count(word(words, 6), 121)?;
+        let fills = count(word(words, 6), CELLS)?;
         let child = number(word(words, 7))?;
         let steps = fills_of(alloc, size, lines, fills)?;
         Some(Rule::Fill { steps, child })
@@ -122,9 +126,9 @@ fn rule(alloc: Global, size: Size, words: &[Vec<u8>], lines: &mut Taker) -> Opti
 }
 
 fn all(alloc: Global, size: Size, words: &[Vec<u8>], lines: &mut Taker) -> Option<Rule> {
-    let steps = count(word(words, 6), 8192)?;
-    let threats = count(word(words, 7), 128)?;
-    let answers = count(word(words, 8), 121)?;
+    let steps = count(word(words, 6), MOST_STEPS)?;
+    let threats = count(word(words, 7), MOST_THREATS)?;
+    let answers = count(word(words, 8), CELLS)?;
     let steps = steps_of(alloc, size, lines, steps)?;
     let threats = threats_of(alloc, lines, threats)?;
     let lines = answers_of(alloc, size, lines, answers)?;

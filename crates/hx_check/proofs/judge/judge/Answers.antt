@@ -1,7 +1,8 @@
 use Rattle.std.proofs.Common.{ap, arith, rules}
 use Rattle.hx_lines.specs.Cutters.{Cutter}
+use Rattle.hx_io.proofs.CauseLaws.{rose_from_earlier}
 use Rattle.hx_check.proofs.JudgedNodes.{judged_nothing, few_fed}
-use Rattle.hx_check.proofs.DueAnswers.{due_later, rose_from}
+use Rattle.hx_check.proofs.DueAnswers.{due_later}
 use Rattle.hx_check.proofs.Endings.{nothing_whole}
 use Rattle.hx_check.proofs.judge.judge.Goals as goal
 
@@ -16,7 +17,7 @@ loop-init g c = record {
 }
 
 pub returns-in-Some : goal.returns-in-Some
-returns-in-Some g c = due_later _ _ _ _ _ (rose_from _ _ _ c.loop.invariant.reads) (c.in-Some.ensures.step _ c.loop.invariant.upto)
+returns-in-Some g c = due_later _ _ _ _ _ (rose_from_earlier _ _ _ c.loop.invariant.reads) (c.in-Some.ensures.step _ c.loop.invariant.upto)
 
 pub loop-preserved : goal.loop-preserved
 loop-preserved g c = record {

@@ -2,8 +2,9 @@ use Rattle.std.proofs.Common.{refl, subst}
 use Rattle.hx_lines.specs.declared.cutters.Cut.{Cut}
 use Rattle.hx_lines.specs.declared.cutters.Cut.TheVariants.{Line, TooLong, Over}
 use Rattle.hx_lines.specs.Cutters.{IsCut}
+use Rattle.hx_io.proofs.CauseLaws.{rose_from_earlier}
 use Rattle.hx_check.proofs.JudgedNodes.{judged_more}
-use Rattle.hx_check.proofs.DueAnswers.{ended_cut, long_answer, fault_answer, missing_answer, wrong_answer, many_answer, node_answer, due_next, due_later, rose_from}
+use Rattle.hx_check.proofs.DueAnswers.{ended_cut, long_answer, fault_answer, missing_answer, wrong_answer, many_answer, node_answer, due_next, due_later}
 use Rattle.hx_check.proofs.Endings.{judged_end}
 use Rattle.hx_check.proofs.judge.judge_line.Goals as goal
 
@@ -30,7 +31,7 @@ returns-in-Ok-End-clause-step g c = λ before upto.
     let cut : P (Line c.in-Ok-Line.ended) = subst P c.in-Ok-Line.field-0-is c.in-Ok-Line.ensures.cut in
     let says = rw (c.in-Ok-End.field-0-is, c.line.ensures.bytes) at c.in-Ok-End.ensures.says in
     let told = says upto.judged.nodes upto.judged.lines upto.judged.read in
-    due_later before _ _ _ c.at_end.result (rose_from _ _ _ c.in-Ok-Line.ensures.cause.later)
+    due_later before _ _ _ c.at_end.result (rose_from_earlier _ _ _ c.in-Ok-Line.ensures.cause.later)
     (c.at_end.ensures.due before
     (judged_more before _ c.feed.new.self _ c.args.cutter.now c.next.new.self _ _ upto (ended_cut c.in-Ok-Line.ended _ _ _ _ told.0 cut) c.in-Ok-End.ensures.count
     (judged_end c.feed.new.self upto.judged.nodes _ _ told.1))
