@@ -7,7 +7,7 @@ use Rattle.hx_board.specs.Positions.{Board}
 use Rattle.hx_board.specs.Counts.{empty_count, sweep_size, IsSmall}
 use Rattle.hx_demo.specs.Generators.{generator_of}
 use Rattle.hx_demo.specs.Draws.{first_positions}
-use Rattle.hx_demo.specs.WinCounts.{WinsSoMany, Empty}
+use Rattle.hx_demo.specs.WinCounts.{Empty}
 use Rattle.hx_demo.proofs.DrawnInTurn.{position_after, positions_from-none, positions_from-more}
 use Rattle.hx_demo.proofs.WinCountLaws.{one_won, one_lost}
 use Rattle.hx_tree.specs.declared.nodes.Node.{Node}

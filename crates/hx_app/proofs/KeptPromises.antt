@@ -11,6 +11,7 @@ use Rattle.hx_text.proofs.WholeTrees.{written_with}
 use Rattle.hx_text.proofs.OneFault.{one_position_fault}
 use Rattle.hx_solve.specs.declared.settings.Settings.{Settings}
 use Rattle.hx_answers.specs.Endings.{IsWritten, Whole, Cut, IsUnlessStopped, AnswersUnlessStopped}
+use Rattle.hx_check.proofs.KeptPromises.{of_any}
 use Rattle.hx_app.specs.declared.answers.Answer.{Answer}
 use Rattle.hx_app.specs.declared.answers.Answer.TheVariants.{Solved, UnknownBudget, UnknownProofs, BadPosition, ReadFault, OutOfMemory, TooLong}
 use Rattle.hx_app.specs.declared.finishes.Finish.{Finish}
@@ -172,11 +173,6 @@ of_input : (settings : Settings) (left : Option (List ℕ)) (rose : Type 0) (ans
     → ((input : List ℕ) → IsDue settings (Some input) rose answer → Says input) → IfSome left Says
 of_input settings None rose answer Says due says = tt
 of_input settings (Some input) rose answer Says due says = says input due
-
--- each clause of an input that holds whatever the answer
-of_any : (left : Option (List ℕ)) (Says : List ℕ → Type 0) → ((input : List ℕ) → Says input) → IfSome left Says
-of_any None Says says = tt
-of_any (Some input) Says says = says input
 
 status_not_6 : (answer : Answer) → status_of answer ≡ 6 → ⊥
 status_not_6 (Solved solution) six = omega arith

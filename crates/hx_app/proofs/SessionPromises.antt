@@ -1,5 +1,5 @@
 -- What a run of `htp` says with each status, by how the session ended.
-use Rattle.std.proofs.Common.{◌≡◌, ℕ, ◌≤◌, ◌<◌, ◌^◌, inl, inr, List, length, refl, sym, subst, arith}
+use Rattle.std.proofs.Common.{◌≡◌, ℕ, ◌<◌, ◌^◌, inl, inr, List, length, refl, sym, subst, arith}
 use Rattle.std.specs.Prelude.{Option, None, Some, IfSome}
 use Rattle.hx_solve.specs.declared.settings.Settings.{Settings}
 use Rattle.hx_solve.specs.Tallies.{Tallied, tallied}
@@ -10,9 +10,10 @@ use Rattle.hx_htp.specs.Runs.{Run, SessionRun, until_quit}
 use Rattle.hx_htp.specs.Laws.{IsCounted, NamesWinners}
 use Rattle.hx_serve.specs.declared.serving.Ended.{Ended}
 use Rattle.hx_serve.specs.declared.serving.Ended.TheVariants.{Done, ReadFault, WriteFault, TooLong}
-use Rattle.hx_serve.specs.Serving.{Ends, IsTooLong, IsWithinLimits, most_lines}
+use Rattle.hx_serve.specs.Serving.{Ends, IsTooLong, IsWithinLimits}
+use Rattle.hx_check.proofs.KeptPromises.{of_any}
 use Rattle.hx_app.specs.declared.finishes.Finish.{Finish}
-use Rattle.hx_app.specs.Sessions.{account_of, start_of, status_of_end, EndHasCause, IsSessionRun, IsUnlessFault, EachRunNamesWinners, EachRunIsCounted, KeepsPromises}
+use Rattle.hx_app.specs.Sessions.{account_of, start_of, status_of_end, EndHasCause, IsSessionRun, EachRunNamesWinners, EachRunIsCounted, KeepsPromises}
 
 -- ---- how a session was served
 
@@ -68,10 +69,6 @@ of_told : (left : Option (List ℕ)) (Knows Says : List ℕ → Type 0) → IfSo
     → IfSome left Says
 of_told None Knows Says knows says = tt
 of_told (Some input) Knows Says knows says = says input knows
-
-of_any : (left : Option (List ℕ)) (Says : List ℕ → Type 0) → ((input : List ℕ) → Says input) → IfSome left Says
-of_any None Says says = tt
-of_any (Some input) Says says = says input
 
 module _ (settings : Settings) (left left_now : Option (List ℕ)) (rose : Type 0) (before now : Option (List ℕ)) (sink_rose : Type 0) (finish : Finish)
     (apart : LimitsAreApart) (winners : EachRunNamesWinners (start_of settings) (account_of finish.tally))

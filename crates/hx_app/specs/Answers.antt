@@ -1,5 +1,5 @@
 -- What `solve` answers, and when.
-use Rattle.std.specs.Prelude.{◌≡◌, ◌↔◌, ◌⊎◌, ℕ, ◌<◌, ◌≤◌, List, [], ◌∷◌, ◌++◌, length, flat_map, codes, Option, IfSome}
+use Rattle.std.specs.Prelude.{◌≡◌, ◌↔◌, ◌⊎◌, ℕ, ◌<◌, ◌≤◌, List, length, flat_map, codes, Option, IfSome}
 use Rattle.std.specs.List.{All}
 use Rattle.hx_board.specs.declared.colours.Colour.{Colour}
 use Rattle.hx_board.specs.Positions.{Board}
@@ -24,10 +24,6 @@ use Rattle.hx_app.specs.declared.finishes.Finish.{Finish}
 use Rattle.hx_app.specs.declared.solutions.Solution.{Solution}
 use Rattle.hx_app.specs.Limits.{most_bytes}
 use Rattle.hx_app.specs.Positions.{IsPositionText, IsOpenPosition, IsBadPosition}
-
--- the lines of some nodes
-abbrev pub nodes_text : List Node → List ℕ
-nodes_text nodes = flat_map (λ node. text_of (node_lines node)) nodes
 
 -- what the lines before the nodes say in the text of a solution's tree
 abbrev pub preamble_of : Solution → Preamble
@@ -95,16 +91,6 @@ pub record IsSolved (input : List ℕ) (solution : Solution) : Type 0 where
   pub fits : EachNodeFits (preamble_of solution) solution.nodes.items
   pub winner : solution.winner ≡ tree.root.heading.winner
 
--- what each answer says of the input
-abbrev pub IsFound : Settings → List ℕ → Answer → Type 0
-IsFound settings input (Solved solution) = IsSolved input solution
-IsFound settings input (UnknownBudget budget) = (budget ≡ settings.budget) × IsOpenPosition settings.budget input
-IsFound settings input (UnknownProofs slots) = (slots ≡ settings.slots) × IsOpenPosition settings.budget input
-IsFound settings input (BadPosition line) = IsBadPosition input line
-IsFound settings input ReadFault = ⊥
-IsFound settings input OutOfMemory = Unit {0}
-IsFound settings input TooLong = ⊥
-
 -- the whole input, which has no more bytes than are read
 abbrev pub WithinLimit : Option (List ℕ) → (List ℕ → Type 0) → Type 0
 WithinLimit left says = IfSome left (λ input. (length input ≤ most_bytes) × says input)
@@ -132,6 +118,20 @@ abbrev pub IsSolveStatus : ℕ → Type 0
 IsSolveStatus status = (status ≡ 0) ⊎ ((3 ≤ status) × (status ≤ 8))
 
 -- ---- words for the functions inside the crate alone
+
+-- the lines of some nodes
+abbrev pub nodes_text : List Node → List ℕ
+nodes_text nodes = flat_map (λ node. text_of (node_lines node)) nodes
+
+-- what each answer says of the input
+abbrev pub IsFound : Settings → List ℕ → Answer → Type 0
+IsFound settings input (Solved solution) = IsSolved input solution
+IsFound settings input (UnknownBudget budget) = (budget ≡ settings.budget) × IsOpenPosition settings.budget input
+IsFound settings input (UnknownProofs slots) = (slots ≡ settings.slots) × IsOpenPosition settings.budget input
+IsFound settings input (BadPosition line) = IsBadPosition input line
+IsFound settings input ReadFault = ⊥
+IsFound settings input OutOfMemory = Unit {0}
+IsFound settings input TooLong = ⊥
 
 -- the tree of a solution is within the limits of a text
 abbrev pub CanBeWritten : Answer → Type 0

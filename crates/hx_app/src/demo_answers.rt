@@ -61,7 +61,8 @@ pub(crate) fn write_demo_answer<K: Sink>(sink: &mut K, answer: &DemoAnswer) -> R
 
 /// Writes the line of the counts. As many trees were accepted as positions were drawn.
 fn write_counts<K: Sink>(sink: &mut K, seed: u64, wins: &WinCounts) -> Result<(), Failed>
-    ensures bytes { TakesAll (K.taken sink.old) (K.taken sink.new) result (counts_line seed wins.now) }
+    ensures bytes { TakesAll (K.taken sink.old) (K.taken sink.new) result
+        (counts_line seed wins.now) }
     ensures cause { HasCause (K.faults sink.old) (K.faults sink.new) result }
 {
     match write_draws(sink, seed) {

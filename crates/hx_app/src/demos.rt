@@ -94,7 +94,8 @@ fn count_wins<G: Gate + Sync, R: Threads + Wait + Sync>(
     gate: &G,
 ) -> Result<WinCounts, Unsolved>
     requires { AreSettings settings }
-    ensures counts { IfOk result (λ wins. AreCounts (first_positions positions seed) wins positions) }
+    ensures counts { IfOk result (λ wins.
+        AreCounts (first_positions positions seed) wins positions) }
     ensures cause { IfErr result (HasCause settings) }
     ensures small { enough ≤ settings.budget → IfErr result LacksMemory }
 {

@@ -9,8 +9,10 @@ ghost use Rattle.hx_app.specs.Promises.{SaysSolved};
 /// `check` answers 0 to each tree that `solve` wrote with status 0, however long it is, unless a fault or want of memory comes in
 /// its place.
 pub fn check_accepts_what_solve_writes()
-    ensures { (input : List ℕ) (taken taken_now : Option (List ℕ)) (solved : SaysSolved input taken taken_now)
+    ensures { (input : List ℕ) (taken taken_now : Option (List ℕ))
+        (solved : SaysSolved input taken taken_now)
         (left before now : Option (List ℕ)) (reads reads_now writes writes_now status : ℕ)
-        → ChecksAsPromised (Some solved.tree) left (Rose reads reads_now) before now (Rose writes writes_now) status
+        → ChecksAsPromised (Some solved.tree) left (Rose reads reads_now)
+        before now (Rose writes writes_now) status
         → IsUnlessStopped status 0 }
 {}

@@ -137,7 +137,8 @@ fn solution_of(position: &Position, nodes: Vec<Node>) -> Solution
     ensures nodes { result.nodes.items ≡ nodes.items }
     ensures size { result.size ≡ position.now.size }
     ensures version { IsVersionOf result.version nodes.items }
-    ensures winner { (root : TreeNode) → IsRoot nodes.items root → result.winner ≡ root.heading.winner }
+    ensures winner { (root : TreeNode) → IsRoot nodes.items root
+        → result.winner ≡ root.heading.winner }
 {
     Solution {
         version: version_of(&nodes),

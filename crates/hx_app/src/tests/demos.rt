@@ -8,8 +8,7 @@ const COUNTS_OF_SEVEN: &str = "demo 7 positions 200 black 143 white 57 checked 2
 
 #[test]
 fn a_seed_has_one_line(rt: HostRuntime) -> Result<(), Fail> {
-    let commands: [&[&str]; 4] = [
-        &["demo", "7"],
+    let commands: [&[&str]; 3] = [
         &["demo", "7"],
         &["demo", "007", "--workers", "4"],
         &["demo", "7", "--budget=100000"],

@@ -1,6 +1,3 @@
-use Rattle.std.proofs.Common.{sym, subst}
-use Rattle.hx_app.specs.declared.answers.Answer.{Answer}
-use Rattle.hx_app.specs.Answers.{IsFound, CanBeWritten}
 use Rattle.hx_app.proofs.SolvedTrees.{solution_found, solution_written}
 use Rattle.hx_app.proofs.solving.found.Goals as goal
 
