@@ -16,7 +16,8 @@
 //! | at most eight Ors for a Semi link | six_by_six | full | 15447 | 15450 |
 //! | at most sixty looks for a Semi link | six_by_six | full | 15447 | 15214 |
 //! | at most 20 Full and 80 Semi links of two ends | six_by_six | full | 15447 | 15493 |
-//! | fewer of them with more than eight rows or columns | nine_by_four | full | 11691 | 11692 |
+//! | at most 8 Full ones with more than eight rows or columns | nine_by_four | full | 11691 | 11692 |
+//! | at most 32 Semi ones there | none | | | |
 //! | the end at the first link that decides | nine_by_four | full | 11691 | 14167 |
 //! | Ors of the ends of lost Full links | none | | | |
 
