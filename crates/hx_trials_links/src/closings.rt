@@ -7,7 +7,7 @@ use hx_board::Colour::Black;
 use hx_board::Vertex::{First, Last};
 use hx_board::{Mask, Position, Size, Vertex};
 use hx_link::Kind;
-use hx_linkset::LinkSet;
+use hx_linkset::{LinkSet, MOST_LINKS};
 use hx_search::{Closure, close};
 use std::alloc::Global;
 use std::test::Fail;
@@ -47,7 +47,12 @@ fn threats_that_overlap(rt: HostRuntime) -> Result<(), Fail> {
 fn a_large_empty_board_fills_the_set(rt: HostRuntime) -> Result<(), Fail> {
     let mut set = empty(rt.alloc(), 11)?;
     let closure = close(&mut set).ok().ok_or("memory")?;
-    assert_eq!(rt; closure, Closure::Limit { links: 8192 });
-    assert_eq!(rt; set.count(), 8192);
+    assert_eq!(rt;
+        closure,
+        Closure::Limit {
+            links: MOST_LINKS as u32
+        }
+    );
+    assert_eq!(rt; set.count(), MOST_LINKS as u32);
     Ok(())
 }

@@ -1,19 +1,14 @@
 //! What a player's links leave to the opponent: the empty cells that are in the carrier of each live link between the player's
 //! sides, asked of each cell and each link.
 
-use hx_board::{CELLS, Cell, Mask, Vertex};
-use hx_link::Link;
+use hx_board::{CELLS, Cell, Mask};
 use hx_linkset::LinkSet;
-
-fn joins_sides(link: &Link) -> bool {
-    link.a == Vertex::First && link.b == Vertex::Last
-}
 
 /// Whether the link at an index is live, joins the sides, and lacks a cell.
 fn is_live_without(set: &LinkSet, index: u32, cell: Cell) -> bool {
     match set.link(index) {
         None => false,
-        Some(link) => joins_sides(&link) && !link.carrier.has(cell),
+        Some(link) => link.joins_sides() && !link.carrier.has(cell),
     }
 }
 
@@ -50,7 +45,7 @@ pub(crate) fn shared_by(set: &LinkSet, threats: &[u32]) -> Option<Mask> {
         let Some(link) = set.link(*threat) else {
             return None;
         };
-        if !joins_sides(&link) {
+        if !link.joins_sides() {
             return None;
         }
         let left = shared.meet(link.carrier);

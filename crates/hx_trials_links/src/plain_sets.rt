@@ -1,9 +1,10 @@
 //! A set of links as a plain list: which of them are live is told from the position alone, and nothing is kept beside them.
 //!
-//! What one step gives is asked of hx_link, which holds that against a plain program of its own.
+//! What one step gives, and which vertices may be ends, is asked of hx_link, which holds that against a plain program of its
+//! own.
 
 use hx_board::{Cell, Colour, Groups, Memory, Position, Vertex};
-use hx_link::{Kind, Link, Step, result_of};
+use hx_link::{Kind, Link, Step, ends_of, result_of};
 use hx_linkset::{Added, LinkSet, MOST_LINKS};
 use std::alloc::Global;
 
@@ -180,18 +181,8 @@ fn is_live(position: &Position, colour: Colour, link: &Link) -> bool {
         }
     }
     let is_empty = empty_cells == link.carrier.count();
-    is_empty && is_end(position, colour, &link.a) && is_end(position, colour, &link.b)
-}
-
-fn is_end(position: &Position, colour: Colour, vertex: &Vertex) -> bool {
-    let size = position.size();
-    match vertex {
-        Vertex::Of(cell) => {
-            let is_on_board = cell.row() < size.rows() && cell.col() < size.cols();
-            is_on_board && position.at(*cell) != Some(colour.other())
-        }
-        Vertex::First | Vertex::Last => true,
-    }
+    let ends = ends_of(position, colour);
+    is_empty && ends.has(link.a) && ends.has(link.b)
 }
 
 /// Whether a link has this kind, where one is asked for, and these ends, in either order.
