@@ -71,7 +71,8 @@ fn find(nodes: &[Node], position: &Position, to_move: Colour) -> Option<Found>
 
 /// Whether a heading has this position and mover.
 fn is_of(heading: &Heading, position: &Position, to_move: Colour) -> bool
-    ensures { IsTrue result ↔ ((heading.now.position ≡ position.now) × (heading.now.to_move ≡ to_move)) }
+    ensures { IsTrue result
+        ↔ ((heading.now.position ≡ position.now) × (heading.now.to_move ≡ to_move)) }
 {
     heading.position == *position && heading.to_move == to_move
 }

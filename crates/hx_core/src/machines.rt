@@ -62,7 +62,8 @@ impl State {
     }
 
     fn can_store(&self, alloc: Global, worker: u32, node: &Node) -> Result<bool, Memory>
-        ensures { IfOk result (λ answer. IsTrue answer ↔ CanHappen self.now (Store worker node.now)) }
+        ensures { IfOk result (λ answer. IsTrue answer
+            ↔ CanHappen self.now (Store worker node.now)) }
     {
         if (worker as usize) >= self.seen.len() {
             return Ok(false);

@@ -33,7 +33,9 @@ impl Model for State {
 
     ghost view = { λ s. machine s.slots s.nodes.items s.seen.items s.budget s.accounts.items };
 
-    ghost invariant = { λ s. FieldsKeep (machine s.slots s.nodes.items s.seen.items s.budget s.accounts.items) (vec_capacity s.nodes) };
+    ghost invariant = { λ s. FieldsKeep
+        (machine s.slots s.nodes.items s.seen.items s.budget s.accounts.items)
+        (vec_capacity s.nodes) };
 }
 
 impl State {

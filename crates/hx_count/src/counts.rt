@@ -36,7 +36,9 @@ impl Model for Counts {
 
     ghost view = { λ c. origin c.table.shared.table_id c.limits };
 
-    ghost invariant = { λ c. (c.table.shared.table_id.words ≡ c.limits.words + 1) × (c.table.shared.key ≡ c.limits) × AreSmall c.limits × (0 < c.limits.workers) × (c.table.shared.table_id.slots ≡ 0) };
+    ghost invariant = { λ c. (c.table.shared.table_id.words ≡ c.limits.words + 1)
+        × (c.table.shared.key ≡ c.limits) × AreSmall c.limits × (0 < c.limits.workers)
+        × (c.table.shared.table_id.slots ≡ 0) };
 }
 
 impl Counts {
@@ -51,7 +53,8 @@ impl Counts {
         requires budget { budget ≤ 2 ^ 40 }
         requires words { (0 < words) × (words ≤ 65536) }
         requires seats { (0 < seats) × (seats ≤ 64) }
-        ensures limits { IfOk result (λ made. made.0.limits ≡ record { budget = budget; words = words; workers = seats }) }
+        ensures limits { IfOk result (λ made. made.0.limits
+            ≡ record { budget = budget; words = words; workers = seats }) }
         ensures seats { IfOk result (λ made. made.1.items ≡ new_seats made.0 0 seats) }
         ensures fit { IfOk result (λ made. All (λ s. s.made ≡ made.0) made.1.items) }
         ensures nothing { IfOk result (λ made. All (λ s. HasNothing (own s)) made.1.items) }
@@ -76,7 +79,8 @@ impl Counts {
     fn deal(&self, alloc: Global, mut first: Seat<(), View>) -> Result<Vec<CountSeat>, Memory>
         requires table { first.table_id ≡ self.now.table }
         requires parts { first.me ≡ (first_view self.now.limits, []) }
-        ensures seats { IfOk result (λ seats. seats.items ≡ new_seats self.now 0 self.now.limits.workers) }
+        ensures seats { IfOk result (λ seats. seats.items
+            ≡ new_seats self.now 0 self.now.limits.workers) }
         ensures fit { IfOk result (λ seats. All (λ s. s.made ≡ self.now) seats.items) }
     {
         let workers = self.limits.workers;
@@ -99,7 +103,8 @@ impl Counts {
         ensures next { (own seat.old).refused ≡ false → Spends seat.old result seat.new }
         ensures again { (own seat.old).refused ≡ true → IsErr result × (seat.new ≡ seat.old) }
         ensures own { own seat.new ≡ after_spend result (own seat.old) }
-        ensures spent { IfErr result (λ taken. (taken ≡ self.now.limits.budget) × (granted_to_all (state_seen seat.new) ≡ self.now.limits.budget)) }
+        ensures spent { IfErr result (λ taken. (taken ≡ self.now.limits.budget)
+            × (granted_to_all (state_seen seat.new) ≡ self.now.limits.budget)) }
     {
         let budget = self.limits.budget;
         if seat.refused {
@@ -167,9 +172,11 @@ impl Counts {
         requires all { length seats.items ≡ self.limits.workers }
         requires own { All (λ s. s.made ≡ self) seats.items }
         ensures history { IsClosed self seats.items result.granted result.held }
-        ensures granted { (result.granted ≡ sum_by (λ (s : SeatSeen). (own s).granted) seats.items) × (result.granted ≤ self.limits.budget) }
+        ensures granted { (result.granted ≡ sum_by (λ (s : SeatSeen). (own s).granted) seats.items)
+            × (result.granted ≤ self.limits.budget) }
         ensures held { result.held ≡ sum_by (λ (s : SeatSeen). held_in_all (own s)) seats.items }
-        ensures refused { Any (λ s. (own s).refused ≡ true) seats.items → result.granted ≡ self.limits.budget }
+        ensures refused { Any (λ s. (own s).refused ≡ true) seats.items
+            → result.granted ≡ self.limits.budget }
     {
         let seat = self.gather(seats);
         let Counts { table, limits } = self;

@@ -16,7 +16,8 @@ use std::thread::Threads;
 fn counts(alloc: Global, budget: u64, seats: u32) -> Result<(Counts, Vec<CountSeat>), Fail>
     requires budget { budget ≤ 2 ^ 40 }
     requires seats { (0 < seats) × (seats ≤ 64) }
-    ensures limits { IfOk result (λ made. made.0.limits ≡ record { budget = budget; words = 2; workers = seats }) }
+    ensures limits { IfOk result (λ made. made.0.limits
+        ≡ record { budget = budget; words = 2; workers = seats }) }
     ensures fit { IfOk result (λ made. All (λ s. s.made ≡ made.0) made.1.items) }
 {
     Ok(Counts::start(alloc, budget, 2, seats).or(Err("memory"))?)

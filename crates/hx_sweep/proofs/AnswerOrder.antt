@@ -13,7 +13,8 @@ use Rattle.hx_tree.specs.declared.nodes.Line.{Line}
 use Rattle.hx_tree.specs.declared.nodes.Line.TheVariants.{Child, Under}
 use Rattle.hx_tree.specs.Trees.{headings_of}
 use Rattle.hx_tree.proofs.TreeGrowth.{headings_of-append}
-use Rattle.hx_sweep.specs.Growth.{heading_of, IsProved}
+use Rattle.hx_tree.specs.Headings.{heading_of}
+use Rattle.hx_sweep.specs.Growth.{IsProved}
 use Rattle.hx_sweep.specs.Moves.{IsChildLine}
 use Rattle.hx_tree.proofs.LinesInOrder.{AreAnsweredSoFar, IsRightChildLine, one_more_answered}
 use Rattle.hx_sweep.proofs.NodeGrowth.{proved_leads}

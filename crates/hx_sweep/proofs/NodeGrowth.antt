@@ -14,12 +14,12 @@ use Rattle.hx_board.proofs.StoneLaws.{size-put, board-put}
 use Rattle.hx_board.proofs.EmptyCells.{empty_count-put, some_empty-count, sweep_size-suc, sweep_size-positive}
 use Rattle.hx_tree.specs.declared.nodes.Node.{Node}
 use Rattle.hx_tree.specs.declared.nodes.Rule.{Rule}
-use Rattle.hx_tree.specs.Headings.{IsHeading}
+use Rattle.hx_tree.specs.Headings.{heading_of, IsHeading}
 use Rattle.hx_tree.specs.Rules.{IsRightRule}
 use Rattle.hx_tree.specs.Trees.{headings_of}
 use Rattle.hx_tree.proofs.TreeGrowth.{one_more_right}
 use Rattle.hx_sweep.specs.Moves.{IsByMoves}
-use Rattle.hx_sweep.specs.Growth.{heading_of, IsBegun, HasMoreNodes, IsProved}
+use Rattle.hx_sweep.specs.Growth.{IsBegun, HasMoreNodes, IsProved}
 
 -- ---- lists that grow
 

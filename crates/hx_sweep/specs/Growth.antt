@@ -4,16 +4,11 @@ use Rattle.hx_board.specs.declared.colours.Colour.{Colour}
 use Rattle.hx_board.specs.Cells.{Extent}
 use Rattle.hx_board.specs.Positions.{Board, IsBoard}
 use Rattle.hx_board.specs.Counts.{empty_count, sweep_size}
-use Rattle.hx_tree.specs.declared.nodes.Heading.{Heading}
 use Rattle.hx_tree.specs.declared.nodes.Node.{Node}
 use Rattle.hx_tree.specs.Headings.{IsHeading}
 use Rattle.hx_tree.specs.Trees.{AreRight}
 use Rattle.hx_sweep.specs.Moves.{AreByMoves}
 use Rattle.hx_sweep.specs.Sweeps.{AreOfSize}
-
--- what is said of a board: with this mover this player wins
-abbrev pub heading_of : Board → Colour → Colour → Heading
-heading_of board mover winner = record { position = board; to_move = mover; winner = winner }
 
 -- right nodes by moves alone, to which those of a proof for this board can be added: each number of a node has 32 binary
 -- digits at the most

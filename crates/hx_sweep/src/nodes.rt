@@ -15,7 +15,8 @@ ghost use Rattle.hx_tree.specs.Answers.{IsRightAll};
 ghost use Rattle.hx_tree.specs.Rules.{IsRightRule};
 ghost use Rattle.hx_tree.specs.Trees.{headings_of};
 ghost use Rattle.hx_sweep.specs.Moves.{IsByMoves, IsChildLine};
-ghost use Rattle.hx_sweep.specs.Growth.{heading_of, IsBegun, HasMoreNodes, IsProved};
+ghost use Rattle.hx_tree.specs.Headings.{heading_of};
+ghost use Rattle.hx_sweep.specs.Growth.{IsBegun, HasMoreNodes, IsProved};
 
 use crate::winners::winning_move;
 use hx_board::{Cell, Colour, Memory, Position, chain};

@@ -35,7 +35,8 @@ pub(crate) fn winner(position: &mut Position, to_move: Colour) -> Colour
 #[cycle(winners)]
 pub(crate) fn winning_move(position: &mut Position, to_move: Colour) -> Option<Cell>
     ensures kept { position.new ≡ position.old }
-    ensures first { MatchOption result ((cell : ℕ) → IsEmpty position.old cell → IsRefuted position.old to_move cell)
+    ensures first { MatchOption result
+        ((cell : ℕ) → IsEmpty position.old cell → IsRefuted position.old to_move cell)
         (IsFirstWinningMove position.old to_move) }
 {
     let size = position.size();

@@ -164,10 +164,8 @@ fn is_move(heading: &Heading, cell: Cell, other: Option<Heading>) -> bool {
     if heading.to_move != heading.winner || !heading.position.empties().has(cell) {
         return false;
     }
-    let mut position = heading.position;
-    position.play(heading.winner, cell);
     let next = Heading {
-        position,
+        position: heading.position.with(heading.winner, cell),
         to_move: heading.winner.other(),
         winner: heading.winner,
     };

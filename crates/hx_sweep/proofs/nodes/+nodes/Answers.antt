@@ -12,7 +12,7 @@ use Rattle.hx_board.proofs.ColourLaws.{other-other}
 use Rattle.hx_tree.specs.declared.nodes.Node.{Node}
 use Rattle.hx_tree.specs.declared.nodes.Line.{Line}
 use Rattle.hx_tree.specs.declared.nodes.Line.TheVariants.{Child}
-use Rattle.hx_sweep.specs.Growth.{heading_of}
+use Rattle.hx_tree.specs.Headings.{heading_of}
 use Rattle.hx_sweep.proofs.WinCases.{answers_all, not_all_refuted}
 use Rattle.hx_sweep.proofs.NodeGrowth.{grown_none, grown_less, grown_on, move_room, moves_room, begun_after, grown_after, proved_leads, proved_by}
 use Rattle.hx_tree.proofs.LinesInOrder.{none_answered, all_answered, fewer_answered, right_by_lines}

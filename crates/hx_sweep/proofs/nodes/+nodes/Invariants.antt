@@ -5,7 +5,8 @@ use Rattle.hx_board.specs.Sets.{count_below}
 use Rattle.hx_board.specs.Counts.{empty_count, sweep_size}
 use Rattle.hx_tree.specs.Trees.{headings_of}
 use Rattle.hx_board.specs.Colours.{other_of}
-use Rattle.hx_sweep.specs.Growth.{heading_of, HasMoreNodes}
+use Rattle.hx_tree.specs.Headings.{heading_of}
+use Rattle.hx_sweep.specs.Growth.{HasMoreNodes}
 use Rattle.hx_tree.proofs.LinesInOrder.{AreAnsweredSoFar}
 use Rattle.hx_sweep.proofs.nodes.+nodes.Given as goal
 
