@@ -1,5 +1,5 @@
 -- A round: cell by cell it either fills something, or the cell is settled on the board of its start, which is then still the board.
-use Rattle.std.proofs.Common.{◌≡◌, ℕ, zero, suc, ◌+◌, ◌<◌, Bool, true, false, List, [], ◌∷◌, ◌++◌, length, length-append, append_assoc, refl, sym, ap, ◌∙◌, subst, ◌⊎◌, inl, inr, ⊎_elim, arith, ◌↔◌}
+use Rattle.std.proofs.Common.{◌≡◌, ◌≢◌, ℕ, zero, suc, ◌+◌, ◌<◌, Bool, true, false, List, [], ◌∷◌, ◌++◌, length, length-append, append_assoc, refl, sym, ap, ◌∙◌, subst, ◌⊎◌, inl, inr, ⊎_elim, arith, ◌↔◌}
 use Rattle.std.proofs.lemmas.Bool.{false≢true}
 use Rattle.std.proofs.lemmas.List.{append-nil}
 use Rattle.std.proofs.lemmas.List.Elements.{All-nil, All-append, All-push}
@@ -8,16 +8,36 @@ use Rattle.hx_board.specs.declared.colours.Colour.TheVariants.{Black, White}
 use Rattle.hx_board.specs.Sets.{has, remove}
 use Rattle.hx_board.specs.Cells.{OnBoard}
 use Rattle.hx_board.specs.Colours.{other_of}
-use Rattle.hx_board.specs.Positions.{Board, IsBoard, IsEmpty}
+use Rattle.hx_board.specs.Positions.{Board, IsBoard, IsEmpty, put}
 use Rattle.hx_board.specs.Counts.{empty_count}
-use Rattle.hx_board.proofs.SetLaws.{has-empty, removed_cases}
+use Rattle.hx_board.proofs.SetLaws.{has-empty, has-remove_before, has-remove_other, removed, removed_cases}
+use Rattle.hx_board.proofs.StoneLaws.{empty-put}
 use Rattle.hx_inferior.specs.declared.fills.FillStep.TheVariants.{Dead, Pair}
 use Rattle.hx_inferior.specs.Inferior.{IsDead, IsPair}
 use Rattle.hx_fill.specs.declared.fills.Fill.{Fill}
 use Rattle.hx_fill.specs.Fills.{IsDeadOrPair, AreDeadOrPairs, FillsTo, HasNone, NothingLeft}
-use Rattle.hx_fill.specs.Rounds.{HasNoStoneLess, DoesStep, HasNoFill, LooksAt, Leaves, Fills, IsRound, Still, Further}
+use Rattle.hx_fill.specs.Rounds.{AreAllEmpties, HasNoStoneLess, DoesStep, HasNoFill, LooksAt, Leaves, Fills, IsRound, Still, Further}
 use Rattle.hx_fill.proofs.GrowthLaws.{grown-trans}
 use Rattle.hx_fill.proofs.FillLaws.{grown-filled, fills_to-append, fills_to-one, fewer_empty}
+
+-- ---- the empty cells
+
+empties-put : (board : Board) (player : Colour) (cell cells : ℕ) → AreAllEmpties board cells → AreAllEmpties (put board player cell) (remove cells cell)
+empties-put board player cell cells are n = (
+  (λ member.
+      let other : n ≢ cell = λ same. let P : ℕ → Type 0 = λ k. has (remove cells cell) k ≡ true in false≢true (sym (removed cells cell) ∙ subst P same member) in
+      (empty-put board player cell n).1 ((are n).0 (has-remove_before cells cell n member), other)),
+  (λ empty. let both = (empty-put board player cell n).0 empty in has-remove_other cells cell n both.1 ((are n).1 both.0)),
+)
+
+pub empties-dead : (board next : Board) (player : Colour) (cell cells : ℕ) (fills more : List Fill) → AreAllEmpties board cells
+    → DoesStep player (Dead cell) board fills next more → AreAllEmpties next (remove cells cell)
+empties-dead board next player cell cells fills more are does = rw does.position (empties-put board player cell cells are)
+
+pub empties-pair : (board next : Board) (player : Colour) (a b cells : ℕ) (fills more : List Fill) → AreAllEmpties board cells
+    → DoesStep player (Pair a b) board fills next more → AreAllEmpties next (remove (remove cells a) b)
+empties-pair board next player a b cells fills more are does =
+    rw does.position (empties-put (put board player a) player b (remove cells a) (empties-put board player a cells are))
 
 -- ---- one cell
 

@@ -1,5 +1,5 @@
 -- The rounds of fill-in. These words are for the functions inside the crate alone.
-use Rattle.std.specs.Prelude.{◌≡◌, ℕ, ◌<◌, true, false, List, [], ◌∷◌, ◌++◌, length}
+use Rattle.std.specs.Prelude.{◌≡◌, ℕ, ◌<◌, true, false, List, [], ◌∷◌, ◌++◌, length, ◌↔◌}
 use Rattle.hx_board.specs.declared.colours.Colour.{Colour}
 use Rattle.hx_board.specs.Sets.{has}
 use Rattle.hx_board.specs.Positions.{Board, IsEmpty, stones_of}
@@ -7,6 +7,10 @@ use Rattle.hx_inferior.specs.declared.fills.FillStep.{FillStep}
 use Rattle.hx_inferior.specs.Inferior.{IsDead, IsPair, MayFill, filled}
 use Rattle.hx_fill.specs.declared.fills.Fill.{Fill}
 use Rattle.hx_fill.specs.Fills.{IsDeadOrPair, AreDeadOrPairs, FillsTo}
+
+-- the set has exactly the empty cells
+abbrev pub AreAllEmpties : Board → ℕ → Type 0
+AreAllEmpties board cells = (cell : ℕ) → (has cells cell ≡ true) ↔ IsEmpty board cell
 
 -- a board with no stone less
 pub record HasNoStoneLess (before after : Board) : Type 0 where

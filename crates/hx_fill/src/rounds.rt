@@ -4,15 +4,15 @@
 //! pair. That stays right when stones come elsewhere, so a round may fill many cells without a further flood. The players take turns
 //! until two rounds in a row, one for each, have filled nothing.
 
-ghost use Rattle.std.specs.Prelude.{◌≡◌, IfOk, OnOk};
-ghost use Rattle.hx_board.specs.Positions.{IsEmpty};
+ghost use Rattle.std.specs.Prelude.{◌≡◌, IfOk, OnOk, true};
+ghost use Rattle.hx_board.specs.Sets.{has};
 ghost use Rattle.hx_fill.specs.Fills.{IsFillIn};
-ghost use Rattle.hx_fill.specs.Rounds.{HasNoStoneLess, LooksAt, IsRound};
+ghost use Rattle.hx_fill.specs.Rounds.{AreAllEmpties, HasNoStoneLess, LooksAt, IsRound};
 
 use crate::fills::Filled;
 use crate::makers::{makers_of, partner_of};
 use crate::views::View;
-use hx_board::{Cell, Colour, Groups, Memory, Position};
+use hx_board::{Cell, Colour, Groups, Mask, Memory, Position};
 use hx_inferior::{FillStep, open_around};
 use std::alloc::Global;
 
@@ -49,32 +49,46 @@ fn fill_round(filled: &mut Filled, colour: Colour) -> Result<(), Memory>
     let size = filled.position.size();
     let groups = Groups::of(&filled.position, colour);
     let view = View::of(&filled.position, colour, &groups);
-    let mut left = filled.position.empties();
+    let mut empties = filled.position.empties();
+    let mut left = empties;
     while let Some(cell) = left.least(size) {
         left = left.without(cell);
-        let is_empty = filled.position.at(cell).is_none();
+        let is_empty = empties.has(cell);
         if is_empty {
-            fill_at(filled, &view, colour, cell)?;
+            empties = fill_at(filled, &view, colour, cell, empties)?;
         }
     }
     Ok(())
 }
 
-/// Fills an empty cell, or it and a partner, where that was right at the start of the round.
-fn fill_at(filled: &mut Filled, view: &View, colour: Colour, cell: Cell) -> Result<(), Memory>
+/// Fills an empty cell, or it and a partner, where that was right at the start of the round. Given the cells that are empty, it
+/// answers those that are left.
+fn fill_at(
+    filled: &mut Filled,
+    view: &View,
+    colour: Colour,
+    cell: Cell,
+    empties: Mask,
+) -> Result<Mask, Memory>
     requires colour { view.now.player ≡ colour }
     requires grown { HasNoStoneLess view.now.board filled.old.position }
-    requires empty { IsEmpty filled.old.position cell }
-    ensures { OnOk result (LooksAt view.now.board colour cell
+    requires empties { AreAllEmpties filled.old.position empties }
+    requires empty { has empties cell ≡ true }
+    ensures looks { OnOk result (LooksAt view.now.board colour cell
         filled.old.position filled.old.steps.items filled.new.position filled.new.steps.items) }
+    ensures empties { IfOk result (AreAllEmpties filled.new.position) }
 {
     let around = open_around(view.position(), view.colour(), cell);
-    let makers = makers_of(view, cell, around, filled.position.empties());
+    let makers = makers_of(view, cell, around, empties);
     if makers.is_dead {
-        return filled.add(colour, FillStep::Dead(cell));
+        filled.add(colour, FillStep::Dead(cell))?;
+        return Ok(empties.without(cell));
     }
     match partner_of(view, cell, makers.cells) {
-        Some(partner) => filled.add(colour, FillStep::Pair(cell, partner)),
-        None => Ok(()),
+        Some(partner) => {
+            filled.add(colour, FillStep::Pair(cell, partner))?;
+            Ok(empties.without(cell).without(partner))
+        }
+        None => Ok(empties),
     }
 }
