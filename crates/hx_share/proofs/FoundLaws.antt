@@ -1,34 +1,23 @@
 -- What was stored is found in each later list, and what right nodes say of one position agrees.
-use Rattle.std.proofs.Common.{◌≡◌, ℕ, zero, suc, ◌<◌, ◌≤◌, List, [], ◌∷◌, ◌++◌, length, refl, sym, ◌∙◌, subst, ◌⊎◌, inl, inr, ⊎_elim, arith, Option, Some, None, Ok, Err}
+use Rattle.std.proofs.Common.{◌≡◌, ℕ, zero, suc, ◌<◌, ◌≤◌, List, [], ◌∷◌, ◌++◌, refl, sym, ◌∙◌, subst, ⊎_elim, arith, Option, Some, None, Ok, Err}
 use Rattle.std.specs.Prelude.{slice_get, IfSome, IsSomeAnd}
 use Rattle.std.proofs.lemmas.Bool.{cases_lt}
 use Rattle.hx_board.specs.declared.colours.Colour.{Colour}
-use Rattle.hx_board.specs.declared.colours.Colour.TheVariants.{Black, White}
 use Rattle.hx_board.specs.Colours.{other_of}
 use Rattle.hx_board.specs.Positions.{Board}
 use Rattle.hx_board.specs.Game.{Wins}
-use Rattle.hx_board.proofs.ListLaws.{get-lt}
+use Rattle.hx_board.proofs.ColourLaws.{one_or_other}
+use Rattle.hx_board.proofs.ListLaws.{get-lt, get-append, get-append_before}
 use Rattle.hx_tree.specs.declared.nodes.Node.{Node}
 use Rattle.hx_tree.specs.declared.entries.Found.{Found}
 use Rattle.hx_tree.specs.Trees.{headings_of, AreRight}
 use Rattle.hx_tree.specs.Entries.{IsEntry, IsFirstEntry, Extends, FindsFirst}
-use Rattle.hx_tree.proofs.EntryLaws.{first-stored}
+use Rattle.hx_tree.proofs.EntryLaws.{extends-on, first-stored}
 use Rattle.hx_proof.specs.Winners.{HeadingWins, OnlyWinner, AllWin}
 use Rattle.hx_proof.proofs.TreeSoundness.{node_wins, tree_wins}
 use Rattle.hx_share.specs.Laws.{StoredIsFound, StoredWinnerIsFound, ExtendsOn, Agree, LooksAsTheMachine, StoresAsTheMachine}
-use Rattle.hx_share.proofs.FrontLaws.{extends-on}
 
 -- ---- a longer list
-
-get-append : (nodes more : List Node) (place : ℕ) (node : Node) → slice_get nodes place ≡ Some node → slice_get (nodes ++ more) place ≡ Some node
-get-append [] more place node there = cc
-get-append (x ∷ xs) more zero node there = there
-get-append (x ∷ xs) more (suc place) node there = get-append xs more place node there
-
-get-front : (nodes more : List Node) (place : ℕ) (node : Node) → place < length nodes → slice_get (nodes ++ more) place ≡ Some node → slice_get nodes place ≡ Some node
-get-front [] more place node less there = absurd (omega arith)
-get-front (x ∷ xs) more zero node less there = there
-get-front (x ∷ xs) more (suc place) node less there = get-front xs more place node (omega arith) there
 
 module _ (board : Board) (mover : Colour) where
   first-append : (nodes more : List Node) (place : ℕ) → IsFirstEntry nodes board mover place → IsFirstEntry (nodes ++ more) board mover place
@@ -36,7 +25,7 @@ module _ (board : Board) (mover : Colour) where
     entry = record { node = is.entry.node; there = get-append nodes more place is.entry.node is.entry.there; is_of = is.entry.is_of };
     first = λ earlier less entry. is.first earlier less (record {
       node = entry.node;
-      there = get-front nodes more earlier entry.node (omega (arith, less, get-lt nodes place is.entry.node is.entry.there)) entry.there;
+      there = sym (get-append_before nodes more earlier (omega (arith, less, get-lt nodes place is.entry.node is.entry.there))) ∙ entry.there;
       is_of = entry.is_of;
     });
   }
@@ -79,18 +68,12 @@ headings-win [] wins k = tt
 headings-win (node ∷ nodes) wins zero = let first : OnlyWinner node.heading = wins 0 in first.wins
 headings-win (node ∷ nodes) wins (suc k) = headings-win nodes (λ j. wins (suc j)) k
 
-same-or_other : (one other : Colour) → (one ≡ other) ⊎ (one ≡ other_of other)
-same-or_other Black Black = inl refl
-same-or_other Black White = inr refl
-same-or_other White Black = inr refl
-same-or_other White White = inl refl
-
 -- who wins is the only winner
 one-winner : (board : Board) (mover one other : Colour) → Wins one board mover → ¬ Wins (other_of other) board mover → one ≡ other
 one-winner board mover one other wins never = ⊎_elim
     (λ (same : one ≡ other). same)
     (λ (apart : one ≡ other_of other). absurd (never (subst (λ (c : Colour). Wins c board mover) apart wins)))
-    (same-or_other one other)
+    (one_or_other one other)
 
 entry-wins : (nodes : List Node) (board : Board) (mover : Colour) (place : ℕ) → AllWin nodes → (entry : IsEntry nodes board mover place) → OnlyWinner entry.node.heading
 entry-wins nodes board mover place wins entry = subst (λ (o : Option Node). IfSome o (λ n. OnlyWinner n.heading)) entry.there (wins place)

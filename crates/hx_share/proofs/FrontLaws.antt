@@ -1,21 +1,15 @@
 -- Lists of nodes that begin with others.
-use Rattle.std.proofs.Common.{◌≡◌, ℕ, ◌≤◌, List, [], ◌∷◌, ◌++◌, length, refl, sym, ap, ◌∙◌, subst, arith, append_assoc, append-nil, true, false, if◌then◌else◌, nat_le}
+use Rattle.std.proofs.Common.{◌≡◌, ℕ, ◌≤◌, List, [], ◌∷◌, ◌++◌, length, refl, sym, ap, ◌∙◌, subst, arith, true, false, if◌then◌else◌, nat_le}
 use mathlib.Core.Logic.{dite}
 use native.Mathlib.Decide.{dec_le}
 use Rattle.std.proofs.lemmas.Bool.Decides.{nat_tests}
 use Rattle.hx_tree.specs.declared.nodes.Node.{Node}
 use Rattle.hx_tree.specs.Entries.{Extends}
+use Rattle.hx_tree.proofs.EntryLaws.{extends-itself}
 use Rattle.hx_share.specs.Fronts.{AreFronts, longer}
-
-pub extends-itself : (xs : List Node) → Extends xs xs
-extends-itself xs = ([], sym (append-nil xs))
 
 pub extends-nothing : (xs : List Node) → Extends xs []
 extends-nothing xs = (xs, refl)
-
-pub extends-on : (old between new : List Node) → Extends between old → Extends new between → Extends new old
-extends-on old between new first rest =
-    (first.0 ++ rest.0, rest.1 ∙ (ap (λ (l : List Node). l ++ rest.0) first.1 ∙ append_assoc old first.0 rest.0))
 
 begins : (xs ys more others : List Node) → xs ++ more ≡ ys ++ others → length xs ≤ length ys → Extends ys xs
 begins [] ys more others same short = (ys, refl)

@@ -11,7 +11,8 @@ use Rattle.hx_share.specs.declared.views.Part.{Part}
 use Rattle.hx_share.specs.declared.views.View.{View}
 use Rattle.hx_share.specs.OneList.{part, is_seat, has_turn, seats_of, turns_of, IsCurrent, AreCurrentParts, noted}
 use Rattle.hx_share.specs.Readers.{Reader, part_of}
-use Rattle.hx_share.proofs.FrontLaws.{extends-on, extends-nothing}
+use Rattle.hx_tree.proofs.EntryLaws.{extends-on}
+use Rattle.hx_share.proofs.FrontLaws.{extends-nothing}
 
 -- 1 where a part is one that is counted, else 0
 abbrev pub one_if : Bool → ℕ

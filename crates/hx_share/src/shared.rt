@@ -44,7 +44,9 @@ impl Model for Shared {
 
     ghost view = { λ s. sharing (origin s.table.shared.table_id s.limits.slots) s.limits.seats };
 
-    ghost invariant = { λ s. (s.table.shared.table_id.words ≡ 1) × (s.table.shared.table_id.slots ≡ 1) × (s.table.shared.key ≡ s.limits) × AreSmall s.limits × (0 < s.limits.seats) };
+    ghost invariant = { λ s. (s.table.shared.table_id.words ≡ 1)
+        × (s.table.shared.table_id.slots ≡ 1) × (s.table.shared.key ≡ s.limits)
+        × AreSmall s.limits × (0 < s.limits.seats) };
 }
 
 impl Shared {
@@ -53,8 +55,10 @@ impl Shared {
     pub fn start(alloc: Global, slots: u32, seats: u32) -> Result<(Shared, Vec<BookSeat>), Memory>
         requires slots { slots ≤ 1048576 }
         requires seats { (0 < seats) × (seats ≤ 64) }
-        ensures limits { IfOk result (λ made. (made.0.made.slots ≡ slots) × (made.0.seats ≡ seats)) }
-        ensures seats { IfOk result (λ made. made.1.items ≡ replicate seats (reader made.0.made [])) }
+        ensures limits { IfOk result (λ made. (made.0.made.slots ≡ slots)
+            × (made.0.seats ≡ seats)) }
+        ensures seats { IfOk result (λ made. made.1.items
+            ≡ replicate seats (reader made.0.made [])) }
         ensures fit { IfOk result (λ made. All (λ s. s.made ≡ made.0.made) made.1.items) }
     {
         let book = Book::with_slots(alloc, slots)?;
@@ -79,8 +83,10 @@ impl Shared {
         mut first: Seat<Option<Book>, View>,
     ) -> Result<Vec<BookSeat>, Memory>
         requires table { first.table_id ≡ self.now.made.table }
-        requires parts { first.me ≡ (first_view (record { slots = self.now.made.slots; seats = self.now.seats }), []) }
-        ensures seats { IfOk result (λ seats. seats.items ≡ replicate self.now.seats (reader self.now.made [])) }
+        requires parts { first.me
+            ≡ (first_view (record { slots = self.now.made.slots; seats = self.now.seats }), []) }
+        ensures seats { IfOk result (λ seats. seats.items
+            ≡ replicate self.now.seats (reader self.now.made [])) }
         ensures fit { IfOk result (λ seats. All (λ s. s.made ≡ self.now.made) seats.items) }
     {
         let count = self.limits.seats;
@@ -150,10 +156,13 @@ impl Shared {
         ensures made { seat.new.made ≡ seat.old.made }
         ensures seen { Extends seat.new.seen seat.old.seen }
         ensures stored { PutsLater self.now.made.slots seat.old.seen node result seat.new.seen }
-        ensures first { IfOk result (λ place. IsFirstEntry seat.new.seen node.heading.position node.heading.to_move place) }
-        ensures none { IfErr result (λ refusal. HasNoEntry seat.new.seen node.heading.position node.heading.to_move) }
+        ensures first { IfOk result (λ place. IsFirstEntry seat.new.seen
+            node.heading.position node.heading.to_move place) }
+        ensures none { IfErr result (λ refusal. HasNoEntry seat.new.seen
+            node.heading.position node.heading.to_move) }
         ensures full { IfErr result (λ refusal. length seat.new.seen ≡ self.now.made.slots) }
-        ensures back { IfErr result (λ refusal. refusal ≡ record { held = self.now.made.slots; node = node }) }
+        ensures back { IfErr result (λ refusal. refusal
+            ≡ record { held = self.now.made.slots; node = node }) }
     {
         let mut book = self.take_turn(rt, &mut seat.seat);
         let answer = book.put(node);
@@ -242,7 +251,8 @@ impl Shared {
     /// so that the one that has the turn gets on.
     fn take_turn<R: Wait>(&self, rt: &R, seat: &mut Seat<Option<Book>, View>) -> Book
         requires table { seat.old.table_id ≡ self.now.made.table }
-        requires waits { seat.old.me ≡ alone self.now.made.slots Waiting (first_part seat.old.me.0).seen }
+        requires waits { seat.old.me
+            ≡ alone self.now.made.slots Waiting (first_part seat.old.me.0).seen }
         ensures table { seat.new.table_id ≡ seat.old.table_id }
         ensures acts { seat.new.me ≡ acting self.now.made.slots result.nodes None }
         ensures slots { result.slots ≡ self.now.made.slots }
@@ -265,7 +275,8 @@ impl Shared {
     /// Gives back the turn, and the book.
     fn give_back(&self, seat: &mut Seat<Option<Book>, View>, book: Book)
         requires table { seat.old.table_id ≡ self.now.made.table }
-        requires acts { seat.old.me ≡ acting self.now.made.slots (first_part seat.old.me.0).seen None }
+        requires acts { seat.old.me
+            ≡ acting self.now.made.slots (first_part seat.old.me.0).seen None }
         requires slots { book.slots ≡ self.now.made.slots }
         requires more { Extends book.nodes (first_part seat.old.me.0).seen }
         ensures table { seat.new.table_id ≡ seat.old.table_id }
@@ -279,12 +290,15 @@ impl Shared {
 
     /// Takes in a note. The load after the join is the step at which both lists are fronts of the one list.
     fn absorb(&self, seat: &mut Seat<Option<Book>, View>, note: Seat<Option<Book>, View>)
-        requires tables { (seat.old.table_id ≡ self.now.made.table) × (note.table_id ≡ self.now.made.table) }
-        requires own { seat.old.me ≡ alone self.now.made.slots (first_part seat.old.me.0).role (first_part seat.old.me.0).seen }
+        requires tables { (seat.old.table_id ≡ self.now.made.table)
+            × (note.table_id ≡ self.now.made.table) }
+        requires own { seat.old.me ≡ alone self.now.made.slots (first_part seat.old.me.0).role
+            (first_part seat.old.me.0).seen }
         requires waits { has_turn (first_part seat.old.me.0).role ≡ false }
         requires note { note.me ≡ alone self.now.made.slots Note (first_part note.me.0).seen }
         ensures table { seat.new.table_id ≡ seat.old.table_id }
-        ensures own { seat.new.me ≡ alone self.now.made.slots (first_part seat.old.me.0).role (longer (first_part seat.old.me.0).seen (first_part note.me.0).seen) }
+        ensures own { seat.new.me ≡ alone self.now.made.slots (first_part seat.old.me.0).role
+            (longer (first_part seat.old.me.0).seen (first_part note.me.0).seen) }
         ensures fronts { AreFronts (first_part seat.old.me.0).seen (first_part note.me.0).seen }
     {
         self.table.shared.join_seat::<AllParts>(seat, note);

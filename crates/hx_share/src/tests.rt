@@ -65,7 +65,10 @@ fn close_two(alloc: Global, shared: Shared, first: BookSeat, second: BookSeat) -
 
 /// Black wins the position by its chain, with White to move.
 fn by_chain(position: Position) -> Node
-    ensures { result ≡ record { heading = record { position = position; to_move = White; winner = Black }; rule = Chain } }
+    ensures { result ≡ record {
+      rule = Chain;
+      heading = record { position = position; to_move = White; winner = Black };
+    } }
 {
     let heading = Heading {
         position,
@@ -78,7 +81,10 @@ fn by_chain(position: Position) -> Node
 
 /// Black wins the position by a move to the cell, after which it wins by the child.
 fn by_move(position: Position, cell: Cell, child: u32) -> Node
-    ensures { result ≡ record { heading = record { position = position; to_move = Black; winner = Black }; rule = Move cell child } }
+    ensures { result ≡ record {
+      rule = Move cell child;
+      heading = record { position = position; to_move = Black; winner = Black };
+    } }
 {
     let heading = Heading {
         position,
@@ -99,7 +105,10 @@ fn store_chain<R: Wait>(
     requires { seat.old.made ≡ shared.now.made }
     ensures made { seat.new.made ≡ seat.old.made }
     ensures stored { IfSome result (λ answer. PutsLater shared.now.made.slots seat.old.seen
-        (record { heading = record { position = position.now; to_move = White; winner = Black }; rule = Chain })
+        (record {
+          rule = Chain;
+          heading = record { position = position.now; to_move = White; winner = Black };
+        })
         answer seat.new.seen) }
 {
     let _size = position.size();
