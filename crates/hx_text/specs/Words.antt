@@ -47,12 +47,12 @@ IsNumber n = n < 2 ^ 32
 abbrev pub IsSet : ℕ → Type 0
 IsSet set = set < 2 ^ 128
 
--- ---- words for the functions inside the crate alone
-
 -- the parts with one byte more in front of the first
 abbrev pub in_first : ℕ → List (List ℕ) → List (List ℕ)
 in_first byte [] = (byte ∷ []) ∷ []
 in_first byte (part ∷ parts) = (byte ∷ part) ∷ parts
+
+-- ---- words for the functions inside the crate alone
 
 -- the parts between the marks
 unfoldable pub split_at_marks : ℕ → List ℕ → List (List ℕ)
