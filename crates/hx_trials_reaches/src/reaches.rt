@@ -10,6 +10,7 @@
 //! | links handed over to the vertex that now stands for a group | six_by_six | full | 15447 | 15210 |
 //! | Bases near new stones | four_by_four | not_as_closed | 0 | 8 |
 //! | Ands over a new stone | six_by_six | full | 15447 | 15338 |
+//! | Ors of the ends of lost Full links | the_opponent_alone_plays | full | 2950 | 2940 |
 //! | an Or of as many parts as it takes | five_by_five | not_as_closed | 0 | 2 |
 //! | Ors of three and of four parts | six_by_six | full | 15447 | 15165 |
 //! | Ors of four parts | seven_by_seven | semi | 16860 | 16858 |
@@ -19,7 +20,6 @@
 //! | at most 8 Full ones with more than eight rows or columns | nine_by_four | full | 11691 | 11692 |
 //! | at most 32 Semi ones there | none | | | |
 //! | the end at the first link that decides | nine_by_four | full | 11691 | 14167 |
-//! | Ors of the ends of lost Full links | none | | | |
 
 use hx_board::Colour::{Black, White};
 use hx_board::{CELLS, Cell, Colour, Position, Size, Vertex};
@@ -333,6 +333,35 @@ fn nine_by_four(rt: HostRuntime) -> Result<(), Fail> {
         ..NONE
     };
     assert_eq!(rt; tally_of(rt.alloc(), 9, 4, 6, 10)?, expected);
+    Ok(())
+}
+
+/// How many Full links Black's set holds after each call, where White alone plays, a stone each turn.
+fn full_where_white_plays(alloc: Global, start: &Position) -> Result<u32, Fail> {
+    let mut draws = Draws::new(0);
+    let mut set = LinkSet::new(alloc, start, Black).ok().ok_or("memory")?;
+    let mut full = 0u32;
+    for _ in 0..12u8 {
+        let reached = reach(&mut set, White).ok().ok_or("memory")?;
+        full = full.wrapping_add(count_of(&set, Kind::Full));
+        if reached != Reached::Open {
+            break;
+        }
+        let mut position = *set.position();
+        let mut stones = Vec::new(alloc);
+        put_stone(&mut position, &mut stones, &mut draws, White)?;
+        put_stones(&mut set, stones.as_slice(), draws.below(2) == 0);
+    }
+    Ok(full)
+}
+
+/// After stones of the opponent alone, what is new are Ors of the ends of lost Full links.
+#[test]
+fn the_opponent_alone_plays(rt: HostRuntime) -> Result<(), Fail> {
+    let size = Size::new(5, 5).ok_or("size")?;
+    let mut draws = Draws::new(3);
+    let start = draws.position(size, 22);
+    assert_eq!(rt; full_where_white_plays(rt.alloc(), &start)?, 2950);
     Ok(())
 }
 
