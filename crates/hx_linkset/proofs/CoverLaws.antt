@@ -2,22 +2,16 @@
 -- walk along the ring that looks at carriers alone finds one exactly where there is one.
 use Rattle.std.proofs.Common.{◌≡◌, ℕ, ◌-◌, List, get_or, sym, ap, ◌∙◌, arith}
 use Rattle.std.specs.Prelude.{slice_get}
-use Rattle.hx_board.specs.declared.vertices.Vertex.{Vertex}
 use Rattle.hx_board.specs.Sets.{IsSubset}
 use Rattle.hx_board.specs.Positions.{IsBoard}
 use Rattle.hx_board.specs.VertexSets.{IsSomeVertex}
-use Rattle.hx_link.specs.declared.links.Kind.{Kind}
 use Rattle.hx_link.specs.declared.links.Link.{Link}
 use Rattle.hx_linkset.specs.States.{Standing}
-use Rattle.hx_linkset.specs.Answers.{IsCover, Covers}
-use Rattle.hx_linkset.specs.Held.{head_for, head_of, IsLiveThere}
+use Rattle.hx_linkset.specs.Answers.{Covers}
+use Rattle.hx_linkset.specs.Held.{head_of, IsLiveThere}
 use Rattle.hx_board.proofs.ListLaws.{get_or-get}
 use Rattle.hx_linkset.proofs.HeadLaws.{live-same}
 use Rattle.hx_linkset.proofs.WalkLaws.{LinkAt}
-
-pub head-cover : (by link : Link) → IsCover by link → head_of by ≡ head_of link
-head-cover by link c =
-    ap (λ (k : Kind). head_for k by.a by.b) c.same_kind ∙ (ap (λ (v : Vertex). head_for link.kind v by.b) c.same_a ∙ ap (λ (v : Vertex). head_for link.kind link.a v) c.same_b)
 
 -- the link that was read is the node's
 pub read-at : (links : List Link) (Has : ℕ → Link → Type 0) (head node place : ℕ) (at : LinkAt links Has head node) (read : Link) → place ≡ node - 30258 → read ≡ get_or links place read → read ≡ at.link

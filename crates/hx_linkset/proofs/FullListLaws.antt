@@ -86,19 +86,6 @@ contents-written lists seen code old new change is inside read written =
 
 -- ---- the lists of all vertices
 
-pub lists-none : (lists : List (List FullLink)) → length lists ≡ 123 → ((k : ℕ) → get_or lists k [] ≡ []) → AreFullLists [] lists
-lists-none lists long none = record {
-  long = long;
-  some = λ place link there full. cc;
-  each = λ vertex small. none (code_of vertex);
-}
-
-pub push_none : (lists : List (List FullLink)) → ((k : ℕ) → get_or lists k [] ≡ []) → (k : ℕ) → get_or (lists ++ [] ∷ []) k [] ≡ []
-push_none [] none zero = refl
-push_none [] none (suc k) = refl
-push_none (list ∷ lists) none zero = none 0
-push_none (list ∷ lists) none (suc k) = push_none lists (λ n. none (suc n)) k
-
 -- the entry of a link that has this other end
 abbrev entry_to : ℕ → Link → Vertex → FullLink
 entry_to index link to = record { index = index; to = to; carrier = link.carrier }

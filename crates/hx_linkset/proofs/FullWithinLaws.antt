@@ -15,7 +15,7 @@ use Rattle.hx_board.specs.VertexSets.{code_of}
 use Rattle.hx_board.proofs.SetLaws.{same_test, and_left, and_right, and_both, has-intersection_left, has-intersection_right, has-intersection_both, intersection-is_subset, is_subset-intersection}
 use Rattle.hx_linkset.specs.declared.fulls.FullLink.{FullLink}
 use Rattle.hx_linkset.specs.States.{Standing}
-use Rattle.hx_linkset.specs.Fulls.{IsFullAt, AreFullAt, IsFullWithin, AreFullWithin, is_live_from, live_from}
+use Rattle.hx_linkset.specs.Fulls.{IsFullAt, AreFullAt, AreFullWithin, is_live_from, live_from}
 
 abbrev index_of : FullLink → ℕ
 index_of full = full.index

@@ -1,6 +1,6 @@
 -- Given by live links and live are one: a live link that is given is given by live links (`given-from_live`), and what
 -- live links give is live (`from_live-live`), since each cell of its carrier is in a carrier of theirs or is an empty middle.
-use Rattle.std.proofs.Common.{◌≡◌, ℕ, zero, suc, true, List, [], ◌∷◌, map, refl, sym, ap, ◌∙◌, subst, inl, inr, Some, ⊎_elim}
+use Rattle.std.proofs.Common.{◌≡◌, ℕ, zero, suc, true, List, [], ◌∷◌, refl, sym, ap, ◌∙◌, subst, inl, inr, Some, ⊎_elim}
 use Rattle.std.specs.Prelude.{slice_get}
 use Rattle.std.proofs.lemmas.Bool.{false≢true}
 use Rattle.hx_board.specs.declared.colours.Colour.{Colour}
@@ -10,7 +10,7 @@ use Rattle.hx_board.proofs.SetLaws.{has-empty, has-insert_cases, has-union_cases
 use Rattle.hx_link.specs.declared.links.Link.{Link}
 use Rattle.hx_link.specs.declared.steps.Step.{Step}
 use Rattle.hx_link.specs.declared.steps.Step.TheVariants.{Base, AndStone, AndCell, Or}
-use Rattle.hx_link.specs.Steps.{IsOneOf, links_at, carriers_of, StepGives, GivesByRule}
+use Rattle.hx_link.specs.Steps.{IsOneOf, carriers_of, StepGives, GivesByRule}
 use Rattle.hx_link.proofs.LinkLaws.{place_of}
 use Rattle.hx_linkset.specs.States.{IsLive, IsLiveAt, Names, GivesFromLive}
 use Rattle.hx_board.proofs.ListLaws.{same_some}

@@ -37,9 +37,6 @@ get-map f [] k x y e h = cc
 get-map f (z ∷ zs) zero x y e h = let same : z ≡ x = same_some z x e in same_some y (f x) (sym h ∙ ap (λ w. Some (f w)) same)
 get-map f (z ∷ zs) (suc k) x y e h = get-map f zs k x y e h
 
-abbrev name_in : List ℕ → ℕ → ℕ
-name_in names place = slice_index names place
-
 module _ (player : Colour) (state : State) (marks : List ℕ) where
   pub kept-none : (names : List ℕ) → length names ≡ length state.links → AreKeptBelow player state marks 0 [] names
   kept-none names long = record {

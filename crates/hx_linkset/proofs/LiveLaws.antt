@@ -2,7 +2,7 @@
 --
 -- The carriers of the parts are inside the link's. Their outer ends are the link's ends, and the middle of an And is an own
 -- vertex or an empty cell, so it is no stone of the opponent either.
-use Rattle.std.proofs.Common.{◌≡◌, ℕ, zero, suc, true, List, [], ◌∷◌, sym, ap, ◌∙◌, inl, inr, Some, ⊎_elim}
+use Rattle.std.proofs.Common.{◌≡◌, ℕ, true, List, sym, ap, ◌∙◌, inl, inr, ⊎_elim}
 use Rattle.std.proofs.lemmas.Bool.{false≢true}
 use Rattle.std.specs.Prelude.{slice_get}
 use Rattle.hx_board.specs.declared.colours.Colour.{Colour}
@@ -16,7 +16,7 @@ use Rattle.hx_board.proofs.SetLaws.{has-insert_other, has-union_left, has-union_
 use Rattle.hx_link.specs.declared.links.Link.{Link}
 use Rattle.hx_link.specs.declared.steps.Step.{Step}
 use Rattle.hx_link.specs.declared.steps.Step.TheVariants.{Base, AndStone, AndCell, Or}
-use Rattle.hx_link.specs.Steps.{IsEnd, HasEnds, MeetAt, carriers_of, GivesByRule, StepGives}
+use Rattle.hx_link.specs.Steps.{IsEnd, HasEnds, MeetAt, GivesByRule, StepGives}
 use Rattle.hx_link.proofs.LinkLaws.{in_carriers}
 use Rattle.hx_link.proofs.PartLaws.{part_at}
 use Rattle.hx_linkset.specs.States.{IsLive, Names, IsLiveAt}

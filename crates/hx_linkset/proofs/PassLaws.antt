@@ -1,16 +1,16 @@
 -- The pass of a play over the rings.
-use Rattle.std.proofs.lemmas.List.{get_or_push, get_or-set_same, get_or-set_other, length-set, take_more, take_all, length-take, drop-append-le, reverse-append, drop_all}
-use Rattle.std.proofs.lemmas.Grind.{reverse_onto, common_steps}
+use Rattle.std.proofs.lemmas.List.{get_or_push, get_or-set_same, get_or-set_other, length-set}
+use Rattle.std.proofs.lemmas.Grind.{reverse_onto}
 use Rattle.std.proofs.lemmas.Bool.{false≢true, cases_eq}
 use Rattle.std.proofs.lemmas.Bool.Decides.{nat_tests}
-use Rattle.std.proofs.Common.{◌≡◌, ◌≢◌, ℕ, ◌+◌, ◌-◌, ◌<◌, ◌≤◌, Bool, true, false, List, [], ◌∷◌, ◌++◌, length, reverse, take, drop, set, get_or, refl, sym, ap, ◌∙◌, subst, inl, inr, Some, Option, ◌⊎◌, ⊎_elim, arith, append_assoc, if◌then◌else◌, append-nil, zero, suc, length-append, eqb-true, eq-eqb}
+use Rattle.std.proofs.Common.{◌≡◌, ◌≢◌, ℕ, ◌+◌, ◌-◌, ◌<◌, ◌≤◌, Bool, true, false, List, [], ◌∷◌, ◌++◌, length, reverse, set, get_or, refl, sym, ap, ◌∙◌, subst, inl, inr, Some, Option, ◌⊎◌, ⊎_elim, arith, append_assoc, if◌then◌else◌, append-nil, zero, suc, length-append, eqb-true, eq-eqb}
 use Rattle.std.specs.Prelude.{slice_get, nat_lt}
 use Rattle.hx_board.specs.declared.colours.Colour.{Colour}
 use Rattle.hx_board.specs.Positions.{Board}
 use Rattle.hx_link.specs.declared.links.Link.{Link}
 use Rattle.hx_board.proofs.SetLaws.{or_cases, or_left, or_right}
 use Rattle.hx_linkset.specs.States.{IsLive}
-use Rattle.hx_linkset.specs.Rings.{AreRings, Rings, unlinked, relinked, grown, IsInside}
+use Rattle.hx_linkset.specs.Rings.{AreRings, Rings, unlinked, grown, IsInside}
 use Rattle.hx_linkset.specs.Held.{head_of, head_or, head_at, IsLinked, RingsHold, relinked_all, CanRelink, IsKeptBelow, AreAllDropped, IsPassed, LogHolds, IsLiveThere}
 use Rattle.hx_linkset.proofs.RingLaws.{IsBetween, rings-grown, rings-unlinked, after_other, before_other, relinked-unlinked, inside-unlinked}
 use Rattle.hx_board.proofs.ListLaws.{get-lt, same_some, get-push, get-push_before, get-push_last}
@@ -222,31 +222,6 @@ passed-none links before after player rings log h logged = record {
 
 pub passed-all : (links : List Link) (before after : Board) (player : Colour) (bound : ℕ) (old new : Rings) (log log' : List ℕ) → bound ≡ length links → IsPassed links before after player bound old new log log' → IsPassed links before after player (length links) old new log log'
 passed-all links before after player bound old new log log' e p = let P : ℕ → Type 0 = λ n. IsPassed links before after player n old new log log' in subst P e p
-
--- the last of the log is the first to be put back
-pub last-back : (log : List ℕ) (n last : ℕ) → n ≤ last → last + 1 ≡ length log → reverse (drop n log) ≡ get_or log last 0 ∷ reverse (drop n (take last log))
-last-back log n last le e =
-    let lt : last < length log = omega arith in
-    let whole : take (last + 1) log ≡ log = rw e (take_all (length log) log (omega arith)) in
-    let split : log ≡ take last log ++ get_or log last 0 ∷ [] = sym whole ∙ take_more log last 0 lt in
-    let inside : n ≤ length (take last log) = omega (arith, length-take last log) in
-    ap (λ (xs : List ℕ). reverse (drop n xs)) split
-    ∙ (ap (reverse {A = ℕ}) (drop-append-le n (take last log) (get_or log last 0 ∷ []) inside) ∙ reverse-append (drop n (take last log)) (get_or log last 0 ∷ []))
-
-pub rest-back : (log : List ℕ) (n last : ℕ) → n ≤ last → take n (take last log) ≡ take n log
-rest-back log n last le = grind (arith, common_steps)
-
-pub none-back : (log : List ℕ) (n : ℕ) → length log ≤ n → reverse (drop n log) ≡ []
-none-back log n le = ap (reverse {A = ℕ}) (drop_all n log le)
-
--- one step of putting back
-pub step-back : (rings : Rings) (log log' : List ℕ) (n last place : ℕ) → n ≤ last → last + 1 ≡ length log → place ≡ get_or log last 0 → log' ≡ take last log → CanRelink rings (reverse (drop n log))
-    → IsInside rings (30258 + place) × CanRelink (relinked rings (30258 + place)) (reverse (drop n log')) × (relinked_all rings (reverse (drop n log)) ≡ relinked_all (relinked rings (30258 + place)) (reverse (drop n log')))
-step-back rings log log' n last place le e f g can =
-    let same : reverse (drop n log) ≡ place ∷ reverse (drop n log') = rw (f, g) (last-back log n last le e) in
-    let P : List ℕ → Type 0 = λ xs. CanRelink rings xs in
-    let h : CanRelink rings (place ∷ reverse (drop n log')) = subst P same can in
-    (h.0, h.1, ap (λ (xs : List ℕ). relinked_all rings xs) same)
 
 -- a link more
 choice-true : (b : Bool) (x y : ℕ) → b ≡ true → (if b then x else y) ≡ x

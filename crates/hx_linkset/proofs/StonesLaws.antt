@@ -43,10 +43,6 @@ module _ (board : Board) (stones : List (Colour × ℕ)) (k : ℕ) (stone : Colo
 
 -- ---- the board after all stones
 
-pub board-put_all : (board : Board) (stones : List (Colour × ℕ)) → IsBoard board → CanPut board stones → IsBoard (put_all board stones)
-board-put_all board [] is can = is
-board-put_all board (s ∷ ss) is can = board-put_all (put board s.0 s.1) ss (board-put board s.0 s.1 is can.0) can.1
-
 count-put_all : (board : Board) (stones : List (Colour × ℕ)) → IsBoard board → CanPut board stones → empty_count board ≡ length stones + empty_count (put_all board stones)
 count-put_all board [] is can = omega arith
 count-put_all board (s ∷ ss) is can =

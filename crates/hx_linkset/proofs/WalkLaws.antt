@@ -137,7 +137,3 @@ module _ (links : List Link) (Has : ℕ → Link → Type 0) (rings : Rings) (ho
 
       pub walk-falls : 30258 ≤ node → length links ≤ MOST_LINKS → left_from (after node) < left_from node
       walk-falls low few = left_from-falls node (after node) low (omega (arith, walk-in_list, few)) (goes_up node walked.linked walked.in_ring)
-
-      -- the walk is back at the head, and none of the ring is as wanted
-      pub walk-end : node < 30258 → (place : ℕ) (link : Link) → slice_get links place ≡ Some link → Has place link → head_of link ≡ head → Wanted link → ⊥
-      walk-end low place link there has e = walked.passed place link there has e (inl low)

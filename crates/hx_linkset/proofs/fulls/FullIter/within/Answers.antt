@@ -1,4 +1,4 @@
-use Rattle.std.proofs.Common.{◌≡◌, List, ap, ◌∙◌}
+use Rattle.std.proofs.Common.{List, ap, ◌∙◌}
 use Rattle.std.specs.Prelude.{filter}
 use Rattle.hx_linkset.specs.declared.fulls.FullLink.{FullLink}
 use Rattle.hx_linkset.specs.Fulls.{is_live_from}
