@@ -21,7 +21,7 @@ use Rattle.hx_board.proofs.ListLaws.{same_some}
 use Rattle.hx_board.proofs.VertexSetLaws.{some-vertex, code-small}
 use Rattle.hx_search.specs.Closed.{IsSettled, IsGrown, IsStuck}
 use Rattle.hx_search.specs.Progress.{IsUnsettled, IsPairSettled, AreRowsSettled, and_at, IsChainSettled, IsChainSettledTo, IsEndSettledBelow, IsEndSettled}
-use Rattle.hx_search.proofs.GrowthLaws.{settled-on, live_of-on, live_of-back}
+use Rattle.hx_search.proofs.GrowthLaws.{settled-on, live_of-back}
 use Rattle.hx_search.proofs.VertexLaws.{below-more, below-skip, turned, live_of-turned, live_of-vertex, empty-not_own}
 
 pub stuck-and : (set : Standing) (own : Bool) (left right : ℕ) → IsUnsettled set (and_at own left right) → IsStuck set
@@ -58,9 +58,6 @@ module _ (was now : Standing) (g : IsGrown was now) (own : Bool) (end to : Verte
       settled-on was now (and_at own left right) g (λ place k. named own left right (length was.present.links) place l inside k) (s left lt (live_of-back was now g Full end to left l is))
 
   module _ (left : ℕ) (less : left < right) (to_here : IsChainSettledTo was own end to right (Some left)) (here : IsSettled now (and_at own left right)) where
-    pub chain-here : IsLiveOf now Full end to left
-    chain-here = live_of-on was now g Full end to left to_here.0
-
     through : (other : ℕ) → other < left + 1 → IsLiveOf now Full end to other → IsSettled now (and_at own other right)
     through other lt is = ⊎_elim
         (λ e. let P : ℕ → Type 0 = λ n. IsSettled now (and_at own n right) in subst P (sym e) here)

@@ -130,9 +130,6 @@ module _ (set : Standing) (right : IsRight set.player set.present) (a b : Vertex
       (λ le. false≢true (sym w.lacks ∙ all_share w.place le w.semi n member))
       (cases_lt last w.place)
 
-  pub none-forked : ((place : ℕ) → IsLiveOf set Semi a b place → ⊥) → IsForked set a b → ⊥
-  none-forked none forked = none forked.first forked.first_semi
-
 -- ---- none is shared
 
 -- the links at places at which there are links
