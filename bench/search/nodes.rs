@@ -2,7 +2,7 @@
 
 ghost use Rattle.std.specs.Prelude.{ℕ, IsTrue};
 ghost use Rattle.hx_fill.specs.Fills.{AreDeadOrPairs};
-ghost use Rattle.hx_linkset.specs.Derivations.{StandsIn};
+ghost use Rattle.hx_board.specs.Lists.{StandsIn};
 ghost use Rattle.hx_linkset.specs.States.{IsLiveAt};
 
 use crate::children::Moves;

@@ -8,8 +8,6 @@ use Rattle.hx_tree.proofs.TreeGrowth.{headings_of-append}
 use Rattle.hx_nodes.specs.declared.stored.Stored.{Stored}
 use Rattle.hx_nodes.specs.declared.stored.Stored.TheVariants.{Done, Refused, Missing, Memory}
 use Rattle.hx_nodes.specs.Stored.{MissingFor, IsAnswered}
--- proofs above name it by this file
-pub use Rattle.hx_tree.proofs.EntryLaws.{extends-on}
 
 pub extends-headings : (new old : List Node) → Extends new old → (more : List Heading) × (headings_of new ≡ headings_of old ++ more)
 extends-headings new old grown = (headings_of grown.0, ap headings_of grown.1 ∙ headings_of-append old grown.0)
