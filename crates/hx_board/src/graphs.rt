@@ -76,7 +76,8 @@ impl Graph {
 
     /// The cells that touch a cell of a set.
     pub(crate) fn around(&self, set: Mask) -> Mask
-        ensures cells { (cell : ℕ) → (has result cell ≡ true) ↔ TouchesCellOf self.now.board.size set cell }
+        ensures cells { (cell : ℕ)
+            → (has result cell ≡ true) ↔ TouchesCellOf self.now.board.size set cell }
         ensures codes { AreVertexCodes result }
     {
         around(self.position.size(), self.all, self.left, set)
@@ -101,7 +102,8 @@ impl Graph {
 
     /// The vertices that touch one in a set.
     pub(crate) fn spread(&self, set: VertexSet) -> VertexSet
-        ensures { IsSetOf self.now.board.size (TouchesOneOf self.now.board.size self.now.player set) result }
+        ensures { IsSetOf self.now.board.size (TouchesOneOf self.now.board.size self.now.player set)
+            result }
     {
         let codes = set.codes();
         let cells = self.around(codes);
@@ -118,7 +120,8 @@ impl Graph {
 /// The cells along a player's first side: for Black those with no cell above them, for White those with none to their
 /// left.
 fn first_line(size: Size, player: Colour) -> Mask
-    ensures { (cell : ℕ) → (has result cell ≡ true) ↔ (OnBoard size cell × IsFirstLine player cell) }
+    ensures { (cell : ℕ)
+        → (has result cell ≡ true) ↔ (OnBoard size cell × IsFirstLine player cell) }
 {
     let all = size.all();
     match player {
@@ -130,7 +133,8 @@ fn first_line(size: Size, player: Colour) -> Mask
 /// The cells along a player's last side: for Black those with no cell below them, for White those with none to their
 /// right.
 fn last_line(size: Size, player: Colour) -> Mask
-    ensures { (cell : ℕ) → (has result cell ≡ true) ↔ (OnBoard size cell × IsLastLine size player cell) }
+    ensures { (cell : ℕ)
+        → (has result cell ≡ true) ↔ (OnBoard size cell × IsLastLine size player cell) }
 {
     let all = size.all();
     match player {

@@ -61,7 +61,8 @@ impl Groups {
     /// and what touches the group; for any other cell what touches it and what its touching groups reach.
     pub fn joined_with(&self, vertex: Vertex) -> VertexSet
         requires { IsVertex self.now.board.size vertex }
-        ensures { IsSetOf self.now.board.size (Joined self.now.board self.now.player vertex) result }
+        ensures { IsSetOf self.now.board.size (Joined self.now.board self.now.player vertex)
+            result }
     {
         self.joined[vertex.code() as usize]
     }

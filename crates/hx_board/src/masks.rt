@@ -140,7 +140,8 @@ impl Mask {
     /// The first cell of a board of this size that is in the set, row by row from the top and from the left in each
     /// row. None exactly where no cell of the board is in the set.
     pub fn least(self, size: Size) -> Option<Cell>
-        ensures { MatchOption result ((n : ℕ) → OnBoard size n → has self n ≡ false) (IsLeastOn size self) }
+        ensures { MatchOption result ((n : ℕ) → OnBoard size n → has self n ≡ false)
+            (IsLeastOn size self) }
     {
         let here = self.meet(size.all()).bits();
         if here == 0 {

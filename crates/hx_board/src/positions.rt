@@ -51,7 +51,8 @@ impl Position {
     /// The position with these stones. None exactly where a cell would hold two stones or a stone would stand off
     /// the board.
     pub fn from_masks(size: Size, black: Mask, white: Mask) -> Option<Position>
-        ensures { SomeIff result (IsPosition size black white) (record { size = size; black = black; white = white }) }
+        ensures { SomeIff result (IsPosition size black white)
+            (record { size = size; black = black; white = white }) }
     {
         if !black.meets(white) && black.union(white).inside(size.all()) {
             Some(Position { size, black, white })

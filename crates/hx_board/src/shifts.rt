@@ -15,7 +15,8 @@ use crate::sizes::{Size, block};
 /// The cells of the board that touch a cell, as a set.
 pub fn neighbour_set(size: Size, cell: Cell) -> Mask
     requires { OnBoard size cell }
-    ensures { (other : ℕ) → (has result other ≡ true) ↔ (OnBoard size other × CellsTouch cell other) }
+    ensures { (other : ℕ)
+        → (has result other ≡ true) ↔ (OnBoard size other × CellsTouch cell other) }
 {
     let all = size.all();
     around(size, all, left_cells(size), Mask::empty().with(cell))
@@ -26,7 +27,8 @@ pub fn neighbour_set(size: Size, cell: Cell) -> Mask
 pub(crate) fn around(size: Size, all: Mask, left: Mask, set: Mask) -> Mask
     requires extent { IsExtent size.rows size.cols }
     requires all { (cell : ℕ) → (has all cell ≡ true) ↔ OnBoard size cell }
-    requires left { (cell : ℕ) → (has left cell ≡ true) ↔ (OnBoard size cell × (col_of cell + 1 < size.cols)) }
+    requires left { (cell : ℕ)
+        → (has left cell ≡ true) ↔ (OnBoard size cell × (col_of cell + 1 < size.cols)) }
     ensures { (cell : ℕ) → (has result cell ≡ true) ↔ TouchesCellOf size set cell }
 {
     let cells = set.meet(all);
@@ -41,7 +43,8 @@ pub(crate) fn around(size: Size, all: Mask, left: Mask, set: Mask) -> Mask
 
 /// The cells that have a cell to their right.
 pub(crate) fn left_cells(size: Size) -> Mask
-    ensures { (cell : ℕ) → (has result cell ≡ true) ↔ (OnBoard size cell × (col_of cell + 1 < size.cols)) }
+    ensures { (cell : ℕ)
+        → (has result cell ≡ true) ↔ (OnBoard size cell × (col_of cell + 1 < size.cols)) }
 {
     block(size.rows(), size.cols() - 1)
 }

@@ -16,7 +16,8 @@ use arrayvec::ArrayVec;
 pub fn neighbours(size: Size, cell: Cell) -> ArrayVec<Cell, 6>
     requires { OnBoard size cell }
     ensures ordered { result.items ≡ neighbours_of size cell }
-    ensures touching { (other : ℕ) → Contains result.items other ↔ (OnBoard size other × CellsTouch cell other) }
+    ensures touching { (other : ℕ)
+        → Contains result.items other ↔ (OnBoard size other × CellsTouch cell other) }
 {
     let row = cell.row();
     let col = cell.col();

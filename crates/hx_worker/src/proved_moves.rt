@@ -178,7 +178,8 @@ pub(crate) fn take_in<P: Proofs, R: Wait>(
     ensures slots { P.slots proofs.new ≡ P.slots proofs.old }
     ensures over { P.over proofs.new ≡ P.over proofs.old }
     ensures seen { Extends (P.list proofs.new) (P.list proofs.old) }
-    ensures outcome { (seat : Seat) → IsOutcome (P.list proofs.old) (P.slots proofs.old) seat outcome
+    ensures outcome { (seat : Seat)
+        → IsOutcome (P.list proofs.old) (P.slots proofs.old) seat outcome
         → IfSome result (IsOutcome (P.list proofs.new) (P.slots proofs.new) seat) }
 {
     match outcome {

@@ -321,7 +321,8 @@ fn conclude<P: Proofs, R: Wait>(
     ensures slots { P.slots proofs.new ≡ P.slots proofs.old }
     ensures over { P.over proofs.new ≡ P.over proofs.old }
     ensures seen { Extends (P.list proofs.new) (P.list proofs.old) }
-    ensures outcome { (seat : Seat) → IsOutcome (P.list proofs.old) (P.slots proofs.old) seat outcome
+    ensures outcome { (seat : Seat)
+        → IsOutcome (P.list proofs.old) (P.slots proofs.old) seat outcome
         → IsOutcome (P.list proofs.new) (P.slots proofs.new) seat result }
 {
     let concluded = after_fill(rt, alloc, proofs, start, filled, outcome);
@@ -342,7 +343,8 @@ fn after_fill<P: Proofs, R: Wait>(
     ensures slots { P.slots proofs.new ≡ P.slots proofs.old }
     ensures over { P.over proofs.new ≡ P.over proofs.old }
     ensures seen { Extends (P.list proofs.new) (P.list proofs.old) }
-    ensures outcome { (seat : Seat) → IsOutcome (P.list proofs.old) (P.slots proofs.old) seat outcome
+    ensures outcome { (seat : Seat)
+        → IsOutcome (P.list proofs.old) (P.slots proofs.old) seat outcome
         → IsOutcome (P.list proofs.new) (P.slots proofs.new) seat result }
 {
     match outcome {
