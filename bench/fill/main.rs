@@ -7,7 +7,7 @@ mod positions;
 
 use crate::clock::since;
 use crate::positions::after_stones;
-use hx_board::{Cell, Colour, Memory, Position, Size};
+use hx_board::{CELLS, Cell, Colour, Memory, Position, Size};
 use hx_fill::{Filled, Must, fill_in, must};
 use hx_linkset::LinkSet;
 use hx_samples::Draws;
@@ -96,7 +96,7 @@ impl Sum {
     }
 }
 
-/// `must` on a set of this player, the opponent to move.
+/// `must` on a set of this player, the opponent to move; the better cells are gone through in cell order.
 fn with_must(
     rt: &HostRuntime,
     sum: &mut Sum,
@@ -110,11 +110,11 @@ fn with_must(
     let mut least = u64::MAX;
     for _ in 0..ROUNDS {
         let start = Instant::now(rt)?;
-        let answer = must(&set);
+        let answer = must(&set, &[]);
         least = least.min(since(rt, start)?);
         drop(answer);
     }
-    if let Ok(found) = must(&set) {
+    if let Ok(found) = must(&set, &[]) {
         sum.add_must(&found, least);
     }
     Ok(())
@@ -155,7 +155,10 @@ fn with_moves(rt: &HostRuntime, sum: &mut Sum, position: &Position) -> io::Resul
     let size = position.size();
     for colour in [Colour::Black, Colour::White] {
         let mut left = position.empties();
-        while let Some(cell) = left.least(size) {
+        for _ in 0..CELLS {
+            let Some(cell) = left.least(size) else {
+                break;
+            };
             left = left.without(cell);
             with_move(rt, sum, position, colour, cell)?;
         }

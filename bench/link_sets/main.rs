@@ -7,7 +7,7 @@ mod positions;
 
 use crate::clock::since;
 use crate::positions::after_stones;
-use hx_board::{Cell, Colour, Position, Size, Vertex};
+use hx_board::{CELLS, Cell, Colour, Position, Size, Vertex};
 use hx_link::Kind;
 use hx_linkset::LinkSet;
 use hx_samples::Draws;
@@ -171,7 +171,10 @@ fn each_stone(rt: &HostRuntime, sum: Sum, position: &Position, player: Colour) -
     let size = position.size();
     let mut all = sum;
     let mut left = position.empties();
-    while let Some(cell) = left.least(size) {
+    for _ in 0..CELLS {
+        let Some(cell) = left.least(size) else {
+            break;
+        };
         left = left.without(cell);
         all = one_stone(rt, all, &mut set, Colour::Black, cell)?;
         all = one_stone(rt, all, &mut set, Colour::White, cell)?;
