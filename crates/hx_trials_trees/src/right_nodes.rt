@@ -2,7 +2,7 @@
 //! tests hold it against a plain program.
 
 use super::killed_cells::{after_step, is_dominated, is_empty, with_stone};
-use hx_board::{Cell, Colour, Groups, Mask, Memory, Position, Size, Vertex};
+use hx_board::{Cell, Colour, Groups, Mask, Memory, Position, Size};
 use hx_inferior::FillStep;
 use hx_link::{Kind, Link, Step, result_of};
 use hx_samples::has_chain;
@@ -70,15 +70,11 @@ fn links_of(alloc: Global, heading: &Heading, steps: &[Step]) -> Result<Option<V
     Ok(Some(links))
 }
 
-fn joins_sides(link: &Link) -> bool {
-    matches!((link.a, link.b), (Vertex::First, Vertex::Last))
-}
-
 /// Whether the last link joins the sides, and the winner is to move where it is Semi.
 fn last_joins(links: &[Link], winner_moves: bool) -> bool {
     match links.last() {
         None => false,
-        Some(link) => joins_sides(link) && (winner_moves || link.kind == Kind::Full),
+        Some(link) => link.joins_sides() && (winner_moves || link.kind == Kind::Full),
     }
 }
 
@@ -187,7 +183,7 @@ impl<'a> Answers<'a> {
     fn have_threats(&self) -> bool {
         for place in self.threats {
             match self.links.get(*place as usize) {
-                Some(link) if joins_sides(link) => {}
+                Some(link) if link.joins_sides() => {}
                 _ => return false,
             }
         }
