@@ -16,7 +16,8 @@ use Rattle.hx_count.specs.Counted.{Seated, start_of, state_after, IsHistory, vie
 use Rattle.hx_count.specs.Seats.{Origin, Seat, own, part_of, IsClosed}
 use Rattle.hx_count.proofs.MachineLaws.{goes_on-account, history-bounded, history-workers, held-losses, held-le, run-budget, history-in_budget}
 use Rattle.hx_count.proofs.Sums.{upto, upto-same, sum-upto, sum_by-upto}
-use Rattle.hx_count.proofs.PartLaws.{term-le, times-first}
+use Rattle.hx_count.proofs.Terms.{term-le}
+use Rattle.hx_count.proofs.PartLaws.{times-first}
 use Rattle.hx_count.proofs.Workers.{times, times-cons, sum-once}
 
 -- one history agrees with the words, and has gone on from each of the parts

@@ -18,7 +18,8 @@ use Rattle.hx_count.specs.declared.views.View.{View}
 use Rattle.hx_count.specs.Machine.{CountsState, Account, account_of, granted_to_all, refused_of_all, losses_at, held_in_all, has_units, counts_step, worker_of, IsAllowed}
 use Rattle.hx_count.specs.Counted.{start_of, state_after, IsHistory, part, view, times_in, IsCurrent, AreCurrentParts, Counted, Seated, IsNext, IsSpend, IsLook, spends, holds, releases, looks, all_but_first, only_first, joined, no_parts, first_view, new_parts, AreSmall}
 use Rattle.hx_count.proofs.MachineLaws.{run-append, allowed-append, run-budget, goes_on-account, granted-unit, granted-refusal, refused-unit, refused-refusal, losses-spend, granted-hold, refused-hold, granted-release, refused-release, losses-hold_here, losses-hold_elsewhere, losses-release_here, losses-release_elsewhere, history-bounded, history-workers, losses-le, losses-own, refused-le, start-granted, start-refused, start-losses}
-use Rattle.hx_count.proofs.PartLaws.{sum-set, term-le, others-none, times-single, times-append, times-cut, current-append, current-first, current-rest, goes_on-now, current-more, times-among, times-after, current-new}
+use Rattle.hx_count.proofs.Terms.{sum-set, term-le, others-none}
+use Rattle.hx_count.proofs.PartLaws.{times-single, times-append, times-cut, current-append, current-first, current-rest, goes_on-now, current-more, times-among, times-after, current-new}
 use Rattle.hx_count.proofs.Workers.{same-one}
 
 abbrev Words : Type 0
@@ -71,7 +72,7 @@ module _ (limits : Limits) (s : Words) (c : Counted limits s) (id : ℕ) (p : Pa
 
     current-others : (other : ℕ) (u : View) → other ≢ id → get_elem? s.views other ≡ some u → AreCurrentParts limits longer u.parts
     current-others other u apart also = current-more limits c.history event u.parts
-        (ap (λ worker. times_in worker u.parts) own ∙ others-none (named p.worker) s.views id other (view (p ∷ [])) u no_parts refl (c.once p.worker is-worker) own-once apart there also)
+        (ap (λ worker. times_in worker u.parts) own ∙ others-none (named p.worker) s.views id other (view (p ∷ [])) u no_parts refl (omega (arith, c.once p.worker is-worker)) own-once apart there also)
         (c.current other u also)
 
     same-sum : (worker : ℕ) → sum_by (named worker) (set s.views id seen_more) ≡ sum_by (named worker) s.views

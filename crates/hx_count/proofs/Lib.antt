@@ -1,5 +1,6 @@
 pub mod Changes
 pub mod Sums
+pub mod Terms
 pub mod MachineLaws
 pub mod Workers
 pub mod PartLaws

@@ -1,12 +1,8 @@
--- Sums over views of which one changes, and parts that come and go. For the steps of the counts.
-use Rattle.std.proofs.Common.{◌≡◌, ◌≢◌, ℕ, zero, suc, ◌+◌, ◌-◌, ◌<◌, ◌≤◌, cond, ⊎_elim, List, [], ◌∷◌, ◌++◌, length, get_or, set, take, drop, refl, sym, ap, ◌∙◌, subst, arith, append_assoc, append-nil}
+-- Parts that come and go. For the steps of the counts.
+use Rattle.std.proofs.Common.{◌≡◌, ◌≢◌, ℕ, zero, suc, ◌+◌, ◌-◌, ◌<◌, ◌≤◌, cond, ⊎_elim, List, [], ◌∷◌, ◌++◌, take, drop, refl, sym, ap, ◌∙◌, arith, append_assoc, append-nil}
 use Rattle.std.specs.Prelude.{◌==◌}
-use Rattle.std.specs.List.{sum_by}
-use Rattle.std.proofs.lemmas.List.Sums.{sum_by-set, sum_by-cons, sum_by-append, get_or-le-sum_by}
+use Rattle.std.proofs.lemmas.List.Sums.{sum_by-cons, sum_by-append}
 use Rattle.std.proofs.lemmas.Bool.{cases_eq}
-use mathlib.Core.Option.{some, some-injective, some-ne-none}
-use lib.ListN.{get_elem?}
-use Rattle.atomic_table.proofs.Lists.{set_else}
 use Rattle.hx_count.specs.declared.events.CountEvent.{CountEvent}
 use Rattle.hx_count.specs.declared.views.Limits.{Limits}
 use Rattle.hx_count.specs.declared.views.Part.{Part}
@@ -14,34 +10,6 @@ use Rattle.hx_count.specs.Machine.{worker_of}
 use Rattle.hx_count.specs.Histories.{AreOthers, GoesOn}
 use Rattle.hx_count.specs.Counted.{part, times_in, AreCurrentParts, new_parts}
 use Rattle.hx_count.proofs.Workers.{one_same, same-one, other-none}
-
--- ---- one of a list
-
-module _ {A : Type 0} where
-  pub at-within : (xs : List A) (place : ℕ) (x : A) → get_elem? xs place ≡ some x → place < length xs
-  at-within [] place x there = absurd (some-ne-none x (sym there))
-  at-within (y ∷ ys) zero x there = omega arith
-  at-within (y ∷ ys) (suc place) x there = omega (arith, at-within ys place x there)
-
-  pub at-get : (xs : List A) (place : ℕ) (x d : A) → get_elem? xs place ≡ some x → get_or xs place d ≡ x
-  at-get [] place x d there = absurd (some-ne-none x (sym there))
-  at-get (y ∷ ys) zero x d there = some-injective y x there
-  at-get (y ∷ ys) (suc place) x d there = at-get ys place x d there
-
-  pub sum-set : (f : A → ℕ) (xs : List A) (place : ℕ) (x new : A) → get_elem? xs place ≡ some x → sum_by f (set xs place new) + f x ≡ sum_by f xs + f new
-  sum-set f xs place x new there = subst (λ y. sum_by f (set xs place new) + f y ≡ sum_by f xs + f new) (at-get xs place x x there) (sum_by-set f xs place new x (at-within xs place x there))
-
-  pub term-le : (f : A → ℕ) (xs : List A) (place : ℕ) (x : A) → get_elem? xs place ≡ some x → f x ≤ sum_by f xs
-  term-le f xs place x there = subst (λ y. f y ≤ sum_by f xs) (at-get xs place x x there) (get_or-le-sum_by f xs place x (at-within xs place x there))
-
-  -- where one term is all of a sum of 1, each other one is 0
-  pub others-none : (f : A → ℕ) (xs : List A) (place other : ℕ) (x y none : A) → f none ≡ 0 → sum_by f xs ≡ 1 → f x ≡ 1 → other ≢ place
-      → get_elem? xs place ≡ some x → get_elem? xs other ≡ some y → f y ≡ 0
-  others-none f xs place other x y none is_none one own apart there also =
-      let rest : get_elem? (set xs place none) other ≡ some y = set_else xs place other none apart ∙ also in
-      omega (arith, sum-set f xs place x none there, term-le f (set xs place none) other y rest, is_none, one, own)
-
--- ---- parts
 
 pub times-single : (worker : ℕ) (p : Part) → times_in worker (p ∷ []) ≡ one_same worker p.worker
 times-single worker p = omega (arith, sum_by-cons (λ (q : Part). cond (q.worker == worker) 1 0) p [])

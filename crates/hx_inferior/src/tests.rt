@@ -1,10 +1,8 @@
-//! The calls, each once and both ways, and dead cells beside plain walks.
+//! The calls, each once and both ways. A table of cells in hx_trials_trees holds them against walks over the board.
 
 use super::*;
 use hx_board::Colour::{Black, White};
-use hx_board::{Cell, Colour, Mask, Position, Size, VERTICES, Vertex, VertexSet};
-use hx_samples::{SMALL_BOARDS, joined_to, numbered, touch};
-use std::process::Abort;
+use hx_board::{Cell, Mask, Position, Size, Vertex};
 use std::test::Fail;
 
 /// The cells of a board, as numbers of a set: a letter for the column, a number for the row.
@@ -69,64 +67,5 @@ fn filled_and_dominated_cells(rt: HostRuntime) -> Result<(), Fail> {
     assert_eq!(rt; fill_one(&position, Black, FillStep::Dead(cell(A2)?)), None);
     let other = fill_one(&position, Black, FillStep::Other(cell(A2)?));
     assert_eq!(rt; other, Some(square(2, B1, A2)?));
-    Ok(())
-}
-
-/// The vertices that touch a cell and are no stones of the opponent.
-fn plain_open(position: &Position, player: Colour, cell: &Vertex) -> VertexSet {
-    let size = position.size();
-    let mut found = VertexSet::empty();
-    for code in 0..VERTICES as u8 {
-        if let Some(vertex) = size.vertex(code)
-            && touch(size, player, cell, &vertex)
-            && position.is_open(player, &vertex)
-        {
-            found = found.with(vertex);
-        }
-    }
-    found
-}
-
-/// Whether walks lead from each of some vertices to all of them.
-fn plain_joined(position: &Position, player: Colour, vertices: VertexSet) -> bool {
-    let mut are_joined = true;
-    for code in 0..VERTICES as u8 {
-        if let Some(vertex) = position.size().vertex(code)
-            && vertices.has(vertex)
-        {
-            are_joined &= vertices.inside(joined_to(position, player, &vertex));
-        }
-    }
-    are_joined
-}
-
-/// Whether each cell is dead, by the call and by walks.
-fn compare(rt: &impl Abort, position: &Position, player: Colour) {
-    let size = position.size();
-    for row in 0..size.rows() {
-        for col in 0..size.cols() {
-            if let Some(cell) = size.cell(row, col) {
-                let around = plain_open(position, player, &Vertex::Of(cell));
-                let is_empty = position.at(cell).is_none();
-                assert_eq!(rt;
-                    dead(position, player, cell),
-                    is_empty && plain_joined(position, player, around),
-                    "{cell:?}: {player:?}, {position:?}"
-                );
-            }
-        }
-    }
-}
-
-#[test]
-fn dead_cells_of_each_small_position(rt: HostRuntime) -> Result<(), Fail> {
-    for (rows, cols, positions) in SMALL_BOARDS {
-        let size = Size::new(rows, cols).ok_or("size")?;
-        for number in 0..positions {
-            let position = numbered(size, number).ok_or("position")?;
-            compare(&rt, &position, Black);
-            compare(&rt, &position, White);
-        }
-    }
     Ok(())
 }

@@ -33,8 +33,8 @@ HasMoveToStone turn moves = Any (λ child. ¬ IsEmpty turn.filled child.cell) mo
 abbrev pub HasComeToLimit : Turn → Numbers → Type 0
 HasComeToLimit turn numbers = (turn.limit.phi ≤ numbers.phi) ⊎ (turn.limit.delta ≤ numbers.delta)
 
--- all moves lose where none is left that is not known to; a turn ends where its numbers have come to its limit; and it goes
--- down to one of the moves that are left
+-- all moves lose where none is left that is not known to; a turn ends where its numbers have come to its limit, or where a
+-- move's cell holds a stone; and it goes down to one of the moves that are left
 abbrev pub IsChoice : Turn → Moves → Choice → Type 0
 IsChoice turn moves AllLose = moves.children.items ≡ []
 IsChoice turn moves (Limit numbers) = HasComeToLimit turn numbers ⊎ HasMoveToStone turn moves

@@ -17,9 +17,9 @@ use Rattle.hx_share.specs.declared.views.Role.TheVariants.{Note, Waiting, Acting
 use Rattle.hx_share.specs.declared.views.View.{View}
 use Rattle.hx_share.specs.Fronts.{longer}
 use Rattle.hx_share.specs.OneList.{part, view, AreSmall, has_turn, seats_of, turns_of, AreCurrentParts, AreCurrent, IsOneList, first_view, Seated, alone, acting, takes_turn, gives_back, settles, all_but_first, only_first, itself, notes_of, joined, no_parts}
+use Rattle.hx_count.proofs.Terms.{sum-set, others-none}
 use Rattle.hx_tree.proofs.EntryLaws.{extends-itself}
 use Rattle.hx_share.proofs.FrontLaws.{longer-begins}
-use Rattle.hx_share.proofs.Sums.{sum-set, others-none}
 use Rattle.hx_share.proofs.PartLaws.{seat_part, turn_part, count-one, count-two, count-append, count-cut, count-replicate, count-replicate_none, seats-notes, turns-notes, current-append, current-first, current-rest, current-part, current-notes, current-new, current-more}
 
 abbrev Table : Type 0

@@ -1,5 +1,6 @@
-//! The calls of hx_inferior beside walks, for each one, two and three cells of a board and one beside it: on all positions of
-//! boards of up to four cells, on some of boards of six cells, and on drawn ones of larger boards.
+//! The calls of hx_inferior beside walks: for each cell of a board and one beside it, on all positions of boards of up to six
+//! cells; and for each two and three of them, on all positions of boards of up to four cells, on some of boards of six cells,
+//! and on drawn ones of larger boards.
 
 use super::killed_cells::{after_step, are_pair, is_dead, is_dominated, is_empty};
 use hx_board::{Cell, Colour, Position, Size};
@@ -52,6 +53,17 @@ impl Trial {
         self.pairs = self.pairs.saturating_add(found as u32);
         self.agrees_on_fill(rt, FillStep::Pair(a, b));
         self.agrees_on_kill(rt, a, b, Kill::ByDead);
+    }
+
+    /// On each one of these cells, for both players.
+    fn agrees_on_each(&mut self, rt: &impl Abort, position: &Position, cells: &[Cell]) {
+        self.position = *position;
+        for player in [Colour::Black, Colour::White] {
+            self.player = player;
+            for cell in cells {
+                self.agrees_on_one(rt, *cell);
+            }
+        }
     }
 
     /// On each one, each two and each three of these cells, for both players.
@@ -120,14 +132,15 @@ fn cells_of_each_small_position(rt: HostRuntime) -> Result<(), Fail> {
     for (rows, cols, positions) in SMALL_BOARDS {
         let size = Size::new(rows, cols).ok_or("size")?;
         let cells = cells_of(rt.alloc(), size)?;
-        // Of the boards of six cells every thirteenth position.
+        // Two and three cells of the boards of six on every thirteenth position.
         let step = if positions > 100 { 13 } else { 1 };
         for number in 0..positions {
-            if number % step != 0 {
-                continue;
-            }
             let position = numbered(size, number).ok_or("position")?;
-            trial.agrees(&rt, &position, cells.as_slice());
+            if number % step == 0 {
+                trial.agrees(&rt, &position, cells.as_slice());
+            } else {
+                trial.agrees_on_each(&rt, &position, cells.as_slice());
+            }
         }
     }
     trial.tells(&rt, 10);

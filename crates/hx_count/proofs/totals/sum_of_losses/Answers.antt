@@ -4,7 +4,7 @@ use Rattle.std.specs.Slots.{slots_items}
 use Rattle.std.proofs.lemmas.List.Sums.{sum_by_more, sum_by-take-le}
 use mathlib.Core.Option.{some, some-ne-none}
 use lib.ListN.{get_elem?}
-use Rattle.hx_count.proofs.PartLaws.{at-within, at-get}
+use Rattle.hx_count.proofs.Terms.{at-within, at-get}
 use Rattle.hx_count.proofs.totals.sum_of_losses.Goals as goal
 
 -- one word more of those after the first

@@ -2,7 +2,7 @@ use Rattle.std.proofs.Common.{◌∙◌, ap, sym, arith, min, map}
 use Rattle.std.specs.Slots.{slots_items}
 use Rattle.hx_count.specs.Seats.{part_of}
 use Rattle.hx_count.proofs.Closing.{Ends, ended, held-words, few-held, held-seats, granted-seats, refused-seats, closed}
-use Rattle.hx_count.proofs.PartLaws.{at-get}
+use Rattle.hx_count.proofs.Terms.{at-get}
 use Rattle.hx_count.proofs.counts.Counts.close.Goals as goal
 
 pub sum_of_losses-held-requires-clause-small : goal.sum_of_losses-held-requires-clause-small
