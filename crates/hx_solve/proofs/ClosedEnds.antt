@@ -1,6 +1,10 @@
 -- What a worker's end says of its seats it says of the closed book and of the closed counts.
-use Rattle.std.proofs.Common.{◌≡◌, ℕ, ◌≤◌, List, length, sym, ap, ◌∙◌, subst, All, Any, Contains, true, arith}
-use Rattle.std.proofs.lemmas.List.Elements.{All-weaker, All-contains}
+use Rattle.std.proofs.Common.{◌≡◌, ℕ, ◌<◌, ◌≤◌, List, [], ◌∷◌, length, sym, ap, ◌∙◌, subst, All, Any, Contains, true, arith}
+use mathlib.Core.Logic.{dite}
+use native.Mathlib.Decide.{dec_lt}
+use Rattle.std.specs.List.{sum_by}
+use Rattle.std.proofs.lemmas.List.Sums.{sum_by-cons}
+use Rattle.std.proofs.lemmas.List.Elements.{All-head, All-tail, All-weaker, All-contains}
 use Rattle.hx_board.specs.declared.colours.Colour.{Colour}
 use Rattle.hx_board.specs.Positions.{Board}
 use Rattle.hx_tree.specs.declared.nodes.Node.{Node}
@@ -11,11 +15,13 @@ use Rattle.hx_share.specs.Readers.{Reader}
 use Rattle.hx_nodes.specs.Stored.{IsOutOfSlots}
 use Rattle.hx_worker.specs.declared.ended.Ended.{Ended}
 use Rattle.hx_worker.specs.declared.ended.Ended.TheVariants.{Proved, Spent, NoSlots, Memory}
-use Rattle.hx_worker.specs.Ends.{IsEnded}
+use Rattle.hx_worker.specs.Ends.{IsEnded, EndsSpent}
 use Rattle.hx_solve.specs.declared.settings.Settings.{Settings}
-use Rattle.hx_solve.specs.Parts.{IsEndOfSome}
+use Rattle.hx_solve.specs.Causes.{IsUndecided}
+use Rattle.hx_solve.specs.Parts.{IsEndOfSome, HaveTried}
 use Rattle.hx_solve.specs.Searches.{IsClosedEnd}
 use Rattle.hx_solve.proofs.LaterLists.{all-get, any-get, found-later, no_longer}
+use Rattle.hx_solve.proofs.ForemostEnds.{IsBeforeAll, all-spent}
 
 -- the closed book and the closed counts, and the seats that they were closed with
 pub record AreClosed (settings : Settings) (books : List Reader) (counts : List Seat) (nodes : List Node) (granted : ℕ) : Type 0 where
@@ -60,3 +66,30 @@ contained-closed settings board mover slots made books counts ends end book gran
     })
     end
     (subst (λ (n : ℕ). IsEndOfSome n board mover books counts end) same_slots (All-contains (IsEndOfSome slots board mover books counts) ends end all one))
+
+-- ---- want of a unit
+
+abbrev granted_to : Seat → ℕ
+granted_to s = (own s).granted
+
+-- where all together were granted a unit, some seat was
+some-seat : (Claim : Type 0) (seats : List Seat) → All (λ (s : Seat). 0 < granted_to s → Claim) seats → 0 < sum_by granted_to seats → Claim
+some-seat Claim [] each some = absurd (omega (arith, some))
+some-seat Claim (s ∷ seats) each some = dite (dec_lt 0 (granted_to s))
+    (λ granted. All-head (λ (t : Seat). 0 < granted_to t → Claim) s seats each granted)
+    (λ none. some-seat Claim seats (All-tail (λ (t : Seat). 0 < granted_to t → Claim) s seats each) (omega (arith, none, some, sum_by-cons granted_to s seats)))
+
+all-granted : (nodes : List Node) (granted : ℕ) (board : Board) (mover : Colour) (settings : Settings) (end : Ended) → IsClosedEnd nodes granted board mover settings end
+    → EndsSpent end → granted ≡ settings.budget
+all-granted nodes granted board mover settings (Proved index winner) is spent = absurd spent
+all-granted nodes granted board mover settings (Spent taken) is spent = is.1
+all-granted nodes granted board mover settings (NoSlots refusal) is spent = absurd spent
+all-granted nodes granted board mover settings Memory is spent = absurd spent
+
+-- where units are wanting and there were some, a worker that had one has tried what can be tried at once
+pub tried-closed : (board : Board) (mover : Colour) (settings : Settings) (counts : List Seat) (ends : List Ended) (end : Ended) (nodes : List Node) (granted : ℕ)
+    → HaveTried board mover counts ends → IsBeforeAll end ends → IsClosedEnd nodes granted board mover settings end → granted ≡ sum_by granted_to counts
+    → EndsSpent end → 0 < settings.budget → IsUndecided board mover
+tried-closed board mover settings counts ends end nodes granted tried before is sum spent some =
+    some-seat (IsUndecided board mover) counts (tried (all-spent end ends spent before))
+    (omega (arith, some, sum, all-granted nodes granted board mover settings end is spent))

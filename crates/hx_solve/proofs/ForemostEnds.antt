@@ -2,6 +2,8 @@
 use Rattle.std.proofs.Common.{◌≡◌, suc, ◌<◌, ◌≤◌, List, [], ◌∷◌, ◌++◌, refl, ◌∙◌, All, Contains, append_assoc, arith}
 use Rattle.std.proofs.lemmas.List.Elements.{All-nil, All-cons, All-weaker}
 use Rattle.hx_worker.specs.declared.ended.Ended.{Ended}
+use Rattle.hx_worker.specs.declared.ended.Ended.TheVariants.{Proved, Spent, NoSlots, Memory}
+use Rattle.hx_worker.specs.Ends.{EndsSpent}
 use Rattle.hx_solve.specs.Ends.{rank}
 
 -- none of the ends comes before this one
@@ -47,3 +49,17 @@ foremost-contained all left best none was = let same : all ≡ was.passed = was.
 
 pub foremost-first : (all left : List Ended) (best : Ended) → left ≡ [] → IsForemost all left best → IsBeforeAll best all
 foremost-first all left best none was = let same : all ≡ was.passed = was.same ∙ rw none refl in rw same was.first
+
+-- want of a unit counts last
+after-spent : (end other : Ended) → EndsSpent end → rank end ≤ rank other → EndsSpent other
+after-spent (Proved index winner) other spent after = absurd spent
+after-spent (Spent taken) (Proved index winner) spent after = absurd (omega (arith, after))
+after-spent (Spent taken) (Spent other) spent after = tt
+after-spent (Spent taken) (NoSlots refusal) spent after = absurd (omega (arith, after))
+after-spent (Spent taken) Memory spent after = absurd (omega (arith, after))
+after-spent (NoSlots refusal) other spent after = absurd spent
+after-spent Memory other spent after = absurd spent
+
+-- where want of a unit is the foremost end, all workers ended so
+pub all-spent : (end : Ended) (ends : List Ended) → EndsSpent end → IsBeforeAll end ends → All EndsSpent ends
+all-spent end ends spent before = All-weaker (λ (other : Ended). rank end ≤ rank other) EndsSpent (λ other after. after-spent end other spent after) ends before

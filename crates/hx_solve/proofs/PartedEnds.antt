@@ -1,15 +1,18 @@
--- The end of a worker whose seats stand at some place of two lists, where both lists get one more seat.
-use Rattle.std.proofs.Common.{◌≡◌, ℕ, List, [], ◌∷◌, ◌++◌, length, sym, subst, All, Some}
+-- The ends of the workers whose seats stand in two lists, where both lists get one more seat.
+use Rattle.std.proofs.Common.{◌≡◌, ℕ, ◌<◌, List, [], ◌∷◌, ◌++◌, length, refl, sym, subst, All, Some}
 use Rattle.std.specs.Prelude.{slice_get}
 use Rattle.std.proofs.lemmas.List.Elements.{All-push, All-weaker}
 use Rattle.hx_board.specs.declared.colours.Colour.{Colour}
 use Rattle.hx_board.specs.Positions.{Board}
 use Rattle.hx_board.proofs.ListLaws.{get-push_before, get-push_last}
-use Rattle.hx_count.specs.Seats.{Seat}
+use Rattle.hx_count.specs.Seats.{Seat, own}
 use Rattle.hx_share.specs.Readers.{Reader}
 use Rattle.hx_worker.specs.declared.ended.Ended.{Ended}
-use Rattle.hx_worker.specs.Ends.{IsEnded}
-use Rattle.hx_solve.specs.Parts.{IsEndOfSome}
+use Rattle.hx_worker.specs.Ends.{IsEnded, EndsSpent}
+use Rattle.hx_solve.specs.Causes.{IsUndecided}
+use Rattle.hx_solve.specs.Seats.{HasTried}
+use Rattle.hx_solve.specs.Parts.{IsEndOfSome, HaveTried}
+use Rattle.hx_solve.proofs.LastElements.{all-front, all-last}
 
 module _ (slots : ℕ) (board : Board) (mover : Colour) (books : List Reader) (counts : List Seat) (book : Reader) (seat : Seat) where
   end-more : (end : Ended) → IsEndOfSome slots board mover books counts end → IsEndOfSome slots board mover (books ++ book ∷ []) (counts ++ seat ∷ []) end
@@ -39,3 +42,9 @@ module _ (slots : ℕ) (board : Board) (mover : Colour) (books : List Reader) (c
   ends-more ends end same all ended = All-push (IsEndOfSome slots board mover (books ++ book ∷ []) (counts ++ seat ∷ [])) ends end
       (All-weaker (IsEndOfSome slots board mover books counts) (IsEndOfSome slots board mover (books ++ book ∷ []) (counts ++ seat ∷ [])) end-more ends all)
       (end-last end same ended)
+
+pub tried-more : (board : Board) (mover : Colour) (counts : List Seat) (seat : Seat) (ends : List Ended) (end : Ended) → HaveTried board mover counts ends
+    → HasTried board mover seat end → HaveTried board mover (counts ++ seat ∷ []) (ends ++ end ∷ [])
+tried-more board mover counts seat ends end before last spent = All-push (λ (s : Seat). 0 < (own s).granted → IsUndecided board mover) counts seat
+    (before (all-front EndsSpent ends end (ends ++ end ∷ []) refl spent))
+    (last (all-last EndsSpent ends end (ends ++ end ∷ []) refl spent))

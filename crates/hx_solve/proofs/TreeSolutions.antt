@@ -15,10 +15,11 @@ use Rattle.hx_tree.specs.Entries.{IsFirstFound}
 use Rattle.hx_sweep.specs.Sweeps.{IsSweep}
 use Rattle.hx_worker.specs.declared.ended.Ended.{Ended}
 use Rattle.hx_worker.specs.declared.ended.Ended.TheVariants.{Proved, Spent, NoSlots, Memory}
+use Rattle.hx_worker.specs.Ends.{EndsSpent}
 use Rattle.hx_solve.specs.declared.settings.Settings.{Settings}
 use Rattle.hx_solve.specs.declared.unsolved.Unsolved.{Unsolved}
 use Rattle.hx_solve.specs.Solutions.{IsSolution}
-use Rattle.hx_solve.specs.Causes.{HasCause, FoundNoRoom}
+use Rattle.hx_solve.specs.Causes.{HasCause, FoundNoRoom, LacksUnit}
 use Rattle.hx_solve.specs.Searches.{IsClosedEnd, HasEntryFor, IsTreeFrom, SaysWhy}
 
 -- ---- by workers
@@ -70,6 +71,13 @@ cause-by nodes granted board mover settings (Spent taken) why book says is = sub
 cause-by nodes granted board mover settings (NoSlots refusal) why book says is =
     subst (HasCause settings) (sym is) (let room : FoundNoRoom settings.slots refusal = record { nodes = nodes; book = book; out_of_slots = says } in room)
 cause-by nodes granted board mover settings Memory why book says is = subst (HasCause settings) (sym is) tt
+
+-- a unit is wanting where the end says so
+pub spent-by : (ended : Ended) (why : Unsolved) → SaysWhy ended why → LacksUnit why → EndsSpent ended
+spent-by (Proved index winner) why is lacks = absurd (subst LacksUnit is lacks)
+spent-by (Spent taken) why is lacks = tt
+spent-by (NoSlots refusal) why is lacks = absurd (subst LacksUnit is lacks)
+spent-by Memory why is lacks = absurd (subst LacksUnit is lacks)
 
 -- ---- by a full search
 

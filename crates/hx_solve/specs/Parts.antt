@@ -1,12 +1,14 @@
 -- What the workers gave back, taken apart.
-use Rattle.std.specs.Prelude.{◌≡◌, ◌≤◌, ℕ, List, [], slice_get, vec_capacity}
+use Rattle.std.specs.Prelude.{◌≡◌, ◌<◌, ◌≤◌, ℕ, List, [], slice_get, vec_capacity}
+use Rattle.std.specs.List.{All}
 use Rattle.std.specs.declared.option.Option.TheVariants.{Some}
 use Rattle.hx_board.specs.declared.colours.Colour.{Colour}
 use Rattle.hx_board.specs.Positions.{Board}
-use Rattle.hx_count.specs.Seats.{Seat}
+use Rattle.hx_count.specs.Seats.{Seat, own}
 use Rattle.hx_share.specs.Readers.{Reader}
 use Rattle.hx_worker.specs.declared.ended.Ended.{Ended}
-use Rattle.hx_worker.specs.Ends.{IsEnded}
+use Rattle.hx_worker.specs.Ends.{IsEnded, EndsSpent}
+use Rattle.hx_solve.specs.Causes.{IsUndecided}
 use Rattle.hx_solve.specs.declared.parts.Parts.{Parts}
 
 -- nothing yet, and room for the parts of so many workers
@@ -26,3 +28,8 @@ pub record IsEndOfSome (slots : ℕ) (board : Board) (mover : Colour) (books : L
   pub book_there : slice_get books place ≡ Some book
   pub seat_there : slice_get counts place ≡ Some seat
   pub ended : IsEnded book.seen slots seat board mover end
+
+-- where all ended for want of a unit, some seat that was granted one shows that all was tried that can be tried at once
+abbrev pub HaveTried : Board → Colour → List Seat → List Ended → Type 0
+HaveTried board mover counts ends =
+    All EndsSpent ends → All (λ (seat : Seat). 0 < (own seat).granted → IsUndecided board mover) counts

@@ -1,22 +1,29 @@
 -- A worker's seats, before its work and after it.
-use Rattle.std.specs.Prelude.{◌≡◌}
+use Rattle.std.specs.Prelude.{◌≡◌, ◌<◌}
 use Rattle.hx_board.specs.declared.colours.Colour.{Colour}
 use Rattle.hx_board.specs.Positions.{Board}
-use Rattle.hx_count.specs.Machine.{held_in_all}
-use Rattle.hx_count.specs.Seats.{Origin, own}
+use Rattle.hx_count.specs.Machine.{HasNothing}
+use Rattle.hx_count.specs.Seats.{Origin, Seat, own}
 use Rattle.hx_share.specs.Readers.{Origin as BookOrigin}
-use Rattle.hx_worker.specs.Ends.{IsEnded}
+use Rattle.hx_worker.specs.declared.ended.Ended.{Ended}
+use Rattle.hx_worker.specs.Ends.{IsEnded, EndsSpent}
+use Rattle.hx_solve.specs.Causes.{IsUndecided}
 use Rattle.hx_solve.specs.declared.seats.Seats.{Seats}
 use Rattle.hx_solve.specs.declared.crews.Done.{Done}
 
--- seats of this book and of these counts, whose worker holds nothing
+-- seats of this book and of these counts, whose worker has nothing
 pub record AreNewSeats (book : BookOrigin) (counts : Origin) (seats : Seats) : Type 0 where
   pub same_book : seats.book.made ≡ book
   pub same_counts : seats.counts.made ≡ counts
-  pub nothing_held : held_in_all (own seats.counts) ≡ 0
+  pub nothing : HasNothing (own seats.counts)
+
+-- a worker that was granted a unit and ended for want of another one has tried what can be tried at once
+abbrev pub HasTried : Board → Colour → Seat → Ended → Type 0
+HasTried board mover seat end = EndsSpent end → 0 < (own seat).granted → IsUndecided board mover
 
 -- seats of this book and of these counts, and what the end says of them
 pub record IsDone (book : BookOrigin) (counts : Origin) (board : Board) (mover : Colour) (done : Done) : Type 0 where
   pub same_book : done.book.made ≡ book
   pub same_counts : done.counts.made ≡ counts
   pub ended : IsEnded done.book.seen book.slots done.counts board mover done.ended
+  pub tried : HasTried board mover done.counts done.ended

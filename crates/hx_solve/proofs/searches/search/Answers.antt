@@ -3,7 +3,7 @@ use Rattle.std.proofs.lemmas.List.{length-replicate}
 use Rattle.hx_count.specs.declared.views.Limits.{Limits}
 use Rattle.hx_count.proofs.DealLaws.{length-new}
 use Rattle.hx_share.specs.Readers.{reader}
-use Rattle.hx_solve.proofs.ClosedEnds.{contained-closed}
+use Rattle.hx_solve.proofs.ClosedEnds.{contained-closed, tried-closed}
 use Rattle.hx_solve.proofs.searches.search.Goals as goal
 
 pub deal-requires-clause-len : goal.deal-requires-clause-len
@@ -21,12 +21,16 @@ deal-requires-clause-len g c =
 
 pub returns : goal.returns
 returns g c =
-    let parts = c.take_apart-parts.result in let book = c.close-book.ensures in record {
+    let parts = c.take_apart-parts.result in let book = c.close-book.ensures in
+    let ended = contained-closed c.args.settings.now c.args.position.now c.args.to_move c.in_ok-shared.shared.made.slots c.in_ok-counts.counts
+    parts.books.items parts.counts.items parts.ends.items c.foremost-ended.result c.close-book.result c.close-totals.result.granted
+    c.in_ok-shared.ensures.limits.0 (ap (λ (l : Limits). l.budget) c.in_ok-counts.ensures.limits) c.take_apart-parts.ensures.counts
+    c.take_apart-parts.ensures.ends c.foremost-ended.ensures.one
+    c.keeps.ensures.book book.slots book.seen c.close-totals.ensures.refused in record {
       book = c.keeps.ensures.book;
       slots = book.slots ∙ c.in_ok-shared.ensures.limits.0;
-      ended = contained-closed c.args.settings.now c.args.position.now c.args.to_move c.in_ok-shared.shared.made.slots c.in_ok-counts.counts
-          parts.books.items parts.counts.items parts.ends.items c.foremost-ended.result c.close-book.result c.close-totals.result.granted
-          c.in_ok-shared.ensures.limits.0 (ap (λ (l : Limits). l.budget) c.in_ok-counts.ensures.limits) c.take_apart-parts.ensures.counts
-          c.take_apart-parts.ensures.ends c.foremost-ended.ensures.one
-          c.keeps.ensures.book book.slots book.seen c.close-totals.ensures.refused;
+      ended = ended;
+      tried = tried-closed c.args.position.now c.args.to_move c.args.settings.now parts.counts.items parts.ends.items c.foremost-ended.result
+          c.close-book.result.nodes c.close-totals.result.granted c.take_apart-parts.ensures.tried c.foremost-ended.ensures.first ended
+          c.close-totals.ensures.granted.0;
     }

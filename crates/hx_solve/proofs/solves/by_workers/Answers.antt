@@ -1,8 +1,9 @@
-use Rattle.std.proofs.Common.{arith}
-use Rattle.std.proofs.lemmas.Result.{IfOk-weaker}
+use Rattle.std.proofs.Common.{◌<◌, arith}
+use Rattle.std.proofs.lemmas.Result.{IfErr-weaker, IfOk-weaker}
 use Rattle.hx_solve.specs.Solutions.{IsSolution}
-use Rattle.hx_solve.specs.Searches.{IsTreeFrom}
-use Rattle.hx_solve.proofs.TreeSolutions.{tree-solves}
+use Rattle.hx_solve.specs.Causes.{IsUndecided, LacksUnit}
+use Rattle.hx_solve.specs.Searches.{IsTreeFrom, SaysWhy}
+use Rattle.hx_solve.proofs.TreeSolutions.{spent-by, tree-solves}
 use Rattle.hx_solve.proofs.solves.by_workers.Goals as goal
 
 pub returns-in-Ok-clause-tree : goal.returns-in-Ok-clause-tree
@@ -11,3 +12,11 @@ returns-in-Ok-clause-tree g c =
     IfOk-weaker c.conclude.result (λ tree. IsTreeFrom searched.book.nodes searched.ended tree.items) (λ tree. IsSolution c.args.position.now c.args.to_move tree.items)
     (λ tree from. tree-solves searched.book.nodes tree.items searched.totals.granted c.args.position.now c.args.to_move c.args.settings.now searched.ended (omega (arith, is.book.held, is.book.small)) is.ended from)
     c.conclude.ensures.tree
+
+pub returns-in-Ok-clause-tried : goal.returns-in-Ok-clause-tried
+returns-in-Ok-clause-tried g c =
+    let searched = c.in-Ok.searched in
+    IfErr-weaker c.conclude.result (SaysWhy searched.ended)
+    (λ why. LacksUnit why → 0 < c.args.settings.now.budget → IsUndecided c.args.position.now c.args.to_move)
+    (λ why says lacks some. c.in-Ok.ensures.tried (spent-by searched.ended why says lacks) some)
+    c.conclude.ensures.cause

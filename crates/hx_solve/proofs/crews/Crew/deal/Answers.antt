@@ -20,5 +20,5 @@ loop-book-preserved c =
       counts = all-front (λ (s : Seat). s.made ≡ c.args.self.now.counts.now) _ _ _ s.items i.counts;
       nothing = all-front (λ (s : Seat). HasNothing (own s)) _ _ _ s.items i.nothing;
       seats = rw p.items (All-push (AreNewSeats c.args.self.now.shared.now.made c.args.self.now.counts.now) _ _ i.seats
-          (record { same_book = same_book; same_counts = same_counts; nothing_held = nothing.held }));
+          (record { same_book = same_book; same_counts = same_counts; nothing = nothing }));
     }
