@@ -29,7 +29,7 @@ pub record IsEndOfSome (slots : ℕ) (board : Board) (mover : Colour) (books : L
   pub seat_there : slice_get counts place ≡ Some seat
   pub ended : IsEnded book.seen slots seat board mover end
 
--- where all ended for want of a unit, some seat that was granted one shows that all was tried that can be tried at once
+-- where all ended for want of a unit and some seat was granted one, all was tried that can be tried at once
 abbrev pub HaveTried : Board → Colour → List Seat → List Ended → Type 0
 HaveTried board mover counts ends =
     All EndsSpent ends → All (λ (seat : Seat). 0 < (own seat).granted → IsUndecided board mover) counts

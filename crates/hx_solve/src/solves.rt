@@ -35,7 +35,7 @@ pub fn solve<G: Gate + Sync, R: Threads + Wait + Sync>(
     ensures tree { IfOk result (λ tree. IsSolution position.now to_move tree.items) }
     // A refusal carries the budget or the slots of the settings.
     ensures cause { IfErr result (HasCause settings) }
-    // Units are wanting, and not only because there are none, where no chain and no links decide the position.
+    // Where units are wanting though there were some, neither a chain nor closed links decide the position.
     ensures tried { IfErr result
         (λ why. LacksUnit why → 0 < settings.budget → IsUndecided position.now to_move) }
     ensures small { IsSmall position.now settings.budget → IfErr result LacksMemory }
