@@ -10,6 +10,7 @@ use Rattle.hx_text.specs.Versions.{HasTurned}
 use Rattle.hx_text.proofs.WholeTrees.{written_with}
 use Rattle.hx_text.proofs.OneFault.{one_position_fault}
 use Rattle.hx_solve.specs.declared.settings.Settings.{Settings}
+use Rattle.hx_solve.specs.Tallies.{Tallied}
 use Rattle.hx_answers.specs.Endings.{IsWritten, Whole, Cut, IsUnlessStopped, AnswersUnlessStopped}
 use Rattle.hx_check.proofs.KeptPromises.{of_any}
 use Rattle.hx_app.specs.declared.answers.Answer.{Answer}
@@ -17,8 +18,8 @@ use Rattle.hx_app.specs.declared.answers.Answer.TheVariants.{Solved, UnknownBudg
 use Rattle.hx_app.specs.declared.finishes.Finish.{Finish}
 use Rattle.hx_app.specs.declared.solutions.Solution.{Solution}
 use Rattle.hx_app.specs.Limits.{most_bytes}
-use Rattle.hx_app.specs.Positions.{IsSmallPosition, IsOpenPosition, IsNoPosition, IsBadPosition}
-use Rattle.hx_app.specs.Answers.{IsSolved, IsDue, IsSolveStatus, preamble_of, answer_text, solution_text, unknown_budget_line, unknown_proofs_line, bad_position_line, status_of, tally_of}
+use Rattle.hx_app.specs.Positions.{IsSmallPosition, IsOpenPosition, IsPositionWithoutChain, IsNoPosition, IsBadPosition}
+use Rattle.hx_app.specs.Answers.{IsSolved, IsLeftOpen, IsDue, IsSolveStatus, preamble_of, answer_text, solution_text, unknown_budget_line, unknown_proofs_line, bad_position_line, status_of, tally_of}
 use Rattle.hx_app.specs.Promises.{SaysSolved, SaysUnknown, KeepsPromises}
 use Rattle.hx_app.proofs.Positions.{small_not_open, not_bad, position_text_short}
 
@@ -62,7 +63,7 @@ module _ (settings : Settings) (input : List ℕ) (rose : Type 0) where
   small_of : (answer : Answer) → IsSmallPosition settings.budget input → IsDue settings (Some input) rose answer
       → IsUnlessStopped (status_of answer) 0
   small_of (Solved solution) small due = inl refl
-  small_of (UnknownBudget budget) small due = absurd (small_not_open settings.budget input small due.1.1)
+  small_of (UnknownBudget budget) small due = absurd (small_not_open settings.budget input small due.1.1.open_position)
   small_of (UnknownProofs slots) small due = absurd (small_not_open settings.budget input small due.1.1)
   small_of (BadPosition line) small due = absurd (not_bad input small.board small.mover line small.text due.1)
   small_of ReadFault small due = inr (inl refl)
@@ -73,7 +74,7 @@ module _ (settings : Settings) (input : List ℕ) (rose : Type 0) where
       → IsUnlessStopped (status_of answer) 4
   no_position_of (Solved solution) short none due = let is : IsSolved input solution = due.1 in absurd (none is.board is.mover is.text)
   no_position_of (UnknownBudget budget) short none due =
-      let is : IsOpenPosition settings.budget input = due.1.1 in absurd (none is.board is.mover is.text)
+      let is : IsOpenPosition settings.budget input = due.1.1.open_position in absurd (none is.board is.mover is.text)
   no_position_of (UnknownProofs slots) short none due =
       let is : IsOpenPosition settings.budget input = due.1.1 in absurd (none is.board is.mover is.text)
   no_position_of (BadPosition line) short none due = inl refl
@@ -87,7 +88,7 @@ module _ (settings : Settings) (input : List ℕ) (rose : Type 0) where
   position_line_of (Solved solution) line before now written short bad due =
       let is : IsSolved input solution = due.1 in absurd (not_bad input is.board is.mover line is.text bad)
   position_line_of (UnknownBudget budget) line before now written short bad due =
-      let is : IsOpenPosition settings.budget input = due.1.1 in absurd (not_bad input is.board is.mover line is.text bad)
+      let is : IsOpenPosition settings.budget input = due.1.1.open_position in absurd (not_bad input is.board is.mover line is.text bad)
   position_line_of (UnknownProofs slots) line before now written short bad due =
       let is : IsOpenPosition settings.budget input = due.1.1 in absurd (not_bad input is.board is.mover line is.text bad)
   position_line_of (BadPosition other) line before now written short bad due =
@@ -113,12 +114,17 @@ module _ (settings : Settings) (rose : Type 0) where
   open_of None left = tt
   open_of (Some input) left = left.1
 
+  left_open_of : (before : Option (List ℕ)) → IfSome before (λ input. (length input ≤ most_bytes) × IsLeftOpen settings.budget input)
+      → IfSome before (IsOpenPosition settings.budget)
+  left_open_of None left = tt
+  left_open_of (Some input) left = left.1.open_position
+
   unknown_of : (left : Option (List ℕ)) (answer : Answer) (finish : Finish) (before now : Option (List ℕ)) → status_of answer ≡ 3
       → IsDue settings left rose answer → now ≡ append before (answer_text answer) → finish.tally ≡ tally_of settings answer
       → IfSome left (IsOpenPosition settings.budget) × SaysUnknown settings before now finish.tally
   unknown_of left (Solved solution) finish before now three due written counted = absurd (omega arith)
   unknown_of left (UnknownBudget budget) finish before now three due written counted = (
-    open_of left due.1,
+    left_open_of left due.1,
     inl (written ∙ ap (λ (n : ℕ). append before (unknown_budget_line n)) due.0, rw counted refl),
   )
   unknown_of left (UnknownProofs slots) finish before now three due written counted = (
@@ -129,6 +135,18 @@ module _ (settings : Settings) (rose : Type 0) where
   unknown_of left ReadFault finish before now three due written counted = absurd (omega arith)
   unknown_of left OutOfMemory finish before now three due written counted = absurd (omega arith)
   unknown_of left TooLong finish before now three due written counted = absurd (omega arith)
+
+  no_chain_of : (before : Option (List ℕ)) (answer : Answer) (tally : Tallied) → status_of answer ≡ 3 → tally ≡ tally_of settings answer
+      → tally.budgets ≡ 1 → 0 < settings.budget → IsDue settings before rose answer → IfSome before IsPositionWithoutChain
+  no_chain_of None answer tally three counted one some due = tt
+  no_chain_of (Some input) (Solved solution) tally three counted one some due = absurd (omega arith)
+  no_chain_of (Some input) (UnknownBudget budget) tally three counted one some due = due.1.1.no_chain some
+  no_chain_of (Some input) (UnknownProofs slots) tally three counted one some due =
+      absurd (omega (arith, one, ap (λ (t : Tallied). t.budgets) counted))
+  no_chain_of (Some input) (BadPosition line) tally three counted one some due = absurd (omega arith)
+  no_chain_of (Some input) ReadFault tally three counted one some due = absurd (omega arith)
+  no_chain_of (Some input) OutOfMemory tally three counted one some due = absurd (omega arith)
+  no_chain_of (Some input) TooLong tally three counted one some due = absurd (omega arith)
 
   bad_of : (before : Option (List ℕ)) (answer : Answer) → status_of answer ≡ 4 → IsDue settings before rose answer → IfSome before IsNoPosition
   bad_of None answer four due = tt
@@ -191,6 +209,7 @@ kept_whole settings left rose sink_rose answer before now finish due counted sam
       (λ input is. solved_of settings input rose answer before now (sym same ∙ zero) is written);
   small = of_input settings left rose answer _ due (λ input is small. rw same (small_of settings input rose answer small is));
   unknown = λ three. unknown_of settings rose left answer finish before now (sym same ∙ three) due written counted;
+  no_chain = λ three one some. no_chain_of settings rose left answer finish.tally (sym same ∙ three) counted one some due;
   no_position = of_input settings left rose answer _ due
       (λ input is short none. rw same (no_position_of settings input rose answer short none is));
   position_line = of_input settings left rose answer _ due
@@ -210,6 +229,7 @@ kept_cut settings left rose sink_rose before now finish six failed = record {
   solved = λ zero. absurd (omega (arith, six, zero));
   small = of_any left _ (λ input small. inr (inr (inl six)));
   unknown = λ three. absurd (omega (arith, six, three));
+  no_chain = λ three one some. absurd (omega (arith, six, three));
   no_position = of_any left _ (λ input short none. inr (inr (inl six)));
   position_line = of_any left _ (λ input line short bad. inr (inr (inl six)));
   bad_position = λ four. absurd (omega (arith, six, four));

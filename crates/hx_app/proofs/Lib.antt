@@ -1,6 +1,7 @@
 pub mod NodesOut
 pub mod Positions
 pub mod SolvedTrees
+pub mod OpenPositions
 pub mod KeptPromises
 pub mod SearcherLaws
 pub mod SessionPromises

@@ -23,7 +23,7 @@ use Rattle.hx_app.specs.declared.answers.Answer.TheVariants.{Solved, UnknownBudg
 use Rattle.hx_app.specs.declared.finishes.Finish.{Finish}
 use Rattle.hx_app.specs.declared.solutions.Solution.{Solution}
 use Rattle.hx_app.specs.Limits.{most_bytes}
-use Rattle.hx_app.specs.Positions.{IsPositionText, IsOpenPosition, IsBadPosition}
+use Rattle.hx_app.specs.Positions.{IsPositionText, IsOpenPosition, IsPositionWithoutChain, IsBadPosition}
 
 -- what the lines before the nodes say in the text of a solution's tree
 abbrev pub preamble_of : Solution → Preamble
@@ -91,6 +91,12 @@ pub record IsSolved (input : List ℕ) (solution : Solution) : Type 0 where
   pub fits : EachNodeFits (preamble_of solution) solution.nodes.items
   pub winner : solution.winner ≡ tree.root.heading.winner
 
+-- the input is the text of a position that is not small under the budget, which was used up; unless the budget is 0, neither
+-- player has a chain
+pub record IsLeftOpen (budget : ℕ) (input : List ℕ) : Type 0 where
+  pub open_position : IsOpenPosition budget input
+  pub no_chain : 0 < budget → IsPositionWithoutChain input
+
 -- the whole input, which has no more bytes than are read
 abbrev pub WithinLimit : Option (List ℕ) → (List ℕ → Type 0) → Type 0
 WithinLimit left says = IfSome left (λ input. (length input ≤ most_bytes) × says input)
@@ -98,7 +104,7 @@ WithinLimit left says = IfSome left (λ input. (length input ≤ most_bytes) × 
 -- When each answer comes: what the source had left before, and whether its faults rose.
 abbrev pub IsDue : Settings → Option (List ℕ) → Type 0 → Answer → Type 0
 IsDue settings before rose (Solved solution) = WithinLimit before (λ input. IsSolved input solution)
-IsDue settings before rose (UnknownBudget budget) = (budget ≡ settings.budget) × WithinLimit before (IsOpenPosition settings.budget)
+IsDue settings before rose (UnknownBudget budget) = (budget ≡ settings.budget) × WithinLimit before (IsLeftOpen settings.budget)
 IsDue settings before rose (UnknownProofs slots) = (slots ≡ settings.slots) × WithinLimit before (IsOpenPosition settings.budget)
 IsDue settings before rose (BadPosition line) = WithinLimit before (λ input. IsBadPosition input line)
 IsDue settings before rose ReadFault = rose
@@ -126,7 +132,7 @@ nodes_text nodes = flat_map (λ node. text_of (node_lines node)) nodes
 -- what each answer says of the input
 abbrev pub IsFound : Settings → List ℕ → Answer → Type 0
 IsFound settings input (Solved solution) = IsSolved input solution
-IsFound settings input (UnknownBudget budget) = (budget ≡ settings.budget) × IsOpenPosition settings.budget input
+IsFound settings input (UnknownBudget budget) = (budget ≡ settings.budget) × IsLeftOpen settings.budget input
 IsFound settings input (UnknownProofs slots) = (slots ≡ settings.slots) × IsOpenPosition settings.budget input
 IsFound settings input (BadPosition line) = IsBadPosition input line
 IsFound settings input ReadFault = ⊥

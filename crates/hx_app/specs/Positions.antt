@@ -3,6 +3,7 @@ use Rattle.std.specs.Prelude.{◌≡◌, ℕ, List}
 use Rattle.hx_board.specs.declared.colours.Colour.{Colour}
 use Rattle.hx_board.specs.Positions.{Board, IsBoard}
 use Rattle.hx_board.specs.Counts.{IsSmall}
+use Rattle.hx_worker.specs.Ends.{HasNoChain}
 use Rattle.hx_text.specs.Grammars.{IsFaultyLine}
 use Rattle.hx_text.specs.PositionTexts.{ArePositionLines, position_text}
 
@@ -24,6 +25,13 @@ pub record IsOpenPosition (budget : ℕ) (input : List ℕ) : Type 0 where
   pub mover : Colour
   pub text : IsPositionText input board mover
   pub not_small : IsSmall board budget → ⊥
+
+-- the input is the text of a position in which neither player has a chain
+pub record IsPositionWithoutChain (input : List ℕ) : Type 0 where
+  pub board : Board
+  pub mover : Colour
+  pub text : IsPositionText input board mover
+  pub no_chain : HasNoChain board
 
 -- the input is the text of no position
 abbrev pub IsNoPosition : List ℕ → Type 0

@@ -15,7 +15,7 @@ use Rattle.hx_solve.specs.Tallies.{Tallied}
 use Rattle.hx_answers.specs.Endings.{IsUnlessStopped, AnswersUnlessStopped}
 use Rattle.hx_app.specs.declared.finishes.Finish.{Finish}
 use Rattle.hx_app.specs.Limits.{most_bytes}
-use Rattle.hx_app.specs.Positions.{IsPositionText, IsSmallPosition, IsOpenPosition, IsNoPosition, IsBadPosition}
+use Rattle.hx_app.specs.Positions.{IsPositionText, IsSmallPosition, IsOpenPosition, IsPositionWithoutChain, IsNoPosition, IsBadPosition}
 use Rattle.hx_app.specs.Answers.{IsSolveStatus, unknown_budget_line, unknown_proofs_line, bad_position_line}
 
 -- The input is the text of a position, the output is the text of a valid tree of that position and mover, and the root's
@@ -58,6 +58,8 @@ pub record KeepsPromises (settings : Settings) (left : Option (List ℕ)) (rose 
   -- slots; the line that is written says which of them
   pub unknown : finish.status ≡ 3
       → IfSome left (IsOpenPosition settings.budget) × SaysUnknown settings before now finish.tally
+  -- where it was of a unit, and the budget is not 0, neither player has a chain
+  pub no_chain : finish.status ≡ 3 → finish.tally.budgets ≡ 1 → 0 < settings.budget → IfSome left IsPositionWithoutChain
   -- what is no position is answered with 4 and its first wrong line, and nothing else is
   pub no_position : IfSome left (λ input. length input ≤ most_bytes → IsNoPosition input → IsUnlessStopped finish.status 4)
   pub position_line : IfSome left (λ input. (line : ℕ) → length input ≤ most_bytes → IsBadPosition input line

@@ -58,7 +58,8 @@ pub fn run<S: Source, K: Sink, G: Gate + Sync, R: Threads + Wait + Sync>(
         result.status }
 
     // `solve` keeps its promises: with status 0 the output is the text of a valid tree of the input's position, and the player
-    // that it names wins and the other does not; `unknown` comes only where a refusal of a unit or of a slot was counted.
+    // that it names wins and the other does not; `unknown` comes only where a refusal of a unit or of a slot was counted, of a unit
+    // only for a position without a chain, unless the budget is 0.
     ensures solve { (settings : Bounds) → IsSolve settings (words_of words.now)
         → SolvesAsPromised settings
         (S.left source.old) (Rose (S.faults source.old) (S.faults source.new))

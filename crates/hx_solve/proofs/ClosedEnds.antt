@@ -15,10 +15,9 @@ use Rattle.hx_share.specs.Readers.{Reader}
 use Rattle.hx_nodes.specs.Stored.{IsOutOfSlots}
 use Rattle.hx_worker.specs.declared.ended.Ended.{Ended}
 use Rattle.hx_worker.specs.declared.ended.Ended.TheVariants.{Proved, Spent, NoSlots, Memory}
-use Rattle.hx_worker.specs.Ends.{IsEnded, EndsSpent}
+use Rattle.hx_worker.specs.Ends.{IsEnded, EndsSpent, HasNoChain}
 use Rattle.hx_solve.specs.declared.settings.Settings.{Settings}
-use Rattle.hx_solve.specs.Causes.{IsUndecided}
-use Rattle.hx_solve.specs.Parts.{IsEndOfSome, HaveTried}
+use Rattle.hx_solve.specs.Parts.{IsEndOfSome, AllFoundNoChain}
 use Rattle.hx_solve.specs.Searches.{IsClosedEnd}
 use Rattle.hx_solve.proofs.LaterLists.{all-get, any-get, found-later, no_longer}
 use Rattle.hx_solve.proofs.ForemostEnds.{IsBeforeAll, all-spent}
@@ -86,10 +85,10 @@ all-granted nodes granted board mover settings (Spent taken) is spent = is.1
 all-granted nodes granted board mover settings (NoSlots refusal) is spent = absurd spent
 all-granted nodes granted board mover settings Memory is spent = absurd spent
 
--- where units are wanting and there were some, a worker that had one has tried what can be tried at once
-pub tried-closed : (board : Board) (mover : Colour) (settings : Settings) (counts : List Seat) (ends : List Ended) (end : Ended) (nodes : List Node) (granted : ℕ)
-    → HaveTried board mover counts ends → IsBeforeAll end ends → IsClosedEnd nodes granted board mover settings end → granted ≡ sum_by granted_to counts
-    → EndsSpent end → 0 < settings.budget → IsUndecided board mover
-tried-closed board mover settings counts ends end nodes granted tried before is sum spent some =
-    some-seat (IsUndecided board mover) counts (tried (all-spent end ends spent before))
+-- where units are wanting though there were some, a worker that had one found no chain
+pub no_chain-closed : (board : Board) (mover : Colour) (settings : Settings) (counts : List Seat) (ends : List Ended) (end : Ended) (nodes : List Node) (granted : ℕ)
+    → AllFoundNoChain board counts ends → IsBeforeAll end ends → IsClosedEnd nodes granted board mover settings end → granted ≡ sum_by granted_to counts
+    → EndsSpent end → 0 < settings.budget → HasNoChain board
+no_chain-closed board mover settings counts ends end nodes granted none before is sum spent some =
+    some-seat (HasNoChain board) counts (none (all-spent end ends spent before))
     (omega (arith, some, sum, all-granted nodes granted board mover settings end is spent))

@@ -8,10 +8,9 @@ use Rattle.hx_board.proofs.ListLaws.{get-push_before, get-push_last}
 use Rattle.hx_count.specs.Seats.{Seat, own}
 use Rattle.hx_share.specs.Readers.{Reader}
 use Rattle.hx_worker.specs.declared.ended.Ended.{Ended}
-use Rattle.hx_worker.specs.Ends.{IsEnded, EndsSpent}
-use Rattle.hx_solve.specs.Causes.{IsUndecided}
-use Rattle.hx_solve.specs.Seats.{HasTried}
-use Rattle.hx_solve.specs.Parts.{IsEndOfSome, HaveTried}
+use Rattle.hx_worker.specs.Ends.{IsEnded, EndsSpent, HasNoChain}
+use Rattle.hx_solve.specs.Seats.{FoundNoChain}
+use Rattle.hx_solve.specs.Parts.{IsEndOfSome, AllFoundNoChain}
 use Rattle.hx_solve.proofs.LastElements.{all-front, all-last}
 
 module _ (slots : ℕ) (board : Board) (mover : Colour) (books : List Reader) (counts : List Seat) (book : Reader) (seat : Seat) where
@@ -43,8 +42,8 @@ module _ (slots : ℕ) (board : Board) (mover : Colour) (books : List Reader) (c
       (All-weaker (IsEndOfSome slots board mover books counts) (IsEndOfSome slots board mover (books ++ book ∷ []) (counts ++ seat ∷ [])) end-more ends all)
       (end-last end same ended)
 
-pub tried-more : (board : Board) (mover : Colour) (counts : List Seat) (seat : Seat) (ends : List Ended) (end : Ended) → HaveTried board mover counts ends
-    → HasTried board mover seat end → HaveTried board mover (counts ++ seat ∷ []) (ends ++ end ∷ [])
-tried-more board mover counts seat ends end before last spent = All-push (λ (s : Seat). 0 < (own s).granted → IsUndecided board mover) counts seat
+pub no_chain-more : (board : Board) (counts : List Seat) (seat : Seat) (ends : List Ended) (end : Ended) → AllFoundNoChain board counts ends
+    → FoundNoChain board seat end → AllFoundNoChain board (counts ++ seat ∷ []) (ends ++ end ∷ [])
+no_chain-more board counts seat ends end before last spent = All-push (λ (s : Seat). 0 < (own s).granted → HasNoChain board) counts seat
     (before (all-front EndsSpent ends end (ends ++ end ∷ []) refl spent))
     (last (all-last EndsSpent ends end (ends ++ end ∷ []) refl spent))

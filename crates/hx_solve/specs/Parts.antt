@@ -7,8 +7,7 @@ use Rattle.hx_board.specs.Positions.{Board}
 use Rattle.hx_count.specs.Seats.{Seat, own}
 use Rattle.hx_share.specs.Readers.{Reader}
 use Rattle.hx_worker.specs.declared.ended.Ended.{Ended}
-use Rattle.hx_worker.specs.Ends.{IsEnded, EndsSpent}
-use Rattle.hx_solve.specs.Causes.{IsUndecided}
+use Rattle.hx_worker.specs.Ends.{IsEnded, EndsSpent, HasNoChain}
 use Rattle.hx_solve.specs.declared.parts.Parts.{Parts}
 
 -- nothing yet, and room for the parts of so many workers
@@ -29,7 +28,7 @@ pub record IsEndOfSome (slots : ℕ) (board : Board) (mover : Colour) (books : L
   pub seat_there : slice_get counts place ≡ Some seat
   pub ended : IsEnded book.seen slots seat board mover end
 
--- where all ended for want of a unit and some seat was granted one, all was tried that can be tried at once
-abbrev pub HaveTried : Board → Colour → List Seat → List Ended → Type 0
-HaveTried board mover counts ends =
-    All EndsSpent ends → All (λ (seat : Seat). 0 < (own seat).granted → IsUndecided board mover) counts
+-- where all ended for want of a unit and some seat was granted one, no chain is there
+abbrev pub AllFoundNoChain : Board → List Seat → List Ended → Type 0
+AllFoundNoChain board counts ends =
+    All EndsSpent ends → All (λ (seat : Seat). 0 < (own seat).granted → HasNoChain board) counts

@@ -7,10 +7,9 @@ use Rattle.hx_tree.specs.Entries.{IsFirstFound}
 use Rattle.hx_book.specs.Entries.{IsBook}
 use Rattle.hx_book.specs.Trees.{IsTreeOf}
 use Rattle.hx_nodes.specs.Stored.{IsOutOfSlots}
-use Rattle.hx_worker.specs.Ends.{EndsSpent}
+use Rattle.hx_worker.specs.Ends.{EndsSpent, HasNoChain}
 use Rattle.hx_worker.specs.declared.ended.Ended.{Ended}
 use Rattle.hx_worker.specs.declared.ended.Ended.TheVariants.{Proved, Spent, NoSlots, Memory}
-use Rattle.hx_solve.specs.Causes.{IsUndecided}
 use Rattle.hx_solve.specs.declared.settings.Settings.{Settings}
 use Rattle.hx_solve.specs.declared.searches.Searched.{Searched}
 use Rattle.hx_solve.specs.declared.unsolved.Unsolved.{Unsolved}
@@ -24,12 +23,12 @@ IsClosedEnd nodes granted board mover settings (NoSlots refusal) = IsOutOfSlots 
 IsClosedEnd nodes granted board mover settings Memory = Unit {0}
 
 -- the closed book has the slots of the settings, and the end says what it should of the book and of the counts; where units are
--- wanting, some worker had one, and has tried what can be tried at once
+-- wanting though there were some, neither player has a chain
 pub record IsSearched (board : Board) (mover : Colour) (settings : Settings) (searched : Searched) : Type 0 where
   pub book : IsBook searched.book
   pub slots : searched.book.slots ≡ settings.slots
   pub ended : IsClosedEnd searched.book.nodes searched.totals.granted board mover settings searched.ended
-  pub tried : EndsSpent searched.ended → 0 < settings.budget → IsUndecided board mover
+  pub no_chain : EndsSpent searched.ended → 0 < settings.budget → HasNoChain board
 
 -- where the end is a proof, the list has its place
 abbrev pub HasEntryFor : List Node → Ended → Type 0

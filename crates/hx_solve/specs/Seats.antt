@@ -6,8 +6,7 @@ use Rattle.hx_count.specs.Machine.{HasNothing}
 use Rattle.hx_count.specs.Seats.{Origin, Seat, own}
 use Rattle.hx_share.specs.Readers.{Origin as BookOrigin}
 use Rattle.hx_worker.specs.declared.ended.Ended.{Ended}
-use Rattle.hx_worker.specs.Ends.{IsEnded, EndsSpent}
-use Rattle.hx_solve.specs.Causes.{IsUndecided}
+use Rattle.hx_worker.specs.Ends.{IsEnded, EndsSpent, HasNoChain}
 use Rattle.hx_solve.specs.declared.seats.Seats.{Seats}
 use Rattle.hx_solve.specs.declared.crews.Done.{Done}
 
@@ -17,13 +16,13 @@ pub record AreNewSeats (book : BookOrigin) (counts : Origin) (seats : Seats) : T
   pub same_counts : seats.counts.made ≡ counts
   pub nothing : HasNothing (own seats.counts)
 
--- a worker that was granted a unit and ended for want of another one has tried what can be tried at once
-abbrev pub HasTried : Board → Colour → Seat → Ended → Type 0
-HasTried board mover seat end = EndsSpent end → 0 < (own seat).granted → IsUndecided board mover
+-- a worker that was granted a unit and ended for want of another one found no chain
+abbrev pub FoundNoChain : Board → Seat → Ended → Type 0
+FoundNoChain board seat end = EndsSpent end → 0 < (own seat).granted → HasNoChain board
 
 -- seats of this book and of these counts, and what the end says of them
 pub record IsDone (book : BookOrigin) (counts : Origin) (board : Board) (mover : Colour) (done : Done) : Type 0 where
   pub same_book : done.book.made ≡ book
   pub same_counts : done.counts.made ≡ counts
   pub ended : IsEnded done.book.seen book.slots done.counts board mover done.ended
-  pub tried : HasTried board mover done.counts done.ended
+  pub no_chain : FoundNoChain board done.counts done.ended

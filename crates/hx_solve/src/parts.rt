@@ -3,7 +3,7 @@
 ghost use Rattle.std.specs.Prelude.{◌≡◌, IfOk, vec_len};
 ghost use Rattle.std.specs.List.{All};
 ghost use Rattle.hx_solve.specs.Seats.{IsDone};
-ghost use Rattle.hx_solve.specs.Parts.{HasRoom, HaveTried, IsEndOfSome};
+ghost use Rattle.hx_solve.specs.Parts.{AllFoundNoChain, HasRoom, IsEndOfSome};
 
 use crate::crews::{Crew, Done};
 use hx_board::Memory;
@@ -56,7 +56,7 @@ impl Crew<'_> {
         ensures ends { All
             (IsEndOfSome self.now.shared.now.made.slots self.now.position self.now.to_move
             result.books.items result.counts.items) result.ends.items }
-        ensures tried { HaveTried self.now.position self.now.to_move result.counts.items
+        ensures no_chain { AllFoundNoChain self.now.position result.counts.items
             result.ends.items }
     {
         while let Some(done) = dones.pop() {

@@ -2,9 +2,10 @@
 
 ghost use Rattle.std.specs.Prelude.{◌<◌, IfOk, IfErr};
 ghost use Rattle.hx_board.specs.Counts.{IsSmall};
+ghost use Rattle.hx_worker.specs.Ends.{HasNoChain};
 ghost use Rattle.hx_solve.specs.Settings.{AreSettings};
 ghost use Rattle.hx_solve.specs.Solutions.{IsSolution};
-ghost use Rattle.hx_solve.specs.Causes.{HasCause, IsUndecided, LacksMemory, LacksUnit};
+ghost use Rattle.hx_solve.specs.Causes.{HasCause, LacksMemory, LacksUnit};
 
 use crate::searches::search;
 use crate::settings::Settings;
@@ -35,9 +36,9 @@ pub fn solve<G: Gate + Sync, R: Threads + Wait + Sync>(
     ensures tree { IfOk result (λ tree. IsSolution position.now to_move tree.items) }
     // A refusal carries the budget or the slots of the settings.
     ensures cause { IfErr result (HasCause settings) }
-    // Where units are wanting though there were some, neither a chain nor closed links decide the position.
-    ensures tried { IfErr result
-        (λ why. LacksUnit why → 0 < settings.budget → IsUndecided position.now to_move) }
+    // Where units are wanting though there were some, neither player has a chain.
+    ensures no_chain { IfErr result
+        (λ why. LacksUnit why → 0 < settings.budget → HasNoChain position.now) }
     ensures small { IsSmall position.now settings.budget → IfErr result LacksMemory }
 {
     let answer = by_workers(rt, alloc, position, to_move, &settings, gate);
@@ -59,8 +60,8 @@ fn by_workers<G: Gate + Sync, R: Threads + Wait + Sync>(
     requires { AreSettings settings.now }
     ensures tree { IfOk result (λ tree. IsSolution position.now to_move tree.items) }
     ensures cause { IfErr result (HasCause settings.now) }
-    ensures tried { IfErr result
-        (λ why. LacksUnit why → 0 < settings.now.budget → IsUndecided position.now to_move) }
+    ensures no_chain { IfErr result
+        (λ why. LacksUnit why → 0 < settings.now.budget → HasNoChain position.now) }
 {
     match search(rt, alloc, position, to_move, settings, gate) {
         Ok(searched) => conclude(searched),

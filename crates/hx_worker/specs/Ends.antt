@@ -48,8 +48,12 @@ pub record WasUnlisted (old new : List Node) (board : Board) (mover : Colour) : 
   pub is_turned : IsTurned board turned
   pub turned_missed : WasMissed old new turned mover
 
+-- neither player has a chain
+abbrev pub HasNoChain : Board → Type 0
+HasNoChain board = (player : Colour) → HasChain board player → ⊥
+
 -- the position is decided neither by a chain nor by the links of the sets, which were closed as far as that goes
 pub record IsTried (board : Board) (mover : Colour) (black white : Standing) : Type 0 where
-  pub no_chain : (player : Colour) → HasChain board player → ⊥
+  pub no_chain : HasNoChain board
   pub black_open : IsOpenSet black mover
   pub white_open : IsOpenSet white mover

@@ -1,7 +1,8 @@
 use Rattle.std.proofs.Common.{◌<◌, arith}
 use Rattle.std.proofs.lemmas.Result.{IfErr-weaker, IfOk-weaker}
+use Rattle.hx_worker.specs.Ends.{HasNoChain}
 use Rattle.hx_solve.specs.Solutions.{IsSolution}
-use Rattle.hx_solve.specs.Causes.{IsUndecided, LacksUnit}
+use Rattle.hx_solve.specs.Causes.{LacksUnit}
 use Rattle.hx_solve.specs.Searches.{IsTreeFrom, SaysWhy}
 use Rattle.hx_solve.proofs.TreeSolutions.{spent-by, tree-solves}
 use Rattle.hx_solve.proofs.solves.by_workers.Goals as goal
@@ -13,10 +14,10 @@ returns-in-Ok-clause-tree g c =
     (λ tree from. tree-solves searched.book.nodes tree.items searched.totals.granted c.args.position.now c.args.to_move c.args.settings.now searched.ended (omega (arith, is.book.held, is.book.small)) is.ended from)
     c.conclude.ensures.tree
 
-pub returns-in-Ok-clause-tried : goal.returns-in-Ok-clause-tried
-returns-in-Ok-clause-tried g c =
+pub returns-in-Ok-clause-no_chain : goal.returns-in-Ok-clause-no_chain
+returns-in-Ok-clause-no_chain g c =
     let searched = c.in-Ok.searched in
     IfErr-weaker c.conclude.result (SaysWhy searched.ended)
-    (λ why. LacksUnit why → 0 < c.args.settings.now.budget → IsUndecided c.args.position.now c.args.to_move)
-    (λ why says lacks some. c.in-Ok.ensures.tried (spent-by searched.ended why says lacks) some)
+    (λ why. LacksUnit why → 0 < c.args.settings.now.budget → HasNoChain c.args.position.now)
+    (λ why says lacks some. c.in-Ok.ensures.no_chain (spent-by searched.ended why says lacks) some)
     c.conclude.ensures.cause

@@ -4,7 +4,7 @@ use Rattle.hx_count.specs.Seats.{Seat}
 use Rattle.hx_share.specs.Readers.{Reader}
 use Rattle.hx_solve.specs.Seats.{IsDone}
 use Rattle.hx_solve.proofs.LastElements.{all-front, all-last}
-use Rattle.hx_solve.proofs.PartedEnds.{ends-more, tried-more}
+use Rattle.hx_solve.proofs.PartedEnds.{ends-more, no_chain-more}
 use Rattle.hx_solve.proofs.crews.Crew.take_apart.Goals as goal
 
 pub loop-done-preserved : goal.loop-done-preserved
@@ -25,6 +25,6 @@ loop-done-preserved c =
       same_counts = rw s.items (All-push (λ (s : Seat). s.made ≡ crew.counts.now) parts.counts.items done.counts i.same_counts last.same_counts);
       some_ends = rw (b.items, s.items, e.items)
           (ends-more crew.shared.now.made.slots crew.position crew.to_move parts.books.items parts.counts.items done.book done.counts parts.ends.items done.ended as_many i.some_ends last.ended);
-      tried = rw (s.items, e.items)
-          (tried-more crew.position crew.to_move parts.counts.items done.counts parts.ends.items done.ended i.tried last.tried);
+      no_chain = rw (s.items, e.items)
+          (no_chain-more crew.position parts.counts.items done.counts parts.ends.items done.ended i.no_chain last.no_chain);
     }

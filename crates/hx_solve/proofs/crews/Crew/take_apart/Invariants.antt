@@ -1,6 +1,6 @@
 use Rattle.std.proofs.Common.{◌≡◌, ◌+◌, ◌≤◌, All, vec_len, vec_capacity}
 use Rattle.hx_solve.specs.Seats.{IsDone}
-use Rattle.hx_solve.specs.Parts.{HaveTried, IsEndOfSome}
+use Rattle.hx_solve.specs.Parts.{AllFoundNoChain, IsEndOfSome}
 use Rattle.hx_solve.proofs.crews.Crew.take_apart.Given as goal
 
 abbrev pub invariant-loop-done : goal.invariant-loop-done
@@ -15,7 +15,7 @@ invariant-loop-done l = record {
   same_book : All (λ s. s.made ≡ l.self.shared.now.made) l.parts.books.items;
   same_counts : All (λ s. s.made ≡ l.self.counts.now) l.parts.counts.items;
   some_ends : All (IsEndOfSome l.self.shared.now.made.slots l.self.position l.self.to_move l.parts.books.items l.parts.counts.items) l.parts.ends.items;
-  tried : HaveTried l.self.position l.self.to_move l.parts.counts.items l.parts.ends.items;
+  no_chain : AllFoundNoChain l.self.position l.parts.counts.items l.parts.ends.items;
 }
 
 abbrev pub decreases-loop-done : goal.decreases-loop-done
