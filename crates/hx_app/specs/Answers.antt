@@ -91,8 +91,8 @@ pub record IsSolved (input : List ℕ) (solution : Solution) : Type 0 where
   pub fits : EachNodeFits (preamble_of solution) solution.nodes.items
   pub winner : solution.winner ≡ tree.root.heading.winner
 
--- the input is the text of a position that is not small under the budget, which was used up; unless the budget is 0, neither
--- player has a chain
+-- the input is the text of a position that is not small under the budget, and in which, unless the budget is 0, neither player has
+-- a chain
 pub record IsLeftOpen (budget : ℕ) (input : List ℕ) : Type 0 where
   pub open_position : IsOpenPosition budget input
   pub no_chain : 0 < budget → IsPositionWithoutChain input

@@ -51,7 +51,8 @@ pub fn run<S: Source, K: Sink, G: Gate + Sync, R: Threads + Wait + Sync>(
         result }
 
     // `check` keeps its promises: with status 0 the input is the text of a valid tree, which the output says, and the player that
-    // it names wins and the other does not; it accepts exactly the valid trees, however long they are.
+    // it names wins and the other does not; it accepts exactly the valid trees that have no more nodes than a text
+    // may have, however many bytes they have.
     ensures check { IsCheck (words_of words.now) → ChecksAsPromised
         (S.left source.old) (S.left source.new) (Rose (S.faults source.old) (S.faults source.new))
         (K.taken sink.old) (K.taken sink.new) (Rose (K.faults sink.old) (K.faults sink.new))

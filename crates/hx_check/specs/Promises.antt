@@ -38,7 +38,8 @@ pub record KeepsPromises (left left_now : Option (List ℕ)) (rose : Type 0) (be
   -- with status 0 the input is the text of a valid tree, the output says so, and the player that it names wins and the other
   -- does not
   pub yes : status ≡ 0 → IfSome left (λ input. SaysYes input before now)
-  -- the text of a valid tree is answered with 0, however long it is, and what is no such text and within the limits with 1
+  -- the text of a valid tree of no more nodes than a text may have is answered with 0, however many bytes it has; what is no text of
+  -- a valid tree and within the limits, with 1
   pub proof : IfSome left (λ input. IsProof input → IsUnlessStopped status 0)
   pub no_proof : IfSome left (λ input. ¬ IsLong input → IsNoProof input → IsUnlessStopped status 1)
   -- and 1 comes for no text of a valid tree
