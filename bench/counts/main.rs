@@ -7,7 +7,7 @@ ghost use Rattle.std.specs.List.{All};
 mod clock;
 
 use crate::clock::since;
-use hx_count::{CountSeat, Counts};
+use hx_count::{CountSeat, Counts, MOST_HELD};
 use std::alloc::Global;
 use std::thread::Threads;
 use std::time::Instant;
@@ -33,7 +33,7 @@ fn hold_many(counts: &Counts, seat: CountSeat) -> CountSeat
 {
     let mut seat = seat;
     for _ in 0..TURNS {
-        if seat.held() < 1024 {
+        if seat.held() < MOST_HELD {
             counts.hold(&mut seat, 7);
             counts.release(&mut seat, 7);
         }

@@ -19,9 +19,10 @@ use Rattle.hx_app.specs.declared.finishes.Finish.{Finish}
 use Rattle.hx_app.specs.declared.solutions.Solution.{Solution}
 use Rattle.hx_app.specs.Limits.{most_bytes}
 use Rattle.hx_app.specs.Positions.{IsSmallPosition, IsOpenPosition, IsPositionWithoutChain, IsNoPosition, IsBadPosition}
-use Rattle.hx_app.specs.Answers.{IsSolved, IsLeftOpen, IsDue, IsSolveStatus, preamble_of, answer_text, solution_text, unknown_budget_line, unknown_proofs_line, bad_position_line, status_of, tally_of}
+use Rattle.hx_app.specs.Answers.{IsSolved, IsDue, IsSolveStatus, preamble_of, answer_text, solution_text, unknown_budget_line, unknown_proofs_line, bad_position_line, status_of, tally_of}
 use Rattle.hx_app.specs.Promises.{SaysSolved, SaysUnknown, KeepsPromises}
 use Rattle.hx_app.proofs.Positions.{small_not_open, not_bad, position_text_short}
+use Rattle.std.proofs.lemmas.Option.{IfSome_then}
 
 says_solved : (input : List ℕ) (solution : Solution) (taken_before taken_now : Option (List ℕ)) → IsSolved input solution
     → taken_now ≡ append taken_before (solution_text solution) → SaysSolved input taken_before taken_now
@@ -109,26 +110,16 @@ module _ (settings : Settings) (input : List ℕ) (rose : Type 0) where
 -- ---- what a status says of what was left, whatever the answer
 
 module _ (settings : Settings) (rose : Type 0) where
-  open_of : (before : Option (List ℕ)) → IfSome before (λ input. (length input ≤ most_bytes) × IsOpenPosition settings.budget input)
-      → IfSome before (IsOpenPosition settings.budget)
-  open_of None left = tt
-  open_of (Some input) left = left.1
-
-  left_open_of : (before : Option (List ℕ)) → IfSome before (λ input. (length input ≤ most_bytes) × IsLeftOpen settings.budget input)
-      → IfSome before (IsOpenPosition settings.budget)
-  left_open_of None left = tt
-  left_open_of (Some input) left = left.1.open_position
-
   unknown_of : (left : Option (List ℕ)) (answer : Answer) (finish : Finish) (before now : Option (List ℕ)) → status_of answer ≡ 3
       → IsDue settings left rose answer → now ≡ append before (answer_text answer) → finish.tally ≡ tally_of settings answer
       → IfSome left (IsOpenPosition settings.budget) × SaysUnknown settings before now finish.tally
   unknown_of left (Solved solution) finish before now three due written counted = absurd (omega arith)
   unknown_of left (UnknownBudget budget) finish before now three due written counted = (
-    left_open_of left due.1,
+    IfSome_then left due.1 (λ input left_open. left_open.1.open_position),
     inl (written ∙ ap (λ (n : ℕ). append before (unknown_budget_line n)) due.0, rw counted refl),
   )
   unknown_of left (UnknownProofs slots) finish before now three due written counted = (
-    open_of left due.1,
+    IfSome_then left due.1 (λ input left_open. left_open.1),
     inr (written ∙ ap (λ (n : ℕ). append before (unknown_proofs_line n)) due.0, rw counted refl),
   )
   unknown_of left (BadPosition line) finish before now three due written counted = absurd (omega arith)

@@ -1,6 +1,6 @@
 -- What a run of `htp` says with each status, by how the session ended.
 use Rattle.std.proofs.Common.{◌≡◌, ℕ, ◌<◌, ◌^◌, inl, inr, List, length, refl, sym, subst, arith}
-use Rattle.std.specs.Prelude.{Option, None, Some, IfSome}
+use Rattle.std.specs.Prelude.{Option}
 use Rattle.hx_solve.specs.declared.settings.Settings.{Settings}
 use Rattle.hx_solve.specs.Tallies.{Tallied, tallied}
 use Rattle.hx_htp.specs.Accounts.{Account}
@@ -14,6 +14,7 @@ use Rattle.hx_serve.specs.Serving.{Ends, IsTooLong, IsWithinLimits}
 use Rattle.hx_check.proofs.KeptPromises.{of_any}
 use Rattle.hx_app.specs.declared.finishes.Finish.{Finish}
 use Rattle.hx_app.specs.Sessions.{account_of, start_of, status_of_end, EndHasCause, IsSessionRun, EachRunNamesWinners, EachRunIsCounted, KeepsPromises}
+use Rattle.std.proofs.lemmas.Option.{IfSome_then}
 
 -- ---- how a session was served
 
@@ -64,12 +65,6 @@ each_run_is_counted : (settings : Settings) (after : Account) → RepliesAreCoun
 each_run_is_counted settings after law lines replies run few =
     law (start_of settings) after lines replies run refl refl (omega (arith, few))
 
--- a clause of an input holds where the source does not tell it
-of_told : (left : Option (List ℕ)) (Knows Says : List ℕ → Type 0) → IfSome left Knows → ((input : List ℕ) → Knows input → Says input)
-    → IfSome left Says
-of_told None Knows Says knows says = tt
-of_told (Some input) Knows Says knows says = says input knows
-
 module _ (settings : Settings) (left left_now : Option (List ℕ)) (rose : Type 0) (before now : Option (List ℕ)) (sink_rose : Type 0) (finish : Finish)
     (apart : LimitsAreApart) (winners : EachRunNamesWinners (start_of settings) (account_of finish.tally))
     (counted : EachRunIsCounted (start_of settings) (account_of finish.tally)) where
@@ -86,7 +81,7 @@ module _ (settings : Settings) (left left_now : Option (List ℕ)) (rose : Type 
     write_fault = λ six. absurd (omega (arith, zero, six));
     too_long = λ eight. absurd (omega (arith, zero, eight));
     within = of_any left _ (λ input within. inl zero);
-    above = of_told left _ _ ends (λ input done above. absurd (above done.within));
+    above = IfSome_then left ends (λ input done above. absurd (above done.within));
     winners = winners;
     counted = counted;
     none_else = inr (inl zero);
@@ -124,7 +119,7 @@ module _ (settings : Settings) (left left_now : Option (List ℕ)) (rose : Type 
     read_fault = λ five. absurd (omega (arith, eight, five));
     write_fault = λ six. absurd (omega (arith, eight, six));
     too_long = λ is. ends;
-    within = of_told left _ _ ends (λ input long within. absurd (apart _ _ input before now long within));
+    within = IfSome_then left ends (λ input long within. absurd (apart _ _ input before now long within));
     above = of_any left _ (λ input above. inl eight);
     winners = winners;
     counted = counted;

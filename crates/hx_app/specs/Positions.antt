@@ -2,8 +2,8 @@
 use Rattle.std.specs.Prelude.{◌≡◌, ℕ, List}
 use Rattle.hx_board.specs.declared.colours.Colour.{Colour}
 use Rattle.hx_board.specs.Positions.{Board, IsBoard}
+use Rattle.hx_board.specs.Graph.{HasNoChain}
 use Rattle.hx_board.specs.Counts.{IsSmall}
-use Rattle.hx_worker.specs.Ends.{HasNoChain}
 use Rattle.hx_text.specs.Grammars.{IsFaultyLine}
 use Rattle.hx_text.specs.PositionTexts.{ArePositionLines, position_text}
 

@@ -19,6 +19,3 @@ pub use demo_answers::{DemoAnswer, WinCounts};
 pub use finishes::Finish;
 pub use laws::check_accepts_what_solve_writes;
 pub use solutions::Solution;
-
-#[cfg(test)]
-mod tests;

@@ -1,9 +1,9 @@
 -- How many members a set has: fewer where it lost one, and at most 121 where it has cells alone.
 use Rattle.std.proofs.Common.{◌≡◌, ◌≢◌, ℕ, zero, suc, ◌+◌, ◌<◌, ◌≤◌, Bool, true, false, not, eqb, eq-eqb, ◌^◌, refl, sym, ap, ◌∙◌, subst, ◌⊎◌, inl, inr, ⊎_elim, arith}
-use Rattle.std.proofs.lemmas.Bool.{false≢true, cases_lt, ne_eqb}
+use Rattle.std.proofs.lemmas.Bool.{false≢true, cases_lt, ne_eqb, and_from, false_from_ne_true}
 use Rattle.hx_board.specs.Sets.{has, remove, intersection, count_below, IsSubset, ShareOne}
 use Rattle.hx_board.proofs.CellLaws.{share_one}
-use Rattle.hx_board.proofs.SetLaws.{is_subset-intersection, is_false, has-remove, and_both, has-intersection_left, has-intersection_right}
+use Rattle.hx_board.proofs.SetLaws.{is_subset-intersection, has-remove, has-intersection_left, has-intersection_right}
 use Rattle.hx_board.proofs.Tallies.{share, tally, count_below-tally, count_below-remove}
 
 share-le : (b : Bool) (n bound : ℕ) → n ≤ bound → share b + n ≤ suc bound
@@ -18,7 +18,7 @@ tally-small : (test : ℕ → Bool) (bound : ℕ) → ((n : ℕ) → test n ≡ 
 tally-small test zero small = omega arith
 tally-small test (suc bound) small = ⊎_elim
     (λ lt. omega (arith, tally-le test (suc bound), lt))
-    (λ le. let none : share (test bound) ≡ 0 = ap share (is_false (test bound) (λ h. absurd (omega (arith, small bound h, le)))) in omega (arith, tally-small test bound small, none))
+    (λ le. let none : share (test bound) ≡ 0 = ap share (false_from_ne_true (test bound) (λ h. absurd (omega (arith, small bound h, le)))) in omega (arith, tally-small test bound small, none))
     (cases_lt bound 121)
 
 pub count-small : (set : ℕ) → ((n : ℕ) → has set n ≡ true → n < 121) → count_below 128 set ≤ 121
@@ -33,7 +33,7 @@ tally-subset test other zero h = omega arith
 tally-subset test other (suc bound) h = omega (arith, share-subset (test bound) (other bound) (h bound), tally-subset test other bound h)
 
 kept : (set n k : ℕ) → has set k ≡ true → k ≢ n → has (remove set n) k ≡ true
-kept set n k h ne = has-remove set n k ∙ and_both (has set k) (not (eqb k n)) h (ap not (ne_eqb k n ne))
+kept set n k h ne = has-remove set n k ∙ and_from (has set k) (not (eqb k n)) h (ap not (ne_eqb k n ne))
 
 pub count-less : (set other n : ℕ) → n < 128 → has set n ≡ true → has other n ≡ false → count_below 128 (intersection set other) < count_below 128 set
 count-less set other n small member lacks =

@@ -1,7 +1,7 @@
 -- The laws of the number of empty cells. A stone on an empty cell changes the answer of `is_empty` at that cell alone, so
 -- the count falls by one.
 use Rattle.std.proofs.Common.{◌≡◌, ◌≢◌, ℕ, zero, suc, ◌+◌, ◌*◌, ◌<◌, ◌≤◌, Bool, true, false, ◌||◌, ◌&&◌, not, ltb, refl, sym, ap, ◌∙◌, arith, ⊎_elim, ◌↔◌, eqb-true}
-use Rattle.std.proofs.lemmas.Bool.{false≢true, cases_lt, ltb-true, lt-ltb, not-true, not_from_false}
+use Rattle.std.proofs.lemmas.Bool.{false≢true, cases_lt, ltb-true, lt-ltb, not-true, not_from_false, and_from, false_from_ne_true}
 use Rattle.std.specs.Prelude.{if◌then◌else◌}
 use Rattle.hx_board.specs.Sets.{has, insert, count_below}
 use Rattle.hx_board.specs.Cells.{IsExtent, row_of, col_of}
@@ -9,7 +9,7 @@ use Rattle.hx_board.specs.declared.colours.Colour.{Colour}
 use Rattle.hx_board.specs.declared.colours.Colour.TheVariants.{Black, White}
 use Rattle.hx_board.specs.Positions.{Board, IsBoard, IsEmpty, put}
 use Rattle.hx_board.specs.Counts.{is_empty, empty_below, empty_count, sweep_size}
-use Rattle.hx_board.proofs.SetLaws.{has-insert, has-insert_same, and_both, is_false, same_test}
+use Rattle.hx_board.proofs.SetLaws.{has-insert, has-insert_same, same_test}
 use Rattle.hx_board.proofs.CellLaws.{on_board-small}
 use Rattle.hx_board.proofs.Tallies.{share, tally, tally-same, tally-one_less, tally-none, count_below-tally}
 
@@ -28,7 +28,7 @@ is_empty-is board cell = (
     no_white = not-true _ t.3;
   }),
   (λ e. is_empty-parts board cell
-      ∙ and_both _ _ (and_both _ _ (and_both _ _ (lt-ltb _ _ e.on_board.row) (lt-ltb _ _ e.on_board.col)) (not_from_false _ e.no_black)) (not_from_false _ e.no_white)),
+      ∙ and_from _ _ (and_from _ _ (and_from _ _ (lt-ltb _ _ e.on_board.row) (lt-ltb _ _ e.on_board.col)) (not_from_false _ e.no_black)) (not_from_false _ e.no_white)),
 )
   where
     tests : (a b c d : Bool) → (a && b && c && d) ≡ true → (a ≡ true) × (b ≡ true) × (c ≡ true) × (d ≡ true)
@@ -39,14 +39,14 @@ is_empty-is board cell = (
 
 -- the cell of the new stone is not empty, and each other is as before
 pub put-not_empty : (board : Board) (colour : Colour) (cell : ℕ) → is_empty (put board colour cell) cell ≡ false
-put-not_empty board colour cell = is_false _ (λ h. held colour ((is_empty-is (put board colour cell) cell).0 h))
+put-not_empty board colour cell = false_from_ne_true _ (λ h. held colour ((is_empty-is (put board colour cell) cell).0 h))
   where
     held : (colour : Colour) → IsEmpty (put board colour cell) cell → ⊥
     held Black e = false≢true (sym e.no_black ∙ has-insert_same board.black cell)
     held White e = false≢true (sym e.no_white ∙ has-insert_same board.white cell)
 
 has-insert_elsewhere : (set cell n : ℕ) → n ≢ cell → has (insert set cell) n ≡ has set n
-has-insert_elsewhere set cell n other = has-insert set cell n ∙ ap (λ b. b || has set n) (is_false _ (λ h. other (eqb-true n cell h)))
+has-insert_elsewhere set cell n other = has-insert set cell n ∙ ap (λ b. b || has set n) (false_from_ne_true _ (λ h. other (eqb-true n cell h)))
 
 pub put-elsewhere : (board : Board) (colour : Colour) (cell n : ℕ) → n ≢ cell → is_empty (put board colour cell) n ≡ is_empty board n
 unfolding is_empty
@@ -102,14 +102,14 @@ none_empty board is none cell e = let some = some_empty-count board cell is e in
 pub none_empty-count : (board : Board) → ((cell : ℕ) → IsEmpty board cell → ⊥) → empty_count board ≡ 0
 unfolding empty_count
 none_empty-count board none =
-    empty_below-tally 121 board ∙ tally-none (is_empty board) 121 (λ cell _. is_false _ (λ e. none cell ((is_empty-is board cell).0 e)))
+    empty_below-tally 121 board ∙ tally-none (is_empty board) 121 (λ cell _. false_from_ne_true _ (λ e. none cell ((is_empty-is board cell).0 e)))
 
 -- from 121 on there is no cell
 above_board : (more : ℕ) (board : Board) → IsExtent board.size.rows board.size.cols → empty_below (121 + more) board ≡ empty_below 121 board
 unfolding empty_below
 above_board zero board extent = refl
 above_board (suc more) board extent =
-    let off = ap share (is_false (is_empty board (121 + more)) (λ h. outside ((is_empty-is board (121 + more)).0 h))) in
+    let off = ap share (false_from_ne_true (is_empty board (121 + more)) (λ h. outside ((is_empty-is board (121 + more)).0 h))) in
     let rest = above_board more board extent in
     let next : 121 + suc more ≡ suc (121 + more) = omega arith in rw next (omega arith)
   where

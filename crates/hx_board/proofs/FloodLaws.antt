@@ -81,8 +81,8 @@ pub record IsFlood (board : Board) (player : Colour) (start : Vertex) (set : ℕ
   pub sound : (vertex : Vertex) → IsVertex board.size vertex → has set (code_of vertex) ≡ true → (vertex ≡ start) ⊎ Leads board player start vertex
 
 -- no own vertex outside the set touches one in it
-abbrev pub IsClosed : Board → Colour → ℕ → Type 0
-IsClosed board player set =
+abbrev pub HoldsItsNeighbours : Board → Colour → ℕ → Type 0
+HoldsItsNeighbours board player set =
     (vertex : Vertex) → IsVertex board.size vertex → IsOwn board player vertex → TouchesOneOf board.size player set vertex → has set (code_of vertex) ≡ true
 
 module _ (board : Board) (player : Colour) where
@@ -109,11 +109,11 @@ module _ (board : Board) (player : Colour) where
           (has-union_cases set (intersection near own) (code_of v) h);
     }
 
-    grown-is_closed : union set (intersection near own) ≡ set → IsClosed board player set
+    grown-is_closed : union set (intersection near own) ≡ set → HoldsItsNeighbours board player set
     grown-is_closed same v is_v own_v t =
         rw same at (has-union_right set _ (code_of v) (has-intersection_both near own (code_of v) ((is_near.members v is_v).1 t) ((is_own.members v is_v).1 own_v)))
 
-    walked : IsClosed board player set → (inner : List Vertex) (from to : Vertex) → IsVertex board.size from → has set (code_of from) ≡ true
+    walked : HoldsItsNeighbours board player set → (inner : List Vertex) (from to : Vertex) → IsVertex board.size from → has set (code_of from) ≡ true
         → Walk board player from inner to → TouchesOneOf board.size player set to
     walked closed [] from to is h w = record { by = from; by_vertex = is; by_member = h; touch = w }
     walked closed (v ∷ vs) from to is h w =
@@ -126,7 +126,7 @@ module _ (board : Board) (player : Colour) where
         (λ w. inr (w.1.0 ++ t.by ∷ [], walk-append board player w.1.0 [] start t.by to w.1.1 w.0 t.touch))
         (f.sound t.by t.by_vertex t.by_member)
 
-    joined-flood : IsClosed board player set → (start to : Vertex) → IsVertex board.size start → IsVertex board.size to → IsFlood board player start set
+    joined-flood : HoldsItsNeighbours board player set → (start to : Vertex) → IsVertex board.size start → IsVertex board.size to → IsFlood board player start set
         → Joined board player start to → has (union set near) (code_of to) ≡ true
     joined-flood closed start to is is_to f (inl e) =
         let P : Vertex → Type 0 = λ x. has (union set near) (code_of x) ≡ true in subst P e (has-union_left set near (code_of start) f.started)

@@ -5,7 +5,7 @@
 use Rattle.std.proofs.Common.{◌≡◌, ◌≢◌, ℕ, ◌<◌, Bool, true, false, not, ◌&&◌, List, [], ◌∷◌, length, slice_index, get_or, eqb, eq-eqb, refl, sym, ap, ◌∙◌, subst, arith, ◌⊎◌, inl, inr, ⊎_elim}
 use Rattle.std.proofs.Math.ListN.{set}
 use Rattle.std.proofs.Math.Bool.{and-true}
-use Rattle.std.proofs.lemmas.Bool.{false≢true}
+use Rattle.std.proofs.lemmas.Bool.{false≢true, false_from_ne_true}
 use Rattle.std.proofs.lemmas.Bool.Decides.{eqb_tells}
 use Rattle.std.proofs.lemmas.List.{get_or-set_same, get_or-set_other, length-set, get_or_read}
 use Rattle.std.specs.Prelude.{if◌then◌else◌}
@@ -18,7 +18,7 @@ use Rattle.hx_board.specs.Positions.{Board, IsBoard}
 use Rattle.hx_board.specs.Graph.{IsVertex, IsOwn, Touches, Joined}
 use Rattle.hx_board.specs.VertexSets.{code_of, IsSomeVertex, IsVertexCode, IsSetOf}
 use Rattle.hx_board.specs.Floods.{AreNear, AreJoined}
-use Rattle.hx_board.proofs.SetLaws.{has-empty, has-remove, has-remove_before, has-union_left, has-union_right, has-union_cases, has-difference_left, has-difference_both, is_false}
+use Rattle.hx_board.proofs.SetLaws.{has-empty, has-remove, has-remove_before, has-union_left, has-union_right, has-union_cases, has-difference_left, has-difference_both}
 use Rattle.hx_board.proofs.CellLaws.{on_board-small}
 use Rattle.hx_board.proofs.DifferenceLaws.{difference-lt}
 use Rattle.hx_board.proofs.VertexSetLaws.{some-vertex, code-small}
@@ -171,7 +171,7 @@ module _ (board : Board) (player : Colour) (extent : IsExtent board.size.rows bo
         cases true e = adds v is_v (code_of w) (over_group u v is_u is_v own_u e j) (over_group u w is_u is_w own_u e l)
         cases false e =
             keeps v is_v (code_of w)
-            (k.done u v w is_u is_v is_w own_u (is_false _ (λ h. false≢true (sym none ∙ has-difference_both waiting reach (code_of u) h e))) j l)
+            (k.done u v w is_u is_v is_w own_u (false_from_ne_true _ (λ h. false≢true (sym none ∙ has-difference_both waiting reach (code_of u) h e))) j l)
 
     pub over_more : AreJoinedOver board player after own (difference waiting reach)
     over_more = record {

@@ -1,10 +1,10 @@
 -- The lines of cells along the sides: the cells that have no cell above them, below them, to their left or to their
 -- right.
 use Rattle.std.proofs.Common.{◌≡◌, ℕ, ◌+◌, ◌-◌, ◌/◌, ◌%◌, ◌<◌, ◌≤◌, true, false, ◌&&◌, sym, ◌∙◌, arith, ⊎_elim, ◌↔◌, leb, ltb}
-use Rattle.std.proofs.lemmas.Bool.{false≢true, cases_lt, leb-true, le-leb, ltb-true, lt-ltb}
+use Rattle.std.proofs.lemmas.Bool.{false≢true, cases_lt, leb-true, le-leb, ltb-true, lt-ltb, and_from, false_from_ne_true}
 use Rattle.hx_board.specs.Sets.{has, difference}
 use Rattle.hx_board.specs.Cells.{Extent, IsExtent, OnBoard, row_of, col_of}
-use Rattle.hx_board.proofs.SetLaws.{has-difference_left, has-difference_right, has-difference_both, and_left, and_right, and_both, is_false}
+use Rattle.hx_board.proofs.SetLaws.{has-difference_left, has-difference_right, has-difference_both, and_left, and_right}
 use Rattle.hx_board.proofs.CellLaws.{on_board-small}
 
 module _ (size : Extent) (extent : IsExtent size.rows size.cols) where
@@ -19,7 +19,7 @@ module _ (size : Extent) (extent : IsExtent size.rows size.cols) where
     (λ w.
         let row : n / 11 < size.rows = w.0.row in
         let col : n % 11 + 1 < size.cols = w.1 in
-        is n ∙ and_both _ _ (lt-ltb _ _ row) (lt-ltb _ _ (omega arith))),
+        is n ∙ and_from _ _ (lt-ltb _ _ row) (lt-ltb _ _ (omega arith))),
   )
 
   module _ (all : ℕ) (is_all : (n : ℕ) → (has all n ≡ true) ↔ OnBoard size n) where
@@ -41,7 +41,7 @@ module _ (size : Extent) (extent : IsExtent size.rows size.cols) where
             on,
             ⊎_elim (λ k. omega arith)
                 (λ k. absurd (outside below n (has-difference_right all below n h)
-                (is n less ∙ and_both _ _ (le-leb 11 n k) ((is_all (n - 11)).1 (record { row = omega arith; col = omega arith })))))
+                (is n less ∙ and_from _ _ (le-leb 11 n k) ((is_all (n - 11)).1 (record { row = omega arith; col = omega arith })))))
                 (cases_lt n 11),
           )),
       (λ w.
@@ -49,7 +49,7 @@ module _ (size : Extent) (extent : IsExtent size.rows size.cols) where
           let less : n < 128 = omega arith in
           let row : n / 11 ≡ 0 = w.1 in
           has-difference_both all below n ((is_all n).1 w.0)
-          (is_false _ (λ k. let high : 11 ≤ n = leb-true 11 n (and_left _ (has all (n - 11)) (sym (is n less) ∙ k)) in absurd (omega arith)))),
+          (false_from_ne_true _ (λ k. let high : 11 ≤ n = leb-true 11 n (and_left _ (has all (n - 11)) (sym (is n less) ∙ k)) in absurd (omega arith)))),
     )
 
     pub bottom-is : (above : ℕ) → ((n : ℕ) → has above n ≡ has all (n + 11))
@@ -68,7 +68,7 @@ module _ (size : Extent) (extent : IsExtent size.rows size.cols) where
       (λ w.
           let row : n / 11 + 1 ≡ size.rows = w.1 in
           has-difference_both all above n ((is_all n).1 w.0)
-          (is_false _ (λ k. let beyond : (n + 11) / 11 < size.rows = ((is_all (n + 11)).0 (sym (is n) ∙ k)).row in absurd (omega arith)))),
+          (false_from_ne_true _ (λ k. let beyond : (n + 11) / 11 < size.rows = ((is_all (n + 11)).0 (sym (is n) ∙ k)).row in absurd (omega arith)))),
     )
 
     module _ (left : ℕ) (is_left : (n : ℕ) → (has left n ≡ true) ↔ (OnBoard size n × (col_of n + 1 < size.cols))) where
@@ -83,7 +83,7 @@ module _ (size : Extent) (extent : IsExtent size.rows size.cols) where
         (λ w.
             let col : n % 11 + 1 ≡ size.cols = w.1 in
             has-difference_both all left n ((is_all n).1 w.0)
-            (is_false _ (λ k. let less : n % 11 + 1 < size.cols = ((is_left n).0 k).1 in absurd (omega arith)))),
+            (false_from_ne_true _ (λ k. let less : n % 11 + 1 < size.cols = ((is_left n).0 k).1 in absurd (omega arith)))),
       )
 
       pub leftmost-is : (right : ℕ) → ((n : ℕ) → n < 128 → has right n ≡ (leb 1 n && has left (n - 1)))
@@ -98,7 +98,7 @@ module _ (size : Extent) (extent : IsExtent size.rows size.cols) where
               on,
               ⊎_elim (λ k. omega arith)
                   (λ k. absurd (outside right n (has-difference_right all right n h)
-                  (is n less ∙ and_both _ _ (le-leb 1 n (omega arith)) ((is_left (n - 1)).1 (record { row = omega arith; col = omega arith }, omega arith)))))
+                  (is n less ∙ and_from _ _ (le-leb 1 n (omega arith)) ((is_left (n - 1)).1 (record { row = omega arith; col = omega arith }, omega arith)))))
                   (cases_lt (n % 11) 1),
             )),
         (λ w.
@@ -107,7 +107,7 @@ module _ (size : Extent) (extent : IsExtent size.rows size.cols) where
             let bound : size.cols ≤ 11 = extent.3 in
             let col : n % 11 ≡ 0 = w.1 in
             has-difference_both all right n ((is_all n).1 w.0)
-            (is_false _ (λ k.
+            (false_from_ne_true _ (λ k.
             let t : (leb 1 n && has left (n - 1)) ≡ true = sym (is n less) ∙ k in
             let high : 1 ≤ n = leb-true 1 n (and_left _ (has left (n - 1)) t) in
             let before : (n - 1) % 11 + 1 < size.cols = ((is_left (n - 1)).0 (and_right (leb 1 n) _ t)).1 in

@@ -25,20 +25,10 @@ read-index [] place x inside read = absurd (omega arith)
 read-index (y ∷ ys) zero x inside read = read
 read-index (y ∷ ys) (suc place) x inside read = read-index ys place x (omega arith) read
 
-pub read-get : {A : Type 0} → (xs : List A) (place : ℕ) (x : A) → place < length xs → x ≡ get_or xs place x → slice_get xs place ≡ Some x
-read-get [] place x inside read = absurd (omega arith)
-read-get (y ∷ ys) zero x inside read = ap Some (sym read)
-read-get (y ∷ ys) (suc place) x inside read = read-get ys place x (omega arith) read
-
 pub read-or : {A : Type 0} → (xs : List A) (place : ℕ) (x other : A) → place < length xs → x ≡ get_or xs place x → get_or xs place other ≡ x
 read-or [] place x other inside read = absurd (omega arith)
 read-or (y ∷ ys) zero x other inside read = sym read
 read-or (y ∷ ys) (suc place) x other inside read = read-or ys place x other (omega arith) read
-
-pub get_or-get : {A : Type 0} → (xs : List A) (place : ℕ) (x other : A) → slice_get xs place ≡ Some x → get_or xs place other ≡ x
-get_or-get [] place x other e = cc
-get_or-get (y ∷ ys) zero x other e = cc
-get_or-get (y ∷ ys) (suc place) x other e = get_or-get ys place x other e
 
 pub get-map : {A B : Type 0} → (f : A → B) (xs : List A) (place : ℕ) (x : A) → slice_get xs place ≡ Some x → slice_get (map f xs) place ≡ Some (f x)
 get-map f [] place x e = cc

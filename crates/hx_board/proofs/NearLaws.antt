@@ -2,13 +2,13 @@
 -- two cells touch exactly where the two below them touch.
 use Rattle.std.proofs.Common.{◌≡◌, ◌≢◌, ℕ, ◌+◌, ◌-◌, ◌/◌, ◌%◌, ◌<◌, ◌≤◌, true, ◌&&◌, List, length, slice_index, replicate, refl, sym, ◌∙◌, subst, arith, ◌⊎◌, inl, inr, ⊎_elim, ◌↔◌, leb}
 use Rattle.std.proofs.Math.ListN.{set}
-use Rattle.std.proofs.lemmas.Bool.{leb-true, le-leb}
+use Rattle.std.proofs.lemmas.Bool.{leb-true, le-leb, and_from}
 use Rattle.std.proofs.lemmas.Bool.Decides.{eqb_tells}
 use Rattle.std.proofs.lemmas.List.{get_or-set_same, get_or-set_other, length-set}
 use Rattle.hx_board.specs.Sets.{has, insert, union, intersection}
 use Rattle.hx_board.specs.Cells.{Extent, IsExtent, OnBoard, CellsTouch, Left, Right, Above, Below, Above_right, Below_left}
 use Rattle.hx_board.specs.Floods.{AreNear, TouchesCellOf}
-use Rattle.hx_board.proofs.SetLaws.{has-union_left, has-union_right, has-union_cases, has-insert_same, has-intersection_left, has-intersection_right, has-intersection_both, and_left, and_right, and_both}
+use Rattle.hx_board.proofs.SetLaws.{has-union_left, has-union_right, has-union_cases, has-insert_same, has-intersection_left, has-intersection_right, has-intersection_both, and_left, and_right}
 use Rattle.hx_board.proofs.CellLaws.{on_board-small}
 use Rattle.hx_board.proofs.FloodLaws.{has-single}
 
@@ -78,7 +78,7 @@ below-is size set all moved extent is_all is n = (
       let on : OnBoard size n = (is_all n).0 (has-intersection_right moved all n h) in
       let t : (leb 11 n && has set (n - 11)) ≡ true = sym (is n (less on)) ∙ has-intersection_left moved all n h in
       (on, leb-true 11 n (and_left (leb 11 n) _ t), and_right (leb 11 n) _ t)),
-  (λ w. has-intersection_both moved all n (is n (less w.0) ∙ and_both _ _ (le-leb 11 n w.1) w.2) ((is_all n).1 w.0)),
+  (λ w. has-intersection_both moved all n (is n (less w.0) ∙ and_from _ _ (le-leb 11 n w.1) w.2) ((is_all n).1 w.0)),
 )
   where
     less : OnBoard size n → n < 128

@@ -2,13 +2,14 @@
 use Rattle.std.proofs.Common.{◌≡◌, ◌≢◌, ℕ, if◌then◌else◌, ◌^◌, ◌<◌, Bool, true, false, refl, sym, ap, ◌∙◌, subst, ⊎_elim, arith, ◌↔◌}
 use Rattle.std.specs.declared.option.Option.TheVariants.{None, Some}
 use Rattle.std.specs.Prelude.{is_some}
-use Rattle.std.proofs.lemmas.Bool.{false≢true}
+use Rattle.std.proofs.lemmas.Bool.{false≢true, false_from_ne_true}
 use Rattle.hx_board.specs.Sets.{has, insert, remove, union, difference, IsSubset, ShareNone}
 use Rattle.hx_board.specs.Cells.{Extent, OnBoard}
 use Rattle.hx_board.specs.declared.colours.Colour.{Colour}
 use Rattle.hx_board.specs.declared.colours.Colour.TheVariants.{Black, White}
-use Rattle.hx_board.specs.Positions.{Board, IsBoard, IsPosition, IsEmpty, put, lifted, stone_at}
-use Rattle.hx_board.proofs.SetLaws.{has-empty, has-insert_cases, has-union_left, has-union_right, has-union_cases, has-difference_left, has-difference_right, has-difference_both, is_false, set-small, remove-absent, remove-insert}
+use Rattle.hx_board.specs.Colours.{other_of}
+use Rattle.hx_board.specs.Positions.{Board, IsBoard, IsPosition, IsEmpty, put, stones_of, lifted, stone_at}
+use Rattle.hx_board.proofs.SetLaws.{has-empty, has-insert_cases, has-union_left, has-union_right, has-union_cases, has-difference_left, has-difference_right, has-difference_both, set-small, remove-absent, remove-insert}
 use Rattle.hx_board.proofs.CellLaws.{on_board-small}
 
 pub empty-is_position : (size : Extent) → IsPosition size 0 0
@@ -18,16 +19,32 @@ empty-is_position size = record {
   white_inside = λ n h. absurd (false≢true (sym (has-empty n) ∙ h));
 }
 
+-- a player's stones are none of the opponent's
+pub own-not_others : (board : Board) → IsBoard board → (player : Colour) (n : ℕ) → has (stones_of board player) n ≡ true → has (stones_of board (other_of player)) n ≡ false
+own-not_others board is Black n own = is.1.apart n own
+own-not_others board is White n own = false_from_ne_true _ (λ black. false≢true (sym (is.1.apart n black) ∙ own))
+
+-- the stones of one player alone
+pub black-alone-is_position : {size : Extent} {black white : ℕ} → IsPosition size black white → IsPosition size black 0
+black-alone-is_position {size} {black} {white} is = record {
+  apart = λ n _. has-empty n;
+  black_inside = is.black_inside;
+  white_inside = λ n h. absurd (false≢true (sym (has-empty n) ∙ h));
+}
+
+pub white-alone-is_position : {size : Extent} {black white : ℕ} → IsPosition size black white → IsPosition size 0 white
+white-alone-is_position {size} {black} {white} is = record {
+  apart = λ n h. absurd (false≢true (sym (has-empty n) ∙ h));
+  black_inside = λ n h. absurd (false≢true (sym (has-empty n) ∙ h));
+  white_inside = is.white_inside;
+}
+
 inserted_inside : (size : Extent) (set cell : ℕ) → OnBoard size cell → ((n : ℕ) → has set n ≡ true → OnBoard size n) → (n : ℕ) → has (insert set cell) n ≡ true → OnBoard size n
 inserted_inside size set cell here before n h =
     ⊎_elim (λ e. let P : ℕ → Type 0 = λ x. OnBoard size x in subst P (sym e) here) (λ k. before n k) (has-insert_cases set cell n h)
 
 lacks_inserted : (set cell n : ℕ) → has set n ≡ false → n ≢ cell → has (insert set cell) n ≡ false
-lacks_inserted set cell n lacks other = neither (has (insert set cell) n) (λ h. ⊎_elim other (λ k. false≢true (sym lacks ∙ k)) (has-insert_cases set cell n h))
-  where
-    neither : (b : Bool) → (b ≡ true → ⊥) → b ≡ false
-    neither true h = absurd (h refl)
-    neither false h = refl
+lacks_inserted set cell n lacks other = false_from_ne_true _ (λ h. ⊎_elim other (λ k. false≢true (sym lacks ∙ k)) (has-insert_cases set cell n h))
 
 pub black-is_position : (board : Board) (cell : ℕ) → IsPosition board.size board.black board.white → IsEmpty board cell → IsPosition board.size (insert board.black cell) board.white
 black-is_position board cell p e = record {
@@ -50,11 +67,11 @@ has-empties board all is_all n =
     let held : ℕ = union board.black board.white in (
       (λ h. record {
         on_board = (is_all n).0 (has-difference_left all held n h);
-        no_black = is_false _ (λ k. false≢true (sym (has-difference_right all held n h) ∙ has-union_left board.black board.white n k));
-        no_white = is_false _ (λ k. false≢true (sym (has-difference_right all held n h) ∙ has-union_right board.black board.white n k));
+        no_black = false_from_ne_true _ (λ k. false≢true (sym (has-difference_right all held n h) ∙ has-union_left board.black board.white n k));
+        no_white = false_from_ne_true _ (λ k. false≢true (sym (has-difference_right all held n h) ∙ has-union_right board.black board.white n k));
       }),
       (λ e. has-difference_both all held n ((is_all n).1 e.on_board)
-          (is_false _ (λ k. ⊎_elim (λ b. false≢true (sym e.no_black ∙ b)) (λ w. false≢true (sym e.no_white ∙ w)) (has-union_cases board.black board.white n k)))),
+          (false_from_ne_true _ (λ k. ⊎_elim (λ b. false≢true (sym e.no_black ∙ b)) (λ w. false≢true (sym e.no_white ∙ w)) (has-union_cases board.black board.white n k)))),
     )
 
 pub tested-is_position : (size : Extent) (black white all : ℕ) → ((n : ℕ) → (has all n ≡ true) ↔ OnBoard size n)

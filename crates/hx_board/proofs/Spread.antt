@@ -1,5 +1,6 @@
 -- The vertices that touch a set of vertices.
 use Rattle.std.proofs.Common.{◌≡◌, ℕ, ◌<◌, Bool, true, ◌&&◌, refl, sym, ◌∙◌, arith, ⊎_elim, ◌↔◌, IsTrue}
+use Rattle.std.proofs.lemmas.Bool.{and_from}
 use Rattle.hx_board.specs.declared.colours.Colour.{Colour}
 use Rattle.hx_board.specs.declared.vertices.Vertex.{Vertex}
 use Rattle.hx_board.specs.declared.vertices.Vertex.TheVariants.{Of, First, Last}
@@ -8,7 +9,7 @@ use Rattle.hx_board.specs.Cells.{Extent, IsExtent, OnBoard}
 use Rattle.hx_board.specs.Graph.{IsFirstLine, IsLastLine, IsVertex, Touches}
 use Rattle.hx_board.specs.VertexSets.{IsVertexCode, IsSetOf, code_of}
 use Rattle.hx_board.specs.Floods.{TouchesCellOf, TouchesOneOf}
-use Rattle.hx_board.proofs.SetLaws.{has-union_left, has-union_right, has-union_cases, has-insert_same, and_left, and_right, and_both}
+use Rattle.hx_board.proofs.SetLaws.{has-union_left, has-union_right, has-union_cases, has-insert_same, and_left, and_right}
 use Rattle.hx_board.proofs.CellLaws.{on_board-small}
 use Rattle.hx_board.proofs.FloodLaws.{has-single}
 
@@ -84,13 +85,13 @@ module _ (size : Extent) (player : Colour) (set first last cells from_first from
   reached : (by vertex : Vertex) → has set (code_of by) ≡ true → Touches size player by vertex → has all_parts (code_of vertex) ≡ true
   reached (Of m) (Of n) h t = in_cells n ((k.is_cells n).1 (record { on_board = t.1; by = m; by_on_board = t.0; by_member = h; touch = t.2 }))
   reached (Of m) First h t =
-      in_to_first 121 (k.is_to_first 121 ∙ and_both _ _ (k.is_at_first.1 (record { shared = m; in_set = h; in_other = (k.is_first m).1 t })) (has-insert_same 0 121))
+      in_to_first 121 (k.is_to_first 121 ∙ and_from _ _ (k.is_at_first.1 (record { shared = m; in_set = h; in_other = (k.is_first m).1 t })) (has-insert_same 0 121))
   reached (Of m) Last h t =
-      in_to_last 122 (k.is_to_last 122 ∙ and_both _ _ (k.is_at_last.1 (record { shared = m; in_set = h; in_other = (k.is_last m).1 t })) (has-insert_same 0 122))
-  reached First (Of n) h t = in_from_first n (k.is_from_first n ∙ and_both _ _ h ((k.is_first n).1 t))
+      in_to_last 122 (k.is_to_last 122 ∙ and_from _ _ (k.is_at_last.1 (record { shared = m; in_set = h; in_other = (k.is_last m).1 t })) (has-insert_same 0 122))
+  reached First (Of n) h t = in_from_first n (k.is_from_first n ∙ and_from _ _ h ((k.is_first n).1 t))
   reached First First h t = absurd t
   reached First Last h t = absurd t
-  reached Last (Of n) h t = in_from_last n (k.is_from_last n ∙ and_both _ _ h ((k.is_last n).1 t))
+  reached Last (Of n) h t = in_from_last n (k.is_from_last n ∙ and_from _ _ h ((k.is_last n).1 t))
   reached Last First h t = absurd t
   reached Last Last h t = absurd t
 

@@ -2,10 +2,10 @@
 -- one way of touching.
 use Rattle.std.proofs.Common.{◌≡◌, ℕ, zero, suc, ◌+◌, ◌-◌, ◌*◌, ◌/◌, ◌%◌, ◌<◌, ◌≤◌, Bool, true, false, ◌&&◌, List, [], ◌∷◌, ◌++◌, get_or, refl, sym, arith, ◌↔◌, ltb, ⊎_elim}
 use Rattle.std.specs.Prelude.{Contains}
-use Rattle.std.proofs.lemmas.Bool.{false≢true, ltb-true, lt-ltb}
+use Rattle.std.proofs.lemmas.Bool.{false≢true, ltb-true, lt-ltb, and_from}
 use Rattle.std.proofs.lemmas.List.Elements.{Contains-append_left, Contains-append_right, Contains-append_cases}
 use Rattle.hx_board.specs.Cells.{Extent, IsExtent, OnBoard, CellsTouch, Left, Right, Above, Below, Above_right, Below_left, row_of, col_of, index_of, kept, neighbours_of}
-use Rattle.hx_board.proofs.SetLaws.{and_left, and_right, and_both}
+use Rattle.hx_board.proofs.SetLaws.{and_left, and_right}
 
 kept-has : (is_there : Bool) (cell other : ℕ) → Contains (kept is_there cell) other → (is_there ≡ true) × (other ≡ cell)
 kept-has true cell other h = (refl, first h.0 h.1 h.2)
@@ -150,11 +150,11 @@ module _ (size : Extent) (cell : ℕ) (extent : IsExtent size.rows size.cols) (h
       let other_col : other % 11 < size.cols = on.col in
       among_five other
       (Contains-append_right four above_right other
-      (has-kept _ _ other (and_both (ltb 0 (cell / 11)) _ (lt-ltb _ _ (omega arith)) (lt-ltb _ _ (omega arith))) (omega arith)))
+      (has-kept _ _ other (and_from (ltb 0 (cell / 11)) _ (lt-ltb _ _ (omega arith)) (lt-ltb _ _ (omega arith))) (omega arith)))
   to_list other on (Below_left row col) =
       let other_row : other / 11 < size.rows = on.row in
       Contains-append_right five below_left other
-      (has-kept _ _ other (and_both (ltb (cell / 11 + 1) size.rows) _ (lt-ltb _ _ (omega arith)) (lt-ltb _ _ (omega arith))) (omega arith))
+      (has-kept _ _ other (and_from (ltb (cell / 11 + 1) size.rows) _ (lt-ltb _ _ (omega arith)) (lt-ltb _ _ (omega arith))) (omega arith))
 
   pub neighbours-touch : (other : ℕ) → Contains (neighbours_of size cell) other ↔ (OnBoard size other × CellsTouch cell other)
   neighbours-touch other = (listed other, (λ w. to_list other w.0 w.1))

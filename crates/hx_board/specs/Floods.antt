@@ -2,6 +2,8 @@
 use Rattle.std.specs.Prelude.{◌≡◌, ℕ, ◌+◌, ◌<◌, true, List, length, slice_index, ◌⊎◌, ◌↔◌}
 use Rattle.hx_board.specs.declared.colours.Colour.{Colour}
 use Rattle.hx_board.specs.declared.vertices.Vertex.{Vertex}
+use Rattle.hx_board.specs.declared.vertices.Vertex.TheVariants.{First, Last}
+use Rattle.hx_board.specs.declared.vertices.TheConstants.{VERTICES}
 use Rattle.hx_board.specs.Sets.{has}
 use Rattle.hx_board.specs.Cells.{Extent, OnBoard, CellsTouch, col_of}
 use Rattle.hx_board.specs.Positions.{Board, IsBoard}
@@ -35,15 +37,15 @@ pub record AreMasks (board : Board) (player : Colour) (all left first last own :
 
 -- for each cell of the board below a bound the set of itself and the cells that touch it, and for the sides nothing
 pub record AreNear (size : Extent) (bound : ℕ) (sets : List ℕ) : Type 0 where
-  pub count : length sets ≡ 123
+  pub count : length sets ≡ VERTICES
   pub cells : (cell : ℕ) → cell < bound → OnBoard size cell → (other : ℕ)
       → (has (slice_index sets cell) other ≡ true) ↔ (OnBoard size other × ((other ≡ cell) ⊎ CellsTouch cell other))
-  pub first : slice_index sets 121 ≡ 0
-  pub last : slice_index sets 122 ≡ 0
+  pub first : slice_index sets (code_of First) ≡ 0
+  pub last : slice_index sets (code_of Last) ≡ 0
 
 -- for each vertex of the board the set of what it is joined with
 pub record AreJoined (board : Board) (player : Colour) (sets : List ℕ) : Type 0 where
   pub valid : IsBoard board
-  pub count : length sets ≡ 123
+  pub count : length sets ≡ VERTICES
   pub joined : (vertex : Vertex) → IsVertex board.size vertex
       → IsSetOf board.size (Joined board player vertex) (slice_index sets (code_of vertex))

@@ -62,6 +62,10 @@ Joined board player from to = (from ≡ to) ⊎ ((inner : List Vertex) × Walk b
 abbrev pub HasChain : Board → Colour → Type 0
 HasChain board player = Joined board player First Last
 
+-- neither player has a chain
+abbrev pub HasNoChain : Board → Type 0
+HasNoChain board = (player : Colour) → HasChain board player → ⊥
+
 -- one player's graph on a board
 pub record Grouped : Type 0 where
   pub board : Board

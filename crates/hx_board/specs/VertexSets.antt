@@ -1,5 +1,5 @@
 -- Sets of vertices, each kept as a set of numbers. A cell has its index as its number, and the two sides come after the cells.
-use Rattle.std.specs.Prelude.{◌≡◌, ℕ, ◌<◌, true, ◌↔◌}
+use Rattle.std.specs.Prelude.{◌≡◌, ℕ, ◌+◌, ◌<◌, true, ◌↔◌}
 use Rattle.hx_board.specs.declared.cells.TheConstants.{CELLS}
 use Rattle.hx_board.specs.declared.vertices.Vertex.{Vertex}
 use Rattle.hx_board.specs.declared.vertices.Vertex.TheVariants.{Of, First, Last}
@@ -11,8 +11,8 @@ use Rattle.hx_board.specs.Graph.{IsVertex}
 -- the number of a vertex in a set of vertices
 abbrev pub code_of : Vertex → ℕ
 code_of (Of cell) = cell
-code_of First = 121
-code_of Last = 122
+code_of First = CELLS
+code_of Last = CELLS + 1
 
 -- a vertex of the graph of some board
 abbrev pub IsSomeVertex : Vertex → Type 0

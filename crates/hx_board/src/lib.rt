@@ -29,6 +29,3 @@ pub use vertices::{VERTICES, Vertex};
 /// Want of memory: the answer of a call, in this crate or in one above it, that asked for memory and did not get it.
 #[derive(Clone, Copy, PartialEq, Eq, Debug)]
 pub struct Memory;
-
-#[cfg(test)]
-mod tests;

@@ -8,7 +8,7 @@ ghost use Rattle.hx_board.specs.Sets.{has};
 ghost use Rattle.hx_board.specs.Cells.{OnBoard, IsExtent, index_of, row_of, col_of};
 ghost use Rattle.hx_board.specs.VertexSets.{IsVertexAt};
 
-use crate::cells::Cell;
+use crate::cells::{CELLS, Cell};
 use crate::masks::Mask;
 use crate::vertices::{FIRST_CODE, LAST_CODE, Vertex};
 use std::marker::Model;
@@ -114,7 +114,7 @@ const FIRST_COLUMN: u128 = 1
 /// there are at most eleven of these, each row keeps to its own digits.
 fn first_columns(cols: u8) -> Mask
     requires { cols ≤ 11 }
-    ensures { (n : ℕ) → n < 121 → has result n ≡ nat_lt (col_of n) cols }
+    ensures { (n : ℕ) → n < CELLS → has result n ≡ nat_lt (col_of n) cols }
 {
     Mask::of((FIRST_COLUMN << cols) - FIRST_COLUMN)
 }

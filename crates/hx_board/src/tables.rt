@@ -7,7 +7,7 @@ ghost use Rattle.std.specs.Prelude.{◌≡◌, ℕ, ◌<◌, length, slice_index
 ghost use Rattle.hx_board.specs.Sets.{has, union};
 ghost use Rattle.hx_board.specs.Floods.{AreNear, AreJoined};
 
-use crate::cells::Cell;
+use crate::cells::{CELLS, Cell};
 use crate::floods::flood;
 use crate::graphs::Graph;
 use crate::vertex_sets::VertexSet;
@@ -38,16 +38,16 @@ fn join_top(graph: &Graph, sets: &mut [VertexSet; VERTICES])
 /// it, and to move them is faster than to find them.
 fn join_rest(graph: &Graph, sets: &mut [VertexSet; VERTICES])
     requires { AreNear graph.now.board.size 22 sets.old }
-    ensures { AreNear graph.now.board.size 121 sets.new }
+    ensures { AreNear graph.now.board.size CELLS sets.new }
 {
-    for index in 22..121usize {
+    for index in 22..CELLS {
         sets[index] = graph.below(sets[index - 11]);
     }
 }
 
 /// Joins the vertices that are joined over an own vertex, one group at a time.
 fn join_groups(graph: &Graph, sets: &mut [VertexSet; VERTICES])
-    requires { AreNear graph.now.board.size 121 sets.old }
+    requires { AreNear graph.now.board.size CELLS sets.old }
     ensures { AreJoined graph.now.board graph.now.player sets.new }
 {
     let mut waiting = graph.own();

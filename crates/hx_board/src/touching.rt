@@ -7,7 +7,7 @@ ghost use Rattle.std.specs.Prelude.{◌≡◌, ℕ, ◌+◌, ◌*◌, ◌<◌, �
 ghost use Rattle.arrayvec.specs.ArrayVec.{array_vec_len};
 ghost use Rattle.hx_board.specs.Cells.{OnBoard, CellsTouch, kept, index_of, neighbours_of};
 
-use crate::cells::Cell;
+use crate::cells::{CELLS, Cell};
 use crate::sizes::Size;
 use arrayvec::ArrayVec;
 
@@ -40,7 +40,7 @@ pub fn neighbours(size: Size, cell: Cell) -> ArrayVec<Cell, 6>
 /// Adds the cell in this row and column where it is there.
 fn push_if(found: &mut ArrayVec<Cell, 6>, is_there: bool, row: u8, col: u8)
     requires room { array_vec_len found.old < 6 }
-    requires small { IsTrue is_there → 11 * row + col < 121 }
+    requires small { IsTrue is_there → 11 * row + col < CELLS }
     ensures items { found.new.items ≡ found.old.items ++ kept is_there (index_of row col) }
     ensures len { array_vec_len found.new ≤ array_vec_len found.old + 1 }
 {

@@ -6,16 +6,16 @@
 ghost use Rattle.std.specs.Prelude.{◌≡◌, ◌<◌};
 ghost use Rattle.hx_board.specs.VertexSets.{code_of, IsSomeVertex};
 
-use crate::cells::Cell;
+use crate::cells::{CELLS, Cell};
 
-/// How many vertices the graph of the largest board has: its 121 cells and the two sides.
-pub const VERTICES: usize = 123;
+/// How many vertices the graph of the largest board has: its cells and the two sides.
+pub const VERTICES: usize = CELLS + 2;
 
 /// The code of the first side.
-pub(crate) const FIRST_CODE: u8 = 121;
+pub(crate) const FIRST_CODE: u8 = CELLS as u8;
 
 /// The code of the last side.
-pub(crate) const LAST_CODE: u8 = 122;
+pub(crate) const LAST_CODE: u8 = FIRST_CODE + 1;
 
 /// A vertex of a player's graph: a cell, or one of the player's two sides.
 #[derive(Clone, Copy, PartialEq, Eq, Debug)]

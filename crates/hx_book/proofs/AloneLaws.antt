@@ -1,25 +1,10 @@
 -- A board with the stones of one player alone is a position where the board is.
-use Rattle.std.proofs.Common.{◌≡◌, ℕ, ap, sym, ◌∙◌}
-use Rattle.std.proofs.lemmas.Bool.{false≢true}
+use Rattle.std.proofs.Common.{◌≡◌, ℕ, ap, ◌∙◌}
 use Rattle.hx_board.specs.declared.colours.Colour.{Colour}
 use Rattle.hx_board.specs.declared.colours.Colour.TheVariants.{Black, White}
 use Rattle.hx_board.specs.Cells.{Extent}
 use Rattle.hx_board.specs.Positions.{Board, IsPosition, stones_of}
-use Rattle.hx_board.proofs.SetLaws.{has-empty}
-
-black-stays : (size : Extent) (black white : ℕ) → IsPosition size black white → IsPosition size black 0
-black-stays size black white is = record {
-  apart = λ n in_black. has-empty n;
-  black_inside = is.black_inside;
-  white_inside = λ cell in_none. absurd (false≢true (sym (has-empty cell) ∙ in_none));
-}
-
-white-stays : (size : Extent) (black white : ℕ) → IsPosition size black white → IsPosition size 0 white
-white-stays size black white is = record {
-  apart = λ n in_none. absurd (false≢true (sym (has-empty n) ∙ in_none));
-  black_inside = λ cell in_none. absurd (false≢true (sym (has-empty cell) ∙ in_none));
-  white_inside = is.white_inside;
-}
+use Rattle.hx_board.proofs.PositionLaws.{black-alone-is_position, white-alone-is_position}
 
 -- the size, one player's stones and the empty set, as they were read
 module _ (board : Board) (is : IsPosition board.size board.black board.white) (player : Colour) (size : Extent) (stones none : ℕ)
@@ -27,9 +12,9 @@ module _ (board : Board) (is : IsPosition board.size board.black board.white) (p
   pub black-alone : player ≡ Black → IsPosition size stones none
   black-alone is_black =
       let black : stones ≡ board.black = same_stones ∙ ap (stones_of board) is_black in
-      rw (same_size, black, empty) (black-stays board.size board.black board.white is)
+      rw (same_size, black, empty) (black-alone-is_position is)
 
   pub white-alone : player ≡ White → IsPosition size none stones
   white-alone is_white =
       let white : stones ≡ board.white = same_stones ∙ ap (stones_of board) is_white in
-      rw (same_size, white, empty) (white-stays board.size board.black board.white is)
+      rw (same_size, white, empty) (white-alone-is_position is)

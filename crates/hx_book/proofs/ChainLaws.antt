@@ -1,9 +1,10 @@
 -- The chain of a bucket, walked from its head: below the link that was reached stands what was not looked at yet. What is
 -- looked for is a property of nodes, and each node that has it is in the bucket.
-use Rattle.std.proofs.Common.{◌≡◌, ◌≢◌, ℕ, ◌-◌, ◌<◌, ◌≤◌, List, length, get_or, sym, ◌∙◌, subst, ⊎_elim, arith, Some}
+use Rattle.std.proofs.Common.{◌≡◌, ◌≢◌, ℕ, ◌-◌, ◌<◌, ◌≤◌, List, length, get_or, sym, ◌∙◌, subst, ⊎_elim, arith, Some, refl}
+use Rattle.std.proofs.lemmas.Option.{slice_get_read}
 use Rattle.std.specs.Prelude.{slice_get, slice_index}
 use Rattle.std.proofs.lemmas.Bool.{cases_lt, cases_eq}
-use Rattle.hx_board.proofs.ListLaws.{get-lt, read-get, same_some}
+use Rattle.hx_board.proofs.ListLaws.{get-lt, same_some}
 use Rattle.hx_tree.specs.declared.nodes.Node.{Node}
 use Rattle.hx_book.specs.Chains.{IsIn, IsNewestBelow, AreChains}
 
@@ -17,7 +18,7 @@ pub record IsReached (key : Node → ℕ) (nodes : List Node) (bucket : ℕ) (Ha
 other-read : (nodes : List Node) (Has : Node → Type 0) (place : ℕ) (node : Node) → place < length nodes → node ≡ get_or nodes place node
     → (Has node → ⊥) → (there : Node) → slice_get nodes place ≡ Some there → Has there → ⊥
 other-read nodes Has place node inside read lacks there stands has =
-    let same : there ≡ node = same_some there node (sym stands ∙ read-get nodes place node inside read) in
+    let same : there ≡ node = same_some there node (sym stands ∙ slice_get_read nodes _ place node refl inside read) in
     lacks (subst Has same has)
 
 module _ (key : ℕ → Node → ℕ) (nodes : List Node) (heads next : List ℕ) (chains : AreChains key nodes heads next) (Has : Node → Type 0)
@@ -68,7 +69,7 @@ pub reached-there : (key : Node → ℕ) (nodes : List Node) (bucket : ℕ) (Has
     → (node : Node) → node ≡ get_or nodes (link - 1) node → slice_get nodes (link - 1) ≡ Some node
 reached-there key nodes bucket Has link some reached node read =
     let inside : link - 1 < length nodes = omega (arith, reached.within, some) in
-    read-get nodes (link - 1) node inside read
+    slice_get_read nodes _ (link - 1) node refl inside read
 
 -- at the end of the chain there is nothing below
 pub reached-end : (key : Node → ℕ) (nodes : List Node) (bucket : ℕ) (Has : Node → Type 0) (link : ℕ) → link ≡ 0 → IsReached key nodes bucket Has link

@@ -1,7 +1,7 @@
 -- A child of a right node stands before it, on a board of the same size.
 use Rattle.std.proofs.Common.{◌≡◌, ℕ, zero, suc, ◌<◌, List, [], ◌∷◌, take, refl, sym, ap, ◌∙◌, subst, Option, Some, None, arith}
 use Rattle.std.specs.Prelude.{slice_get, IsSomeAnd, IfSome}
-use Rattle.hx_board.proofs.ListLaws.{same_some}
+use Rattle.hx_board.proofs.ListLaws.{same_some, get-map}
 use Rattle.hx_board.specs.Cells.{Extent}
 use Rattle.hx_board.specs.declared.colours.Colour.{Colour}
 use Rattle.hx_board.specs.Positions.{Board, put}
@@ -64,11 +64,6 @@ rule-size before heading (Turned own) child right names = rw names (turned-size 
 
 -- ---- what stands before a place
 
-pub get-heading : (nodes : List Node) (place : ℕ) (node : Node) → slice_get nodes place ≡ Some node → slice_get (headings_of nodes) place ≡ Some node.heading
-get-heading [] place node e = cc
-get-heading (first ∷ nodes) zero node e = cc
-get-heading (first ∷ nodes) (suc place) node e = get-heading nodes place node e
-
 pub take-heading : (nodes : List Node) (bound place : ℕ) → place < bound → slice_get (headings_of (take bound nodes)) place ≡ slice_get (headings_of nodes) place
 take-heading [] zero place less = absurd (omega arith)
 take-heading [] (suc bound) place less = refl
@@ -112,5 +107,5 @@ needed-size nodes right [] root place top heading leads at_root at_place =
 needed-size nodes right (next ∷ path) root place top heading leads at_root at_place =
     let step : HasChildAt nodes root next = leads.0 in
     let size : HasSize (headings_of nodes) step.node.heading.position.size next = child-size nodes right root step.node step.there next step.names in
-    let same : step.node.heading ≡ top = same_some step.node.heading top (sym (get-heading nodes root step.node step.there) ∙ at_root) in
+    let same : step.node.heading ≡ top = same_some step.node.heading top (sym (get-map (λ (n : Node). n.heading) nodes root step.node step.there) ∙ at_root) in
     needed-size nodes right path next place size.heading heading leads.1 size.there at_place ∙ size.same_size ∙ ap (λ (h : Heading). h.position.size) same

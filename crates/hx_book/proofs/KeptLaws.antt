@@ -3,9 +3,9 @@
 use Rattle.std.proofs.Common.{◌≡◌, ◌≢◌, ℕ, zero, suc, ◌+◌, ◌<◌, ◌≤◌, List, [], ◌∷◌, ◌++◌, length, take, set, refl, sym, ap, ◌∙◌, subst, Option, Some, None, Bool, true, false, ⊎_elim, arith, length-append}
 use Rattle.std.specs.Prelude.{slice_get, slice_index, slice_index_or, Result, Ok, Err, OnOk, is_err}
 use Rattle.std.proofs.lemmas.Bool.{cases_eq, false≢true}
-use Rattle.std.proofs.lemmas.List.{length-set, get_or-set_same, get_or-set_other}
+use Rattle.std.proofs.lemmas.List.{length-set, get_or-set_same, get_or-set_other, length-map}
 use Rattle.hx_board.specs.Lists.{StandsIn}
-use Rattle.hx_board.proofs.ListLaws.{get-lt, get-push, get-push_before, get-push_last, same_some}
+use Rattle.hx_board.proofs.ListLaws.{get-lt, get-push, get-push_before, get-push_last, same_some, get-map, get-there}
 use Rattle.hx_tree.specs.declared.nodes.Heading.{Heading}
 use Rattle.hx_tree.specs.declared.nodes.Node.{Node}
 use Rattle.hx_tree.specs.Rules.{IsRightNode}
@@ -13,7 +13,7 @@ use Rattle.hx_tree.specs.Trees.{headings_of, AreRight}
 use Rattle.hx_tree.proofs.TreeGrowth.{headings_of-append, one_more_right, valid_tree}
 use Rattle.hx_book.specs.Trees.{Names, IsNeeded, IsTreeOf, renamed_node}
 use Rattle.hx_book.specs.Renaming.{IsMarked, AreMarkedFrom, IsKept, IsRest, EndsInRoot, AreKeptBelow}
-use Rattle.hx_book.proofs.ChildLaws.{get-heading, take-heading, right-at, child-before, needed-size}
+use Rattle.hx_book.proofs.ChildLaws.{take-heading, right-at, child-before, needed-size}
 use Rattle.hx_book.proofs.RenamingLaws.{node-renamed, node-same}
 use Rattle.hx_book.proofs.NeedLaws.{needed-marked}
 
@@ -46,25 +46,6 @@ on-ok (Err e) P none holds = absurd (false≢true (sym none))
 
 -- ---- headings
 
-heading-there : (nodes : List Node) (place : ℕ) → place < length nodes → (heading : Heading) × (slice_get (headings_of nodes) place ≡ Some heading)
-heading-there [] place less = absurd (omega arith)
-heading-there (node ∷ nodes) zero less = (node.heading, refl)
-heading-there (node ∷ nodes) (suc place) less = heading-there nodes place (omega arith)
-
-node-there : (nodes : List Node) (place : ℕ) → place < length nodes → (node : Node) × (slice_get nodes place ≡ Some node)
-node-there [] place less = absurd (omega arith)
-node-there (node ∷ nodes) zero less = (node, refl)
-node-there (node ∷ nodes) (suc place) less = node-there nodes place (omega arith)
-
-length-headings : (nodes : List Node) → length (headings_of nodes) ≡ length nodes
-length-headings [] = refl
-length-headings (node ∷ nodes) = ap suc (length-headings nodes)
-
-pub place-there : (places : List ℕ) (k : ℕ) → k < length places → (place : ℕ) × (slice_get places k ≡ Some place)
-place-there [] k less = absurd (omega arith)
-place-there (place ∷ places) zero less = (place, refl)
-place-there (place ∷ places) (suc k) less = place-there places k (omega arith)
-
 module _ (kept : List Node) (node : Node) where
   -- what stood at a place stands there still
   heading-before : (k : ℕ) (found : Option Heading) (heading : Heading) → slice_get (headings_of kept) k ≡ found → found ≡ Some heading
@@ -76,7 +57,7 @@ module _ (kept : List Node) (node : Node) where
   heading-last : slice_get (headings_of (kept ++ node ∷ [])) (length kept) ≡ Some node.heading
   heading-last =
       ap (λ (hs : List Heading). slice_get hs (length kept)) (headings_of-append kept (node ∷ []))
-      ∙ ap (λ (k : ℕ). slice_get (headings_of kept ++ node.heading ∷ []) k) (sym (length-headings kept))
+      ∙ ap (λ (k : ℕ). slice_get (headings_of kept ++ node.heading ∷ []) k) (sym (length-map kept (λ (n : Node). n.heading)))
       ∙ get-push_last (headings_of kept) node.heading
 
 -- ---- what is kept
@@ -146,7 +127,7 @@ module _ (nodes : List Node) (right : AreRight nodes) (root : ℕ) (marks : List
     within = get-lt nodes bound node there
 
     own_heading : slice_get (headings_of nodes) bound ≡ Some node.heading
-    own_heading = get-heading nodes bound node there
+    own_heading = get-map (λ (n : Node). n.heading) nodes bound node there
 
     same-child : (child : ℕ) → Names node.rule child → slice_get (headings_of kept) (name child) ≡ slice_get (headings_of (take bound nodes)) child
     same-child child names_it =
@@ -165,7 +146,7 @@ module _ (nodes : List Node) (right : AreRight nodes) (root : ℕ) (marks : List
     gives-before : (place : ℕ) → IsMarked marks place → place < bound → slice_get (headings_of more) (slice_index new_names place) ≡ slice_get (headings_of nodes) place
     gives-before place h less =
         let different : place ≡ bound → ⊥ = λ (same : place ≡ bound). omega (arith, same, less) in
-        let found = heading-there nodes place (omega (arith, less, within)) in
+        let found = get-there (headings_of nodes) place (omega (arith, less, within, length-map nodes (λ (n : Node). n.heading))) in
         ap (λ (p : ℕ). slice_get (headings_of more) p) (get_or-set_other names bound place (length kept) 0 different)
         ∙ heading-before kept new (name place) (slice_get (headings_of nodes) place) found.0 (old.gives place h less) found.1
 
@@ -280,13 +261,13 @@ module _ (nodes : List Node) (right : AreRight nodes) (root : ℕ) (marks : List
     size-of : (k : ℕ) (node : Node) → slice_get kept k ≡ Some node → node.heading.position.size ≡ end.last.heading.position.size
     size-of k node e =
         let within : k < length kept = get-lt kept k node e in
-        let found = place-there old.places k (omega (arith, within, old.needed.as_many)) in
+        let found = get-there old.places k (omega (arith, within, old.needed.as_many)) in
         let below : found.0 < length nodes = omega (arith, old.below k found.0 found.1, old.inside) in
-        let own = node-there nodes found.0 below in
+        let own = get-there nodes found.0 below in
         let same : renamed_node (λ (place : ℕ). slice_index names place) own.0 ≡ node =
         same_some _ node (sym (old.needed.same_node k found.0 own.0 found.1 own.1) ∙ e) in
         let at : slice_get (headings_of nodes) found.0 ≡ Some node.heading =
-        get-heading nodes found.0 own.0 own.1 ∙ ap (λ (n : Node). Some n.heading) same in
+        get-map (λ (n : Node). n.heading) nodes found.0 own.0 own.1 ∙ ap (λ (n : Node). Some n.heading) same in
         let path = old.needed.needed k found.0 found.1 in
         needed-size nodes right path.0 root found.0 end.last.heading node.heading path.1 end.same_heading at
 

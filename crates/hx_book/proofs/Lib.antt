@@ -4,7 +4,6 @@ pub mod FoundLaws
 pub mod GrowthLaws
 pub mod MarkLaws
 pub mod ChildLaws
-pub mod TurnedEntries
 pub mod NeedLaws
 pub mod RenamingLaws
 pub mod KeptLaws

@@ -1,7 +1,8 @@
 -- What a mark more changes: the marked places are those of before and the new one. So after a mark on each child of some lines
 -- the marked ones are those of before and these.
 use Rattle.std.proofs.Common.{◌≡◌, ℕ, ◌+◌, ◌<◌, List, [], ◌∷◌, ◌++◌, length, take, get_or, refl, sym, ◌∙◌, subst, inl, inr, Bool, ◌⊎◌, ⊎_elim, arith}
-use Rattle.hx_board.proofs.ListLaws.{get-lt, get-push, get-push_before, get-push_last, read-get, take-read}
+use Rattle.std.proofs.lemmas.Option.{slice_get_read}
+use Rattle.hx_board.proofs.ListLaws.{get-lt, get-push, get-push_before, get-push_last, take-read}
 use Rattle.hx_tree.specs.declared.nodes.Line.{Line}
 use Rattle.hx_book.specs.Trees.{NamesChild, HasLine}
 use Rattle.hx_book.specs.Renaming.{MarksMore}
@@ -41,7 +42,7 @@ module _ (lines : List Line) (line : Line) where
 
 module _ (lines : List Line) (i : ℕ) (line : Line) (inside : i < length lines) (is : line ≡ get_or lines i line) where
   pub line-in : (place : ℕ) → NamesChild line place → HasLine lines place
-  line-in place names = record { k = i; line = line; there = read-get lines i line inside is; names = names }
+  line-in place names = record { k = i; line = line; there = slice_get_read lines _ i line refl inside is; names = names }
 
   pub lines-more : (old middle new : List Bool) → MarksMore (HasLine (take i lines)) old middle → MarksMore (NamesChild line) middle new
       → MarksMore (HasLine (take (i + 1) lines)) old new

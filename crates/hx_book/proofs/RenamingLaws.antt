@@ -1,7 +1,8 @@
 -- A node with new numbers for its children is right after headings that hold those of its children at the new numbers.
 use Rattle.std.proofs.Common.{◌≡◌, ℕ, zero, suc, add-one, ◌+◌, ◌<◌, List, [], ◌∷◌, map, length, get_or, set, refl, sym, ap, ◌∙◌, Option, Some, None, inl, inr, ⊎_elim}
+use Rattle.std.proofs.lemmas.Option.{get_or_from_slice_get, slice_get_read}
 use Rattle.std.specs.Prelude.{slice_get, IfSome, Contains}
-use Rattle.hx_board.proofs.ListLaws.{get-lt, get-map, get-map_none, get_or-get, read-get}
+use Rattle.hx_board.proofs.ListLaws.{get-lt, get-map, get-map_none}
 use Rattle.hx_link.specs.declared.links.Link.{Link}
 use Rattle.hx_tree.specs.declared.nodes.Heading.{Heading}
 use Rattle.hx_tree.specs.declared.nodes.Line.{Line}
@@ -52,9 +53,9 @@ cells-renamed name (line ∷ lines) = ap (λ (n : ℕ). n ∷ cells_of (map (ren
 
 contains-map : {A B : Type 0} → (f : A → B) (xs : List A) (x : A) → Contains xs x → Contains (map f xs) (f x)
 contains-map f xs x has =
-    let there : slice_get xs has.0 ≡ Some x = read-get xs has.0 x has.1 (sym has.2) in
+    let there : slice_get xs has.0 ≡ Some x = slice_get_read xs _ has.0 x refl has.1 (sym has.2) in
     let mapped_there : slice_get (map f xs) has.0 ≡ Some (f x) = get-map f xs has.0 x there in
-    (has.0, get-lt (map f xs) has.0 (f x) mapped_there, get_or-get (map f xs) has.0 (f x) (f x) mapped_there)
+    (has.0, get-lt (map f xs) has.0 (f x) mapped_there, get_or_from_slice_get (map f xs) has.0 (f x) (f x) mapped_there)
 
 module _ (before after : List Heading) (heading : Heading) (links : List Link) (threats : List ℕ) (name : ℕ → ℕ) (lines : List Line) where
   line-renamed : (line : Line) → ((child : ℕ) → NamesChild line child → slice_get after (name child) ≡ slice_get before child)
@@ -139,7 +140,7 @@ module _ (one other : ℕ → ℕ) where
 
 module _ {A : Type 0} (f : A → A) (old now : List A) (k : ℕ) (x : A) (is : now ≡ mapped f k old) (inside : k < length old) (read : x ≡ get_or now k x) where
   pub line-read : slice_get old k ≡ Some x
-  line-read = read-get old k x inside (read ∙ ap (λ (xs : List A). get_or xs k x) is ∙ mapped-next f k old x)
+  line-read = slice_get_read old _ k x refl inside (read ∙ ap (λ (xs : List A). get_or xs k x) is ∙ mapped-next f k old x)
 
   pub mapped-step : set now k (f x) ≡ mapped f (k + 1) old
   mapped-step = ap (λ (xs : List A). set xs k (f x)) is ∙ mapped-set f k old x line-read ∙ ap (λ (n : ℕ). mapped f n old) (sym (add-one k))

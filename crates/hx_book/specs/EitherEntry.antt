@@ -5,15 +5,12 @@ use Rattle.hx_board.specs.Positions.{Board}
 use Rattle.hx_turn.specs.Turned.{IsTurned}
 use Rattle.hx_tree.specs.declared.nodes.Node.{Node}
 use Rattle.hx_tree.specs.declared.entries.Found.{Found}
-use Rattle.hx_tree.specs.Entries.{Extends, HasNoEntry, IsFirstFound}
+use Rattle.hx_tree.specs.Entries.{HasNoEntry, IsFirstFound, WasSeen}
 use Rattle.hx_book.specs.declared.either.Either.{Either}
 
 -- some front of the new list, with the old one at its own front, has no entry of the position and mover
-pub record WasMissed (old new : List Node) (board : Board) (mover : Colour) : Type 0 where
-  pub seen : List Node
-  pub after_old : Extends seen old
-  pub before_new : Extends new seen
-  pub none : HasNoEntry seen board mover
+abbrev pub WasMissed : List Node → List Node → Board → Colour → Type 0
+WasMissed old new board mover = WasSeen (λ nodes. HasNoEntry nodes board mover) old new
 
 -- the position was missed, and then the turned one was found
 pub record IsTurnedFound (old new : List Node) (board : Board) (mover : Colour) (found : Found) : Type 0 where

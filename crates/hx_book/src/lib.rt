@@ -17,6 +17,3 @@ pub use hx_tree::Found;
 pub use refusals::NoSlot;
 pub use trees::renamed;
 pub use wider::Wider;
-
-#[cfg(test)]
-mod tests;

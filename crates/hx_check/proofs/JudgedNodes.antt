@@ -59,18 +59,14 @@ count_with : (reader : TreeReader) (headings : List Heading) (now : ℕ) (line :
     → now ≡ length (judged.lines ++ line ∷ [])
 count_with reader headings now line judged is = count_more reader headings now judged is ∙ sym (length-append judged.lines (line ∷ []))
 
--- the bytes behind one more line
-text_with : (lines : List (List ℕ)) (line held : List ℕ) → text_of (lines ++ line ∷ []) ≡ text_of lines ++ (line ++ 10 ∷ [])
-unfolding text_of
-text_with lines line held = text_of-append lines (line ∷ [])
-
 module _ (before : Option (List ℕ)) (reader new_reader : TreeReader) (headings : List Heading) (old new : Cutter) (left then_left : Option (List ℕ))
     (upto : JudgedUpTo before reader headings old.held left) (cut : CutsLine old new left then_left true)
     (counts : lines_fed new_reader ≡ next_count (lines_fed reader)) where
   with_line : before ≡ prepend (text_of (upto.judged.lines ++ new.line ∷ []) ++ new.held) then_left
+  unfolding text_of
   with_line =
       parts-lost before (text_of upto.judged.lines) old.held new.held (new.line ++ 10 ∷ []) left then_left upto.parts cut.loses
-      ∙ ap (λ bytes. prepend (bytes ++ new.held) then_left) (sym (text_with upto.judged.lines new.line new.held))
+      ∙ ap (λ bytes. prepend (bytes ++ new.held) then_left) (sym (text_of-append upto.judged.lines (new.line ∷ [])))
 
   -- one more line that is no node's last
   pub judged_more : HasRead new_reader upto.judged.nodes (upto.judged.lines ++ new.line ∷ []) → JudgedUpTo before new_reader headings new.held then_left

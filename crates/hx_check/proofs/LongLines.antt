@@ -12,7 +12,7 @@ use Rattle.hx_text.specs.Marks.{Lacks}
 use Rattle.hx_text.specs.Grammars.{text_of, Begins}
 use Rattle.hx_text.specs.TreeTexts.{AreTreeLines, IsTreeText}
 use Rattle.hx_text.specs.Lengths.{longest_line}
-use Rattle.hx_text.proofs.Cuts.{AllLack, Agree, Second_goes_on, First_goes_on, agree}
+use Rattle.hx_text.proofs.Cuts.{AllLack, Agree, Second_goes_on, First_goes_on, agree, Lacks-middle}
 use Rattle.hx_text.proofs.OneFault.{no_more}
 use Rattle.hx_text.proofs.ShortLines.{AllShort, AllShort-middle, AllShort-front, AllShort-tree_lines}
 use Rattle.hx_text.proofs.TreeLacks.{AllLack-tree_lines, AllLack-begun}
@@ -58,10 +58,6 @@ record GoesOn (input : List ℕ) (long : IsLongLine input) (lines : List (List �
   is : long.lines ≡ lines ++ more
   left : rest ≡ text_of more ++ long.rest
 
-lacks_next : (lines : List (List ℕ)) (line : List ℕ) (more : List (List ℕ)) → AllLack (lines ++ line ∷ more) → Lacks 10 line
-lacks_next [] line more all = all.0
-lacks_next (first ∷ lines) line more all = lacks_next lines line more all.1
-
 goes_on_by : (input : List ℕ) (long : IsLongLine input) (lines : List (List ℕ)) (rest : List ℕ) → AllLack lines → AllShort lines
     → Agree long.lines lines long.rest rest → GoesOn input long lines rest
 unfolding text_of
@@ -69,7 +65,7 @@ goes_on_by input long lines rest lack short (First_goes_on more is left) = recor
 goes_on_by input long lines rest lack short (Second_goes_on [] is left) =
     record { more = []; is = sym (append-nil long.lines) ∙ sym is ∙ sym (append-nil lines); left = sym left }
 goes_on_by input long lines rest lack short (Second_goes_on (next ∷ more) is left) =
-    absurd (lines_not_long next more rest (lacks_next long.lines next more (subst AllLack is lack))
+    absurd (lines_not_long next more rest (Lacks-middle long.lines next more (subst AllLack (is ∙ sym (append_assoc long.lines (next ∷ []) more)) lack))
     (AllShort-middle long.lines next more (subst AllShort is short)) (subst BeginsLong left long.long))
 
 goes_on : (input : List ℕ) (long : IsLongLine input) (lines : List (List ℕ)) (rest : List ℕ) → AllLack lines → AllShort lines

@@ -16,7 +16,8 @@ use Rattle.hx_core.specs.declared.events.Reply.{Reply}
 use Rattle.hx_core.specs.declared.events.Reply.TheVariants.{Looked, Stored, NoSlot}
 use Rattle.hx_core.specs.BookMachine.{BookState, book_start, seen_by, with_seen, with_all_seen, told, LookStep, StoreStep}
 use Rattle.hx_core.specs.Runs.{IsBook}
-use Rattle.hx_core.proofs.ListChanges.{set-le, le-set, replicate-le}
+use Rattle.hx_core.proofs.ListChanges.{set-le, le-set}
+use Rattle.hx_count.proofs.MachineLaws.{get-copies}
 
 pub book-begun : (workers slots : ℕ) → IsBook workers slots (book_start slots workers)
 book-begun workers slots = record {
@@ -25,7 +26,7 @@ book-begun workers slots = record {
   held = omega arith;
   right = λ k. tt;
   distinct = λ board mover one other first second. cc (first.there);
-  seen = λ worker. replicate-le workers worker;
+  seen = λ worker. get-copies (λ (n : ℕ). n ≤ 0) workers 0 0 worker (omega arith) (omega arith);
 }
 
 -- the later list begins with the earlier one, and each worker has seen as much or more

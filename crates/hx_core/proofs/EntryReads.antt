@@ -1,16 +1,17 @@
 -- A list of nodes that is read from its front until an entry is found.
 use Rattle.std.proofs.Common.{◌≡◌, ℕ, ◌+◌, ◌<◌, ◌≤◌, List, length, get_or, refl, sym, ap, ◌∙◌, Some, below_more, arith}
+use Rattle.std.proofs.lemmas.Option.{slice_get_read}
 use Rattle.std.specs.Prelude.{slice_get}
 use Rattle.hx_board.specs.declared.colours.Colour.{Colour}
 use Rattle.hx_board.specs.Positions.{Board}
 use Rattle.hx_tree.specs.declared.nodes.Node.{Node}
 use Rattle.hx_tree.specs.Entries.{IsEntry, HasNoEntry, IsFirstFound}
-use Rattle.hx_board.proofs.ListLaws.{read-get, get-lt, same_some}
+use Rattle.hx_board.proofs.ListLaws.{get-lt, same_some}
 
 module _ (nodes : List Node) (board : Board) (mover : Colour) (index : ℕ) (none : (place : ℕ) → place < index → IsEntry nodes board mover place → ⊥) where
   module _ (node : Node) (less : index < length nodes) (read : node ≡ get_or nodes index node) where
     there : slice_get nodes index ≡ Some node
-    there = read-get nodes index node less read
+    there = slice_get_read nodes _ index node refl less read
 
     pub read-found : (node.heading.position ≡ board) × (node.heading.to_move ≡ mover) → IsFirstFound nodes board mover (record { index = index; winner = node.heading.winner })
     read-found is = record {

@@ -1,6 +1,5 @@
 -- Lists with one item written: what is true of each item, and an item that is changed.
 use Rattle.std.proofs.Common.{◌≡◌, ℕ, zero, suc, ◌<◌, ◌≤◌, List, [], ◌∷◌, length, set, get_or, ap, refl, arith}
-use Rattle.std.specs.Prelude.{replicate}
 use Rattle.hx_count.specs.Machine.{changed_at}
 
 -- a bound of each number, and of the one that is written
@@ -18,11 +17,6 @@ le-set (y ∷ ys) zero x more zero = more
 le-set (y ∷ ys) zero x more (suc k) = omega arith
 le-set (y ∷ ys) (suc place) x more zero = omega arith
 le-set (y ∷ ys) (suc place) x more (suc k) = le-set ys place x more k
-
-pub replicate-le : (n k : ℕ) → get_or (replicate n 0) k 0 ≤ 0
-replicate-le zero k = omega arith
-replicate-le (suc n) zero = omega arith
-replicate-le (suc n) (suc k) = replicate-le n k
 
 -- a number that is not 0 is one of the list
 pub positive-lt : (xs : List ℕ) (place : ℕ) → 0 < get_or xs place 0 → place < length xs

@@ -1,5 +1,7 @@
--- The state of the machine as contracts see it, made of the fields, and what is true of the fields.
+-- The state of the machine as contracts see it, made of the fields, and what is true of the fields. These words are for the functions
+-- inside the crate alone.
 use Rattle.std.specs.Prelude.{◌<◌, ◌≤◌, ◌^◌, ℕ, List}
+use Rattle.hx_tree.specs.declared.checkers.TheConstants.{MOST_NODES}
 use Rattle.hx_tree.specs.declared.nodes.Node.{Node}
 use Rattle.hx_count.specs.Machine.{Account}
 use Rattle.hx_core.specs.Machine.{MachineState}
@@ -16,7 +18,7 @@ machine slots nodes seen budget accounts = record {
 pub record AreInRange (workers slots budget words : ℕ) : Type 0 where
   pub some_worker : 0 < workers
   pub few_workers : workers ≤ 64
-  pub few_slots : slots ≤ 1048576
+  pub few_slots : slots ≤ MOST_NODES
   pub small_budget : budget ≤ 2 ^ 40
   pub some_word : 0 < words
   pub few_words : words ≤ 65536

@@ -18,7 +18,7 @@ pub record IsBook (workers slots : ℕ) (book : BookState) : Type 0 where
   pub seen : (worker : ℕ) → seen_by book worker ≤ length book.nodes
 
 -- the counts of so many workers, units and words: no more units are granted than there are, all of them where a worker was refused,
--- and each worker has all the words and holds at most 1,024 in all
+-- and each worker has all the words and holds at most `MOST_HELD` in all
 pub record AreCounts (workers budget words : ℕ) (counts : CountsState) : Type 0 where
   pub same_workers : length counts.accounts ≡ workers
   pub same_budget : counts.budget ≡ budget

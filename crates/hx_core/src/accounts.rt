@@ -4,6 +4,7 @@ ghost use Rattle.std.specs.Prelude.{◌≡◌, ◌<◌, ◌≤◌, ◌^◌, ◌�
 ghost use Rattle.hx_count.specs.Machine.{account, with_unit, with_refusal, holding, releasing, held_in_all};
 
 use hx_board::Memory;
+use hx_count::MOST_HELD;
 use std::alloc::Global;
 use std::marker::Model;
 
@@ -65,12 +66,13 @@ impl Account {
         self.refused = true;
     }
 
-    /// Whether there is such a word, and fewer than 1,024 are held in all.
+    /// Whether there is such a word, and fewer than `MOST_HELD` are held in all.
     pub(crate) fn may_hold(&self, word: u32) -> bool
-        requires { held_in_all self.now ≤ 1024 }
-        ensures { IsTrue result ↔ ((word < length self.now.held) × (held_in_all self.now < 1024)) }
+        requires { held_in_all self.now ≤ MOST_HELD }
+        ensures { IsTrue result
+            ↔ ((word < length self.now.held) × (held_in_all self.now < MOST_HELD)) }
     {
-        self.has(word) && total(self.held.as_slice()) < 1024
+        self.has(word) && total(self.held.as_slice()) < MOST_HELD
     }
 
     /// Whether there is such a word.
@@ -93,7 +95,7 @@ impl Account {
     /// Holds a word once more.
     pub(crate) fn hold(&mut self, word: u32)
         requires inside { word < length self.old.held }
-        requires few { held_in_all self.old < 1024 }
+        requires few { held_in_all self.old < MOST_HELD }
         ensures { self.new ≡ holding word self.old }
     {
         self.held[word as usize] += 1;
@@ -110,7 +112,7 @@ impl Account {
 
 /// How often the words are held in all.
 fn total(held: &[u32]) -> u32
-    requires { sum held.now ≤ 1024 }
+    requires { sum held.now ≤ MOST_HELD }
     ensures { result ≡ sum held.now }
 {
     held.iter().sum()

@@ -2,6 +2,7 @@
 //! its front.
 
 ghost use Rattle.std.specs.Prelude.{◌≡◌, ◌≤◌, ◌↔◌, IsTrue, length};
+ghost use Rattle.hx_tree.specs.declared.checkers.TheConstants.{MOST_NODES};
 ghost use Rattle.hx_tree.specs.Entries.{FindsFirst};
 ghost use Rattle.hx_core.specs.declared.events.Event.TheVariants.{Look, Store, Tell};
 ghost use Rattle.hx_core.specs.Machine.{CanHappen, MachineStep};
@@ -56,7 +57,7 @@ impl State {
 
 /// The first entry of a position and mover. None exactly where there is none.
 fn find(nodes: &[Node], position: &Position, to_move: Colour) -> Option<Found>
-    requires { length nodes.now ≤ 1048576 }
+    requires { length nodes.now ≤ MOST_NODES }
     ensures { FindsFirst nodes.now position.now to_move result }
 {
     for (index, node) in nodes.iter().enumerate() {

@@ -30,7 +30,7 @@ pub enum Event {
         worker: u32,
     },
 
-    /// The worker holds a loss word once more. It holds fewer than 1,024 in all before.
+    /// The worker holds a loss word once more. It holds fewer than `MOST_HELD` in all before.
     Hold {
         worker: u32,
         word: u32,

@@ -14,6 +14,3 @@ pub use hx_tree::Found;
 pub use laws::{every_run_goes_on, every_run_grows, every_run_keeps};
 pub use machines::{apply, can_happen};
 pub use states::State;
-
-#[cfg(test)]
-mod tests;

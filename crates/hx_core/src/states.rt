@@ -1,6 +1,7 @@
 //! The state of the machine.
 
 ghost use Rattle.std.specs.Prelude.{◌≡◌, ◌<◌, ◌≤◌, ◌^◌, IfOk, false, replicate};
+ghost use Rattle.hx_tree.specs.declared.checkers.TheConstants.{MOST_NODES};
 ghost use Rattle.hx_count.specs.Machine.{account};
 ghost use Rattle.hx_core.specs.Machine.{machine_start};
 
@@ -49,7 +50,7 @@ impl State {
     ) -> Result<State, Memory>
         requires some_worker { 0 < workers }
         requires few_workers { workers ≤ 64 }
-        requires few_slots { slots ≤ 1048576 }
+        requires few_slots { slots ≤ MOST_NODES }
         requires small_budget { budget ≤ 2 ^ 40 }
         requires some_word { 0 < words }
         requires few_words { words ≤ 65536 }

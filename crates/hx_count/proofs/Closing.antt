@@ -7,13 +7,14 @@ use mathlib.Core.Option.{some}
 use lib.ListN.{get_elem?}
 use Rattle.atomic_table.specs.Table.{State, Final, Seen}
 use Rattle.hx_count.specs.declared.events.CountEvent.{CountEvent}
+use Rattle.hx_count.specs.declared.events.TheConstants.{MOST_HELD}
 use Rattle.hx_count.specs.declared.views.Limits.{Limits}
 use Rattle.hx_count.specs.declared.views.Part.{Part}
 use Rattle.hx_count.specs.declared.views.View.{View}
 use Rattle.hx_count.specs.Machine.{CountsState, Account, no_account, account_of, granted_to_all, refused_of_all, losses_at, held_in_all, held_by_all}
 use Rattle.hx_count.specs.Histories.{GoesOn}
 use Rattle.hx_count.specs.Counted.{Seated, start_of, state_after, IsHistory, view, times_in, AreCurrentParts, Counted}
-use Rattle.hx_count.specs.Seats.{Origin, Seat, own, part_of, IsClosed}
+use Rattle.hx_count.specs.Seats.{Origin, Seat, own, part_of, AreTotals}
 use Rattle.hx_count.proofs.MachineLaws.{goes_on-account, history-bounded, history-workers, held-losses, held-le, run-budget, history-in_budget}
 use Rattle.hx_count.proofs.Sums.{upto, upto-same, sum-upto, sum_by-upto}
 use Rattle.hx_count.proofs.Terms.{term-le}
@@ -77,8 +78,8 @@ module _ (limits : Limits) (words : List ℕ) (parts : List Part) (e : Ends limi
       ∙ (upto-same limits.words (λ k. slice_index (drop 1 words) k) (λ k. losses_at last k) (λ k below. index-rest words k ∙ (ap (slice_index words) (omega arith) ∙ e.losses k below))
       ∙ held-losses limits.words last (history-bounded limits.budget limits.words limits.workers e.history e.is_history)))
 
-  pub few-held : held_by_all last ≤ limits.workers * 1024
-  few-held = omega (arith, held-le limits.words last (history-bounded limits.budget limits.words limits.workers e.history e.is_history), ap (λ n. n * 1024) (history-workers limits.budget limits.words limits.workers e.history))
+  pub few-held : held_by_all last ≤ limits.workers * MOST_HELD
+  few-held = omega (arith, held-le limits.words last (history-bounded limits.budget limits.words limits.workers e.history e.is_history), ap (λ n. n * MOST_HELD) (history-workers limits.budget limits.words limits.workers e.history))
 
   -- a sum over the workers' accounts is one over the parts
   workers-sum : (f : Account → ℕ) → length parts ≡ limits.workers → sum_by (λ (p : Part). f (account_of last p.worker)) parts ≡ sum_by f last.accounts
@@ -138,7 +139,7 @@ module _ (made : Origin) (seats : List Seat) (words : List ℕ) (e : Ends made.l
       let refused : 0 < refused_of_all (state_after made.limits e.history) = omega (arith, one, get_or-le-sum_by f seats some_refused.0 some_refused.1 some_refused.2, ap f some_refused.3, seats-sum (λ (a : Account). cond a.refused 1 0) all) in
       sym e.granted ∙ ((history-in_budget made.limits.budget made.limits.words made.limits.workers e.history e.is_history).full refused ∙ run-budget (start_of made.limits) e.history)
 
-  pub closed : (granted held : ℕ) → granted ≡ min (slice_index words 0) made.limits.budget → held ≡ sum (drop 1 words) → IsClosed made seats granted held
+  pub closed : (granted held : ℕ) → granted ≡ min (slice_index words 0) made.limits.budget → held ≡ sum (drop 1 words) → AreTotals made seats granted held
   closed granted held is_granted is_held = record {
     history = e.history;
     is_history = e.is_history;

@@ -1,7 +1,6 @@
 -- Seats as they are dealt out, one after the other, and gathered again.
-use Rattle.std.proofs.Common.{◌≡◌, ℕ, zero, suc, ◌+◌, ◌-◌, ◌<◌, List, [], ◌∷◌, ◌++◌, length, map, get_or, refl, sym, ap, ◌∙◌, subst, arith, length-append}
+use Rattle.std.proofs.Common.{◌≡◌, ℕ, zero, suc, ◌+◌, ◌-◌, ◌<◌, List, [], ◌∷◌, ◌++◌, length, map, refl, sym, ap, ◌∙◌, subst, arith}
 use Rattle.std.specs.List.{All}
-use Rattle.std.proofs.lemmas.List.{get_or_append_left, get_or_at}
 use Rattle.atomic_table.specs.Seated.{TableId}
 use Rattle.hx_count.specs.declared.views.Limits.{Limits}
 use Rattle.hx_count.specs.Counted.{Seated, part, view, new_parts, all_but_first, only_first, joined}
@@ -38,12 +37,6 @@ dealt-more made limits table dealt me seats after is_made one were pushed =
     pushed ∙ ((λ k. were k ++ new k ∷ []) ∙ (ap (λ n. new_seats made 0 dealt ++ seat made n [] ∷ []) (sym zero_first) ∙ seats-more made 0 dealt))
 
 -- ---- seats that come back
-
-pub front-all : (P : Seat → Type 0) (front : List Seat) (last : Seat) (all : List Seat) → all ≡ front ++ last ∷ [] → All P all → All P front
-front-all P front last all same each k d near = subst P (ap (λ (l : List Seat). get_or l k d) same ∙ get_or_append_left front (last ∷ []) d k near) (each k d (omega (arith, ap length same, length-append front (last ∷ []))))
-
-pub last-all : (P : Seat → Type 0) (front : List Seat) (last : Seat) (all : List Seat) → all ≡ front ++ last ∷ [] → All P all → P last
-last-all P front last all same each = subst P (ap (λ (l : List Seat). get_or l (length front) last) same ∙ get_or_at front last [] last (length front) refl) (each (length front) last (omega (arith, ap length same, length-append front (last ∷ []))))
 
 -- the parts of one seat more, which come first
 pub joined-parts : (me other after : Seated) (one : Seat) (done : List Seat) → me ≡ (view (map part_of done), []) → other ≡ (view (part_of one ∷ []), []) → after ≡ (joined me.0 other.0, me.1)

@@ -11,6 +11,7 @@ use lib.ListN.{get_elem?}
 use Rattle.atomic_table.specs.Table.{State, step, keeps, opening, Allows, Splits, Joins}
 use Rattle.atomic_table.proofs.Lists.{at_set, at_snoc, set_else}
 use Rattle.hx_count.specs.declared.events.CountEvent.{CountEvent}
+use Rattle.hx_count.specs.declared.events.TheConstants.{MOST_HELD}
 use Rattle.hx_count.specs.declared.events.CountEvent.TheVariants.{Spend, Hold, Release, Look}
 use Rattle.hx_count.specs.declared.views.Limits.{Limits}
 use Rattle.hx_count.specs.declared.views.Part.{Part}
@@ -227,7 +228,7 @@ module _ (limits : Limits) (slots id : ℕ) (p : Part) where
         (λ (apart : word ≢ k). get_or-set_other s.words (word + 1) (k + 1) n 0 (λ same. apart (omega arith)) ∙ (c.losses k below ∙ sym (elsewhere k apart)))
         (cases_eq word k)
 
-    module _ (room : held_in_all (account_of (state_after p.limits p.seen) p.worker) < 1024) where
+    module _ (room : held_in_all (account_of (state_after p.limits p.seen) p.worker) < MOST_HELD) where
       hold-allowed : IsAllowed state (Hold worker word)
       hold-allowed = (of_now, (omega (arith, long, inside), omega (arith, room, ap held_in_all as-before)))
 
@@ -278,7 +279,7 @@ module _ (limits : Limits) (slots id : ℕ) (p : Part) where
       losses = c.losses word inside ∙ ap (λ (l : Limits). losses_at (state_after l c.history) word) (sym (same-limits limits s c id p there));
     }
 
-  pub holds-keep : (word : ℕ) → word < limits.words → held_in_all (account_of (state_after p.limits p.seen) p.worker) < 1024
+  pub holds-keep : (word : ℕ) → word < limits.words → held_in_all (account_of (state_after p.limits p.seen) p.worker) < MOST_HELD
       → Allows (Counted limits) slots id me (word + 1) (λ n. (n + 1) % 2 ^ 64) (holds (step slots (word + 1) 1 0 none) me)
   holds-keep word inside room s c _ there _ =
       let n : ℕ = get_or s.words (word + 1) 0 in

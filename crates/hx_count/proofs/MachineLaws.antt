@@ -8,6 +8,7 @@ use Rattle.std.proofs.lemmas.Bool.{cases_lt, lt-ltb, le-ltb}
 use mathlib.Core.Logic.{dite}
 use native.Mathlib.Decide.{ℕ_discrete, dec_lt}
 use Rattle.hx_count.specs.declared.events.CountEvent.{CountEvent}
+use Rattle.hx_count.specs.declared.events.TheConstants.{MOST_HELD}
 use Rattle.hx_count.specs.declared.events.CountEvent.TheVariants.{Spend, Hold, Release, Look}
 use Rattle.hx_count.specs.Machine.{Account, CountsState, no_account, account, counts_start, account_of, granted_to_all, refused_of_all, losses_at, held_in_all, held_by_all, HasNothing, has_units, changed_at, with_unit, with_refusal, holding, releasing, with_account, counts_step, counts_run, worker_of, IsAllowed, AreAllowed, AreBounded, IsInBudget}
 use Rattle.hx_count.specs.Histories.{AreOthers, GoesOn}
@@ -166,32 +167,32 @@ releasing-holding word a = ap (λ held. account a.granted a.refused held) (relea
 -- a change of one account keeps the bounds where the changed account has them
 bounded-step : (words : ℕ) (state : CountsState) (event : CountEvent) → AreBounded words state → worker_of event < length state.accounts
     → length (account_of (counts_step state event) (worker_of event)).held ≡ words
-    → held_in_all (account_of (counts_step state event) (worker_of event)) ≤ 1024
+    → held_in_all (account_of (counts_step state event) (worker_of event)) ≤ MOST_HELD
     → AreBounded words (counts_step state event)
 bounded-step words state event bounded is_worker long few = record {
   long = λ worker less. dite (ℕ_discrete (worker_of event) worker)
       (λ same. subst (λ w. length (account_of (counts_step state event) w).held ≡ words) same long)
       (λ apart. ap (λ a. length a.held) (step-others state event worker apart) ∙ bounded.long worker (omega (arith, step-workers state event)));
   few = λ worker. dite (ℕ_discrete (worker_of event) worker)
-      (λ same. subst (λ w. held_in_all (account_of (counts_step state event) w) ≤ 1024) same few)
-      (λ apart. subst (λ a. held_in_all a ≤ 1024) (sym (step-others state event worker apart)) (bounded.few worker));
+      (λ same. subst (λ w. held_in_all (account_of (counts_step state event) w) ≤ MOST_HELD) same few)
+      (λ apart. subst (λ a. held_in_all a ≤ MOST_HELD) (sym (step-others state event worker apart)) (bounded.few worker));
 }
 
 pub bounded-allowed : (words : ℕ) (state : CountsState) (event : CountEvent) → AreBounded words state → IsAllowed state event → AreBounded words (counts_step state event)
 bounded-allowed words state (Spend worker) bounded allowed =
     let own : account_of (counts_step state (Spend worker)) worker ≡ cond (has_units state) with_unit with_refusal (account_of state worker) = changed-here (cond (has_units state) with_unit with_refusal) state.accounts worker no_account allowed.0 in
     let same : (account_of (counts_step state (Spend worker)) worker).held ≡ (account_of state worker).held = ap (λ a. a.held) own ∙ spent-held (has_units state) (account_of state worker) in
-    bounded-step words state (Spend worker) bounded allowed.0 (ap length same ∙ bounded.long worker allowed.0) (subst (λ l. sum l ≤ 1024) (sym same) (bounded.few worker))
+    bounded-step words state (Spend worker) bounded allowed.0 (ap length same ∙ bounded.long worker allowed.0) (subst (λ l. sum l ≤ MOST_HELD) (sym same) (bounded.few worker))
 bounded-allowed words state (Hold worker word) bounded allowed =
     let own = hold-own state worker allowed.0 word in let a = account_of state worker in
     bounded-step words state (Hold worker word) bounded allowed.0
     (ap (λ b. length b.held) own ∙ (length-changed (λ (n : ℕ). n + 1) a.held word ∙ bounded.long worker allowed.0))
-    (subst (λ b. held_in_all b ≤ 1024) (sym own) (omega (arith, held-holding a word allowed.1.0, allowed.1.1)))
+    (subst (λ b. held_in_all b ≤ MOST_HELD) (sym own) (omega (arith, held-holding a word allowed.1.0, allowed.1.1)))
 bounded-allowed words state (Release worker word) bounded allowed =
     let own = release-own state worker allowed.0 word in let a = account_of state worker in
     bounded-step words state (Release worker word) bounded allowed.0
     (ap (λ b. length b.held) own ∙ (length-changed (λ (n : ℕ). n - 1) a.held word ∙ bounded.long worker allowed.0))
-    (subst (λ b. held_in_all b ≤ 1024) (sym own) (omega (arith, held-releasing a word allowed.1, bounded.few worker)))
+    (subst (λ b. held_in_all b ≤ MOST_HELD) (sym own) (omega (arith, held-releasing a word allowed.1, bounded.few worker)))
 bounded-allowed words state (Look worker word) bounded allowed = bounded
 
 bounded-run : (words : ℕ) (state : CountsState) (events : List CountEvent) → AreBounded words state → AreAllowed state events → AreBounded words (counts_run state events)
@@ -213,7 +214,7 @@ sum_by-copies : {A : Type 0} → (f : A → ℕ) (count : ℕ) (x : A) → f x �
 sum_by-copies f zero x none = refl
 sum_by-copies f (suc count) x none = omega (arith, sum_by-cons f x (replicate count x), none, sum_by-copies f count x none)
 
-get-copies : {A : Type 0} → (P : A → Type 0) (count : ℕ) (x d : A) (place : ℕ) → P x → P d → P (get_or (replicate count x) place d)
+pub get-copies : {A : Type 0} → (P : A → Type 0) (count : ℕ) (x d : A) (place : ℕ) → P x → P d → P (get_or (replicate count x) place d)
 get-copies P zero x d place at_x at_d = at_d
 get-copies P (suc count) x d zero at_x at_d = at_x
 get-copies P (suc count) x d (suc place) at_x at_d = get-copies P count x d place at_x at_d
@@ -253,12 +254,12 @@ sum_by-bounded : {A : Type 0} → (f : A → ℕ) (most : ℕ) (xs : List A) (d 
 sum_by-bounded f most [] d bound = omega arith
 sum_by-bounded f most (x ∷ xs) d bound = omega (arith, sum_by-cons f x xs, bound 0 (omega arith), sum_by-bounded f most xs d (λ k less. bound (suc k) (omega arith)))
 
-pub losses-le : (words : ℕ) (state : CountsState) (word : ℕ) → AreBounded words state → losses_at state word ≤ length state.accounts * 1024
-losses-le words state word bounded = sum_by-bounded (λ (a : Account). slice_index a.held word) 1024 state.accounts no_account
+pub losses-le : (words : ℕ) (state : CountsState) (word : ℕ) → AreBounded words state → losses_at state word ≤ length state.accounts * MOST_HELD
+losses-le words state word bounded = sum_by-bounded (λ (a : Account). slice_index a.held word) MOST_HELD state.accounts no_account
     (λ k less. omega (arith, index-le-sum (account_of state k).held word, bounded.few k))
 
-pub held-le : (words : ℕ) (state : CountsState) → AreBounded words state → held_by_all state ≤ length state.accounts * 1024
-held-le words state bounded = sum_by-bounded held_in_all 1024 state.accounts no_account (λ k less. bounded.few k)
+pub held-le : (words : ℕ) (state : CountsState) → AreBounded words state → held_by_all state ≤ length state.accounts * MOST_HELD
+held-le words state bounded = sum_by-bounded held_in_all MOST_HELD state.accounts no_account (λ k less. bounded.few k)
 
 one_at_most : (b : Bool) → cond b 1 0 ≤ 1
 one_at_most true = omega arith

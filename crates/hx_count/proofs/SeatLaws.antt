@@ -6,6 +6,7 @@ use mathlib.Core.Option.{none}
 use Rattle.atomic_table.specs.Seated.{TableId}
 use Rattle.atomic_table.specs.Table.{step, Allows}
 use Rattle.hx_count.specs.declared.events.CountEvent.{CountEvent}
+use Rattle.hx_count.specs.declared.events.TheConstants.{MOST_HELD}
 use Rattle.hx_count.specs.declared.events.CountEvent.TheVariants.{Spend, Hold, Release, Look}
 use Rattle.hx_count.specs.declared.views.Limits.{Limits}
 use Rattle.hx_count.specs.declared.views.Part.{Part}
@@ -35,7 +36,7 @@ module _ (limits : Limits) (slots id : ℕ) (me : Seated) (granted held : ℕ) (
   pub may-spend : refused ≡ false → Allows (Counted limits) slots id me 0 (λ n. (n + 1) % 2 ^ 64) (spends (step slots 0 1 0 none) me)
   may-spend not_yet = subst (λ (m : Seated). Allows (Counted limits) slots id m 0 (λ n. (n + 1) % 2 ^ 64) (spends (step slots 0 1 0 none) m)) (sym k.whole) (spends-keep limits slots id p (k.same_refused ∙ not_yet))
 
-  pub may-hold : (word : ℕ) → word < limits.words → held_in_all own_account < 1024 → Allows (Counted limits) slots id me (word + 1) (λ n. (n + 1) % 2 ^ 64) (holds (step slots (word + 1) 1 0 none) me)
+  pub may-hold : (word : ℕ) → word < limits.words → held_in_all own_account < MOST_HELD → Allows (Counted limits) slots id me (word + 1) (λ n. (n + 1) % 2 ^ 64) (holds (step slots (word + 1) 1 0 none) me)
   may-hold word inside room = subst (λ (m : Seated). Allows (Counted limits) slots id m (word + 1) (λ n. (n + 1) % 2 ^ 64) (holds (step slots (word + 1) 1 0 none) m)) (sym k.whole) (holds-keep limits slots id p word inside room)
 
   pub may-release : (word : ℕ) → word < limits.words → 0 < slice_index own_account.held word

@@ -24,6 +24,8 @@ state_after limits history = counts_run (start_of limits) history
 abbrev pub IsHistory : Limits → List CountEvent → Type 0
 IsHistory limits history = AreAllowed (start_of limits) history
 
+-- ---- words for the functions inside the crate alone
+
 abbrev pub part : Limits → ℕ → List CountEvent → Part
 part limits worker seen = record { limits = limits; worker = worker; seen = seen }
 

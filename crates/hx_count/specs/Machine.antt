@@ -3,6 +3,7 @@
 use Rattle.std.specs.Prelude.{◌≡◌, ℕ, zero, suc, ◌+◌, ◌-◌, ◌<◌, ◌≤◌, Bool, true, false, nat_lt, if◌then◌else◌, List, [], ◌∷◌, length, sum, sum_by, count_by, replicate, slice_index, slice_index_or}
 use Rattle.hx_count.specs.declared.events.CountEvent.{CountEvent}
 use Rattle.hx_count.specs.declared.events.CountEvent.TheVariants.{Spend, Hold, Release, Look}
+use Rattle.hx_count.specs.declared.events.TheConstants.{MOST_HELD}
 
 -- what one worker has: the units granted to it, whether a spend of its was refused, and for each loss word how often it holds it
 pub record Account : Type 0 where
@@ -104,11 +105,11 @@ worker_of (Hold worker word) = worker
 worker_of (Release worker word) = worker
 worker_of (Look worker word) = worker
 
--- what a worker with this account may do: hold a word while it holds fewer than 1,024 in all, release one that it holds, and look
+-- what a worker with this account may do: hold a word while it holds fewer than `MOST_HELD` in all, release one that it holds, and look
 -- at any
 abbrev pub MayDo : Account → CountEvent → Type 0
 MayDo a (Spend worker) = Unit {0}
-MayDo a (Hold worker word) = (word < length a.held) × (held_in_all a < 1024)
+MayDo a (Hold worker word) = (word < length a.held) × (held_in_all a < MOST_HELD)
 MayDo a (Release worker word) = 0 < slice_index a.held word
 MayDo a (Look worker word) = word < length a.held
 
@@ -123,10 +124,10 @@ AreAllowed state (event ∷ events) = IsAllowed state event × AreAllowed (count
 
 -- ---- what is true after each history
 
--- each worker has a number for each loss word, and holds at most 1,024 in all
+-- each worker has a number for each loss word, and holds at most `MOST_HELD` in all
 pub record AreBounded (words : ℕ) (state : CountsState) : Type 0 where
   pub long : (worker : ℕ) → worker < length state.accounts → length (account_of state worker).held ≡ words
-  pub few : (worker : ℕ) → held_in_all (account_of state worker) ≤ 1024
+  pub few : (worker : ℕ) → held_in_all (account_of state worker) ≤ MOST_HELD
 
 -- no more units than the budget are granted, and where a worker was refused, as many as the budget
 pub record IsInBudget (state : CountsState) : Type 0 where

@@ -59,14 +59,14 @@ after_spend (Ok done) a = with_unit a
 after_spend (Err taken) a = with_refusal a
 
 -- the history when the counts are closed: all seats have seen fronts of it, and these are the sums after it
-pub record IsClosed (made : Origin) (seats : List Seat) (granted held : ℕ) : Type 0 where
+pub record AreTotals (made : Origin) (seats : List Seat) (granted held : ℕ) : Type 0 where
   pub history : List CountEvent
   pub is_history : IsHistory made.limits history
   pub seen : All (λ (s : Seat). GoesOn s.worker s.seen history) seats
   pub same_granted : granted ≡ granted_to_all (state_after made.limits history)
   pub same_held : held ≡ held_by_all (state_after made.limits history)
 
--- ---- the fields of a seat
+-- ---- the fields of a seat: words for the functions inside the crate alone
 
 -- one who is no worker, of no table
 abbrev pub no_part : Part

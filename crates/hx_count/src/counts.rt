@@ -6,9 +6,10 @@
 ghost use Rattle.std.specs.Prelude.{◌≡◌, ◌<◌, ◌≤◌, ◌^◌, [], true, false, map, sum_by, slice_index, IfOk, IfErr, IsErr, length};
 ghost use Rattle.std.specs.List.{All, Any};
 ghost use Rattle.hx_count.specs.declared.events.CountEvent.TheVariants.{Hold, Release, Look};
+ghost use Rattle.hx_count.specs.declared.events.TheConstants.{MOST_HELD};
 ghost use Rattle.hx_count.specs.Machine.{granted_to_all, losses_at, held_in_all, holding, releasing, HasNothing};
 ghost use Rattle.hx_count.specs.Counted.{view, first_view};
-ghost use Rattle.hx_count.specs.Seats.{part_of, Seat as SeatSeen, own, state_seen, new_seats, Adds, Spends, IsClosed, after_spend};
+ghost use Rattle.hx_count.specs.Seats.{part_of, Seat as SeatSeen, own, state_seen, new_seats, Adds, Spends, AreTotals, after_spend};
 
 use crate::rules::{AllParts, FirstPart, Holding, Looking, OneHistory, Releasing, Spending};
 use crate::seats::{CountSeat, Spent};
@@ -122,11 +123,11 @@ impl Counts {
         Err(Spent::new(budget))
     }
 
-    /// Holds a loss word once more. The seat's worker holds fewer than 1,024 in all.
+    /// Holds a loss word once more. The seat's worker holds fewer than `MOST_HELD` in all.
     pub fn hold(&self, seat: &mut CountSeat, word: u32)
         requires seat { seat.old.made ≡ self.now }
         requires word { word < self.now.limits.words }
-        requires room { held_in_all (own seat.old) < 1024 }
+        requires room { held_in_all (own seat.old) < MOST_HELD }
         ensures made { seat.new.made ≡ seat.old.made }
         ensures next { Adds seat.old (Hold seat.old.worker word) seat.new }
         ensures own { own seat.new ≡ holding word (own seat.old) }
@@ -171,7 +172,7 @@ impl Counts {
     pub fn close(self, seats: Vec<CountSeat>) -> Totals
         requires all { length seats.items ≡ self.limits.workers }
         requires own { All (λ s. s.made ≡ self) seats.items }
-        ensures history { IsClosed self seats.items result.granted result.held }
+        ensures history { AreTotals self seats.items result.granted result.held }
         ensures granted { (result.granted ≡ sum_by (λ (s : SeatSeen). (own s).granted) seats.items)
             × (result.granted ≤ self.limits.budget) }
         ensures held { result.held ≡ sum_by (λ (s : SeatSeen). held_in_all (own s)) seats.items }

@@ -1,5 +1,8 @@
 //! What happens to the counts, one event at a time.
 
+/// How often one worker may hold loss words, over all words.
+pub const MOST_HELD: u32 = 1024;
+
 /// One event of the counts. A worker goes by its number, and so does a loss word.
 #[derive(Clone, Copy, PartialEq, Eq, Debug)]
 pub enum CountEvent {

@@ -12,11 +12,8 @@ mod totals;
 mod views;
 
 pub use counts::Counts;
-pub use events::CountEvent;
+pub use events::{CountEvent, MOST_HELD};
 pub use hints::{Hints, kept};
 pub use laws::{hold_adds_one, release_takes_back};
 pub use seats::{CountSeat, Spent};
 pub use totals::Totals;
-
-#[cfg(test)]
-mod tests;

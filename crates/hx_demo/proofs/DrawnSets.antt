@@ -1,8 +1,8 @@
 -- The set of the cells in a list: its members are of the list, and where the list has no cell twice they are as many.
 use Rattle.std.proofs.Common.{◌≡◌, ℕ, suc, ◌<◌, true, false, List, [], ◌∷◌, ◌++◌, length, refl, sym, ap, ◌∙◌, inl, inr, ⊎_elim}
-use Rattle.std.proofs.lemmas.Bool.{false≢true}
+use Rattle.std.proofs.lemmas.Bool.{false≢true, false_from_ne_true}
 use Rattle.hx_board.specs.Sets.{has, insert, count_below}
-use Rattle.hx_board.proofs.SetLaws.{insert-swap, has-insert_cases, has-insert_same, has-empty, is_false, remove-insert}
+use Rattle.hx_board.proofs.SetLaws.{insert-swap, has-insert_cases, has-insert_same, has-empty, remove-insert}
 use Rattle.hx_board.proofs.Tallies.{count_below-remove}
 use Rattle.hx_demo.specs.DrawnPositions.{set_of}
 use Rattle.hx_demo.proofs.DrawnLists.{IsIn, AreDistinct}
@@ -16,7 +16,7 @@ set_of-in [] n h = false≢true (sym (has-empty n) ∙ h)
 set_of-in (cell ∷ cells) n h = ⊎_elim inl (λ k. inr (set_of-in cells n k)) (has-insert_cases (set_of cells) cell n h)
 
 pub set_of-lacks : (cells : List ℕ) (n : ℕ) → (IsIn n cells → ⊥) → has (set_of cells) n ≡ false
-set_of-lacks cells n not_in = is_false _ (λ h. not_in (set_of-in cells n h))
+set_of-lacks cells n not_in = false_from_ne_true _ (λ h. not_in (set_of-in cells n h))
 
 no_member-count : count_below 128 0 ≡ 0
 unfolding count_below has

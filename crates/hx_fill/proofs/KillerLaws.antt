@@ -3,7 +3,7 @@
 use Rattle.std.proofs.Common.{◌≡◌, ◌≢◌, ℕ, ◌<◌, true, false, ◌&&◌, sym, ◌∙◌, subst, ⊎_elim, ◌↔◌, ltb}
 use Rattle.std.specs.declared.option.Option.{Option}
 use Rattle.std.specs.declared.option.Option.TheVariants.{None, Some}
-use Rattle.std.proofs.lemmas.Bool.{false≢true, lt-ltb}
+use Rattle.std.proofs.lemmas.Bool.{false≢true, lt-ltb, and_from}
 use Rattle.hx_board.specs.declared.cells.TheConstants.{CELLS}
 use Rattle.hx_board.specs.declared.colours.Colour.{Colour}
 use Rattle.hx_board.specs.declared.vertices.Vertex.{Vertex}
@@ -15,7 +15,7 @@ use Rattle.hx_board.specs.Positions.{Board, IsEmpty, put}
 use Rattle.hx_board.specs.Graph.{Joined}
 use Rattle.hx_board.specs.VertexSets.{code_of, IsSetOf}
 use Rattle.hx_board.proofs.ColourLaws.{other-differs}
-use Rattle.hx_board.proofs.SetLaws.{has-union_left, has-union_right, and_both, by_member}
+use Rattle.hx_board.proofs.SetLaws.{has-union_left, has-union_right, by_member}
 use Rattle.hx_board.proofs.StoneLaws.{size-put, stones-put, empty-put}
 use Rattle.hx_board.proofs.KeptStones.{joined_stays}
 use Rattle.hx_board.proofs.Joins.{joined-sym}
@@ -30,7 +30,7 @@ use Rattle.hx_fill.proofs.OpenAfter.{open-vertex, open_before, open_after, open_
 
 -- the cells of a set of vertices
 pub cells_have : (set cells n : ℕ) → ((k : ℕ) → has cells k ≡ (has set k && ltb k CELLS)) → n < 121 → has set n ≡ true → has cells n ≡ true
-cells_have set cells n are small h = are n ∙ and_both _ _ h (lt-ltb n 121 small)
+cells_have set cells n are small h = are n ∙ and_from _ _ h (lt-ltb n 121 small)
 
 -- ---- by a cell that becomes dead for the opponent
 

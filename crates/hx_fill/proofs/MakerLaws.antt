@@ -1,7 +1,7 @@
 -- The makers of a cell. With a further stone of the player the cell is dead where each of its open neighbours is joined with all of
 -- them, or with the stone's cell: two that were not joined are both joined with that cell, and so with each other.
 use Rattle.std.proofs.Common.{◌≡◌, ◌≢◌, ℕ, true, false, ◌&&◌, sym, ◌∙◌, subst, inl, inr, ⊎_elim, ◌↔◌, IsTrue, ltb}
-use Rattle.std.proofs.lemmas.Bool.{false≢true, lt-ltb}
+use Rattle.std.proofs.lemmas.Bool.{false≢true, lt-ltb, and_from}
 use Rattle.hx_board.specs.declared.cells.TheConstants.{CELLS}
 use Rattle.hx_board.specs.declared.colours.Colour.{Colour}
 use Rattle.hx_board.specs.declared.vertices.Vertex.{Vertex}
@@ -11,7 +11,7 @@ use Rattle.hx_board.specs.Cells.{IsExtent, OnBoard}
 use Rattle.hx_board.specs.Positions.{Board, IsEmpty, put}
 use Rattle.hx_board.specs.Graph.{Joined}
 use Rattle.hx_board.specs.VertexSets.{code_of, IsVertexCode, IsSetOf}
-use Rattle.hx_board.proofs.SetLaws.{has-empty, has-remove_before, has-intersection_left, has-intersection_right, has-intersection_both, and_left, and_both, removed, removed_cases, removed_still, has-remove_other, by_member}
+use Rattle.hx_board.proofs.SetLaws.{has-empty, has-remove_before, has-intersection_left, has-intersection_right, has-intersection_both, and_left, removed, removed_cases, removed_still, has-remove_other, by_member}
 use Rattle.hx_board.proofs.CellLaws.{on_board-small}
 use Rattle.hx_board.proofs.FloodLaws.{same_vertex}
 use Rattle.hx_board.proofs.StoneLaws.{empty-put}
@@ -71,7 +71,7 @@ module _ (board : Board) (player : Colour) (around : ℕ) (vertex : Vertex) (joi
     }
       where
         member : (n : ℕ) → OnBoard board.size n → Joined board player vertex (Of n) → has cells n ≡ true
-        member n on_board j = cells_are n ∙ and_both _ _ ((is.members (Of n) on_board).1 j) (lt-ltb n 121 (on_board-small board.size n extent on_board))
+        member n on_board j = cells_are n ∙ and_from _ _ ((is.members (Of n) on_board).1 j) (lt-ltb n 121 (on_board-small board.size n extent on_board))
 
 -- ---- all open neighbours
 

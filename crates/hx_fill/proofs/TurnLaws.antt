@@ -3,13 +3,13 @@
 use Rattle.std.proofs.Common.{◌≡◌, ◌≢◌, ℕ, ◌+◌, ◌<◌, ◌≤◌, true, false, List, length, refl, sym, ◌∙◌, subst, Some, ◌⊎◌, inl, inr, ⊎_elim, arith}
 use Rattle.std.specs.Prelude.{slice_get, slice_index}
 use Rattle.std.specs.declared.option.Option.{Option}
-use Rattle.std.proofs.lemmas.Bool.{false≢true, cases_lt}
+use Rattle.std.proofs.lemmas.Bool.{false≢true, cases_lt, false_from_ne_true}
 use Rattle.std.proofs.lemmas.Bool.Decides.{eqb_tells}
 use Rattle.hx_board.specs.declared.colours.Colour.{Colour}
 use Rattle.hx_board.specs.Sets.{has, insert, remove, intersection, difference, IsSubset}
 use Rattle.hx_board.specs.Cells.{OnBoard, IsLeastOn}
 use Rattle.hx_board.specs.Positions.{Board}
-use Rattle.hx_board.proofs.SetLaws.{has-empty, has-remove_before, has-insert_cases, has-insert_same, has-insert_other, has-intersection_left, has-intersection_both, has-difference_left, has-difference_right, has-difference_both, removed, removed_cases, has-remove_other, by_member, is_false, same_set}
+use Rattle.hx_board.proofs.SetLaws.{has-empty, has-remove_before, has-insert_cases, has-insert_same, has-insert_other, has-intersection_left, has-intersection_both, has-difference_left, has-difference_right, has-difference_both, removed, removed_cases, has-remove_other, by_member, same_set}
 use Rattle.hx_board.proofs.DifferenceLaws.{difference-lt}
 use Rattle.hx_board.proofs.ListLaws.{get-lt, same_some}
 use Rattle.hx_inferior.specs.declared.dominations.Kill.{Kill}
@@ -52,7 +52,7 @@ module _ (board : Board) (mover : Colour) (better : ℕ) where
         differs n out same = false≢true (sym out ∙ (let P : ℕ → Type 0 = λ x. has (insert killed cell) x ≡ true in subst P (sym same) (has-insert_same killed cell)))
 
         lacked : (n : ℕ) → has (insert killed cell) n ≡ false → has killed n ≡ false
-        lacked n out = is_false _ (λ h. false≢true (sym out ∙ has-insert_other killed cell n h))
+        lacked n out = false_from_ne_true _ (λ h. false≢true (sym out ∙ has-insert_other killed cell n h))
 
     pub killed_not : ((kill : Kill) → IsDominated board mover better cell kill → ⊥) → AreKilled board mover better cells (remove left cell) before now killed
     killed_not none = record {
@@ -138,10 +138,10 @@ module _ (board : Board) (mover : Colour) (cells : ℕ) (order : List ℕ) (choi
   killed_no_better n h = has-difference_right without_line betters n (killed_free n h)
 
   better_not_killed : (n : ℕ) → has betters n ≡ true → has killed n ≡ false
-  better_not_killed n h = is_false _ (λ k. false≢true (sym (killed_no_better n k) ∙ h))
+  better_not_killed n h = false_from_ne_true _ (λ k. false≢true (sym (killed_no_better n k) ∙ h))
 
   b_not_killed : has killed b ≡ false
-  b_not_killed = is_false _ (λ k. false≢true (sym (removed (difference without_line betters) b) ∙ kills.inside b k))
+  b_not_killed = false_from_ne_true _ (λ k. false≢true (sym (removed (difference without_line betters) b) ∙ kills.inside b k))
 
   was_open : (n : ℕ) → has without_now n ≡ true → has without_line n ≡ true
   was_open n h = has-difference_left without_line killed n h
@@ -150,28 +150,28 @@ module _ (board : Board) (mover : Colour) (cells : ℕ) (order : List ℕ) (choi
   not_killed n h = has-difference_right without_line killed n h
 
   killed_lined : (n : ℕ) → has killed n ≡ true → has without_now n ≡ false
-  killed_lined n k = is_false _ (λ h. false≢true (sym (not_killed n h) ∙ k))
+  killed_lined n k = false_from_ne_true _ (λ h. false≢true (sym (not_killed n h) ∙ k))
 
   lined_not_killed : (n : ℕ) → has without_line n ≡ false → has killed n ≡ false
-  lined_not_killed n out = is_false _ (λ k. false≢true (sym out ∙ killed_open n k))
+  lined_not_killed n out = false_from_ne_true _ (λ k. false≢true (sym out ∙ killed_open n k))
 
   was_waiting : (n : ℕ) → has waiting_now n ≡ true → has waiting n ≡ true
   was_waiting n h = has-difference_left waiting killed n (has-remove_before (difference waiting killed) b n h)
 
   still_done : (n : ℕ) → has waiting n ≡ false → has waiting_now n ≡ false
-  still_done n out = is_false _ (λ h. false≢true (sym out ∙ was_waiting n h))
+  still_done n out = false_from_ne_true _ (λ h. false≢true (sym out ∙ was_waiting n h))
 
   -- of the cells without a line, what has had its turn now is the cell itself, or had it before
   had_turn : (n : ℕ) → has without_now n ≡ true → has waiting_now n ≡ false → (n ≡ b) ⊎ (has waiting n ≡ false)
   had_turn n h out = ⊎_elim inl
-      (λ still. inr (is_false _ (λ w. false≢true (sym still ∙ has-difference_both waiting killed n w (not_killed n h)))))
+      (λ still. inr (false_from_ne_true _ (λ w. false≢true (sym still ∙ has-difference_both waiting killed n w (not_killed n h)))))
       (removed_cases (difference waiting killed) b n out)
 
   not_before : (n : ℕ) → ComesBefore order n b → has waiting n ≡ false
-  not_before n before = is_false _ (λ w. next n w before)
+  not_before n before = false_from_ne_true _ (λ w. next n w before)
 
   better_next-cases : (n : ℕ) → has betters_next n ≡ false → has betters n ≡ false
-  better_next-cases n out = is_false _ (λ h. false≢true (sym out ∙ grows.before n h))
+  better_next-cases n out = false_from_ne_true _ (λ h. false≢true (sym out ∙ grows.before n h))
 
   -- it dominates no cell that keeps no line and is no better cell
   kills_rest : (n : ℕ) → has without_now n ≡ true → has betters n ≡ false → (kill : Kill) → IsDominated board mover b n kill → ⊥
@@ -213,7 +213,7 @@ module _ (board : Board) (mover : Colour) (cells : ℕ) (order : List ℕ) (choi
               worse = name.worse;
               kill = name.kill;
               among = name.among;
-              lined = is_false _ (λ o. false≢true (sym name.lined ∙ was_open name.worse o));
+              lined = false_from_ne_true _ (λ o. false≢true (sym name.lined ∙ was_open name.worse o));
               is = kills.same name.worse (lined_not_killed name.worse name.lined) ∙ name.is;
             },
           )
@@ -275,8 +275,8 @@ set-lt s t n inside in_t out = let P : ℕ → Type 0 = λ x. x < t in
   where
     same : s ≡ difference t (difference t s)
     same = same_set s (difference t (difference t s)) (λ k. by_member s k
-        (λ h. h ∙ sym (has-difference_both t (difference t s) k (inside k h) (is_false _ (λ d. false≢true (sym (has-difference_right t s k d) ∙ h)))))
-        (λ lacks. lacks ∙ sym (is_false _ (λ d. false≢true (sym (has-difference_right t (difference t s) k d)
+        (λ h. h ∙ sym (has-difference_both t (difference t s) k (inside k h) (false_from_ne_true _ (λ d. false≢true (sym (has-difference_right t s k d) ∙ h)))))
+        (λ lacks. lacks ∙ sym (false_from_ne_true _ (λ d. false≢true (sym (has-difference_right t (difference t s) k d)
         ∙ has-difference_both t s k (has-difference_left t (difference t s) k d) lacks)))))
 
 module _ (board : Board) (mover : Colour) (better : ℕ) (before after : List (Option Better)) (without_line waiting betters without_next waiting_next betters_next : ℕ)
@@ -301,7 +301,7 @@ module _ (board : Board) (mover : Colour) (better : ℕ) (before after : List (O
 pub none_waits-more : (order : List ℕ) (count waiting waiting_next cell : ℕ) → slice_get order count ≡ Some cell → IsSubset waiting_next waiting → has waiting_next cell ≡ false
     → NoneWaits order count waiting → NoneWaits order (count + 1) waiting_next
 none_waits-more order count waiting waiting_next cell there fewer done none k other low at = ⊎_elim
-    (λ less. is_false _ (λ w. false≢true (sym (none k other less at) ∙ fewer other w)))
+    (λ less. false_from_ne_true _ (λ w. false≢true (sym (none k other less at) ∙ fewer other w)))
     (λ most. last most) (cases_lt k count)
   where
     last : count ≤ k → has waiting_next other ≡ false
@@ -324,4 +324,4 @@ next_least board order waiting cell none on_board least other waits (Listed k at
 next_least board order waiting cell none on_board least other waits (Unlisted _ _ low) = false≢true (sym (least.first other low (on_board other waits)) ∙ waits)
 
 pub none_waits-fewer : (order : List ℕ) (count waiting waiting_next : ℕ) → IsSubset waiting_next waiting → NoneWaits order count waiting → NoneWaits order count waiting_next
-none_waits-fewer order count waiting waiting_next fewer none k cell low at = is_false _ (λ w. false≢true (sym (none k cell low at) ∙ fewer cell w))
+none_waits-fewer order count waiting waiting_next fewer none k cell low at = false_from_ne_true _ (λ w. false≢true (sym (none k cell low at) ∙ fewer cell w))

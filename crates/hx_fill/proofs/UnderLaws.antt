@@ -2,14 +2,14 @@
 use Rattle.std.proofs.Common.{◌≡◌, ◌≢◌, ℕ, ◌<◌, true, false, zero, suc, List, [], ◌∷◌, ◌++◌, map, length, get_or, refl, sym, ap, ◌∙◌, subst, Some, None, ⊎_elim, arith}
 use Rattle.std.specs.Prelude.{Contains}
 use Rattle.std.specs.declared.option.Option.{Option}
-use Rattle.std.proofs.lemmas.Bool.{false≢true, cases_lt}
+use Rattle.std.proofs.lemmas.Bool.{false≢true, cases_lt, false_from_ne_true}
 use Rattle.std.proofs.lemmas.List.{map-append, length-map}
 use Rattle.std.proofs.lemmas.List.Elements.{All-nil, All-push, All-map, All-weaker, All-contains, Contains-push, Contains-push_cases, Contains-append_left, Contains-get_or}
 use Rattle.hx_board.specs.declared.colours.Colour.{Colour}
 use Rattle.hx_board.specs.Sets.{has, remove, difference}
 use Rattle.hx_board.specs.Cells.{Extent, OnBoard, IsLeastOn}
 use Rattle.hx_board.specs.Positions.{Board}
-use Rattle.hx_board.proofs.SetLaws.{has-empty, has-remove_before, has-difference_left, has-difference_right, has-difference_both, removed, removed_cases, by_member, is_false}
+use Rattle.hx_board.proofs.SetLaws.{has-empty, has-remove_before, has-difference_left, has-difference_right, has-difference_both, removed, removed_cases, by_member}
 use Rattle.hx_board.proofs.ListLaws.{same_some}
 use Rattle.hx_inferior.specs.declared.dominations.Kill.{Kill}
 use Rattle.hx_inferior.specs.Inferior.{IsDominated}
@@ -18,10 +18,10 @@ use Rattle.hx_tree.specs.declared.nodes.Line.TheVariants.{Child, Under}
 use Rattle.hx_tree.specs.Answers.{cell_of, cells_of}
 use Rattle.hx_tree.proofs.CellOrder.{increasing-push}
 use Rattle.hx_fill.specs.declared.choices.Better.{Better}
-use Rattle.hx_fill.specs.Unders.{IsUnderLine, HasLine, IsBetterIn, AreUnder, ComesBefore, AreByOrder, better_for, HasBetter, IsSifted, AreGiven, AddsLine, IsLineFor, AreLinesFor}
+use Rattle.hx_fill.specs.Unders.{IsUnderLine, HasLineFor, IsBetterIn, AreUnder, ComesBefore, AreByOrder, better_for, HasBetter, IsSifted, AreGiven, AddsLine, IsLineFor, AreLinesFor}
 
 -- an element of a mapped list is that of some element
-mapped_from : (lines : List Line) (n : ℕ) → HasLine lines n → (line : Line) × (Contains lines line) × (cell_of line ≡ n)
+mapped_from : (lines : List Line) (n : ℕ) → HasLineFor lines n → (line : Line) × (Contains lines line) × (cell_of line ≡ n)
 mapped_from lines n found = (get_or lines found.0 default_line, Contains-get_or lines found.0 default_line low, sym (get_or-mapped lines found.0 low) ∙ found.2)
   where
     default_line : Line
@@ -61,7 +61,7 @@ module _ (choices : List (Option Better)) (lined : ℕ) where
           (λ (same : cell ≡ done). let P : ℕ → Type 0 = λ x. x < n in subst P same (least n (has-remove_before left cell n h) (not_removed n h)))
           (Contains-push_cases (cells_of lines) cell done (rw pushed at has_line));
       all = λ n in_lined out. ⊎_elim
-          (λ (same : n ≡ cell). let P : ℕ → Type 0 = λ x. HasLine (lines ++ line ∷ []) x in subst P (sym same) (rw pushed (Contains-push (cells_of lines) cell)))
+          (λ (same : n ≡ cell). let P : ℕ → Type 0 = λ x. HasLineFor (lines ++ line ∷ []) x in subst P (sym same) (rw pushed (Contains-push (cells_of lines) cell)))
           (λ still. rw pushed (Contains-append_left (cells_of lines) (cell ∷ []) n (so_far.all n in_lined still))) (removed_cases left cell n out);
       left_inside = λ n h. so_far.left_inside n (has-remove_before left cell n h);
     }
@@ -85,7 +85,7 @@ module _ (choices : List (Option Better)) (lined : ℕ) where
   line_lined (Child cell child) is = absurd is
   line_lined (Under cell better kill) is = is.0
 
-  pub has_line-lined : (lines : List Line) → AreLinesFor choices lined 0 lines → (cell : ℕ) → HasLine lines cell → has lined cell ≡ true
+  pub has_line-lined : (lines : List Line) → AreLinesFor choices lined 0 lines → (cell : ℕ) → HasLineFor lines cell → has lined cell ≡ true
   has_line-lined lines are cell has_line =
       let P : ℕ → Type 0 = λ n. has lined n ≡ true in
       All-contains P (cells_of lines) cell
@@ -116,11 +116,11 @@ module _ (board : Board) (mover : Colour) (cells : ℕ) (order : List ℕ) (choi
   abbrev with_line : ℕ
   with_line = difference cells without_line
 
-  open_without : (cell : ℕ) → has cells cell ≡ true → ¬ HasLine lines cell → has without_line cell ≡ true
+  open_without : (cell : ℕ) → has cells cell ≡ true → ¬ HasLineFor lines cell → has without_line cell ≡ true
   open_without cell here no_line = by_member without_line cell (λ h. h)
       (λ out. absurd (no_line (are.all cell (has-difference_both cells without_line cell here out) (has-empty cell))))
 
-  no_line : (cell : ℕ) → has without_line cell ≡ true → ¬ HasLine lines cell
+  no_line : (cell : ℕ) → has without_line cell ≡ true → ¬ HasLineFor lines cell
   no_line cell h has_line = false≢true (sym (has-difference_right cells without_line cell (has_line-lined choices with_line lines are cell has_line)) ∙ h)
 
   -- the better cell of a line
@@ -170,7 +170,7 @@ module _ (board : Board) (mover : Colour) (cells : ℕ) (order : List ℕ) (choi
         let h : has without_line cell ≡ true = sifted.betters_inside cell (subst P w.1.0 w.0.among) in
         (sifted.inside cell h, no_line cell h);
     no_other = λ cell here lacks_line no_better other both. sifted.settled cell (open_without cell here lacks_line)
-        (is_false _ (λ h. no_better (better_named cell h))) other (open_without other both.0 both.1, none_waits other);
+        (false_from_ne_true _ (λ h. no_better (better_named cell h))) other (open_without other both.0 both.1, none_waits other);
   }
 
   pub sifted-by_order : AreByOrder board mover cells order lines

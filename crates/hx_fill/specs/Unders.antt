@@ -25,8 +25,8 @@ IsUnderLine board mover (Child cell child) = ⊥
 IsUnderLine board mover (Under cell better kill) = IsDominated board mover better cell kill
 
 -- some line is for the cell
-abbrev pub HasLine : List Line → ℕ → Type 0
-HasLine lines cell = Contains (cells_of lines) cell
+abbrev pub HasLineFor : List Line → ℕ → Type 0
+HasLineFor lines cell = Contains (cells_of lines) cell
 
 -- a cell that some line names as the better one
 pub record IsBetterIn (lines : List Line) (cell : ℕ) : Type 0 where
@@ -43,10 +43,10 @@ IsDominatedByNone board mover cell IsIn = (better : ℕ) → IsIn better → (ki
 pub record AreUnder (board : Board) (mover : Colour) (cells : ℕ) (lines : List Line) : Type 0 where
   pub right : All (IsUnderLine board mover) lines
   pub in_order : IsStrictlyIncreasing (cells_of lines)
-  pub among : (cell : ℕ) → HasLine lines cell → has cells cell ≡ true
-  pub betters : (cell : ℕ) → IsBetterIn lines cell → (has cells cell ≡ true) × ¬ HasLine lines cell
-  pub no_other : (cell : ℕ) → has cells cell ≡ true → ¬ HasLine lines cell → ¬ IsBetterIn lines cell
-      → IsDominatedByNone board mover cell (λ better. (has cells better ≡ true) × ¬ HasLine lines better)
+  pub among : (cell : ℕ) → HasLineFor lines cell → has cells cell ≡ true
+  pub betters : (cell : ℕ) → IsBetterIn lines cell → (has cells cell ≡ true) × ¬ HasLineFor lines cell
+  pub no_other : (cell : ℕ) → has cells cell ≡ true → ¬ HasLineFor lines cell → ¬ IsBetterIn lines cell
+      → IsDominatedByNone board mover cell (λ better. (has cells better ≡ true) × ¬ HasLineFor lines better)
 
 -- one cell has its turn before another one: it stands at a place of the order up to which the other one does not stand; and cells
 -- that the order leaves out come last, in cell order
@@ -58,9 +58,9 @@ pub data ComesBefore (order : List ℕ) (one other : ℕ) : Type 0 where
 -- dominates the line's cell, and none dominates one that comes after it
 pub record AreByOrder (board : Board) (mover : Colour) (cells : ℕ) (order : List ℕ) (lines : List Line) : Type 0 where
   pub first : (worse better : ℕ) (kill : Kill) → Contains lines (Under worse better kill)
-      → IsDominatedByNone board mover worse (λ other. (has cells other ≡ true) × (¬ HasLine lines other) × ComesBefore order other better)
-  pub later : (cell : ℕ) → has cells cell ≡ true → ¬ HasLine lines cell
-      → IsDominatedByNone board mover cell (λ other. (has cells other ≡ true) × (¬ HasLine lines other) × ComesBefore order other cell)
+      → IsDominatedByNone board mover worse (λ other. (has cells other ≡ true) × (¬ HasLineFor lines other) × ComesBefore order other better)
+  pub later : (cell : ℕ) → has cells cell ≡ true → ¬ HasLineFor lines cell
+      → IsDominatedByNone board mover cell (λ other. (has cells other ≡ true) × (¬ HasLineFor lines other) × ComesBefore order other cell)
 
 -- ---- words for the functions inside the crate alone
 
@@ -164,6 +164,6 @@ IsLineFor choices lined (Under cell better kill) = (has lined cell ≡ true) × 
 pub record AreLinesFor (choices : List (Option Better)) (lined left : ℕ) (lines : List Line) : Type 0 where
   pub each : All (IsLineFor choices lined) lines
   pub in_order : IsStrictlyIncreasing (cells_of lines)
-  pub before : (done : ℕ) → HasLine lines done → (cell : ℕ) → has left cell ≡ true → done < cell
-  pub all : (cell : ℕ) → has lined cell ≡ true → has left cell ≡ false → HasLine lines cell
+  pub before : (done : ℕ) → HasLineFor lines done → (cell : ℕ) → has left cell ≡ true → done < cell
+  pub all : (cell : ℕ) → has lined cell ≡ true → has left cell ≡ false → HasLineFor lines cell
   pub left_inside : IsSubset left lined

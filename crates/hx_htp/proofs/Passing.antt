@@ -2,7 +2,6 @@
 -- the position; or one was left open, and as all positions after one move have as many empty cells, each is as large.
 use Rattle.std.proofs.Common.{◌≡◌, ◌⊎◌, inl, inr, ℕ, ◌≤◌, Bool, true, false, ◌&&◌, not, eqb, refl, sym, ap, ◌∙◌, subst, arith}
 use Rattle.std.proofs.lemmas.Bool.{eqb-true, true≢false}
-use Rattle.hx_io.specs.Causes.{Rose}
 use Rattle.hx_board.specs.declared.colours.Colour.{Colour}
 use Rattle.hx_board.specs.Colours.{other_of}
 use Rattle.hx_board.specs.Sets.{has}
@@ -20,6 +19,7 @@ use Rattle.hx_htp.specs.Answers.{IsFirstEmpty, MayPlay}
 use Rattle.hx_htp.specs.Answers.MayPlay.{Of_no_win, Left_open}
 use Rattle.hx_htp.specs.Parts.{IsPassed}
 use Rattle.hx_htp.specs.Parts.IsPassed.{Lost, Unknown}
+use Rattle.hx_io.proofs.CauseLaws.{rose_from_earlier, rose_up_to_later}
 
 pub continues_here : (account : Account) → Continues account account
 continues_here account = record { budget = refl; slots = refl; budgets = omega arith; proofs = omega arith }
@@ -32,12 +32,6 @@ continues_then a b c first second = record {
   proofs = omega (arith, first.proofs, second.proofs);
 }
 
-rose_before : (a b c : ℕ) → a ≤ b → Rose b c → Rose a c
-rose_before a b c below rose = omega (arith, below, rose)
-
-rose_after : (a b c : ℕ) → Rose a b → b ≤ c → Rose a c
-rose_after a b c rose above = omega (arith, rose, above)
-
 -- what was left open is so from an earlier account on, and up to a later one
 pub open_from : (start mid now : Account) (board : Board) → Continues start mid → LeavesOpen mid now board → LeavesOpen start now board
 open_from start mid now board earlier left = record {
@@ -46,15 +40,15 @@ open_from start mid now board earlier left = record {
 }
   where
     rose : SomeRose mid now → SomeRose start now
-    rose (inl b) = inl (rose_before start.budgets mid.budgets now.budgets earlier.budgets b)
-    rose (inr p) = inr (rose_before start.proofs mid.proofs now.proofs earlier.proofs p)
+    rose (inl b) = inl (rose_from_earlier start.budgets mid.budgets now.budgets earlier.budgets b)
+    rose (inr p) = inr (rose_from_earlier start.proofs mid.proofs now.proofs earlier.proofs p)
 
 pub open_up_to : (start mid now : Account) (board : Board) → LeavesOpen start mid board → Continues mid now → LeavesOpen start now board
 open_up_to start mid now board left later = record { rose = rose left.rose; large = left.large }
   where
     rose : SomeRose start mid → SomeRose start now
-    rose (inl b) = inl (rose_after start.budgets mid.budgets now.budgets b later.budgets)
-    rose (inr p) = inr (rose_after start.proofs mid.proofs now.proofs p later.proofs)
+    rose (inl b) = inl (rose_up_to_later start.budgets mid.budgets now.budgets b later.budgets)
+    rose (inr p) = inr (rose_up_to_later start.proofs mid.proofs now.proofs p later.proofs)
 
 -- after one move as many cells are empty as after another
 pub counts_moved : (board : Board) (player : Colour) (a b : ℕ) → IsBoard board → IsEmpty board a → IsEmpty board b

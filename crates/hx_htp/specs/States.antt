@@ -45,6 +45,8 @@ mover_after mover (move ∷ moves) = mover_after (other_of move.colour) moves
 abbrev pub mover_of : State → Colour
 mover_of state = mover_after Black state.moves
 
+-- ---- words for the functions inside the crate alone
+
 -- each move is to a cell that is empty before it
 abbrev pub AreMoves : Board → List Move → Type 0
 AreMoves board [] = Unit {0}

@@ -1,9 +1,8 @@
 //! A session: its board and moves, and the requests that change them. The position stands beside the moves, so that no move is
 //! made again: `undo` lifts the last stone.
 
-ghost use Rattle.std.specs.Prelude.{◌≡◌, ◌≤◌, ◌↔◌, IsTrue, MatchOption, SomeIff, Ok, [], length};
+ghost use Rattle.std.specs.Prelude.{◌≡◌, ◌≤◌, ◌↔◌, IsTrue, MatchOption, Ok, [], length};
 ghost use Rattle.hx_board.specs.Positions.{IsEmpty, IsFull};
-ghost use Rattle.hx_board.specs.Cells.{IsExtent};
 ghost use Rattle.hx_htp.specs.declared.requests.Request.TheVariants as request;
 ghost use Rattle.hx_htp.specs.Words.{words_of};
 ghost use Rattle.hx_htp.specs.States.{fresh, no_moves, with_move, board_of, mover_of};
@@ -24,7 +23,7 @@ use crate::texts::spelled;
 use crate::words::shown;
 use arrayvec::ArrayVec;
 use hx_board::{CELLS, Cell, Colour, Memory, Position, Size};
-use hx_text::Text;
+use hx_text::{Text, size_of};
 use std::marker::Model;
 use std::sync::Wait;
 use std::thread::Threads;
@@ -157,7 +156,7 @@ impl Session {
         ensures { (account : Account) → Does (moment self.old account) (request.BoardSize cols rows)
             result (moment self.new account) }
     {
-        match size_of(cols, rows) {
+        match size_of(rows, cols) {
             Some(size) => {
                 *self = Session::on(size);
                 Ok(Answer::Empty)
@@ -288,13 +287,4 @@ impl Session {
             None => Colour::Black,
         }
     }
-}
-
-/// The size of so many columns and rows.
-fn size_of(cols: u32, rows: u32) -> Option<Size>
-    ensures { SomeIff result (IsExtent rows cols) (record { rows = rows; cols = cols }) }
-{
-    let cols = u8::try_from(cols).ok()?;
-    let rows = u8::try_from(rows).ok()?;
-    Size::new(rows, cols)
 }

@@ -1,7 +1,7 @@
 -- The open neighbours of a cell as a set: the cells that touch it without those of the opponent's stones, and the sides that it
 -- lies along. Each of the three parts has numbers of its own.
 use Rattle.std.proofs.Common.{◌≡◌, ℕ, ◌<◌, Bool, true, false, ◌&&◌, ◌||◌, not, eqb, ltb, refl, sym, ap, ◌∙◌, ⊎_elim, ◌↔◌, eq-eqb, eqb-true, arith}
-use Rattle.std.proofs.lemmas.Bool.{lt-ltb, not-true}
+use Rattle.std.proofs.lemmas.Bool.{lt-ltb, not-true, and_from, or_left, or_right, or_cases}
 use Rattle.hx_board.specs.declared.colours.Colour.{Colour}
 use Rattle.hx_board.specs.declared.vertices.Vertex.{Vertex}
 use Rattle.hx_board.specs.declared.vertices.Vertex.TheVariants.{Of, First, Last}
@@ -11,7 +11,7 @@ use Rattle.hx_board.specs.Cells.{OnBoard, IsExtent, CellsTouch}
 use Rattle.hx_board.specs.Positions.{Board, stones_of}
 use Rattle.hx_board.specs.Graph.{IsVertex, IsFirstLine, IsLastLine}
 use Rattle.hx_board.specs.VertexSets.{code_of, IsSetOf}
-use Rattle.hx_board.proofs.SetLaws.{and_left, and_right, and_both, or_cases, or_left, or_right}
+use Rattle.hx_board.proofs.SetLaws.{and_left, and_right}
 use Rattle.hx_board.proofs.CellLaws.{on_board-small}
 use Rattle.hx_inferior.specs.Inferior.{IsOpenNeighbour}
 
@@ -48,7 +48,7 @@ module _ (board : Board) (player : Colour) (cell touched cells with_first all : 
 
   in_cells : (n : ℕ) → IsOpenCell n → has all n ≡ true
   in_cells n w =
-      let is = k.is_cells n ∙ and_both _ _ (and_both _ _ ((k.is_touched n).1 (w.0, w.1)) (ap not w.2)) (lt-ltb n 121 (small n w.0)) in
+      let is = k.is_cells n ∙ and_from _ _ (and_from _ _ ((k.is_touched n).1 (w.0, w.1)) (ap not w.2)) (lt-ltb n 121 (small n w.0)) in
       k.is_all n ∙ or_right _ _ (k.is_with_first n ∙ or_right _ _ is)
 
   members : (v : Vertex) → IsVertex board.size v → (has all (code_of v) ≡ true) ↔ IsOpenNeighbour board player cell v
@@ -59,12 +59,12 @@ module _ (board : Board) (player : Colour) (cell touched cells with_first all : 
   members First on = (
     (λ h. cases 121 h (λ _ e. absurd (omega arith)) (λ at _. record { touch = (k.on_board, k.is_first.0 at); is_open = tt })
         (λ w. let low : 121 < 121 = small 121 w.0 in absurd (omega arith))),
-    (λ o. k.is_all 121 ∙ or_right _ _ (k.is_with_first 121 ∙ or_left _ _ (and_both _ _ (k.is_first.1 o.touch.1) (eq-eqb 121 121 refl)))),
+    (λ o. k.is_all 121 ∙ or_right _ _ (k.is_with_first 121 ∙ or_left _ _ (and_from _ _ (k.is_first.1 o.touch.1) (eq-eqb 121 121 refl)))),
   )
   members Last on = (
     (λ h. cases 122 h (λ at _. record { touch = (k.on_board, k.is_last.0 at); is_open = tt }) (λ _ e. absurd (omega arith))
         (λ w. let low : 122 < 121 = small 122 w.0 in absurd (omega arith))),
-    (λ o. k.is_all 122 ∙ or_left _ _ (and_both _ _ (k.is_last.1 o.touch.1) (eq-eqb 122 122 refl))),
+    (λ o. k.is_all 122 ∙ or_left _ _ (and_from _ _ (k.is_last.1 o.touch.1) (eq-eqb 122 122 refl))),
   )
 
   pub parts-are_open : IsSetOf board.size (IsOpenNeighbour board player cell) all

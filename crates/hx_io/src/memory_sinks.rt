@@ -114,7 +114,8 @@ impl Sink for MemorySink {
             ↔ (Contains self.old.fail self.old.calls ⊎ (length self.old.taken ≡ self.old.room)) }
         // It takes as much as its piece, the given piece and the room left allow.
         ensures count { IfOk result (λ n.
-            n ≡ min (min self.old.piece (length piece.now)) (self.old.room - length self.old.taken)) }
+            n ≡ min (min self.old.piece (length piece.now))
+            (self.old.room - length self.old.taken)) }
 
         // Nothing else changes.
         ensures ok { IfOk result (λ n. self.new ≡ record self.old {

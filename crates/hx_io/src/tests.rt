@@ -1,4 +1,4 @@
-// Each public call once at a concrete type, in small pieces and past calls that fail.
+//! Each public call once at a concrete type, in small pieces and past calls that fail.
 use super::*;
 use std::alloc::{AllocError, Global};
 use std::io;

@@ -8,13 +8,13 @@ use Rattle.std.proofs.lemmas.Option.{slice_get-get_or}
 use Rattle.std.proofs.Common.{◌≡◌, ◌≢◌, ℕ, zero, suc, ◌≤◌, ◌<◌, ◌+◌, take, get_or, Bool, true, false, ◌||◌, List, [], ◌∷◌, ◌++◌, map, length, refl, sym, ap, ◌∙◌, inl, inr, Some, None, Option, ◌⊎◌, ⊎_elim, subst}
 use Rattle.std.specs.Prelude.{slice_get}
 use Rattle.hx_board.specs.Finds.{Finds}
-use Rattle.std.proofs.lemmas.Bool.{false≢true}
+use Rattle.std.proofs.lemmas.Bool.{false≢true, false_from_ne_true}
 use Rattle.hx_board.specs.declared.colours.Colour.{Colour}
 use Rattle.hx_board.specs.declared.vertices.Vertex.{Vertex}
 use Rattle.hx_board.specs.Sets.{has, union, intersection}
 use Rattle.hx_board.specs.Positions.{Board}
 use Rattle.hx_board.proofs.ListLaws.{same_some, get-push, get-push_before, get-push_last}
-use Rattle.hx_board.proofs.SetLaws.{has-empty, has-union, has-intersection_left, has-intersection_right, has-intersection_both, same_set, is_false}
+use Rattle.hx_board.proofs.SetLaws.{has-empty, has-union, has-intersection_left, has-intersection_right, same_set, has_not-intersection}
 use Rattle.hx_link.specs.declared.links.Kind.TheVariants.{Full}
 use Rattle.hx_link.specs.declared.links.Link.{Link}
 use Rattle.hx_link.specs.declared.parts.TheConstants.{MOST_PARTS}
@@ -66,10 +66,6 @@ no_parts before a b start = record {
   carriers = λ cell. refl;
 }
 
-missing_more : (all carrier : ℕ) (cell : ℕ) (b : Bool) → has carrier cell ≡ b → has (intersection all carrier) cell ≡ false → (has all cell ≡ false) ⊎ (has carrier cell ≡ false)
-missing_more all carrier cell true h lacks = inl (is_false (has all cell) (λ k. false≢true (sym lacks ∙ has-intersection_both all carrier cell k h)))
-missing_more all carrier cell false h lacks = inr h
-
 pub parts_more : (before : List Link) (done : List ℕ) (place : ℕ) (a b : Vertex) (start in_all in_some carrier : ℕ) → PartsSoFar before done a b start in_all in_some → IsSemiAt before place a b carrier
     → PartsSoFar before (done ++ place ∷ []) a b start (intersection in_all carrier) (union in_some carrier)
 parts_more before done place a b start in_all in_some carrier p s = record {
@@ -82,7 +78,7 @@ parts_more before done place a b start in_all in_some carrier p s = record {
   missing = λ cell h lacks. ⊎_elim
       (λ k. let w = p.missing cell h k in (w.0, (one_of_before p.links s.part w.0 w.1.0, w.1.1)))
       (λ k. (s.part, (one_of_last p.links s.part, ap (λ c. has c cell) s.carrier_is ∙ k)))
-      (missing_more in_all carrier cell (has carrier cell) refl lacks);
+      (has_not-intersection in_all carrier cell lacks);
   carriers = λ cell. has-union in_some carrier cell ∙ (ap (λ v. v || has carrier cell) (p.carriers cell) ∙ (ap (λ c. has (carriers_of p.links) cell || has c cell) (sym s.carrier_is) ∙ sym (carriers_of-push p.links s.part cell)));
 }
 
@@ -131,7 +127,7 @@ module _ (before : List Link) (places : List ℕ) (link : Link) (g : GivesOr bef
     -- no cell is in all parts
     pub or-none_in_all : in_all ≡ 0
     or-none_in_all = same_set in_all 0 (λ n. let w = g.none_in_all n in
-        is_false (has in_all n) (λ h. false≢true (sym w.1.1 ∙ p.in_each n h w.0 (let P : List Link → Type 0 = λ ls. IsOneOf w.0 ls in subst P same w.1.0))) ∙ sym (has-empty n))
+        false_from_ne_true (has in_all n) (λ h. false≢true (sym w.1.1 ∙ p.in_each n h w.0 (let P : List Link → Type 0 = λ ls. IsOneOf w.0 ls in subst P same w.1.0))) ∙ sym (has-empty n))
 
     pub or-carrier : link.carrier ≡ in_some
     or-carrier = same_set link.carrier in_some (λ n. ap (λ c. has c n) (g.carrier ∙ ap carriers_of same) ∙ sym (p.carriers n))

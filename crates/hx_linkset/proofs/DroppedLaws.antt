@@ -1,13 +1,12 @@
 -- The links that plays dropped. A list of them may be turned round; no play drops none; and those of two plays, one after the
 -- other, are those of the first and then those of the second.
-use Rattle.std.proofs.lemmas.Bool.{false≢true}
+use Rattle.std.proofs.lemmas.Bool.{false≢true, or_left, or_right, or_cases}
 use Rattle.std.proofs.lemmas.List.{take-append-drop}
 use Rattle.std.proofs.lemmas.List.Folds.{list_any-append}
 use Rattle.std.proofs.Common.{◌≡◌, ℕ, zero, suc, Bool, true, false, ◌||◌, List, [], ◌∷◌, ◌++◌, take, drop, reverse, refl, sym, ap, ◌∙◌, subst, inl, inr, ⊎_elim, eqb}
 use Rattle.std.specs.List.{list_any, IsDistinct}
 use Rattle.hx_board.specs.declared.colours.Colour.{Colour}
 use Rattle.hx_board.specs.Positions.{Board}
-use Rattle.hx_board.proofs.SetLaws.{or_cases, or_left, or_right}
 use Rattle.hx_link.specs.declared.links.Link.{Link}
 use Rattle.hx_linkset.specs.States.{IsLive}
 use Rattle.hx_linkset.specs.Held.{IsIn, AreAllDropped}

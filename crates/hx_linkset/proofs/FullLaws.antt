@@ -4,7 +4,7 @@
 -- whose place is not below (`AreFullFrom`). One link before these brings one entry in front of them or none, and is the only
 -- link at its place.
 use Rattle.std.proofs.Common.{◌≡◌, ℕ, zero, suc, ◌+◌, ◌<◌, ◌≤◌, ◌-◌, Bool, true, false, cond, List, [], ◌∷◌, ◌++◌, map, refl, sym, ap, ◌∙◌, subst, inl, inr, Some, ◌⊎◌, ⊎_elim, ◌↔◌, arith, eq-eqb, eqb-true}
-use Rattle.std.proofs.lemmas.Bool.{cases_lt, cases_eq, false≢true}
+use Rattle.std.proofs.lemmas.Bool.{cases_lt, cases_eq, false≢true, and_from}
 use Rattle.std.proofs.lemmas.List.Elements.{filter-append}
 use Rattle.std.specs.Prelude.{All, Contains, slice_get, nat_eq}
 use Rattle.hx_board.specs.declared.vertices.Vertex.{Vertex}
@@ -12,7 +12,7 @@ use Rattle.hx_board.specs.Sets.{has, intersection}
 use Rattle.hx_board.specs.Positions.{IsEmpty}
 use Rattle.hx_board.specs.VertexSets.{code_of, IsSomeVertex}
 use Rattle.hx_board.proofs.ListLaws.{same_some}
-use Rattle.hx_board.proofs.SetLaws.{and_left, and_right, and_both, intersection-is_subset, is_subset-intersection}
+use Rattle.hx_board.proofs.SetLaws.{and_left, and_right, intersection-is_subset, is_subset-intersection}
 use Rattle.hx_board.proofs.VertexSetLaws.{code-same}
 use Rattle.hx_link.specs.declared.links.Kind.{Kind}
 use Rattle.hx_link.specs.declared.links.Kind.TheVariants.{Full, Semi}
@@ -160,7 +160,7 @@ module _ (set : Standing) (empties ends : ℕ) (empties_are : (cell : ℕ) → (
           }
 
       live_only_if : IsLive set.present.board set.player link → is_live_from empties ends full ≡ true
-      live_only_if live = and_both _ _
+      live_only_if live = and_from _ _
           (eq-eqb _ _ (is_subset-intersection full.carrier empties (λ cell h. (empties_are cell).1 (live.empty cell (ap (λ (carrier : ℕ). has carrier cell) (sym seen.carrier_is) ∙ h)))))
           ((ends_are full.to to_some).1 (to_end seen.of_ends live))
 

@@ -1,6 +1,6 @@
 -- The lists of the Full links at each vertex, as a link comes after all others and as the last one goes.
 use Rattle.std.proofs.Common.{◌≡◌, ◌≢◌, ℕ, zero, suc, ◌+◌, ◌-◌, ◌<◌, Bool, true, false, List, [], ◌∷◌, ◌++◌, length, get_or, set, take, refl, sym, ap, ◌∙◌, subst, ⊎_elim, arith, eq-eqb, eqb-true, append_assoc, get_or-set_other}
-use Rattle.std.proofs.lemmas.Bool.{cases_eq, false≢true}
+use Rattle.std.proofs.lemmas.Bool.{cases_eq, false≢true, false_from_ne_true}
 use Rattle.std.proofs.lemmas.List.{append-nil, length-set, length_push, map-set, get_or-map}
 use Rattle.std.proofs.lemmas.Grind.{get_or-set_at}
 use Rattle.std.proofs.Math.Seq.{take-append_seam}
@@ -9,7 +9,6 @@ use Rattle.std.specs.declared.alloc.Global.{Global}
 use Rattle.hx_board.specs.declared.vertices.Vertex.{Vertex}
 use Rattle.hx_board.specs.VertexSets.{code_of, IsSomeVertex}
 use Rattle.hx_board.proofs.ListLaws.{get-push, get-push_before}
-use Rattle.hx_board.proofs.SetLaws.{is_false}
 use Rattle.hx_board.proofs.VertexSetLaws.{code-small}
 use Rattle.hx_link.specs.declared.links.Kind.{Kind}
 use Rattle.hx_link.specs.declared.links.Kind.TheVariants.{Full, Semi}
@@ -41,7 +40,7 @@ by_semi Full p q place link e = cc
 by_semi Semi p q place link e = refl
 
 not_eqb : (a b : ℕ) → a ≢ b → nat_eq a b ≡ false
-not_eqb a b ne = is_false (nat_eq a b) (λ e. ne (eqb-true a b e))
+not_eqb a b ne = false_from_ne_true (nat_eq a b) (λ e. ne (eqb-true a b e))
 
 module _ (code place : ℕ) (link : Link) where
   seen-first : link.kind ≡ Full → code_of link.a ≡ code → seen_from code place link ≡ record { index = place; to = link.b; carrier = link.carrier } ∷ []

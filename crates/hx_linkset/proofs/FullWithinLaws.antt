@@ -3,7 +3,7 @@
 -- The plan: to hold them is a test of each entry, so a list of them is the list of all, filtered; and to be live and held is to be
 -- live on the empty cells and open ends that are held.
 use Rattle.std.proofs.Common.{◌≡◌, ℕ, zero, suc, ◌+◌, ◌<◌, Bool, true, false, ◌&&◌, cond, List, [], ◌∷◌, map, length, get_or, refl, sym, ap, ◌∙◌, subst, arith, eq-eqb, eqb-true}
-use Rattle.std.proofs.lemmas.Bool.{cond_both}
+use Rattle.std.proofs.lemmas.Bool.{cond_both, and_from}
 use Rattle.std.proofs.lemmas.List.Elements.{All-filter, filter_agree, filter_passes, All-cons, All-head, All-tail}
 use Rattle.std.proofs.lemmas.List.Kept.{AllPairs-cons, AllPairs-from_increasing}
 use Rattle.std.specs.Prelude.{All, Contains, filter, nat_eq}
@@ -12,7 +12,7 @@ use Rattle.std.specs.List.Sorted.{IsStrictlyIncreasing}
 use Rattle.hx_board.specs.declared.vertices.Vertex.{Vertex}
 use Rattle.hx_board.specs.Sets.{has, intersection, IsSubset}
 use Rattle.hx_board.specs.VertexSets.{code_of}
-use Rattle.hx_board.proofs.SetLaws.{same_test, and_left, and_right, and_both, has-intersection_left, has-intersection_right, has-intersection_both, intersection-is_subset, is_subset-intersection}
+use Rattle.hx_board.proofs.SetLaws.{same_test, and_left, and_right, has-intersection_left, has-intersection_right, has-intersection_both, intersection-is_subset, is_subset-intersection}
 use Rattle.hx_linkset.specs.declared.fulls.FullLink.{FullLink}
 use Rattle.hx_linkset.specs.States.{Standing}
 use Rattle.hx_linkset.specs.Fulls.{IsFullAt, AreFullAt, AreFullWithin, is_live_from, live_from}
@@ -75,14 +75,14 @@ module _ (full : FullLink) where
   leads_if cells ends test = and_right (nat_eq (intersection full.carrier cells) full.carrier) _ test
 
   live_if : (cells ends : ℕ) → IsSubset full.carrier cells → has ends (code_of full.to) ≡ true → is_live_from cells ends full ≡ true
-  live_if cells ends inside leads = and_both _ _ (eq-eqb _ _ (is_subset-intersection full.carrier cells inside)) leads
+  live_if cells ends inside leads = and_from _ _ (eq-eqb _ _ (is_subset-intersection full.carrier cells inside)) leads
 
   live-both : (empties ends cells to : ℕ) → is_live_from (intersection empties cells) (intersection ends to) full ≡ (is_live_from empties ends full && is_live_from cells to full)
   live-both empties ends cells to = same_test _ _
       (λ test.
       let inside = inside_if (intersection empties cells) (intersection ends to) test in
       let leads = leads_if (intersection empties cells) (intersection ends to) test in
-      and_both _ _
+      and_from _ _
       (live_if empties ends (λ n h. has-intersection_left empties cells n (inside n h)) (has-intersection_left ends to (code_of full.to) leads))
       (live_if cells to (λ n h. has-intersection_right empties cells n (inside n h)) (has-intersection_right ends to (code_of full.to) leads)))
       (λ test.

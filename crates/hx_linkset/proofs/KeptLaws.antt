@@ -1,14 +1,14 @@
 -- What a stone on an empty cell keeps. A link is live after it exactly where it was live and the stone leaves it alone, and
 -- a step that gave such a link gives it still.
 use Rattle.std.proofs.Common.{◌≡◌, ◌≢◌, ℕ, true, false, List, refl, sym, ap, ◌∙◌, subst, inl, inr, ⊎_elim}
-use Rattle.std.proofs.lemmas.Bool.{false≢true}
+use Rattle.std.proofs.lemmas.Bool.{false≢true, false_from_ne_true}
 use Rattle.hx_board.specs.declared.colours.Colour.{Colour}
 use Rattle.hx_board.specs.declared.vertices.Vertex.{Vertex}
 use Rattle.hx_board.specs.declared.vertices.Vertex.TheVariants.{Of, First, Last}
 use Rattle.hx_board.specs.Sets.{has, union}
 use Rattle.hx_board.specs.Colours.{other_of}
 use Rattle.hx_board.specs.Positions.{Board, put}
-use Rattle.hx_board.proofs.SetLaws.{has-insert_same, is_false}
+use Rattle.hx_board.proofs.SetLaws.{has-insert_same}
 use Rattle.hx_board.proofs.StoneLaws.{size-put, stones-put, empty-put}
 use Rattle.hx_board.proofs.KeptStones.{keeps_put, own_stays, joined_stays}
 use Rattle.hx_link.specs.declared.links.Link.{Link}
@@ -26,13 +26,13 @@ module _ (board : Board) (player colour : Colour) (cell : ℕ) where
   end_kept Last other h = tt
   end_kept (Of n) other h = (
     rw (size-put board colour cell) h.0,
-    is_false _ (λ k. ⊎_elim (λ w. other w.0 (ap Of w.1)) (λ was. false≢true (sym h.1 ∙ was)) ((stones-put board colour (other_of player) cell n).0 k)),
+    false_from_ne_true _ (λ k. ⊎_elim (λ w. other w.0 (ap Of w.1)) (λ was. false≢true (sym h.1 ∙ was)) ((stones-put board colour (other_of player) cell n).0 k)),
   )
 
   end_before : (vertex : Vertex) → IsEnd after player vertex → IsEnd board player vertex
   end_before First h = tt
   end_before Last h = tt
-  end_before (Of n) h = (rw (size-put board colour cell) at h.0, is_false _ (λ k. false≢true (sym h.1 ∙ (stones-put board colour (other_of player) cell n).1 (inr k))))
+  end_before (Of n) h = (rw (size-put board colour cell) at h.0, false_from_ne_true _ (λ k. false≢true (sym h.1 ∙ (stones-put board colour (other_of player) cell n).1 (inr k))))
 
   end_is_other : (vertex : Vertex) → IsEnd after player vertex → colour ≡ other_of player → vertex ≢ Of cell
   end_is_other vertex h e same =
@@ -65,7 +65,7 @@ module _ (board : Board) (player colour : Colour) (cell : ℕ) where
 
     pub untouched-live : IsLive after player link → IsUntouched player colour cell link
     untouched-live live = record {
-      outside = is_false (has link.carrier cell) (λ h. ((empty-put board colour cell cell).0 (live.empty cell h)).1 refl);
+      outside = false_from_ne_true (has link.carrier cell) (λ h. ((empty-put board colour cell cell).0 (live.empty cell h)).1 refl);
       no_end = λ e. (end_is_other link.a live.a_end e, end_is_other link.b live.b_end e);
     }
 

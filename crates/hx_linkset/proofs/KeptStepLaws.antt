@@ -12,7 +12,7 @@ use Rattle.hx_link.specs.Steps.{StepGives, AreRightSteps}
 use Rattle.hx_linkset.specs.States.{State, Names, IsLiveAt, IsRight}
 use Rattle.hx_linkset.specs.Marks.{IsMarked, IsFirstMarkFrom}
 use Rattle.hx_linkset.specs.Derivations.{IsDerived, AreClosedFrom, AreMarkedUnder, AreKeptBelow, renamed}
-use Rattle.hx_board.proofs.ListLaws.{get-lt, same_some, get-push_before, get-push_last}
+use Rattle.hx_board.proofs.ListLaws.{get-lt, get-map, same_some, get-push_before, get-push_last}
 use Rattle.hx_linkset.proofs.MarkLaws.{marked-inside}
 use Rattle.hx_linkset.proofs.ClosedLaws.{part-before}
 use Rattle.hx_linkset.proofs.RenamingLaws.{gives-renamed}
@@ -31,11 +31,6 @@ take-get zero xs place lt = absurd (omega arith)
 take-get (suc n) [] place lt = refl
 take-get (suc n) (y ∷ ys) zero lt = refl
 take-get (suc n) (y ∷ ys) (suc place) lt = take-get n ys place (omega arith)
-
-get-map : (f : ℕ → ℕ) (xs : List ℕ) (k x y : ℕ) → slice_get xs k ≡ Some x → slice_get (map f xs) k ≡ Some y → y ≡ f x
-get-map f [] k x y e h = cc
-get-map f (z ∷ zs) zero x y e h = let same : z ≡ x = same_some z x e in same_some y (f x) (sym h ∙ ap (λ w. Some (f w)) same)
-get-map f (z ∷ zs) (suc k) x y e h = get-map f zs k x y e h
 
 module _ (player : Colour) (state : State) (marks : List ℕ) where
   pub kept-none : (names : List ℕ) → length names ≡ length state.links → AreKeptBelow player state marks 0 [] names
@@ -131,7 +126,8 @@ module _ (player : Colour) (state : State) (marks : List ℕ) where
     last_one (n ∷ ns) e one new h =
         let first : slice_get named 0 ≡ Some n = ap (λ (xs : List ℕ). slice_get xs 0) (sym e) in
         let marked : IsMarked marks n = u.each n (0, first) in
-        let is : new ≡ slice_index names n = get-map (λ (p : ℕ). slice_index names p) (n ∷ ns) 0 n new refl h in
+        let is : new ≡ slice_index names n =
+        same_some new (slice_index names n) (sym h ∙ get-map (λ (p : ℕ). slice_index names p) (n ∷ ns) 0 n refl) in
         let alone : length named ≡ 1 = ap (λ (xs : List ℕ). length xs) (sym e) ∙ one in
         let last : suc (slice_index names n) ≡ length steps = k.last n marked (held n marked) (λ other g l. top_one alone n first other g) in
         omega (arith, is, last)
@@ -144,7 +140,8 @@ module _ (player : Colour) (state : State) (marks : List ℕ) where
       places_of = length-map named _;
       gives = λ i place new there there'.
           let marked : IsMarked marks place = u.each place (i, there) in
-          let is : new ≡ slice_index names place = get-map (λ (p : ℕ). slice_index names p) named i place new there there' in
+          let is : new ≡ slice_index names place =
+          same_some new (slice_index names place) (sym there' ∙ get-map (λ (p : ℕ). slice_index names p) named i place there) in
           ap (λ q. slice_get k.links q) is ∙ k.gives place marked (held place marked);
       last = λ one new h. last_one named refl one new h;
     }

@@ -3,7 +3,7 @@
 -- The carriers of the parts are inside the link's. Their outer ends are the link's ends, and the middle of an And is an own
 -- vertex or an empty cell, so it is no stone of the opponent either.
 use Rattle.std.proofs.Common.{◌≡◌, ℕ, true, List, sym, ap, ◌∙◌, inl, inr, ⊎_elim}
-use Rattle.std.proofs.lemmas.Bool.{false≢true}
+use Rattle.std.proofs.lemmas.Bool.{false≢true, false_from_ne_true}
 use Rattle.std.specs.Prelude.{slice_get}
 use Rattle.hx_board.specs.declared.colours.Colour.{Colour}
 use Rattle.hx_board.specs.declared.colours.Colour.TheVariants.{Black, White}
@@ -12,7 +12,7 @@ use Rattle.hx_board.specs.declared.vertices.Vertex.TheVariants.{Of, First, Last}
 use Rattle.hx_board.specs.Sets.{has, union}
 use Rattle.hx_board.specs.Positions.{Board, IsEmpty, IsPosition, stones_of}
 use Rattle.hx_board.specs.Graph.{IsOwn}
-use Rattle.hx_board.proofs.SetLaws.{has-insert_other, has-union_left, has-union_right, is_false}
+use Rattle.hx_board.proofs.SetLaws.{has-insert_other, has-union_left, has-union_right}
 use Rattle.hx_link.specs.declared.links.Link.{Link}
 use Rattle.hx_link.specs.declared.steps.Step.{Step}
 use Rattle.hx_link.specs.declared.steps.Step.TheVariants.{Base, AndStone, AndCell, Or}
@@ -38,7 +38,7 @@ module _ (board : Board) (player : Colour) where
     where
       own_cell : (who : Colour) → IsPosition board.size board.black board.white → (cell : ℕ) → has (stones_of board who) cell ≡ true → IsEnd board who (Of cell)
       own_cell Black p cell h = (p.black_inside cell h, p.apart cell h)
-      own_cell White p cell h = (p.white_inside cell h, is_false (has board.black cell) (λ k. false≢true (sym (p.apart cell k) ∙ h)))
+      own_cell White p cell h = (p.white_inside cell h, false_from_ne_true (has board.black cell) (λ k. false≢true (sym (p.apart cell k) ∙ h)))
 
   empty_is_end : (cell : ℕ) → IsEmpty board cell → IsEnd board player (Of cell)
   empty_is_end cell e = no_stone player

@@ -1,6 +1,6 @@
 -- The log of the links that are out. It names each once, so it has no more places than there are links, and a log with
 -- room for as many as a set may hold never grows.
-use Rattle.std.proofs.lemmas.Bool.{false≢true}
+use Rattle.std.proofs.lemmas.Bool.{false≢true, false_from_ne_true, or_cases}
 use Rattle.std.proofs.lemmas.Cmp.{nat_eq_equiv}
 use Rattle.std.proofs.lemmas.List.Folds.{list_any-append}
 use Rattle.std.proofs.lemmas.Map.Keys.{IsDistinct-push}
@@ -8,7 +8,6 @@ use Rattle.std.proofs.lemmas.Map.Steps.{length-le_from_distinct_below}
 use Rattle.std.proofs.Common.{◌≡◌, ℕ, ◌<◌, ◌≤◌, true, false, List, [], ◌∷◌, ◌++◌, length, sym, ◌∙◌, subst, inl, inr, Some, ◌⊎◌, ⊎_elim, arith, length-append, eqb, eqb-true}
 use Rattle.std.specs.Prelude.{slice_get}
 use Rattle.std.specs.List.{list_any, IsDistinct}
-use Rattle.hx_board.proofs.SetLaws.{is_false, or_cases}
 use Rattle.hx_link.specs.declared.links.Link.{Link}
 use Rattle.hx_linkset.specs.Held.{IsOut, LogHolds}
 use Rattle.hx_board.proofs.ListLaws.{get-lt, get-push, same_some}
@@ -33,7 +32,7 @@ module _ (links : List Link) (Has : ℕ → Link → Type 0) where
 
     module _ (log : List ℕ) (h : LogHolds links Has log) (place : ℕ) (link : Link) (there : slice_get links place ≡ Some link) (has : Has place link) (lacks : Less place link → ⊥) where
       not_logged : list_any (eqb place) log ≡ false
-      not_logged = is_false _ (λ k. (h.out place k).lacks link there has)
+      not_logged = false_from_ne_true _ (λ k. (h.out place k).lacks link there has)
 
       place_out : IsOut links Less place
       place_out = record {

@@ -4,9 +4,9 @@ use Rattle.hx_board.specs.declared.vertices.Vertex.{Vertex}
 use Rattle.hx_board.specs.VertexSets.{code_of}
 use Rattle.hx_link.specs.declared.links.Link.{Link}
 use Rattle.hx_link.specs.Steps.{HasEnds}
-use Rattle.hx_linkset.specs.Held.{AreInOrder}
+use Rattle.hx_linkset.specs.Held.{AreLowAndHigh}
 
-module _ (a b low high : Vertex) (order : AreInOrder a b low high) (link : Link) where
+module _ (a b low high : Vertex) (order : AreLowAndHigh a b low high) (link : Link) where
   -- of these ends is what joins the lower one to the higher one
   pub ends-to : (link.a ≡ low) × (link.b ≡ high) → HasEnds link a b
   ends-to e = ⊎_elim (λ w. inl (e.0 ∙ w.0, e.1 ∙ w.1)) (λ w. inr (e.0 ∙ w.0, e.1 ∙ w.1)) order.same

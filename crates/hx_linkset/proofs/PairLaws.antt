@@ -14,7 +14,7 @@ use Rattle.hx_link.specs.declared.links.Link.{Link}
 use Rattle.hx_link.specs.Steps.{HasEnds}
 use Rattle.hx_linkset.specs.States.{Standing, IsRight}
 use Rattle.hx_linkset.specs.Rings.{Rings}
-use Rattle.hx_linkset.specs.Held.{AreInOrder, head_for, head_of, head_at, IsLinked, RingsHold, IsLiveThere}
+use Rattle.hx_linkset.specs.Held.{AreLowAndHigh, head_for, head_of, head_at, IsLinked, RingsHold, IsLiveThere}
 use Rattle.hx_linkset.specs.LivePairs.{IsLivePair, AreLivePairs, turn_by, turn_of, from_turn, pairs_from}
 use Rattle.hx_board.proofs.ListLaws.{get-lt}
 use Rattle.hx_board.proofs.VertexSetLaws.{code-small}
@@ -202,7 +202,7 @@ module _ (links : List Link) (Has : ℕ → Link → Type 0) (rings : Rings) (ho
 
 -- ---- the links of two ends
 
-module _ (set : Standing) (right : IsRight set.player set.present) (a b low high : Vertex) (order : AreInOrder a b low high) (low_some : IsSomeVertex low) (high_some : IsSomeVertex high) where
+module _ (set : Standing) (right : IsRight set.player set.present) (a b low high : Vertex) (order : AreLowAndHigh a b low high) (low_some : IsSomeVertex low) (high_some : IsSomeVertex high) where
   abbrev IsInRings : ℕ → Type 0
   IsInRings = IsInEither set.present.links (IsLiveThere set.present.board set.player) (head_for Full low high) (head_for Semi low high)
 

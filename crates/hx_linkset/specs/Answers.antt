@@ -53,7 +53,7 @@ pub record IsRefused (old new : Standing) (step : Step) : Type 0 where
   pub same : new ≡ old
 
 -- the step gives a link that no live link covers, but 8,192 are held already, and nothing changes
-pub record IsFull (old new : Standing) (step : Step) : Type 0 where
+pub record IsAtLimit (old new : Standing) (step : Step) : Type 0 where
   pub link : Link
   pub gives : Gives old step link
   pub uncovered : IsUncovered old link
@@ -65,4 +65,4 @@ abbrev pub IsAdded : Standing → Standing → Step → Added → Type 0
 IsAdded old new step (New place) = IsNew old new step place
 IsAdded old new step (Covered place) = IsCovered old new step place
 IsAdded old new step Refused = IsRefused old new step
-IsAdded old new step Limit = IsFull old new step
+IsAdded old new step Limit = IsAtLimit old new step

@@ -37,7 +37,7 @@ abbrev pub head_for : Kind → Vertex → Vertex → ℕ
 head_for kind a b = kind_code kind + VERTICES * code_of a + code_of b
 
 -- two vertices, the lower one first
-pub record AreInOrder (a b low high : Vertex) : Type 0 where
+pub record AreLowAndHigh (a b low high : Vertex) : Type 0 where
   pub order : code_of low ≤ code_of high
   pub same : ((low ≡ a) × (high ≡ b)) ⊎ ((low ≡ b) × (high ≡ a))
 
@@ -45,7 +45,7 @@ pub record AreInOrder (a b low high : Vertex) : Type 0 where
 pub record IsHeadBetween (kind : Kind) (a b : Vertex) (head : ℕ) : Type 0 where
   pub low : Vertex
   pub high : Vertex
-  pub in_order : AreInOrder a b low high
+  pub in_order : AreLowAndHigh a b low high
   pub low_some : IsSomeVertex low
   pub high_some : IsSomeVertex high
   pub head_is : head ≡ head_for kind low high

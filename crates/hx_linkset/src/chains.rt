@@ -4,18 +4,17 @@
 //! neighbours, so that it is put back by two writes, in opposite order. With heads among the nodes neither has a branch.
 
 ghost use Rattle.std.specs.Prelude.{◌≡◌, ◌+◌, ◌-◌, ◌<◌, ◌≤◌, length, slice_index, OnOk, OnErr, IfOk};
-ghost use Rattle.hx_link.specs.declared.links.Link.{Link};
 ghost use Rattle.hx_linkset.specs.Rings.{unlinked, relinked, grown, cut, IsInside};
-ghost use Rattle.hx_linkset.specs.Held.{head_of, head_for, kind_code, AreHeads, LeadToThemselves};
-ghost use Rattle.hx_board.specs.VertexSets.{code_of, IsSomeVertex};
+ghost use Rattle.hx_linkset.specs.Held.{head_for, kind_code, AreHeads, LeadToThemselves};
+ghost use Rattle.hx_board.specs.VertexSets.{IsSomeVertex};
 
 use hx_board::{Memory, VERTICES, Vertex};
-use hx_link::{Kind, Link};
+use hx_link::Kind;
 use std::alloc::Global;
 use std::marker::Model;
 
 /// The heads of one kind: one for each pair of ends, of which each is one of `VERTICES`.
-const KIND_HEADS: u16 = 15129;
+const KIND_HEADS: u16 = (VERTICES * VERTICES) as u16;
 
 /// The node of the first link. The heads of both kinds come before it.
 pub(crate) const FIRST_NODE: u16 = 2 * KIND_HEADS;

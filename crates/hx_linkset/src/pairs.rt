@@ -6,7 +6,7 @@
 ghost use Rattle.std.specs.Prelude.{◌≡◌, ◌≤◌, length, slice_index};
 ghost use Rattle.hx_board.specs.VertexSets.{IsSomeVertex};
 ghost use Rattle.hx_link.specs.declared.links.Kind.TheVariants.{Full, Semi};
-ghost use Rattle.hx_linkset.specs.Held.{AreInOrder, head_for};
+ghost use Rattle.hx_linkset.specs.Held.{AreLowAndHigh, head_for};
 ghost use Rattle.hx_linkset.specs.LivePairs.{turn_of, pairs_from};
 
 use crate::chains::{Chains, FIRST_NODE, head_for};
@@ -99,7 +99,7 @@ fn turn_of(full: u16, semi: u16) -> Option<Kind>
 
 /// Two ends with the lower one first, as links have them.
 pub(crate) fn in_order(a: &Vertex, b: &Vertex) -> (Vertex, Vertex)
-    ensures order { AreInOrder a.now b.now result.0 result.1 }
+    ensures order { AreLowAndHigh a.now b.now result.0 result.1 }
     ensures low { IsSomeVertex result.0 }
     ensures high { IsSomeVertex result.1 }
 {

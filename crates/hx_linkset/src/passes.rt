@@ -1,7 +1,6 @@
 //! The pass of a play over the links, and its taking back.
 
 ghost use Rattle.std.specs.Prelude.{◌≡◌, ◌+◌, ◌-◌, ◌<◌, ◌≤◌, length, reverse, take, drop, vec_len, vec_capacity};
-ghost use Rattle.hx_linkset.specs.Rings.{IsInside};
 ghost use Rattle.hx_linkset.specs.Held.{RingsHold, LogHolds, IsPassed, IsLiveThere, CanRelink, relinked_all};
 ghost use Rattle.hx_linkset.specs.History.{CanCut, cut_times};
 ghost use Rattle.hx_linkset.specs.Fulls.{AreFullLists};

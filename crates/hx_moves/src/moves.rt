@@ -92,7 +92,8 @@ impl Moves {
         ensures same_numbers { map (λ child. child.number) self.new.children.items
             ≡ map (λ child. child.number) self.old.children.items }
         ensures noted { place < length self.old.children.items
-            → IsSomeAnd (slice_get self.new.children.items place) (λ child. child.numbers ≡ numbers) }
+            → IsSomeAnd (slice_get self.new.children.items place)
+            (λ child. child.numbers ≡ numbers) }
         ensures others { (other : ℕ) → other ≢ place
             → slice_get self.new.children.items other ≡ slice_get self.old.children.items other }
     {

@@ -57,7 +57,8 @@ impl Turn {
         ensures is_filled { IfOk result (λ turn.
             IsFalse turn.is_filled ↔ (filled.now.steps.items ≡ [])) }
         ensures stones { IfOk result (λ turn. turn.stones.items
-            ≡ stones_of_move start.now.moved start.now.to_move ++ stones_of_fills filled.now.steps.items) }
+            ≡ stones_of_move start.now.moved start.now.to_move
+            ++ stones_of_fills filled.now.steps.items) }
     {
         Ok(Turn {
             filled: Orientations::of(&filled.position),

@@ -34,7 +34,8 @@ pub fn after(before: &Orientations, colour: Colour, cell: Cell) -> Option<Orient
 /// The stones of a turn, the move first.
 pub(crate) fn stones_of(alloc: Global, start: &Start, filled: &Filled) -> Result<Vec<Stone>, Memory>
     ensures { IfOk result (λ stones. stones.items
-        ≡ stones_of_move start.now.moved start.now.to_move ++ stones_of_fills filled.now.steps.items) }
+        ≡ stones_of_move start.now.moved start.now.to_move
+        ++ stones_of_fills filled.now.steps.items) }
 {
     let mut stones = Vec::with_capacity(alloc, FEW).map_err(|_| Memory)?;
     if let Some(cell) = start.moved {

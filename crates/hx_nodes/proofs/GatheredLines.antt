@@ -20,9 +20,9 @@ use Rattle.hx_tree.specs.Answers.{HasChild, cell_of, cells_of}
 use Rattle.hx_tree.specs.Entries.{Extends}
 use Rattle.hx_tree.proofs.LinesInOrder.{in_order_more}
 use Rattle.hx_tree.proofs.RightNodeGrowth.{some_and-append}
+use Rattle.hx_tree.proofs.EntryLaws.{seen-within, extends-itself}
 use Rattle.hx_nodes.specs.Lines.{IsGathered, IsLineOf, IsDone, AreGathered, AreLines}
 use Rattle.hx_nodes.specs.Missing.{IsLacking, HasLacking}
-use Rattle.hx_nodes.proofs.FoundEntries.{not_won-earlier}
 
 module _ (headings : List Heading) (heading : Heading) (cells : ℕ) (under : List Line) where
   not_done : (cell : ℕ) → IsDone cells cells cell → ⊥
@@ -109,6 +109,6 @@ lacking_among first old new board player cells under cell grown among is = recor
   among = among;
   is = record {
     no_line = is.no_line;
-    lacks = not_won-earlier first old new (put board (other_of player) cell) player player grown is.lacks;
+    lacks = seen-within _ first old new new grown (extends-itself new) is.lacks;
   };
 }

@@ -9,7 +9,7 @@ use Rattle.hx_tree.specs.declared.nodes.Heading.{Heading}
 use Rattle.hx_tree.specs.declared.nodes.Line.{Line}
 use Rattle.hx_tree.specs.declared.nodes.Line.TheVariants.{Child, Under}
 use Rattle.hx_tree.specs.Answers.{AreInOrder, HasChild, IsRightChild, cell_of, cells_of}
-use Rattle.hx_fill.specs.Unders.{HasLine}
+use Rattle.hx_fill.specs.Unders.{HasLineFor}
 
 -- that the player wins with the opponent to move
 abbrev pub wins_next : Board → Colour → Heading
@@ -29,7 +29,7 @@ NamesBetter (Under cell better kill) = Unit {0}
 pub record IsLineOf (headings : List Heading) (heading : Heading) (under : List Line) (cell : ℕ) (line : Line) : Type 0 where
   pub same_cell : cell_of line ≡ cell
   pub gathered : IsGathered headings heading under line
-  pub by_child : ¬ HasLine under cell → (child : ℕ) × (line ≡ Child cell child)
+  pub by_child : ¬ HasLineFor under cell → (child : ℕ) × (line ≡ Child cell child)
 
 -- a cell that has its line
 pub record IsDone (cells left cell : ℕ) : Type 0 where
@@ -42,10 +42,10 @@ pub record AreGathered (headings : List Heading) (heading : Heading) (cells left
   pub earlier : (done cell : ℕ) → IsDone cells left done → has left cell ≡ true → done < cell
   pub in_order : AreInOrder (IsDone cells left) (cells_of lines)
   pub each : (k : ℕ) → IfSome (slice_get lines k) (IsGathered headings heading under)
-  pub by_child : (cell : ℕ) → IsDone cells left cell → ¬ HasLine under cell → HasChild lines cell
+  pub by_child : (cell : ℕ) → IsDone cells left cell → ¬ HasLineFor under cell → HasChild lines cell
 
 -- a line for each of the cells, in cell order
 pub record AreLines (headings : List Heading) (heading : Heading) (cells : ℕ) (under lines : List Line) : Type 0 where
   pub in_order : AreInOrder (λ cell. has cells cell ≡ true) (cells_of lines)
   pub each : (k : ℕ) → IfSome (slice_get lines k) (IsGathered headings heading under)
-  pub by_child : (cell : ℕ) → has cells cell ≡ true → ¬ HasLine under cell → HasChild lines cell
+  pub by_child : (cell : ℕ) → has cells cell ≡ true → ¬ HasLineFor under cell → HasChild lines cell

@@ -7,12 +7,12 @@ use Rattle.hx_board.specs.Positions.{Board, IsFull, put}
 use Rattle.hx_tree.specs.declared.entries.Found.{Found}
 use Rattle.hx_tree.specs.declared.nodes.Line.{Line}
 use Rattle.hx_tree.specs.declared.nodes.Node.{Node}
-use Rattle.hx_tree.specs.Entries.{Extends, HasNoEntry, IsFirstFound}
+use Rattle.hx_tree.specs.Entries.{HasNoEntry, IsFirstFound, WasSeen}
 use Rattle.hx_book.specs.EitherEntry.{WasMissed}
 use Rattle.hx_linkset.specs.States.{Standing}
 use Rattle.hx_fill.specs.declared.fills.Fill.{Fill}
 use Rattle.hx_fill.specs.Musts.{IsMust}
-use Rattle.hx_fill.specs.Unders.{HasLine, AreByOrder}
+use Rattle.hx_fill.specs.Unders.{HasLineFor, AreByOrder}
 
 -- the first entry of the position and mover names the player's opponent as the winner
 pub record NamesOther (nodes : List Node) (board : Board) (mover player : Colour) : Type 0 where
@@ -25,11 +25,8 @@ abbrev pub NamesNoWin : List Node → Board → Colour → Colour → Type 0
 NamesNoWin nodes board mover player = HasNoEntry nodes board mover ⊎ NamesOther nodes board mover player
 
 -- some front of the new list, with the old one at its own front, names no win of the player's for the position and mover
-pub record WasNotWon (old new : List Node) (board : Board) (mover player : Colour) : Type 0 where
-  pub seen : List Node
-  pub after_old : Extends seen old
-  pub before_new : Extends new seen
-  pub no_win : NamesNoWin seen board mover player
+abbrev pub WasNotWon : List Node → List Node → Board → Colour → Colour → Type 0
+WasNotWon old new board mover player = WasSeen (λ nodes. NamesNoWin nodes board mover player) old new
 
 -- after the player's move to the cell the player was not seen to win
 abbrev pub LacksMove : List Node → List Node → Board → Colour → ℕ → Type 0
@@ -45,7 +42,7 @@ LacksFill old new fills filled mover = (fills ≡ []) ⊎ WasMissed old new fill
 
 -- a cell with no line among these, where the player was not seen to win after the opponent's move to it
 pub record IsLacking (old new : List Node) (board : Board) (player : Colour) (under : List Line) (cell : ℕ) : Type 0 where
-  pub no_line : ¬ HasLine under cell
+  pub no_line : ¬ HasLineFor under cell
   pub lacks : LacksAnswer old new board player cell
 
 -- one of the cells is such a cell

@@ -17,11 +17,11 @@ abbrev pub IsOutOfSlots : List Node → ℕ → Refusal → Type 0
 IsOutOfSlots list slots refusal = IsRefused slots list refusal.node refusal.held list
 
 -- what an answer says of the list, where a node of this position and mover was to be stored
-abbrev pub IsStored : List Node → ℕ → Board → Colour → Stored → Type 0
-IsStored list slots board mover Done = HasEntry list board mover
-IsStored list slots board mover (Refused refusal) = IsOutOfSlots list slots refusal × IsOf board mover refusal.node
-IsStored list slots board mover Missing = Unit {0}
-IsStored list slots board mover Memory = Unit {0}
+abbrev pub TellsStored : List Node → ℕ → Board → Colour → Stored → Type 0
+TellsStored list slots board mover Done = HasEntry list board mover
+TellsStored list slots board mover (Refused refusal) = IsOutOfSlots list slots refusal × IsOf board mover refusal.node
+TellsStored list slots board mover Missing = Unit {0}
+TellsStored list slots board mover Memory = Unit {0}
 
 -- a refusal hands this node back
 abbrev pub HandsBack : Node → Stored → Type 0

@@ -3,7 +3,7 @@
 ghost use Rattle.std.specs.Prelude.{◌≡◌};
 ghost use Rattle.hx_board.specs.Colours.{other_of};
 ghost use Rattle.hx_tree.specs.Entries.{Extends};
-ghost use Rattle.hx_nodes.specs.Stored.{IsStored, MissingFor};
+ghost use Rattle.hx_nodes.specs.Stored.{TellsStored, MissingFor};
 ghost use Rattle.hx_fill.specs.Musts.{IsMust};
 ghost use Rattle.hx_nodes.specs.Missing.{LacksOneOf, LacksAnswers};
 
@@ -28,7 +28,7 @@ pub fn store_all<P: Proofs, R: Wait>(
     ensures slots { P.slots proofs.new ≡ P.slots proofs.old }
     ensures over { P.over proofs.new ≡ P.over proofs.old }
     ensures seen { Extends (P.list proofs.new) (P.list proofs.old) }
-    ensures stored { IsStored (P.list proofs.new) (P.slots proofs.new)
+    ensures stored { TellsStored (P.list proofs.new) (P.slots proofs.new)
         set.now.present.board (other_of set.now.player) result }
     ensures missing { MissingFor (LacksAnswers (P.list proofs.old) (P.list proofs.new)
         set.now order.now) result }
@@ -51,7 +51,7 @@ pub fn store_answers<P: Proofs, R: Wait>(
     ensures slots { P.slots proofs.new ≡ P.slots proofs.old }
     ensures over { P.over proofs.new ≡ P.over proofs.old }
     ensures seen { Extends (P.list proofs.new) (P.list proofs.old) }
-    ensures stored { IsStored (P.list proofs.new) (P.slots proofs.new)
+    ensures stored { TellsStored (P.list proofs.new) (P.slots proofs.new)
         set.now.present.board (other_of set.now.player) result }
     ensures missing { MissingFor (LacksOneOf (P.list proofs.old) (P.list proofs.new)
         set.now found.cells found.under) result }

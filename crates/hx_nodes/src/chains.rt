@@ -3,7 +3,7 @@
 ghost use Rattle.std.specs.Prelude.{◌≡◌};
 ghost use Rattle.hx_board.specs.Graph.{HasChain};
 ghost use Rattle.hx_tree.specs.Entries.{Extends};
-ghost use Rattle.hx_nodes.specs.Stored.{IsStored, IsAnswered, HadMemory};
+ghost use Rattle.hx_nodes.specs.Stored.{TellsStored, IsAnswered, HadMemory};
 
 use crate::stored::{Stored, store};
 use hx_board::{Colour, Position};
@@ -23,7 +23,7 @@ pub fn store_chain<P: Proofs, R: Wait>(
     ensures slots { P.slots proofs.new ≡ P.slots proofs.old }
     ensures over { P.over proofs.new ≡ P.over proofs.old }
     ensures seen { Extends (P.list proofs.new) (P.list proofs.old) }
-    ensures stored { IsStored (P.list proofs.new) (P.slots proofs.new) position.now to_move result }
+    ensures stored { TellsStored (P.list proofs.new) (P.slots proofs.new) position.now to_move result }
     ensures answered { IsAnswered result }
     ensures memory { HadMemory result }
 {

@@ -3,7 +3,7 @@
 ghost use Rattle.std.specs.Prelude.{◌≡◌};
 ghost use Rattle.hx_tree.specs.Entries.{Extends};
 ghost use Rattle.hx_search.specs.Decided.{Decides};
-ghost use Rattle.hx_nodes.specs.Stored.{IsStored, IsAnswered};
+ghost use Rattle.hx_nodes.specs.Stored.{TellsStored, IsAnswered};
 
 use crate::stored::{Stored, store};
 use hx_board::Colour;
@@ -24,7 +24,7 @@ pub fn store_links<P: Proofs, R: Wait>(
     ensures slots { P.slots proofs.new ≡ P.slots proofs.old }
     ensures over { P.over proofs.new ≡ P.over proofs.old }
     ensures seen { Extends (P.list proofs.new) (P.list proofs.old) }
-    ensures stored { IsStored (P.list proofs.new) (P.slots proofs.new)
+    ensures stored { TellsStored (P.list proofs.new) (P.slots proofs.new)
         set.now.present.board to_move result }
     ensures answered { IsAnswered result }
 {

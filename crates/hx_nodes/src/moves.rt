@@ -3,7 +3,7 @@
 ghost use Rattle.std.specs.Prelude.{◌≡◌};
 ghost use Rattle.hx_board.specs.Positions.{IsEmpty};
 ghost use Rattle.hx_tree.specs.Entries.{Extends};
-ghost use Rattle.hx_nodes.specs.Stored.{IsStored, MissingFor, HadMemory};
+ghost use Rattle.hx_nodes.specs.Stored.{TellsStored, MissingFor, HadMemory};
 ghost use Rattle.hx_nodes.specs.Missing.{LacksMove};
 
 use crate::stored::{Stored, store};
@@ -25,7 +25,7 @@ pub fn store_move<P: Proofs, R: Wait>(
     ensures slots { P.slots proofs.new ≡ P.slots proofs.old }
     ensures over { P.over proofs.new ≡ P.over proofs.old }
     ensures seen { Extends (P.list proofs.new) (P.list proofs.old) }
-    ensures stored { IsStored (P.list proofs.new) (P.slots proofs.new) position.now to_move result }
+    ensures stored { TellsStored (P.list proofs.new) (P.slots proofs.new) position.now to_move result }
     ensures missing { MissingFor (LacksMove (P.list proofs.old) (P.list proofs.new)
         position.now to_move cell) result }
     ensures memory { HadMemory result }

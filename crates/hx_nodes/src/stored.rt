@@ -4,7 +4,7 @@ ghost use Rattle.std.specs.Prelude.{◌≡◌};
 ghost use Rattle.hx_tree.specs.Entries.{Extends};
 ghost use Rattle.hx_tree.specs.Rules.{IsRightNode};
 ghost use Rattle.hx_tree.specs.Trees.{headings_of};
-ghost use Rattle.hx_nodes.specs.Stored.{IsStored, HandsBack, IsAnswered, HadMemory};
+ghost use Rattle.hx_nodes.specs.Stored.{TellsStored, HandsBack, IsAnswered, HadMemory};
 
 use hx_book::{NoSlot, Proofs};
 use hx_tree::Node;
@@ -33,7 +33,7 @@ pub fn store<P: Proofs, R: Wait>(rt: &R, proofs: &mut P, node: Node) -> Stored
     ensures slots { P.slots proofs.new ≡ P.slots proofs.old }
     ensures over { P.over proofs.new ≡ P.over proofs.old }
     ensures seen { Extends (P.list proofs.new) (P.list proofs.old) }
-    ensures stored { IsStored (P.list proofs.new) (P.slots proofs.new)
+    ensures stored { TellsStored (P.list proofs.new) (P.slots proofs.new)
         node.heading.position node.heading.to_move result }
     ensures handed_back { HandsBack node result }
     ensures answered { IsAnswered result }

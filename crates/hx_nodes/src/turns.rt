@@ -3,7 +3,7 @@
 ghost use Rattle.std.specs.Prelude.{◌≡◌};
 ghost use Rattle.hx_tree.specs.Entries.{Extends};
 ghost use Rattle.hx_book.specs.EitherEntry.{IsNeitherFound};
-ghost use Rattle.hx_nodes.specs.Stored.{IsStored, MissingFor, HadMemory};
+ghost use Rattle.hx_nodes.specs.Stored.{TellsStored, MissingFor, HadMemory};
 
 use crate::stored::{Stored, store};
 use hx_board::{Colour, Position};
@@ -22,7 +22,7 @@ pub fn store_turned<P: Proofs, R: Wait>(
     ensures slots { P.slots proofs.new ≡ P.slots proofs.old }
     ensures over { P.over proofs.new ≡ P.over proofs.old }
     ensures seen { Extends (P.list proofs.new) (P.list proofs.old) }
-    ensures stored { IsStored (P.list proofs.new) (P.slots proofs.new) position.now to_move result }
+    ensures stored { TellsStored (P.list proofs.new) (P.slots proofs.new) position.now to_move result }
     ensures missing { MissingFor (IsNeitherFound (P.list proofs.old) (P.list proofs.new)
         position.now to_move) result }
     ensures memory { HadMemory result }

@@ -3,7 +3,7 @@
 //! Proof numbers are Allis's. They stand here as Nagai writes them for his depth-first search, df-pn: seen from the player
 //! who is to move, phi is what he must prove to win and delta what the opponent must, so that one rule serves both players.
 
-ghost use Rattle.std.specs.Prelude.{◌≡◌, ◌≤◌, ◌↔◌, IsTrue, length};
+ghost use Rattle.std.specs.Prelude.{◌≡◌, ◌≤◌, ◌↔◌, IsTrue};
 ghost use Rattle.std.specs.List.{All};
 ghost use Rattle.hx_pn.specs.Numbers.{IsNumbers, phi_of, delta_of, focus_of, worse_of};
 

@@ -1,7 +1,5 @@
 //! Each call once, with numbers that were worked out by hand.
 
-ghost use Rattle.hx_pn.specs.Numbers.{IsNumbers};
-
 use super::*;
 use std::test::Fail;
 

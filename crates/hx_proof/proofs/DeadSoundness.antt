@@ -2,10 +2,9 @@
 -- cell are open neighbours of it, and joined without it. So the player's stone there makes no chain. The cell stays dead when
 -- other stones come, and by induction on the play the player wins with the opponent's stone there as with an own one.
 use Rattle.std.proofs.Common.{◌≡◌, ◌≢◌, ℕ, List, [], ◌∷◌, sym, ap, ◌∙◌, subst, ◌⊎◌, inl, inr, ⊎_elim, arith}
-use Rattle.std.proofs.lemmas.Bool.{false≢true}
+use Rattle.std.proofs.lemmas.Bool.{false≢true, false_from_ne_true}
 use Rattle.std.proofs.Math.Decide.{ℕ_discrete}
 use Rattle.hx_board.specs.declared.colours.Colour.{Colour}
-use Rattle.hx_board.specs.declared.colours.Colour.TheVariants.{Black, White}
 use Rattle.hx_board.specs.declared.vertices.Vertex.{Vertex}
 use Rattle.hx_board.specs.declared.vertices.Vertex.TheVariants.{Of, First, Last}
 use Rattle.hx_board.specs.Colours.{other_of}
@@ -13,10 +12,10 @@ use Rattle.hx_board.specs.Cells.{CellsTouch, Left, Right, Above, Below, Above_ri
 use Rattle.hx_board.specs.Positions.{Board, IsBoard, IsEmpty, put}
 use Rattle.hx_board.specs.Graph.{IsOwn, Touches, Walk, Joined, HasChain, IsOpen}
 use Rattle.hx_board.specs.Game.{Wins, By_chain, By_move, By_answers}
-use Rattle.hx_board.proofs.SetLaws.{is_false}
 use Rattle.hx_board.proofs.StoneLaws.{size-put, board-put, stones-put, empty-put}
 use Rattle.hx_board.proofs.KeptStones.{keeps_put, joined_stays}
 use Rattle.hx_board.proofs.Joins.{touches-sym, joined-over_own, joined-touches}
+use Rattle.hx_board.proofs.PositionLaws.{own-not_others}
 use Rattle.hx_law.proofs.WinLaws.{chain-put}
 use Rattle.hx_inferior.specs.Inferior.{IsOpenNeighbour, IsDead}
 use Rattle.hx_inferior.proofs.DeadLaws.{of_same}
@@ -48,8 +47,7 @@ not_touching_itself n (Above_right row col) = omega arith
 not_touching_itself n (Below_left row col) = omega arith
 
 own-open : (board : Board) → IsBoard board → (player : Colour) (v : Vertex) → IsOwn board player v → IsOpen board player v
-own-open board is Black (Of n) own = is.1.apart n own
-own-open board is White (Of n) own = is_false _ (λ black. false≢true (sym (is.1.apart n black) ∙ own))
+own-open board is player (Of n) own = own-not_others board is player n own
 own-open board is player First own = tt
 own-open board is player Last own = tt
 
@@ -60,7 +58,7 @@ own_before board player cell First own = inr tt
 own_before board player cell Last own = inr tt
 
 open-before : (board : Board) (who player : Colour) (m : ℕ) (v : Vertex) → IsOpen (put board who m) player v → IsOpen board player v
-open-before board who player m (Of n) not = is_false _ (λ held. false≢true (sym not ∙ (stones-put board who (other_of player) m n).1 (inr held)))
+open-before board who player m (Of n) not = false_from_ne_true _ (λ held. false≢true (sym not ∙ (stones-put board who (other_of player) m n).1 (inr held)))
 open-before board who player m First not = tt
 open-before board who player m Last not = tt
 

@@ -3,7 +3,7 @@
 //!
 //! The plain programs say what the definitions say, in the slowest obvious way and with none of the fast calls: touching
 //! by rows and columns, joining by a walk from vertex to vertex, winning by every game to its end. Tests hold the fast
-//! calls against them, so they have no contracts that would bring them nearer to these.
+//! calls against them, so they promise no more than a test must know to call on.
 #![tactic(auto)]
 
 mod draws;

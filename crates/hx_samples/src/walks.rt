@@ -3,7 +3,7 @@
 ghost use Rattle.std.specs.Prelude.{◌↔◌, IsTrue};
 ghost use Rattle.hx_board.specs.Graph.{IsVertex};
 
-use hx_board::{Cell, Colour, Position, Size, VERTICES, Vertex, VertexSet};
+use hx_board::{CELLS, Cell, Colour, Position, Size, VERTICES, Vertex, VertexSet};
 
 /// Whether two cells touch: the steps from a cell to those that touch it are one left, one right, one up, one down, one up
 /// and right, one down and left.
@@ -55,7 +55,7 @@ pub fn empty_count(position: &Position) -> u32 {
         for col in 0..size.cols() {
             if let Some(cell) = size.cell(row, col)
                 && position.at(cell).is_none()
-                && count < 121
+                && count < CELLS as u32
             {
                 count += 1;
             }

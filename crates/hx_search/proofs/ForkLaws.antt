@@ -1,16 +1,16 @@
 -- Parts for an Or. Each of them lacks a cell that those before it share, so they are few (`parts-more`); what is shared, all
 -- live Semi links of the two ends have (`share-more`). Where a cell is shared in the end, the ends are not forked
 -- (`not-forked`); where none is, each cell is lacking in some part, and then the Or of the parts gives a link (`fork-of`).
-use Rattle.std.proofs.Common.{◌≡◌, ◌≢◌, ℕ, zero, suc, ◌<◌, ◌≤◌, ◌+◌, Bool, true, false, ◌||◌, List, [], ◌∷◌, ◌++◌, map, length, refl, sym, ap, ◌∙◌, subst, inl, inr, Some, ◌⊎◌, ⊎_elim, arith, length-append}
+use Rattle.std.proofs.Common.{◌≡◌, ◌≢◌, ℕ, zero, suc, ◌<◌, ◌≤◌, ◌+◌, true, false, ◌||◌, List, [], ◌∷◌, ◌++◌, map, length, refl, sym, ap, ◌∙◌, subst, Some, ◌⊎◌, ⊎_elim, arith, length-append}
 use Rattle.std.specs.Prelude.{slice_get}
-use Rattle.std.proofs.lemmas.Bool.{false≢true, cases_lt}
+use Rattle.std.proofs.lemmas.Bool.{false≢true, cases_lt, true_from_ne_false, or_from}
 use Rattle.hx_board.specs.declared.colours.Colour.{Colour}
 use Rattle.hx_board.specs.declared.vertices.Vertex.{Vertex}
 use Rattle.hx_board.specs.declared.vertices.Vertex.TheVariants.{Of, First, Last}
 use Rattle.hx_board.specs.Positions.{Board}
 use Rattle.hx_board.specs.Sets.{has, union, intersection, difference, IsSubset}
 use Rattle.hx_board.proofs.CellLaws.{on_board-small}
-use Rattle.hx_board.proofs.SetLaws.{is_true, is_false, has-empty, has-union, has-insert_same, has-intersection_left, has-intersection_right, has-intersection_both, has-difference_left, has-difference_right, has-difference_both}
+use Rattle.hx_board.proofs.SetLaws.{has-empty, has-union, has-insert_same, has-intersection_left, has-intersection_right, has-difference_left, has-difference_right, has-difference_both, has_not-intersection}
 use Rattle.hx_link.specs.declared.links.Kind.TheVariants.{Full, Semi}
 use Rattle.hx_link.specs.declared.links.Link.{Link}
 use Rattle.hx_link.specs.declared.steps.Step.{Step}
@@ -28,14 +28,10 @@ use Rattle.hx_board.proofs.CountLaws.{count-small, count-less}
 
 -- ---- sets
 
-meet_lacks : (set other n : ℕ) (b : Bool) → has set n ≡ b → has (intersection set other) n ≡ false → (has set n ≡ false) ⊎ ((has set n ≡ true) × (has other n ≡ false))
-meet_lacks set other n true h lacks = inr (h, is_false (has other n) (λ k. false≢true (sym lacks ∙ has-intersection_both set other n h k)))
-meet_lacks set other n false h lacks = inl h
-
 -- what an empty difference leaves nothing of
 no_difference : (set other : ℕ) → difference set other ≡ 0 → IsSubset set other
 no_difference set other none n h =
-    is_true (has other n) (λ lacks. false≢true (sym (ap (λ s. has s n) none ∙ has-empty n) ∙ has-difference_both set other n h lacks))
+    true_from_ne_false (has other n) (λ lacks. false≢true (sym (ap (λ s. has s n) none ∙ has-empty n) ∙ has-difference_both set other n h lacks))
 
 -- ---- a live Semi link has a cell
 
@@ -115,8 +111,8 @@ module _ (set : Standing) (right : IsRight set.player set.present) (a b : Vertex
           some = (parts_ok.some.0, get-push_before parts next 0 parts_ok.some.0 parts_ok.some.1);
           lacking = λ cell lacks. ⊎_elim
               (λ k. let w = parts_ok.lacking cell k in (w.0, (w.1.0, (get-push_before parts next w.0 w.1.0 w.1.1.0, w.1.1.1))))
-              (λ k. (length parts, (next, (get-push_last parts next, (is.is.link, (is.is.there, ap (λ s. has s cell) (sym e) ∙ k.1))))))
-              (meet_lacks shared carrier cell (has shared cell) refl lacks);
+              (λ k. (length parts, (next, (get-push_last parts next, (is.is.link, (is.is.there, ap (λ s. has s cell) (sym e) ∙ k))))))
+              (has_not-intersection shared carrier cell lacks);
           few = simp length-append (omega (arith, parts_ok.few, fewer));
         }
 
@@ -141,13 +137,10 @@ links_there held (p ∷ ps) there =
     let rest = links_there held ps (λ k place e. there (suc k) place e) in
     (here.0 ∷ rest.0, same_front here.1 rest.1)
 
-neither : (x y : Bool) → x ≡ false → y ≡ false → (x || y) ≡ false
-neither x y h k = ap (λ z. z || y) h ∙ k
-
 carriers_lack : (links : List Link) (cell : ℕ) → ((part : Link) → IsOneOf part links → has part.carrier cell ≡ false) → has (carriers_of links) cell ≡ false
 carriers_lack [] cell none = has-empty cell
 carriers_lack (l ∷ ls) cell none = has-union l.carrier (carriers_of ls) cell
-    ∙ neither (has l.carrier cell) (has (carriers_of ls) cell) (none l (0, refl)) (carriers_lack ls cell (λ part h. none part (one_of_later part l ls h)))
+    ∙ or_from (has l.carrier cell) (has (carriers_of ls) cell) (none l (0, refl)) (carriers_lack ls cell (λ part h. none part (one_of_later part l ls h)))
 
 all_outside : (board : Board) (links : List Link) (v : Vertex) → ((part : Link) → IsOneOf part links → IsOutside board part.carrier v) → IsOutside board (carriers_of links) v
 all_outside board links (Of cell) outside = λ empty. carriers_lack links cell (λ part h. outside part h empty)

@@ -12,7 +12,7 @@ use Rattle.hx_link.specs.declared.steps.Step.TheVariants.{Base, AndStone, AndCel
 use Rattle.hx_link.specs.Steps.{MeetAt, GivesByRule, links_at}
 use Rattle.hx_link.proofs.OneLink.{step-unique}
 use Rattle.hx_linkset.specs.States.{Standing, IsLive, Names, GivesFromLive, added}
-use Rattle.hx_linkset.specs.Answers.{Gives, Covers, IsNew, IsCovered, IsFull}
+use Rattle.hx_linkset.specs.Answers.{Gives, Covers, IsNew, IsCovered, IsAtLimit}
 use Rattle.hx_linkset.specs.LiveOf.{IsLiveOf}
 use Rattle.hx_linkset.proofs.GivenLaws.{from_live-live}
 use Rattle.hx_board.proofs.ListLaws.{get-lt, get-there, get-push_before, get-push_last}
@@ -121,7 +121,7 @@ module _ (old new : Standing) (step : Step) where
       (λ link h. let same : c.link ≡ link = step-unique old.present.board old.player old.present.links c.link link step c.gives.gives h.gives in
       let Q : Link → Type 0 = λ l. Covers old place l in (place, subst Q same c.covers))
 
-  pub full-unsettled : IsFull old new step → IsUnsettled new step
+  pub full-unsettled : IsAtLimit old new step → IsUnsettled new step
   full-unsettled f = let P : Standing → Type 0 = λ s. IsUnsettled s step in subst P (sym f.same) record {
     full = f.full;
     not_settled = λ settled. let w = settled f.link f.gives in f.uncovered w.0 w.1;

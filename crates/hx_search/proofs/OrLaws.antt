@@ -12,7 +12,7 @@ use Rattle.hx_link.specs.declared.steps.Step.TheVariants.{Or}
 use Rattle.hx_link.specs.Steps.{HasEnds}
 use Rattle.hx_link.proofs.OneLink.{step-unique}
 use Rattle.hx_linkset.specs.States.{Standing, IsRight}
-use Rattle.hx_linkset.specs.Answers.{IsCovered, IsFull}
+use Rattle.hx_linkset.specs.Answers.{IsCovered, IsAtLimit}
 use Rattle.hx_linkset.specs.LiveOf.{IsLiveOf}
 use Rattle.hx_linkset.proofs.NextLaws.{live-is_link}
 use Rattle.hx_search.specs.Closed.{IsForked, HasFull, IsStuck}
@@ -42,7 +42,7 @@ module _ (old new : Standing) (a b : Vertex) (parts : List ℕ) (fork : IsFork o
       ) in
       (c.same, subst P (sym c.same) (λ forked. full))
 
-  pub or-full : ((place : ℕ) → IsLiveOf old Full a b place → ⊥) → IsFull old new (Or parts) → IsStuck new
+  pub or-full : ((place : ℕ) → IsLiveOf old Full a b place → ⊥) → IsAtLimit old new (Or parts) → IsStuck new
   or-full none f =
       let P : Standing → Type 0 = λ s. IsStuck s in
       subst P (sym f.same) record { full = f.full; not_closed = λ closed. let w = closed.ors a b fork.forked in none w.0 w.1 }

@@ -1,11 +1,11 @@
 -- Ands in either order: that of two links gives what that of the same links in the other order gives, and a link gives
 -- nothing with itself. So where each link is settled with the earlier ones, all Ands are.
 use Rattle.std.proofs.Common.{◌≡◌, ℕ, ◌<◌, ◌≤◌, length, refl, sym, ap, ◌∙◌, subst, inl, inr, ◌⊎◌, ⊎_elim, arith, List}
-use Rattle.std.proofs.lemmas.Bool.{false≢true, cases_eq, cases_lt}
+use Rattle.std.proofs.lemmas.Bool.{false≢true, cases_eq, cases_lt, false_from_ne_true}
 use Rattle.hx_board.specs.declared.vertices.Vertex.{Vertex}
 use Rattle.hx_board.specs.declared.vertices.Vertex.TheVariants.{Of}
 use Rattle.hx_board.specs.Sets.{has, insert}
-use Rattle.hx_board.proofs.SetLaws.{union-comm, is_false}
+use Rattle.hx_board.proofs.SetLaws.{union-comm}
 use Rattle.hx_link.specs.declared.links.Link.{Link}
 use Rattle.hx_link.specs.declared.steps.Step.TheVariants.{AndStone, AndCell}
 use Rattle.hx_link.specs.Steps.{HasEnds, MeetAt, GivesAndStone, GivesAndCell}
@@ -24,7 +24,7 @@ meet-turned links left right from middle to f s m = record {
   first_ends = turned s middle to m.second_ends;
   second_ends = turned f from middle m.first_ends;
   other_ends_differ = λ e. m.other_ends_differ (sym e);
-  apart = λ n h. is_false (has f.carrier n) (λ k. false≢true (sym (m.apart n k) ∙ h));
+  apart = λ n h. false_from_ne_true (has f.carrier n) (λ k. false≢true (sym (m.apart n k) ∙ h));
 }
 
 -- no link meets itself in one end alone

@@ -2,6 +2,7 @@
 use Rattle.std.specs.Prelude.{◌≡◌, ℕ, ◌+◌, ◌<◌, ◌≤◌, Bool, true, false, List, length, slice_get}
 use Rattle.std.specs.declared.option.Option.{Option}
 use Rattle.std.specs.declared.option.Option.TheVariants.{None, Some}
+use Rattle.hx_board.specs.declared.cells.TheConstants.{CELLS}
 use Rattle.hx_board.specs.declared.vertices.Vertex.{Vertex}
 use Rattle.hx_board.specs.Sets.{has, IsSubset, count_below}
 use Rattle.hx_board.specs.Graph.{IsVertex, IsOwn}
@@ -37,9 +38,9 @@ IsTriedStep set step Settled = IsSettled set step
 IsTriedStep set step Stopped = IsUnsettled set step
 
 -- what became of several steps, which were tried to bring a fact about
-abbrev pub IsTried : Standing → Type 0 → Tried → Type 0
-IsTried set Fact Settled = Fact
-IsTried set Fact Stopped = IsStuck set
+abbrev pub AreTried : Standing → Type 0 → Tried → Type 0
+AreTried set Fact Settled = Fact
+AreTried set Fact Stopped = IsStuck set
 
 -- what became of Ors: none was added, and the fact holds; or there are more links; or there is no room
 abbrev pub IsPassed : Standing → Standing → Type 0 → Passed → Type 0
@@ -117,7 +118,7 @@ pub record AreParts (set : Standing) (a b : Vertex) (parts : List ℕ) (shared :
       → (k : ℕ) × ((place : ℕ) × ((slice_get parts k ≡ Some place)
       × ((link : Link) × ((slice_get set.present.links place ≡ Some link)
       × (has link.carrier cell ≡ false)))))
-  pub few : length parts + count_below 128 shared ≤ 122
+  pub few : length parts + count_below 128 shared ≤ CELLS + 1
 
 -- the live Semi links of two ends up to a place have all that is shared
 abbrev pub AllShare : Standing → Vertex → Vertex → ℕ → ℕ → Type 0

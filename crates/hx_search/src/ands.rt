@@ -6,7 +6,7 @@
 
 ghost use Rattle.std.specs.Prelude.{◌≡◌, ℕ, ◌<◌, length, IfOk};
 ghost use Rattle.hx_search.specs.Closed.{IsGrown};
-ghost use Rattle.hx_search.specs.Progress.{IsTried, and_at, IsChainSettled, IsEndSettled, IsPairSettled, AreRowsSettled};
+ghost use Rattle.hx_search.specs.Progress.{AreTried, and_at, IsChainSettled, IsEndSettled, IsPairSettled, AreRowsSettled};
 
 use crate::tries::{Tried, settle};
 use hx_board::{Memory, VERTICES, Vertex};
@@ -34,7 +34,7 @@ fn settle_chain(
 ) -> Result<Tried, Memory>
     requires { right < length set.old.present.links }
     ensures grown { IsGrown set.old set.new }
-    ensures tried { IfOk result (IsTried set.new
+    ensures tried { IfOk result (AreTried set.new
         (IsChainSettled set.new own end.now to.now right right)) }
 {
     let mut next = set.first_of(Kind::Full, *end, *to);
@@ -58,7 +58,7 @@ fn settle_chain(
 fn settle_end(set: &mut LinkSet, end: &Vertex, right: u32) -> Result<Tried, Memory>
     requires { right < length set.old.present.links }
     ensures grown { IsGrown set.old set.new }
-    ensures tried { IfOk result (IsTried set.new (IsEndSettled set.new end.now right)) }
+    ensures tried { IfOk result (AreTried set.new (IsEndSettled set.new end.now right)) }
 {
     let size = set.position().size();
     let own = set.position().owns(set.colour(), end);
@@ -79,7 +79,7 @@ fn settle_end(set: &mut LinkSet, end: &Vertex, right: u32) -> Result<Tried, Memo
 fn settle_row(set: &mut LinkSet, right: u32) -> Result<Tried, Memory>
     requires { right < length set.old.present.links }
     ensures grown { IsGrown set.old set.new }
-    ensures tried { IfOk result (IsTried set.new
+    ensures tried { IfOk result (AreTried set.new
         ((left : ℕ) → left < right → IsPairSettled set.new left right)) }
 {
     let Some(link) = set.link(right) else {
@@ -104,7 +104,7 @@ fn settle_row(set: &mut LinkSet, right: u32) -> Result<Tried, Memory>
 pub(crate) fn settle_ands(set: &mut LinkSet, from: u32) -> Result<Tried, Memory>
     requires { AreRowsSettled set.old from }
     ensures grown { IsGrown set.old set.new }
-    ensures tried { IfOk result (IsTried set.new
+    ensures tried { IfOk result (AreTried set.new
         (AreRowsSettled set.new (length set.new.present.links))) }
 {
     let mut right = from;

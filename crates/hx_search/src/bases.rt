@@ -1,9 +1,8 @@
 //! The links that need no cell: those of any two vertices that are joined already.
 
 ghost use Rattle.std.specs.Prelude.{◌≡◌, ◌<◌, IfOk};
-ghost use Rattle.hx_board.specs.VertexSets.{code_of};
 ghost use Rattle.hx_search.specs.Closed.{IsGrown};
-ghost use Rattle.hx_search.specs.Progress.{IsTried, AreBasesOf, AreBasesBelow};
+ghost use Rattle.hx_search.specs.Progress.{AreTried, AreBasesOf, AreBasesBelow};
 
 use crate::tries::{Tried, settle};
 use hx_board::{Memory, VERTICES, Vertex};
@@ -13,7 +12,7 @@ use hx_linkset::LinkSet;
 /// Tries the Base of a vertex with each vertex from a number on.
 fn settle_bases_of(set: &mut LinkSet, a: &Vertex, from: u8) -> Result<Tried, Memory>
     ensures grown { IsGrown set.old set.new }
-    ensures tried { IfOk result (IsTried set.new (AreBasesOf set.new a.now from VERTICES)) }
+    ensures tried { IfOk result (AreTried set.new (AreBasesOf set.new a.now from VERTICES)) }
 {
     let size = set.position().size();
     for code in from..VERTICES as u8 {
@@ -32,7 +31,7 @@ fn settle_bases_of(set: &mut LinkSet, a: &Vertex, from: u8) -> Result<Tried, Mem
 /// Tries the Base of any two vertices.
 pub(crate) fn settle_bases(set: &mut LinkSet) -> Result<Tried, Memory>
     ensures grown { IsGrown set.old set.new }
-    ensures tried { IfOk result (IsTried set.new (AreBasesBelow set.new VERTICES)) }
+    ensures tried { IfOk result (AreTried set.new (AreBasesBelow set.new VERTICES)) }
 {
     let size = set.position().size();
     for code in 0..VERTICES as u8 {

@@ -4,7 +4,7 @@
 ghost use Rattle.std.specs.Prelude.{IfOk};
 ghost use Rattle.hx_linkset.specs.States.{IsRight};
 ghost use Rattle.hx_search.specs.Closed.{IsClosed, IsGrown, IsAnswer};
-ghost use Rattle.hx_search.specs.Progress.{IsTried};
+ghost use Rattle.hx_search.specs.Progress.{AreTried};
 
 use crate::ands::settle_ands;
 use crate::bases::settle_bases;
@@ -52,7 +52,7 @@ pub fn close(set: &mut LinkSet) -> Result<Closure, Memory>
 /// Adds useful links, then the Bases, and then Ands and Ors in turn.
 fn add_all(set: &mut LinkSet) -> Result<Tried, Memory>
     ensures grown { IsGrown set.old set.new }
-    ensures tried { IfOk result (IsTried set.new (IsClosed set.new)) }
+    ensures tried { IfOk result (AreTried set.new (IsClosed set.new)) }
 {
     match begin_with_useful(set) {
         Ok(()) => {}

@@ -1,7 +1,6 @@
 -- What a seat is before and after each of its steps, and seats that are dealt out and come back.
-use Rattle.std.proofs.Common.{◌≡◌, ℕ, zero, suc, ◌+◌, ◌-◌, ◌*◌, ◌%◌, ◌<◌, ◌≤◌, eqb, false, List, [], ◌∷◌, ◌++◌, length, map, take, drop, replicate, get_or, refl, sym, ap, ◌∙◌, subst, arith, length-append, Option, Some}
-use Rattle.std.specs.List.{All}
-use Rattle.std.proofs.lemmas.List.{get_or_append_left, get_or_at, replicate-append-replicate}
+use Rattle.std.proofs.Common.{◌≡◌, ℕ, zero, suc, ◌+◌, ◌-◌, ◌*◌, ◌%◌, ◌<◌, ◌≤◌, eqb, false, List, [], ◌∷◌, ◌++◌, length, map, take, drop, replicate, refl, sym, ap, ◌∙◌, subst, arith, Option, Some}
+use Rattle.std.proofs.lemmas.List.{replicate-append-replicate}
 use mathlib.Core.Option.{none}
 use prog.Atomic.{either}
 use Rattle.atomic_table.specs.Table.{step, rest, Allows}
@@ -93,12 +92,6 @@ pub dealt-more : (count : ℕ) (r new : Reader) (seats after : List Reader) → 
 dealt-more count r new seats after were is pushed = pushed ∙ ((λ k. were k ++ is k ∷ []) ∙ replicate-append-replicate count 1 r)
 
 -- ---- seats that come back
-
-pub front-all : (P : Reader → Type 0) (front : List Reader) (last : Reader) (all : List Reader) → all ≡ front ++ last ∷ [] → All P all → All P front
-front-all P front last all same each k d near = subst P (ap (λ (l : List Reader). get_or l k d) same ∙ get_or_append_left front (last ∷ []) d k near) (each k d (omega (arith, ap length same, length-append front (last ∷ []))))
-
-pub last-all : (P : Reader → Type 0) (front : List Reader) (last : Reader) (all : List Reader) → all ≡ front ++ last ∷ [] → All P all → P last
-last-all P front last all same each = subst P (ap (λ (l : List Reader). get_or l (length front) last) same ∙ get_or_at front last [] last (length front) refl) (each (length front) last (omega (arith, ap length same, length-append front (last ∷ []))))
 
 -- the parts of one seat more, which come first
 pub joined-parts : (me other after : Seated) (one : Reader) (done : List Reader) → me ≡ (view (map part_of done), []) → other ≡ (view (part_of one ∷ []), []) → after ≡ (joined me.0 other.0, me.1)

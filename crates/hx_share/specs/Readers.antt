@@ -32,7 +32,7 @@ sharing made seats = record { made = made; seats = seats }
 abbrev pub reader : Origin → List Node → Reader
 reader made seen = record { made = made; seen = seen }
 
--- ---- the fields of a seat and of a note
+-- ---- the fields of a seat and of a note: words for the functions inside the crate alone
 
 abbrev pub reader_of : TableId → Part → Reader
 reader_of table p = reader (origin table p.slots) p.seen

@@ -15,6 +15,3 @@ pub use laws::{
 };
 pub use readers::{BookNote, BookSeat};
 pub use shared::Shared;
-
-#[cfg(test)]
-mod tests;

@@ -9,6 +9,7 @@ ghost use Rattle.std.specs.List.{All};
 ghost use Rattle.hx_tree.specs.Rules.{IsRightNode};
 ghost use Rattle.hx_tree.specs.Trees.{headings_of};
 ghost use Rattle.hx_tree.specs.Entries.{Extends, FindsFirst, HasNoEntry, IsFirstEntry};
+ghost use Rattle.hx_book.specs.declared.books.TheConstants.{MOST_SLOTS};
 ghost use Rattle.hx_book.specs.Puts.{PutsLater};
 ghost use Rattle.hx_book.specs.WiderEntry.{FindsWider};
 ghost use Rattle.hx_share.specs.declared.views.Role.TheVariants.{Note, Waiting};
@@ -50,10 +51,10 @@ impl Model for Shared {
 }
 
 impl Shared {
-    /// An empty book that has room for so many nodes, and so many seats, which have seen nothing. At most 1,048,576 slots, 1 to
+    /// An empty book that has room for so many nodes, and so many seats, which have seen nothing. At most `MOST_SLOTS` slots, 1 to
     /// 64 seats.
     pub fn start(alloc: Global, slots: u32, seats: u32) -> Result<(Shared, Vec<BookSeat>), Memory>
-        requires slots { slots ≤ 1048576 }
+        requires slots { slots ≤ MOST_SLOTS }
         requires seats { (0 < seats) × (seats ≤ 64) }
         ensures limits { IfOk result (λ made. (made.0.made.slots ≡ slots)
             × (made.0.seats ≡ seats)) }

@@ -1,4 +1,3 @@
-pub mod LastElements
 pub mod LaterLists
 pub mod SweepSizes
 pub mod PartedEnds

@@ -1,17 +1,17 @@
 -- The ends of the workers whose seats stand in two lists, where both lists get one more seat.
 use Rattle.std.proofs.Common.{◌≡◌, ℕ, ◌<◌, List, [], ◌∷◌, ◌++◌, length, refl, sym, subst, All, Some}
 use Rattle.std.specs.Prelude.{slice_get}
-use Rattle.std.proofs.lemmas.List.Elements.{All-push, All-weaker}
+use Rattle.std.proofs.lemmas.List.Elements.{All-pop, All-push, All-weaker}
 use Rattle.hx_board.specs.declared.colours.Colour.{Colour}
 use Rattle.hx_board.specs.Positions.{Board}
+use Rattle.hx_board.specs.Graph.{HasNoChain}
 use Rattle.hx_board.proofs.ListLaws.{get-push_before, get-push_last}
 use Rattle.hx_count.specs.Seats.{Seat, own}
 use Rattle.hx_share.specs.Readers.{Reader}
 use Rattle.hx_worker.specs.declared.ended.Ended.{Ended}
-use Rattle.hx_worker.specs.Ends.{IsEnded, EndsSpent, HasNoChain}
+use Rattle.hx_worker.specs.Ends.{IsEnded, EndsSpent}
 use Rattle.hx_solve.specs.Seats.{FoundNoChain}
 use Rattle.hx_solve.specs.Parts.{IsEndOfSome, AllFoundNoChain}
-use Rattle.hx_solve.proofs.LastElements.{all-front, all-last}
 
 module _ (slots : ℕ) (board : Board) (mover : Colour) (books : List Reader) (counts : List Seat) (book : Reader) (seat : Seat) where
   end-more : (end : Ended) → IsEndOfSome slots board mover books counts end → IsEndOfSome slots board mover (books ++ book ∷ []) (counts ++ seat ∷ []) end
@@ -45,5 +45,5 @@ module _ (slots : ℕ) (board : Board) (mover : Colour) (books : List Reader) (c
 pub no_chain-more : (board : Board) (counts : List Seat) (seat : Seat) (ends : List Ended) (end : Ended) → AllFoundNoChain board counts ends
     → FoundNoChain board seat end → AllFoundNoChain board (counts ++ seat ∷ []) (ends ++ end ∷ [])
 no_chain-more board counts seat ends end before last spent = All-push (λ (s : Seat). 0 < (own s).granted → HasNoChain board) counts seat
-    (before (all-front EndsSpent ends end (ends ++ end ∷ []) refl spent))
-    (last (all-last EndsSpent ends end (ends ++ end ∷ []) refl spent))
+    (before (All-pop EndsSpent _ ends (Some end) refl spent).0)
+    (last (All-pop EndsSpent _ ends (Some end) refl spent).1)

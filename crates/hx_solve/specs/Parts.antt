@@ -4,10 +4,11 @@ use Rattle.std.specs.List.{All}
 use Rattle.std.specs.declared.option.Option.TheVariants.{Some}
 use Rattle.hx_board.specs.declared.colours.Colour.{Colour}
 use Rattle.hx_board.specs.Positions.{Board}
+use Rattle.hx_board.specs.Graph.{HasNoChain}
 use Rattle.hx_count.specs.Seats.{Seat, own}
 use Rattle.hx_share.specs.Readers.{Reader}
 use Rattle.hx_worker.specs.declared.ended.Ended.{Ended}
-use Rattle.hx_worker.specs.Ends.{IsEnded, EndsSpent, HasNoChain}
+use Rattle.hx_worker.specs.Ends.{IsEnded, EndsSpent}
 use Rattle.hx_solve.specs.declared.parts.Parts.{Parts}
 
 -- nothing yet, and room for the parts of so many workers

@@ -2,12 +2,13 @@
 use Rattle.std.specs.Prelude.{◌≡◌, ◌<◌, ℕ, List, length}
 use Rattle.hx_board.specs.declared.colours.Colour.{Colour}
 use Rattle.hx_board.specs.Positions.{Board}
+use Rattle.hx_board.specs.Graph.{HasNoChain}
 use Rattle.hx_tree.specs.declared.nodes.Node.{Node}
 use Rattle.hx_tree.specs.Entries.{IsFirstFound}
 use Rattle.hx_book.specs.Entries.{IsBook}
 use Rattle.hx_book.specs.Trees.{IsTreeOf}
 use Rattle.hx_nodes.specs.Stored.{IsOutOfSlots}
-use Rattle.hx_worker.specs.Ends.{EndsSpent, HasNoChain}
+use Rattle.hx_worker.specs.Ends.{EndsSpent}
 use Rattle.hx_worker.specs.declared.ended.Ended.{Ended}
 use Rattle.hx_worker.specs.declared.ended.Ended.TheVariants.{Proved, Spent, NoSlots, Memory}
 use Rattle.hx_solve.specs.declared.settings.Settings.{Settings}

@@ -2,11 +2,12 @@
 use Rattle.std.specs.Prelude.{◌≡◌, ◌<◌}
 use Rattle.hx_board.specs.declared.colours.Colour.{Colour}
 use Rattle.hx_board.specs.Positions.{Board}
+use Rattle.hx_board.specs.Graph.{HasNoChain}
 use Rattle.hx_count.specs.Machine.{HasNothing}
 use Rattle.hx_count.specs.Seats.{Origin, Seat, own}
 use Rattle.hx_share.specs.Readers.{Origin as BookOrigin}
 use Rattle.hx_worker.specs.declared.ended.Ended.{Ended}
-use Rattle.hx_worker.specs.Ends.{IsEnded, EndsSpent, HasNoChain}
+use Rattle.hx_worker.specs.Ends.{IsEnded, EndsSpent}
 use Rattle.hx_solve.specs.declared.seats.Seats.{Seats}
 use Rattle.hx_solve.specs.declared.crews.Done.{Done}
 

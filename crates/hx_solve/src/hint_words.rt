@@ -14,8 +14,8 @@ const MOST_WORDS: u32 = 1048576;
 
 /// The words of hints for a budget, on a position with so many empty cells: the next power of two, within the bounds.
 pub(crate) fn hint_words(budget: u64, empties: u32) -> u32
-    ensures some { 16 ≤ result }
-    ensures few { result ≤ 1048576 }
+    ensures some { FEWEST_WORDS ≤ result }
+    ensures few { result ≤ MOST_WORDS }
 {
     // Each empty cell stays empty or gets a stone of either player, and either player is to move.
     let positions = 3u64.saturating_pow(empties).saturating_mul(2);

@@ -24,6 +24,3 @@ pub use settings::Settings;
 pub use solves::solve;
 pub use tallies::Tally;
 pub use unsolved::Unsolved;
-
-#[cfg(test)]
-mod tests;

@@ -2,7 +2,7 @@
 
 ghost use Rattle.std.specs.Prelude.{◌<◌, IfOk, IfErr};
 ghost use Rattle.hx_board.specs.Counts.{IsSmall};
-ghost use Rattle.hx_worker.specs.Ends.{HasNoChain};
+ghost use Rattle.hx_board.specs.Graph.{HasNoChain};
 ghost use Rattle.hx_solve.specs.Settings.{AreSettings};
 ghost use Rattle.hx_solve.specs.Solutions.{IsSolution};
 ghost use Rattle.hx_solve.specs.Causes.{HasCause, LacksMemory, LacksUnit};

@@ -1,4 +1,4 @@
-//! A full search, and the tree that it gives. It is the plain program that later searches are compared with.
+//! A full search, and the tree that it gives, by moves alone. It solves the small positions that no worker solved.
 #![tactic(auto)]
 
 mod nodes;

@@ -21,7 +21,7 @@ use Rattle.hx_text.specs.declared.places.Place.TheVariants.{Between, Inside}
 use Rattle.hx_text.specs.Entries.{entry_line, kind_of, EntryFits, EachEntryFits, IsEntryLine, entries_of, steps_told, threats_told, answers_told, fills_told, entries_told, kind_at, rule_for}
 use Rattle.hx_text.specs.StepTexts.{BeginsLongOr}
 use Rattle.hx_text.specs.TreeTexts.{HeadFits, NodeFits, head_of, head_line, node_lines}
-use Rattle.hx_text.specs.Places.{most_nodes, StandsSoFar, entries_in, IsInOrder, HasRoomForAll, StandsBegun, StandsInside, kind_due, IsAdded, IsFull, HasSameRoom, IsWithEntry, GoesOn, SettlesNode, EndsNode, Brings, IsNextNode, TakesMemory, ForEntries, ForParts}
+use Rattle.hx_text.specs.Places.{most_nodes, StandsSoFar, entries_in, IsInOrder, HasRoomForAll, StandsBegun, StandsInside, kind_due, IsAdded, HasNoRoomFor, HasSameRoom, IsWithEntry, GoesOn, SettlesNode, EndsNode, Brings, IsNextNode, TakesMemory, ForEntries, ForParts}
 use Rattle.hx_text.proofs.EntryLists.{nil_of_length, zero_unless_some, EachEntryFits-append, length-entries_for, entries_same, kind_among_step, kind_among_threat, kind_among_answer, kind_among_fill, steps_more, threats_more, answers_more, fills_more, opening_of-rule_for, entries_of-rule_for}
 
 -- ---- which kind is due
@@ -252,7 +252,7 @@ room_kept old new same head room = record {
 
 -- the list of the kind that is due is not full
 pub room_for_due : (begun : Begun) → IsInOrder begun → HasRoomForAll begun → 0 < begun.missing → (entry : Entry)
-    → kind_of entry ≡ kind_due begun → IsFull begun entry → ⊥
+    → kind_of entry ≡ kind_due begun → HasNoRoomFor begun entry → ⊥
 room_for_due begun order room lacks (Step_entry step) kind full =
     absurd (omega (arith, step_due begun order (sym kind), room.steps, full))
 room_for_due begun order room lacks (Threat_entry place) kind full =

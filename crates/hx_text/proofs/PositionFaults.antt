@@ -10,7 +10,7 @@ use Rattle.hx_board.specs.declared.colours.Colour.TheVariants.{Black, White}
 use Rattle.hx_board.specs.Cells.{Extent, IsExtent}
 use Rattle.hx_board.specs.Finds.{Finds}
 use Rattle.hx_board.specs.Positions.{Board, IsBoard, IsPosition}
-use Rattle.hx_board.proofs.PositionLaws.{empty-is_position}
+use Rattle.hx_board.proofs.PositionLaws.{empty-is_position, black-alone-is_position}
 use Rattle.hx_text.specs.declared.positions.TextFault.{TextFault}
 use Rattle.hx_text.specs.Words.{IsSet}
 use Rattle.hx_text.specs.Marks.{Lacks, IsCut}
@@ -19,7 +19,7 @@ use Rattle.hx_text.specs.PositionTexts.{position_title, size_line, stones_line, 
 use Rattle.hx_text.specs.PositionReads.{ReadsFrom}
 use Rattle.hx_text.proofs.Injective.{size_injective}
 use Rattle.hx_text.proofs.Cuts.{text_of-push, cut_same, Lacks-append_mark, Lacks-middle, ended-some}
-use Rattle.hx_text.proofs.PositionLines.{stones_injective, AllLack-position_lines, without_white, board_of, black_small, white_small}
+use Rattle.hx_text.proofs.PositionLines.{stones_injective, AllLack-position_lines, board_of, black_small, white_small}
 
 Lacks-begun : (before : List (List ℕ)) (line : List ℕ) → Begins ArePositionLines (before ++ line ∷ []) → Lacks 10 line
 Lacks-begun before line begins =
@@ -153,7 +153,7 @@ wrong_3 size rest text later extent cut other = wrong_line (lines_2 size) rest t
     let third : text ≡ stones_line Black b.1.board.black = cc in
     let sizes : size ≡ b.1.board.size = size_injective size b.1.board.size extent b.1.is_board.0 second in
     other b.1.board.black
-    (subst (λ (s : Extent). IsPosition s b.1.board.black 0) (sym sizes) (without_white b.1.is_board.1)) third)
+    (subst (λ (s : Extent). IsPosition s b.1.board.black 0) (sym sizes) (black-alone-is_position b.1.is_board.1)) third)
 
 -- ---- line 4
 

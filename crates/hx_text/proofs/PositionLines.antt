@@ -1,13 +1,11 @@
 -- The lines of a position's text: their words are of high bytes, so each line gives back what it was spelled from.
-use Rattle.std.proofs.Common.{◌≡◌, ℕ, List, [], ◌∷◌, refl, sym, ap, ◌∙◌, arith}
+use Rattle.std.proofs.Common.{◌≡◌, ℕ, List, [], ◌∷◌, refl, ap, ◌∙◌, arith}
 use Rattle.std.specs.Prelude.{codes}
 use Rattle.hx_board.specs.declared.colours.Colour.{Colour}
 use Rattle.hx_board.specs.declared.colours.Colour.TheVariants.{Black, White}
 use Rattle.hx_board.specs.Cells.{Extent, IsExtent}
 use Rattle.hx_board.specs.Positions.{Board, IsBoard, IsPosition}
 use Rattle.hx_board.proofs.PositionLaws.{board-small}
-use Rattle.hx_board.proofs.SetLaws.{has-empty}
-use Rattle.std.proofs.lemmas.Bool.{false≢true}
 use Rattle.hx_text.specs.Words.{mask_word, colour_word, words_in, IsSet}
 use Rattle.hx_text.specs.PositionTexts.{stones_line, move_line, position_lines}
 use Rattle.hx_text.proofs.Spacing.{IsLine, words_in-spaced, spaced_injective}
@@ -79,14 +77,6 @@ AllLack-position_lines board mover is = (
     ),
   ),
 )
-
--- a position without its white stones
-pub without_white : {size : Extent} {black white : ℕ} → IsPosition size black white → IsPosition size black 0
-without_white {size} {black} {white} fits = record {
-  apart = λ cell h. has-empty cell;
-  black_inside = fits.black_inside;
-  white_inside = λ cell h. absurd (false≢true (sym (has-empty cell) ∙ h));
-}
 
 -- the board of this size with these stones
 abbrev pub board_of : Extent → ℕ → ℕ → Board

@@ -222,11 +222,11 @@ pub record HasSameRoom (old new : Begun) : Type 0 where
   pub fills : vec_capacity new.fills ≡ vec_capacity old.fills
 
 -- the list of the entry's kind has no room for one more
-abbrev pub IsFull : Begun → Entry → Type 0
-IsFull begun (Step_entry step) = length begun.steps.items ≡ vec_capacity begun.steps
-IsFull begun (Threat_entry place) = length begun.threats.items ≡ vec_capacity begun.threats
-IsFull begun (Answer_entry line) = length begun.lines.items ≡ vec_capacity begun.lines
-IsFull begun (Fill_entry fill) = length begun.fills.items ≡ vec_capacity begun.fills
+abbrev pub HasNoRoomFor : Begun → Entry → Type 0
+HasNoRoomFor begun (Step_entry step) = length begun.steps.items ≡ vec_capacity begun.steps
+HasNoRoomFor begun (Threat_entry place) = length begun.threats.items ≡ vec_capacity begun.threats
+HasNoRoomFor begun (Answer_entry line) = length begun.lines.items ≡ vec_capacity begun.lines
+HasNoRoomFor begun (Fill_entry fill) = length begun.fills.items ≡ vec_capacity begun.fills
 
 -- the begun node with one more entry
 pub record IsWithEntry (old : Begun) (entry : Entry) (new : Begun) : Type 0 where

@@ -3,7 +3,7 @@
 
 ghost use Rattle.std.specs.Prelude.{◌≡◌, ◌↔◌, ◌<◌, ◌≤◌, [], IsTrue, IfSome, IfNone, false, vec_capacity};
 ghost use Rattle.hx_text.specs.Entries.{rule_for};
-ghost use Rattle.hx_text.specs.Places.{Goes, GoesOn, BeginsNode, EndsNode, AddsEntry, SettlesNode, IsWithEntry, IsFull, kind_due};
+ghost use Rattle.hx_text.specs.Places.{Goes, GoesOn, BeginsNode, EndsNode, AddsEntry, SettlesNode, IsWithEntry, HasNoRoomFor, kind_due};
 
 use crate::answer_lines::read_answer;
 use crate::entries::{Entry, EntryKind, read_entry};
@@ -64,7 +64,7 @@ impl Begun {
     fn takes(&mut self, entry: Entry) -> bool
         ensures yes { IsTrue result → IsWithEntry self.old entry self.new }
         ensures no { result ≡ false → self.new ≡ self.old }
-        ensures full { result ≡ false → IsFull self.old entry }
+        ensures full { result ≡ false → HasNoRoomFor self.old entry }
     {
         match entry {
             Entry::Step(step) => {

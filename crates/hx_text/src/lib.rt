@@ -30,6 +30,6 @@ pub use places::{Fed, TreeFault};
 pub use positions::{TextFault, read_position};
 pub use reader::TreeReader;
 pub use texts::{TEXT_ROOM, Text};
-pub use values::{read_digits, read_number};
+pub use values::{read_digits, read_number, size_of};
 pub use versions::{Version, version_of};
 pub use writer::{write_end, write_heading, write_node, write_position};

@@ -2,7 +2,6 @@
 
 ghost use Rattle.std.specs.Prelude.{◌≡◌, ◌↔◌, IsTrue};
 ghost use Rattle.hx_board.specs.Cells.{IsExtent};
-ghost use Rattle.hx_board.specs.Finds.{Finds};
 ghost use Rattle.hx_text.specs.Words.{Reads, IsNumber, IsSet};
 ghost use Rattle.hx_text.specs.PositionTexts.{position_title, size_line, stones_line, move_line};
 ghost use Rattle.hx_text.specs.TreeTexts.{title_line, end_line};
@@ -51,7 +50,7 @@ pub(crate) fn read_size(line: &[u8]) -> Option<Size>
     let rows = words.number()?;
     let cols = words.number()?;
     words.end()?;
-    size_of(rows, cols)
+    values::size_of(rows, cols)
 }
 
 /// The line of a player's stones, `black MASK` or `white MASK`.
@@ -74,15 +73,6 @@ pub(crate) fn read_mover(line: &[u8]) -> Option<Colour>
     let to_move = words.colour()?;
     words.end()?;
     Some(to_move)
-}
-
-/// The size of so many rows and columns, if there is a board of that size.
-fn size_of(rows: u32, cols: u32) -> Option<Size>
-    ensures { Finds result (λ s. IsExtent s.rows s.cols × (s.rows ≡ rows) × (s.cols ≡ cols)) }
-{
-    let rows = u8::try_from(rows).ok()?;
-    let cols = u8::try_from(cols).ok()?;
-    Size::new(rows, cols)
 }
 
 /// The line `end COUNT WINNER`.

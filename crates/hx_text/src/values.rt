@@ -1,10 +1,10 @@
 //! The values that single words stand for: numbers, masks, colours and cells. Each value has one word, so what is
 //! spelled in another way, as a number with a leading zero, is none.
 
-ghost use Rattle.std.specs.Prelude.{◌≡◌, ◌+◌, ◌<◌, ◌≤◌, ◌^◌, ◌↔◌, IsTrue, ℕ, length};
+ghost use Rattle.std.specs.Prelude.{◌≡◌, ◌+◌, ◌<◌, ◌≤◌, ◌^◌, ◌↔◌, IsTrue, SomeIff, ℕ, length};
 ghost use Rattle.std.specs.Fmt.{decimal};
 ghost use Rattle.std.specs.Str.Parse.{AllDigits, digits_value};
-ghost use Rattle.hx_board.specs.Cells.{OnBoard, row_of, col_of};
+ghost use Rattle.hx_board.specs.Cells.{OnBoard, IsExtent, row_of, col_of};
 ghost use Rattle.hx_board.specs.Finds.{Finds};
 ghost use Rattle.hx_board.specs.Graph.{IsVertex};
 ghost use Rattle.hx_text.specs.StepTexts.{vertex_word};
@@ -48,6 +48,15 @@ pub fn read_digits(word: &[u8]) -> Option<u64>
         value = 10 * value + u64::from(*byte - b'0');
     }
     Some(value)
+}
+
+/// The size of so many rows and columns. None where there is no board of that size.
+pub fn size_of(rows: u32, cols: u32) -> Option<Size>
+    ensures { SomeIff result (IsExtent rows cols) (record { rows = rows; cols = cols }) }
+{
+    let rows = u8::try_from(rows).ok()?;
+    let cols = u8::try_from(cols).ok()?;
+    Size::new(rows, cols)
 }
 
 /// How many digits the word of a set of cells has.

@@ -7,7 +7,7 @@ use Rattle.hx_board.specs.declared.colours.Colour.{Colour}
 use Rattle.hx_board.specs.Positions.{Board}
 use Rattle.hx_board.proofs.ListLaws.{get-append, get-push, get-push_before, get-push_last}
 use Rattle.hx_tree.specs.declared.nodes.Node.{Node}
-use Rattle.hx_tree.specs.Entries.{IsOf, IsEntry, HasNoEntry, AreDistinctEntries, IsFirstEntry, IsThere, IsAdded, IsStored, Extends}
+use Rattle.hx_tree.specs.Entries.{IsOf, IsEntry, HasNoEntry, AreDistinctEntries, IsFirstEntry, IsThere, IsAdded, IsStored, Extends, WasSeen}
 
 -- ---- a list that begins with another
 
@@ -17,6 +17,19 @@ extends-itself list = ([], sym (append-nil list))
 pub extends-on : (first second third : List Node) → Extends second first → Extends third second → Extends third first
 extends-on first second third one two =
     (one.0 ++ two.0, two.1 ∙ ap (λ (nodes : List Node). nodes ++ two.0) one.1 ∙ append_assoc first one.0 two.0)
+
+-- what holds of the new list
+pub seen-now : (Fact : List Node → Type 0) (old new : List Node) → Extends new old → Fact new → WasSeen Fact old new
+seen-now Fact old new grown fact = record { seen = new; after_old = grown; before_new = extends-itself new; fact = fact }
+
+-- what was seen is so of an earlier list and a later one too
+pub seen-within : (Fact : List Node → Type 0) (first old new last : List Node) → Extends old first → Extends last new → WasSeen Fact old new → WasSeen Fact first last
+seen-within Fact first old new last from to was = record {
+  seen = was.seen;
+  after_old = extends-on first old was.seen from was.after_old;
+  before_new = extends-on was.seen new last was.before_new to;
+  fact = was.fact;
+}
 
 pub node-later : (new old : List Node) (place : ℕ) (node : Node) → Extends new old → slice_get old place ≡ Some node → slice_get new place ≡ Some node
 node-later new old place node more there = rw more.1 (get-append old more.0 place node there)

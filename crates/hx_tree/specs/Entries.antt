@@ -32,6 +32,13 @@ AreDistinctEntries nodes =
 abbrev pub Extends : List Node → List Node → Type 0
 Extends new old = (rest : List Node) × (new ≡ old ++ rest)
 
+-- some list is one of which the fact holds, and begins with the old one, and the new one begins with it
+pub record WasSeen (Fact : List Node → Type 0) (old new : List Node) : Type 0 where
+  pub seen : List Node
+  pub after_old : Extends seen old
+  pub before_new : Extends new seen
+  pub fact : Fact seen
+
 -- ---- a look
 
 -- the first of the entries of this position and mover

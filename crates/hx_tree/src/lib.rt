@@ -21,6 +21,3 @@ pub use nodes::{Heading, Line, Node, Rule};
 pub use rules::check_node;
 pub use steps::{MOST_STEPS, MOST_THREATS};
 pub use trees::{Verdict, check_tree};
-
-#[cfg(test)]
-mod tests;

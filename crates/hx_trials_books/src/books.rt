@@ -1,13 +1,10 @@
 //! A book beside a list that is scanned from the front: what is found, where a node comes, and when it is refused.
 
-ghost use Rattle.std.specs.Prelude.{◌≡◌};
-ghost use Rattle.hx_tree.specs.declared.nodes.Rule.TheVariants.{Chain};
-
+use crate::made_nodes::by_chain;
 use hx_board::Colour::{Black, White};
 use hx_board::{Colour, Position, Size, chain};
 use hx_book::Book;
 use hx_samples::numbered;
-use hx_tree::{Heading, Node, Rule};
 use std::process::Abort;
 use std::test::Fail;
 
@@ -28,21 +25,6 @@ fn plain_find(held: &[Place], place: &Place) -> Option<u32> {
         index = index.saturating_add(1);
     }
     None
-}
-
-pub(crate) fn by_chain(position: Position, to_move: Colour, winner: Colour) -> Node
-    ensures { result ≡ record {
-      heading = record { position = position; to_move = to_move; winner = winner };
-      rule = Chain;
-    } }
-{
-    let heading = Heading {
-        position,
-        to_move,
-        winner,
-    };
-    let rule = Rule::Chain;
-    Node { heading, rule }
 }
 
 /// Puts in the node of a player's chain. None where the player has none; else the index that is answered, if there is one.

@@ -1,10 +1,9 @@
 //! The counts, worked out anew from the whole list of events for each question.
 
-ghost use Rattle.std.specs.Prelude.{◌≡◌, ◌<◌, slice_index, IfOk};
+ghost use Rattle.std.specs.Prelude.{◌≡◌, ◌<◌, IfOk};
 ghost use Rattle.std.specs.List.{All};
-ghost use Rattle.hx_count.specs.Seats.{own};
 
-use hx_count::{CountEvent, CountSeat, Counts, Totals};
+use hx_count::{CountEvent, CountSeat, Counts, MOST_HELD, Totals};
 use hx_samples::Draws;
 use std::process::Abort;
 use std::test::Fail;
@@ -65,7 +64,7 @@ fn step(
         events.push(CountEvent::Look { worker, word })?;
         return Ok(());
     }
-    if seat.held() >= 1024 {
+    if seat.held() >= MOST_HELD {
         return Err("no room".into());
     }
     counts.hold(seat, word);

@@ -242,7 +242,11 @@ fn look_for(worker: u32, node: &Node) -> Event {
 }
 
 /// The machine's answer to an event. None where it may not happen.
-fn answer(alloc: Global, state: &mut State, event: Event) -> Result<Option<Reply>, Fail> {
+pub(crate) fn answer(
+    alloc: Global,
+    state: &mut State,
+    event: Event,
+) -> Result<Option<Reply>, Fail> {
     if can_happen(alloc, state, &event).or(Err("memory"))? {
         return Ok(Some(apply(state, event)));
     }

@@ -1,6 +1,6 @@
 //! Entries that serve more positions than their own, beside a list whose boards are compared cell by cell.
 
-use crate::books::by_chain;
+use crate::made_nodes::by_chain;
 use hx_board::Colour::{Black, White};
 use hx_board::{Colour, Position, Size, chain};
 use hx_book::Book;
@@ -89,16 +89,9 @@ const ASKED: [(Colour, Colour); 4] = [
     (White, White),
 ];
 
-/// Books of drawn positions on two sizes, asked for all positions of both.
-#[test]
-fn drawn_books_serve_as_lists_do(rt: HostRuntime) -> Result<(), Fail> {
-    let sizes = [
-        Size::new(2, 3).ok_or("size")?,
-        Size::new(3, 2).ok_or("size")?,
-    ];
+/// Puts chains of drawn positions into the book and into the list.
+fn put_drawn(book: &mut Book, held: &mut Vec<Claim>, sizes: [Size; 2]) -> Result<(), Fail> {
     let mut draws = Draws::new(7);
-    let mut book = Book::with_buckets(rt.alloc(), 500, 3).or(Err("memory"))?;
-    let mut held = Vec::new(rt.alloc());
     for number in 0..200usize {
         let position = draws.position(sizes[number % 2], number as u32 % 3);
         let (to_move, winner) = ASKED[number / 2 % 4];
@@ -107,8 +100,13 @@ fn drawn_books_serve_as_lists_do(rt: HostRuntime) -> Result<(), Fail> {
             to_move,
             winner,
         };
-        put_chain(&mut book, &mut held, &claim)?;
+        put_chain(book, held, &claim)?;
     }
+    Ok(())
+}
+
+/// Asks for all positions, with each mover and winner.
+fn compare_all(rt: &impl Abort, book: &Book, held: &[Claim], sizes: [Size; 2]) -> Result<(), Fail> {
     for number in 0..1458u32 {
         let size = sizes[number as usize % 2];
         let position = numbered(size, number / 2).ok_or("position")?;
@@ -118,8 +116,21 @@ fn drawn_books_serve_as_lists_do(rt: HostRuntime) -> Result<(), Fail> {
                 to_move,
                 winner,
             };
-            compare(&rt, &book, held.as_slice(), &claim)?;
+            compare(rt, book, held, &claim)?;
         }
     }
     Ok(())
+}
+
+/// Books of drawn positions on two sizes, asked for all positions of both.
+#[test]
+fn drawn_books_serve_as_lists_do(rt: HostRuntime) -> Result<(), Fail> {
+    let sizes = [
+        Size::new(2, 3).ok_or("size")?,
+        Size::new(3, 2).ok_or("size")?,
+    ];
+    let mut book = Book::with_buckets(rt.alloc(), 500, 3).or(Err("memory"))?;
+    let mut held = Vec::new(rt.alloc());
+    put_drawn(&mut book, &mut held, sizes)?;
+    compare_all(&rt, &book, held.as_slice(), sizes)
 }

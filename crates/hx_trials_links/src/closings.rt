@@ -1,6 +1,6 @@
 //! What `close` gives: threats that overlap on the board of two rows and columns, and a set that gets full.
 
-ghost use Rattle.std.specs.Prelude.{◌≡◌, OnOk};
+ghost use Rattle.std.specs.Prelude.{◌≡◌};
 
 use super::made::{cell, new_set};
 use hx_board::Colour::Black;

@@ -66,18 +66,22 @@ fn live_indices(alloc: Global, set: &LinkSet) -> Result<Vec<u32>, AllocError> {
     Ok(indices)
 }
 
+/// The live links are those at these indices.
+fn check_live(rt: &impl Abort, alloc: Global, set: &LinkSet, expected: &[u32]) -> Result<(), Fail> {
+    let indices = live_indices(alloc, set)?;
+    assert_eq!(rt; indices.as_slice(), expected);
+    Ok(())
+}
+
 #[test]
 fn a_stone_drops_links_and_gives_them_back(rt: HostRuntime) -> Result<(), Fail> {
     let a1 = cell(0, 0)?;
     let mut set = bridge(&rt, rt.alloc())?;
     play(&rt, &mut set, White, a1);
-    let left = live_indices(rt.alloc(), &set)?;
-    assert_eq!(rt; left.as_slice(), [3, 4, 5].as_slice());
+    check_live(&rt, rt.alloc(), &set, &[3, 4, 5])?;
     assert_eq!(rt; set.before_last_stones().empty_count(), 4);
     set.undo();
-    let all = live_indices(rt.alloc(), &set)?;
-    assert_eq!(rt; all.as_slice(), [0, 1, 2, 3, 4, 5, 6].as_slice());
-    Ok(())
+    check_live(&rt, rt.alloc(), &set, &[0, 1, 2, 3, 4, 5, 6])
 }
 
 /// The indices of Full links.
@@ -89,27 +93,46 @@ fn full_indices(alloc: Global, fulls: FullIter<'_>) -> Result<Vec<u32>, AllocErr
     Ok(indices)
 }
 
+/// The live Full links at the vertex are those at these indices.
+fn check_full(
+    rt: &impl Abort,
+    alloc: Global,
+    set: &LinkSet,
+    vertex: Vertex,
+    expected: &[u32],
+) -> Result<(), Fail> {
+    let indices = full_indices(alloc, set.full_at(vertex))?;
+    assert_eq!(rt; indices.as_slice(), expected);
+    Ok(())
+}
+
+/// What the bridge is after White's a1 and Black's b1: the Base from b1 to a2 and the one from the top to b1 are left.
+fn check_played(rt: &impl Abort, alloc: Global, set: &LinkSet, a2: Vertex) -> Result<(), Fail> {
+    check_live(rt, alloc, set, &[3, 4])?;
+    assert_eq!(rt; set.dropped(), [0, 1, 2, 5, 6].as_slice());
+    assert_eq!(rt; set.plays(), 1);
+    assert_eq!(rt; set.before_last_stones().empty_count(), 4);
+    check_full(rt, alloc, set, a2, &[4])
+}
+
+/// What it is where no play is left.
+fn check_undone(rt: &impl Abort, alloc: Global, set: &LinkSet, a2: Vertex) -> Result<(), Fail> {
+    check_full(rt, alloc, set, a2, &[1, 4, 6])?;
+    assert_eq!(rt; set.plays(), 0);
+    assert_eq!(rt; set.dropped().len(), 0);
+    assert!(rt; set.groups().joined(First, Last) == false);
+    Ok(())
+}
+
 #[test]
 fn the_stones_of_a_turn_are_one_play(rt: HostRuntime) -> Result<(), Fail> {
-    let (a1, b1, a2) = (cell(0, 0)?, cell(0, 1)?, Vertex::Of(cell(1, 0)?));
+    let (a1, b1, a2) = (cell(0, 0)?, cell(0, 1)?, cell(1, 0)?);
     let mut set = bridge(&rt, rt.alloc())?;
     assert!(rt; !set.can_play(&[(White, a1), (Black, a1)]));
     play_all(&rt, &mut set, &[(White, a1), (Black, b1)]);
-    let left = live_indices(rt.alloc(), &set)?;
-    assert_eq!(rt; left.as_slice(), [3, 4].as_slice());
-    assert_eq!(rt; set.dropped(), [0, 1, 2, 5, 6].as_slice());
-    assert_eq!(rt;
-        (set.plays(), set.before_last_stones().empty_count()),
-        (1, 4)
-    );
-    let full = full_indices(rt.alloc(), set.full_at(a2))?;
-    assert_eq!(rt; full.as_slice(), [4].as_slice());
+    check_played(&rt, rt.alloc(), &set, Vertex::Of(a2))?;
     set.undo();
-    let full = full_indices(rt.alloc(), set.full_at(a2))?;
-    assert_eq!(rt; full.as_slice(), [1, 4, 6].as_slice());
-    assert_eq!(rt; (set.plays(), set.dropped().len()), (0, 0));
-    assert!(rt; set.groups().joined(First, Last) == false);
-    Ok(())
+    check_undone(&rt, rt.alloc(), &set, Vertex::Of(a2))
 }
 
 /// Of the Full links 1, 4 and 6 at a2 the first leads to a1, and the carrier of the last has a1.

@@ -5,7 +5,7 @@
 
 use hx_board::{Cell, Colour, Groups, Memory, Position, Vertex};
 use hx_link::{Kind, Link, Step, ends_of, result_of};
-use hx_linkset::{Added, LinkSet, MOST_LINKS};
+use hx_linkset::{Added, MOST_LINKS};
 use std::alloc::Global;
 
 /// The position before a play, and how many links there were.

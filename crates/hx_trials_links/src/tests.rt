@@ -7,7 +7,7 @@ use super::fills::{filled, filled_for, has_nothing_to_fill};
 use super::made::{Plan, filled_in, new_set, step_of};
 use super::musts::{shared_by, shared_by_all};
 use super::unders::{are_by_order, are_under};
-use hx_board::{Cell, Colour, Mask, Position, Size, Vertex};
+use hx_board::{CELLS, Cell, Colour, Mask, Position, Size, Vertex};
 use hx_fill::{Filled, must, steps_for};
 use hx_linkset::{Added, LinkSet};
 use hx_samples::{Draws, numbered};
@@ -81,12 +81,23 @@ fn compare_must(rt: &impl Abort, set: &LinkSet, order: &[Cell]) -> Result<(), Fa
 /// The cells of a board, the last one first.
 fn backwards(alloc: Global, size: Size) -> Result<Vec<Cell>, Fail> {
     let mut cells = Vec::new(alloc);
-    for place in 0..121u8 {
+    for place in 0..CELLS as u8 {
         if let Some(cell) = size.cell(10 - place / 11, 10 - place % 11) {
             cells.push(cell).map_err(|_| "memory")?;
         }
     }
     Ok(cells)
+}
+
+/// What must be answered once the set is closed.
+fn compare_closed(
+    rt: &impl Abort,
+    alloc: Global,
+    set: &mut LinkSet,
+    order: &[Cell],
+) -> Result<(), Fail> {
+    compare_closing(rt, alloc, set)?;
+    compare_must(rt, set, order)
 }
 
 /// What must be answered where the player has no link yet, and where all links are there.
@@ -96,11 +107,10 @@ fn compare_links(
     position: &Position,
     player: Colour,
 ) -> Result<(), Fail> {
-    let mut set = new_set(alloc, position, player)?;
     let order = backwards(alloc, position.size())?;
+    let mut set = new_set(alloc, position, player)?;
     compare_must(rt, &set, &[])?;
-    compare_closing(rt, alloc, &mut set)?;
-    compare_must(rt, &set, order.as_slice())
+    compare_closed(rt, alloc, &mut set, order.as_slice())
 }
 
 /// Every fifth position of two rows and columns, for both players.

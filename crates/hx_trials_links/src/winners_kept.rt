@@ -4,7 +4,7 @@
 use super::made::{filled_in, new_set};
 use hx_board::Colour::{Black, White};
 use hx_board::{Colour, Mask, Position, Size};
-use hx_fill::must;
+use hx_fill::{Must, must};
 use hx_samples::{Draws, numbered, wins};
 use std::alloc::Global;
 use std::process::Abort;
@@ -32,26 +32,52 @@ fn wins_by(position: &Position, mover: Colour, cells: Mask) -> bool {
     false
 }
 
-/// The winner wins the filled position, and a winning move of the mover's is one of those that `must` leaves without a line.
-fn compare(rt: &impl Abort, alloc: Global, position: &Position, mover: Colour) -> Result<(), Fail> {
+/// The winner wins the filled position too.
+fn compare_filled(
+    rt: &impl Abort,
+    alloc: Global,
+    position: &Position,
+    mover: Colour,
+) -> Result<(), Fail> {
     let filled = filled_in(alloc, position)?;
     assert_eq!(rt;
         wins(&filled.position, Black, mover, MOST),
         wins(position, Black, mover, MOST),
         "{mover:?}, {position:?}"
     );
-    let set = new_set(alloc, position, mover.other())?;
-    let found = must(&set, &[]).map_err(|_| "memory")?;
+    Ok(())
+}
+
+/// The cells that must be tried, less those that have a line.
+fn without_line(found: &Must) -> Mask {
     let mut cells = found.cells;
     for line in found.under.items() {
         cells = cells.without(line.cell());
     }
+    cells
+}
+
+/// A winning move of the mover's is one of those that `must` leaves without a line.
+fn compare_moves(
+    rt: &impl Abort,
+    alloc: Global,
+    position: &Position,
+    mover: Colour,
+) -> Result<(), Fail> {
+    let set = new_set(alloc, position, mover.other())?;
+    let found = must(&set, &[]).map_err(|_| "memory")?;
+    let cells = without_line(&found);
     assert_eq!(rt;
         wins_by(position, mover, cells),
         wins_by(position, mover, position.empties()),
         "{mover:?}, {position:?}"
     );
     Ok(())
+}
+
+fn compare(rt: &impl Abort, alloc: Global, position: &Position, mover: Colour) -> Result<(), Fail> {
+    compare_filled(rt, alloc, position, mover)?;
+    compare_moves(rt, alloc, position, mover)
 }
 
 #[test]

@@ -9,6 +9,7 @@ use hx_book::Book;
 use hx_linkset::LinkSet;
 use hx_search::reach;
 use hx_wide::{look_wider_either, store_root, store_wider, widen_all, widen_turned};
+use std::alloc::Global;
 use std::sync::Wait;
 use std::test::Fail;
 
@@ -107,13 +108,19 @@ fn each_answer(rt: HostRuntime) -> Result<(), Fail> {
     Ok(())
 }
 
+/// Black's links at a position, as far as White to move needs them.
+fn reached(alloc: Global, position: &Position) -> Result<LinkSet, Fail> {
+    let mut set = LinkSet::new(alloc, position, Black).or(Err("memory"))?;
+    reach(&mut set, White).or(Err("memory"))?;
+    Ok(set)
+}
+
 /// Two threats that share no cell need no answer, and no third cell.
 #[test]
 fn threats_alone(rt: HostRuntime) -> Result<(), Fail> {
     let position = board(1, 3, 0)?;
+    let set = reached(rt.alloc(), &position)?;
     let mut book = Book::with_slots(rt.alloc(), 1).or(Err("memory"))?;
-    let mut set = LinkSet::new(rt.alloc(), &position, Black).or(Err("memory"))?;
-    reach(&mut set, White).or(Err("memory"))?;
     assert!(rt; is_done(widen_all(&rt, &mut book, &set, &[])));
     assert_eq!(rt; white_at(&rt, &mut book, &position, White)?, Mask::of(0x4));
     Ok(())

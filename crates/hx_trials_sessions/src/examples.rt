@@ -1,6 +1,6 @@
 //! What a session replies to lines, row by row.
 
-ghost use Rattle.std.specs.Prelude.{◌≤◌, length};
+ghost use Rattle.std.specs.Prelude.{◌≤◌};
 
 use super::answerers::{Swept, Table, Tabled, Wanting};
 use hx_htp::{Answerer, Session};

@@ -1,6 +1,6 @@
 //! A board as the list of the stones that were put on it.
 
-use hx_board::{Colour, Mask, Position, Size};
+use hx_board::{CELLS, Colour, Mask, Position, Size};
 use std::alloc::{AllocError, Global};
 
 /// A stone, with its column and its row counted from 1.
@@ -37,7 +37,7 @@ impl Stones<'_> {
 
     /// The first empty cell from a place on, where the places go from 0 on, row by row, with eleven to a row.
     pub(crate) fn empty_from(&self, place: u32) -> Option<u32> {
-        for next in place..121 {
+        for next in place..CELLS as u32 {
             if self.is_empty(next % 11 + 1, next / 11 + 1) {
                 return Some(next);
             }

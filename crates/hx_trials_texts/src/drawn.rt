@@ -1,6 +1,6 @@
 //! Drawn nodes by each rule, with entries of each kind. Nothing of them need be right.
 
-use hx_board::{Cell, Size, Vertex};
+use hx_board::{CELLS, Cell, Size, Vertex};
 use hx_inferior::{FillStep, Kill};
 use hx_link::{Parts, Step};
 use hx_samples::Draws;
@@ -12,7 +12,7 @@ use std::alloc::Global;
 pub(crate) fn nodes(alloc: Global, draws: &mut Draws, size: Size, count: u32) -> Option<Vec<Node>> {
     let mut nodes = Vec::new(alloc);
     for place in 0..count {
-        let empty = draws.below(122);
+        let empty = draws.below(CELLS as u32 + 1);
         let heading = Heading {
             position: draws.position(size, empty),
             to_move: draws.colour(),

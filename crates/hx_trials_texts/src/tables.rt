@@ -3,7 +3,7 @@
 use super::damages::damaged;
 use super::read::position_of;
 use super::spelled::spelled_position;
-use hx_board::{Colour, Position, Size};
+use hx_board::{CELLS, Colour, Position, Size};
 use hx_io::MemorySink;
 use hx_samples::Draws;
 use hx_text::{read_position, write_position};
@@ -49,7 +49,7 @@ fn drawn_positions(rt: HostRuntime) -> Result<(), Fail> {
     for rows in 1..=11u8 {
         for cols in 1..=11u8 {
             let size = Size::new(rows, cols).ok_or("size")?;
-            let empty = draws.below(122);
+            let empty = draws.below(CELLS as u32 + 1);
             let position = draws.position(size, empty);
             let to_move = draws.colour();
             compare_position(&rt, rt.alloc(), &mut draws, &position, to_move)?;

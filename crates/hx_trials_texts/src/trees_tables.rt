@@ -6,7 +6,7 @@ use super::lines::pieces_of;
 use super::trees_read::{Reading, tree_of};
 use super::trees_spelled::spelled_tree;
 use super::trees_written::written;
-use hx_board::{Colour, Size};
+use hx_board::Size;
 use hx_samples::Draws;
 use hx_text::{Fed, TreeFault, TreeReader};
 use hx_tree::Node;

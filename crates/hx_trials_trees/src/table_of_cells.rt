@@ -3,6 +3,7 @@
 //! and on drawn ones of larger boards.
 
 use super::killed_cells::{after_step, are_pair, is_dead, is_dominated, is_empty};
+use super::made_nodes::cells_of;
 use hx_board::{Cell, Colour, Position, Size};
 use hx_inferior::{FillStep, Kill, dead, dominates, fill_one, pair};
 use hx_samples::{Draws, SMALL_BOARDS, numbered};
@@ -109,21 +110,6 @@ fn new_trial(size: Size) -> Trial {
         pairs: 0,
         dominated: 0,
     }
-}
-
-/// The cells of a board, and one beside it.
-fn cells_of(alloc: Global, size: Size) -> Result<Vec<Cell>, Fail> {
-    let largest = Size::new(11, 11).ok_or("size")?;
-    let mut cells = Vec::new(alloc);
-    for row in 0..size.rows() {
-        for col in 0..size.cols() {
-            if let Some(cell) = size.cell(row, col) {
-                cells.push(cell)?;
-            }
-        }
-    }
-    cells.push(largest.cell(0, size.cols()).ok_or("cell")?)?;
-    Ok(cells)
 }
 
 #[test]

@@ -1,9 +1,10 @@
 //! The checker beside walks, on nodes with steps and threats: two ways between a player's sides on the board of two rows and
 //! columns, with each step left out or changed, and with threats at some places.
 
+use super::made_nodes::{board, cell, heading, two_ways};
 use super::right_nodes::is_right;
 use hx_board::Colour::{Black, White};
-use hx_board::{Cell, Colour, Mask, Position, Size, Vertex};
+use hx_board::{Colour, Position};
 use hx_link::{Parts, Step, Steps};
 use hx_tree::{Heading, Line, Lines, Node, Rule, Threats, check_node};
 use smallvec::SmallVec;
@@ -27,11 +28,7 @@ impl Trial {
         rule: Rule,
         to_move: Colour,
     ) -> Result<(), Fail> {
-        let heading = Heading {
-            position: with_b1()?,
-            to_move,
-            winner: Black,
-        };
+        let heading = heading(with_b1()?, to_move, Black);
         let node = Node { heading, rule };
         let before = [after_a2()?];
         let plain = is_right(alloc, &before, &node).ok().ok_or("memory")?;
@@ -46,57 +43,21 @@ impl Trial {
     }
 }
 
-fn cell(row: u8, col: u8) -> Result<Cell, Fail> {
-    let size = Size::new(2, 2).ok_or("size")?;
-    Ok(size.cell(row, col).ok_or("cell")?)
-}
-
 /// The board of two rows and columns with Black's stone on b1.
 fn with_b1() -> Result<Position, Fail> {
-    let size = Size::new(2, 2).ok_or("size")?;
-    let black = Mask::empty().with(cell(0, 1)?);
-    let position = Position::from_masks(size, black, Mask::empty());
-    Ok(position.ok_or("stones")?)
+    board(2, 2, 2, 0)
 }
 
 /// That Black wins after White's stone on a2.
 fn after_a2() -> Result<Heading, Fail> {
-    let size = Size::new(2, 2).ok_or("size")?;
-    let black = Mask::empty().with(cell(0, 1)?);
-    let white = Mask::empty().with(cell(1, 0)?);
-    let position = Position::from_masks(size, black, white).ok_or("stones")?;
-    Ok(Heading {
-        position,
-        to_move: Black,
-        winner: Black,
-    })
+    Ok(heading(board(2, 2, 2, 1 << 11)?, Black, Black))
 }
 
-/// The steps of two ways: the link at the place 2 is over a2, that at 5 over b2, and that at 6 is an Or of both.
-fn two_ways(alloc: Global) -> Result<Vec<Step>, Fail> {
-    let (a2, b2) = (Vertex::Of(cell(1, 0)?), Vertex::Of(cell(1, 1)?));
+/// The steps of two ways over a2 and b2, and at the place 6 an Or of both.
+fn two_ways_and_either(alloc: Global) -> Result<Vec<Step>, Fail> {
+    let mut steps = two_ways(alloc)?;
     let parts = Parts::new(SmallVec::from_slice(alloc, &[2, 5])?);
-    let steps = vec![in alloc;
-        Step::Base {
-            a: Vertex::First,
-            b: a2
-        },
-        Step::Base {
-            a: a2,
-            b: Vertex::Last
-        },
-        Step::AndCell { left: 0, right: 1 },
-        Step::Base {
-            a: Vertex::First,
-            b: b2
-        },
-        Step::Base {
-            a: b2,
-            b: Vertex::Last
-        },
-        Step::AndCell { left: 3, right: 4 },
-        Step::Or { parts },
-    ]?;
+    steps.push(Step::Or { parts })?;
     Ok(steps)
 }
 
@@ -120,7 +81,7 @@ const UNCHANGED: Change = Change {
 impl Change {
     /// The steps of two ways with this change.
     fn steps(&self, alloc: Global) -> Result<Steps, Fail> {
-        let mut steps = two_ways(alloc)?;
+        let mut steps = two_ways_and_either(alloc)?;
         if let Some(step) = steps.get_mut(self.place) {
             *step = self.step(alloc)?;
         }

@@ -5,6 +5,7 @@
 //! The headings before a node say of each position of the board, with each mover, who wins it.
 
 use super::killed_cells::{after_step, with_stone};
+use super::made_nodes::cells_of;
 use super::right_nodes::{is_right, turned_about};
 use hx_board::{Cell, Colour, Position, Size};
 use hx_inferior::{FillStep, Kill};
@@ -73,21 +74,6 @@ fn place_of(before: &[Heading], position: &Position, to_move: Colour) -> u32 {
         place = place.saturating_add(1);
     }
     place
-}
-
-/// The cells of a board, and one beside it.
-fn cells_of(alloc: Global, size: Size) -> Result<Vec<Cell>, Fail> {
-    let largest = Size::new(11, 11).ok_or("size")?;
-    let mut cells = Vec::new(alloc);
-    for row in 0..size.rows() {
-        for col in 0..size.cols() {
-            if let Some(cell) = size.cell(row, col) {
-                cells.push(cell)?;
-            }
-        }
-    }
-    cells.push(largest.cell(0, size.cols()).ok_or("cell")?)?;
-    Ok(cells)
 }
 
 /// What the trials of one heading share.

@@ -1,8 +1,9 @@
 -- A set that is reversed, and then moved down until the last cell's place has come to the first cell's, is turned.
 use Rattle.std.proofs.Common.{◌≡◌, ℕ, ◌+◌, ◌-◌, ◌*◌, ◌/◌, ◌^◌, ◌<◌, ◌≤◌, true, ◌&&◌, sym, ap, ◌∙◌, arith, ◌↔◌}
+use Rattle.std.proofs.lemmas.Bool.{and_from}
 use Rattle.hx_board.specs.Sets.{has}
 use Rattle.hx_board.specs.Cells.{Extent, IsExtent, OnBoard}
-use Rattle.hx_board.proofs.SetLaws.{has-earlier, and_left, and_right, and_both}
+use Rattle.hx_board.proofs.SetLaws.{has-earlier, and_left, and_right}
 use Rattle.hx_turn.specs.Turned.{turned_cell}
 use Rattle.hx_turn.proofs.TurnedCells.{turned-is}
 
@@ -27,7 +28,7 @@ module _ (size : Extent) (extent : IsExtent size.rows size.cols) (cells reversed
         let both : (has moved cell && has all cell) ≡ true = sym (is_both cell) ∙ h in
         let here : OnBoard size cell = (is_all cell).0 (and_right (has moved cell) (has all cell) both) in
         (here, sym (at_turned here) ∙ and_left (has moved cell) (has all cell) both)),
-    (λ w. is_both cell ∙ and_both (has moved cell) (has all cell) (at_turned w.0 ∙ w.1) ((is_all cell).1 w.0)),
+    (λ w. is_both cell ∙ and_from (has moved cell) (has all cell) (at_turned w.0 ∙ w.1) ((is_all cell).1 w.0)),
   )
     where
       at_turned : OnBoard size cell → has moved cell ≡ has cells (turned_cell size cell)

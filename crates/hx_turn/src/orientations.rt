@@ -34,7 +34,8 @@ impl Model for Orientations {
 
     ghost inverse = { λ b. record { position = b; turned = turned_of b } };
 
-    ghost inverse_ok = { λ a h. ap (λ (b : Board). record { position = a.position; turned = b }) (sym h) };
+    ghost inverse_ok = { λ a h.
+        ap (λ (b : Board). record { position = a.position; turned = b }) (sym h) };
 }
 
 impl Orientations {

@@ -11,9 +11,8 @@ use Rattle.hx_tree.specs.declared.nodes.Line.{Line}
 use Rattle.hx_tree.specs.declared.nodes.Node.{Node}
 use Rattle.hx_tree.specs.Answers.{cell_of, cells_of}
 use Rattle.hx_tree.specs.Entries.{Extends}
-use Rattle.hx_tree.proofs.EntryLaws.{extends-itself, entry-later}
-use Rattle.hx_wide.specs.Inner.{IsTried}
-use Rattle.hx_wide.proofs.LackingLaws.{unserved-within}
+use Rattle.hx_tree.proofs.EntryLaws.{extends-itself, entry-later, seen-within}
+use Rattle.hx_wide.specs.Inner.{IsListedOrUnserved}
 
 -- ---- cells without a line
 
@@ -38,19 +37,19 @@ one_line-more cells left i lines line less is before =
 
 -- ---- cells that were tried
 
-pub tried-later : (first old new : List Node) (board : Board) (player : Colour) → Extends new old → IsTried first old board player → IsTried first new board player
+pub tried-later : (first old new : List Node) (board : Board) (player : Colour) → Extends new old → IsListedOrUnserved first old board player → IsListedOrUnserved first new board player
 tried-later first old new board player grown (inl has) = inl (has.0, entry-later new old board player has.0 grown has.1)
-tried-later first old new board player grown (inr was) = inr (unserved-within first first old new board player player (extends-itself first) grown was)
+tried-later first old new board player grown (inr was) = inr (seen-within _ first first old new (extends-itself first) grown was)
 
-pub tried-earlier : (first old new : List Node) (board : Board) (player : Colour) → Extends old first → IsTried old new board player → IsTried first new board player
+pub tried-earlier : (first old new : List Node) (board : Board) (player : Colour) → Extends old first → IsListedOrUnserved old new board player → IsListedOrUnserved first new board player
 tried-earlier first old new board player grown (inl has) = inl has
-tried-earlier first old new board player grown (inr was) = inr (unserved-within first old new new board player player grown (extends-itself new) was)
+tried-earlier first old new board player grown (inr was) = inr (seen-within _ first old new new grown (extends-itself new) was)
 
 -- each cell of the set that is not left was tried, and then one more
 pub one_tried-more : (first old new : List Node) (next : ℕ → Board) (player : Colour) (cells left cell : ℕ) → Extends old first → Extends new old
-    → ((n : ℕ) → has cells n ≡ true → has left n ≡ false → IsTried first old (next n) player) → IsTried old new (next cell) player
-    → (n : ℕ) → has cells n ≡ true → has (remove left cell) n ≡ false → IsTried first new (next n) player
+    → ((n : ℕ) → has cells n ≡ true → has left n ≡ false → IsListedOrUnserved first old (next n) player) → IsListedOrUnserved old new (next cell) player
+    → (n : ℕ) → has cells n ≡ true → has (remove left cell) n ≡ false → IsListedOrUnserved first new (next n) player
 one_tried-more first old new next player cells left cell one two before now n member gone = ⊎_elim
-    (λ same. subst (λ (m : ℕ). IsTried first new (next m) player) (sym same) (tried-earlier first old new (next cell) player one now))
+    (λ same. subst (λ (m : ℕ). IsListedOrUnserved first new (next m) player) (sym same) (tried-earlier first old new (next cell) player one now))
     (λ out. tried-later first old new (next n) player two (before n member out))
     (removed_cases left cell n gone)

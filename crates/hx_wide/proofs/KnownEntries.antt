@@ -1,7 +1,7 @@
 -- Entries that are known: one more of them, a list that grew, and the children of a node that is right after them.
 use Rattle.std.proofs.Common.{◌≡◌, ℕ, zero, suc, ◌<◌, List, [], ◌∷◌, ◌++◌, length, refl, sym, ap, ◌∙◌, Some, arith}
 use Rattle.std.specs.Prelude.{slice_get, slice_index}
-use Rattle.hx_board.proofs.ListLaws.{get-append, get-lt}
+use Rattle.hx_board.proofs.ListLaws.{get-append, get-lt, get-map}
 use Rattle.hx_tree.specs.declared.nodes.Heading.{Heading}
 use Rattle.hx_tree.specs.declared.nodes.Node.{Node}
 use Rattle.hx_tree.specs.Entries.{Extends}
@@ -17,7 +17,6 @@ use Rattle.hx_tree.specs.Entries.{IsFirstFound}
 use Rattle.hx_tree.proofs.EntryLaws.{node-later}
 use Rattle.hx_book.specs.declared.wider.Wider.{Wider}
 use Rattle.hx_book.specs.WiderEntry.{IsWiderFound}
-use Rattle.hx_book.proofs.ChildLaws.{get-heading}
 use Rattle.hx_wide.specs.Inner.{AreKnown}
 use Rattle.hx_nodes.proofs.GrowingLists.{extends-headings}
 
@@ -77,14 +76,14 @@ pub found_known : (list : List Node) (board : Board) (mover : Colour) (found : F
     → slice_get (headings_of list) found.index ≡ Some (record { position = board; to_move = mover; winner = found.winner })
 found_known list board mover found is =
     let node : Node = is.first.entry.node in
-    get-heading list found.index node is.first.entry.there
+    get-map (λ (n : Node). n.heading) list found.index node is.first.entry.there
     ∙ ap Some (same_heading node.heading board mover found.winner is.first.entry.is_of.same_position is.first.entry.is_of.same_mover (sym is.same_winner))
 
 pub wider_known : (list : List Node) (board : Board) (mover : Colour) (wider : Wider) → IsWiderFound list board mover wider.found.winner wider
     → slice_get (headings_of list) wider.found.index ≡ Some (record { position = wider.position; to_move = mover; winner = wider.found.winner })
 wider_known list board mover wider is =
     let node : Node = is.entry.node in
-    get-heading list wider.found.index node is.entry.there
+    get-map (λ (n : Node). n.heading) list wider.found.index node is.entry.there
     ∙ ap Some (same_heading node.heading wider.position mover wider.found.winner (sym is.same_position) is.entry.is_wider.same_mover is.entry.is_wider.same_winner)
 
 -- it stays so in a list that grew

@@ -10,31 +10,18 @@ use Rattle.hx_tree.specs.declared.nodes.Node.{Node}
 use Rattle.hx_tree.specs.Entries.{Extends}
 use Rattle.hx_book.specs.WiderEntry.{HasNoWider}
 use Rattle.hx_fill.specs.declared.fills.Fill.{Fill}
-use Rattle.hx_fill.specs.Unders.{HasLine}
+use Rattle.hx_fill.specs.Unders.{HasLineFor}
 use Rattle.hx_nodes.specs.Missing.{WasNotWon, LacksFill, HasLacking}
 use Rattle.hx_nodes.specs.Stored.{HasEntry}
 use Rattle.hx_wide.specs.Missing.{WasUnserved, WasUnservedByEach, WasLost, HasUnservedOf}
-use Rattle.hx_wide.specs.Inner.{IsTried}
-use Rattle.hx_tree.proofs.EntryLaws.{extends-itself, extends-on, entry-later}
+use Rattle.hx_wide.specs.Inner.{IsListedOrUnserved}
+use Rattle.hx_tree.proofs.EntryLaws.{extends-itself, extends-on, entry-later, seen-now, seen-within}
 
 -- ---- what serves a position
 
-pub unserved-now : (old new : List Node) (board : Board) (mover winner : Colour) → Extends new old → HasNoWider new board mover winner
-    → WasUnserved old new board mover winner
-unserved-now old new board mover winner grown none = record { seen = new; after_old = grown; before_new = extends-itself new; none = none }
-
-pub unserved-within : (first old new last : List Node) (board : Board) (mover winner : Colour) → Extends old first → Extends last new
-    → WasUnserved old new board mover winner → WasUnserved first last board mover winner
-unserved-within first old new last board mover winner from to was = record {
-  seen = was.seen;
-  after_old = extends-on first old was.seen from was.after_old;
-  before_new = extends-on was.seen new last was.before_new to;
-  none = was.none;
-}
-
 pub unserved_by_each-within : (first old new last : List Node) (board : Board) (mover : Colour) → Extends old first → Extends last new
     → WasUnservedByEach old new board mover → WasUnservedByEach first last board mover
-unserved_by_each-within first old new last board mover from to was winner = unserved-within first old new last board mover winner from to (was winner)
+unserved_by_each-within first old new last board mover from to was winner = seen-within _ first old new last from to (was winner)
 
 -- two looks, one after the other, the second for the other player
 pub unserved-twice : (old mid new : List Node) (board : Board) (mover player : Colour) → Extends mid old → Extends new mid → HasNoWider mid board mover player
@@ -42,8 +29,8 @@ pub unserved-twice : (old mid new : List Node) (board : Board) (mover player : C
 unserved-twice old mid new board mover player one two first second winner =
     let P : Colour → Type 0 = λ who. WasUnserved old new board mover who in
     ⊎_elim
-    (λ same. subst P (sym same) (unserved-within old old mid new board mover player (extends-itself old) two (unserved-now old mid board mover player one first)))
-    (λ same. subst P (sym same) (unserved-now old new board mover (other_of player) (extends-on old mid new one two) second))
+    (λ same. subst P (sym same) (seen-within _ old old mid new (extends-itself old) two (seen-now _ old mid one first)))
+    (λ same. subst P (sym same) (seen-now _ old new (extends-on old mid new one two) second))
     (one_or_other winner player)
 
 -- ---- what is lacking, by what was seen earlier
@@ -55,7 +42,7 @@ lost-since first old new board mover player grown has was = record {
   seen = was.seen;
   after_old = extends-on first old was.seen grown was.after_old;
   before_new = was.before_new;
-  names = ⊎_elim (λ none. absurd (none has.0 (entry-later was.seen old board mover has.0 was.after_old has.1))) (λ names. names) was.no_win;
+  fact = ⊎_elim (λ none. absurd (none has.0 (entry-later was.seen old board mover has.0 was.after_old has.1))) (λ names. names) was.fact;
 }
 
 -- a position that has an entry was not missed
@@ -63,12 +50,12 @@ pub fill_lacks-nothing : (old new : List Node) (fills : List Fill) (filled : Boa
     → LacksFill old new fills filled mover → fills ≡ []
 fill_lacks-nothing old new fills filled mover has (inl none) = none
 fill_lacks-nothing old new fills filled mover has (inr was) =
-    absurd (was.none has.0 (entry-later was.seen old filled mover has.0 was.after_old has.1))
+    absurd (was.fact has.0 (entry-later was.seen old filled mover has.0 was.after_old has.1))
 
 -- where each of the cells without a line was tried, the one that lacks an answer is unserved
 pub unserved_of : (first old mid new : List Node) (board : Board) (player : Colour) (cells tried : ℕ) (under : List Line) → Extends old first → Extends mid old
-    → Extends new mid → ((cell : ℕ) → has cells cell ≡ true → ¬ HasLine under cell → has tried cell ≡ true)
-    → ((cell : ℕ) → has tried cell ≡ true → IsTried old mid (put board (other_of player) cell) player) → HasLacking mid new board player cells under
+    → Extends new mid → ((cell : ℕ) → has cells cell ≡ true → ¬ HasLineFor under cell → has tried cell ≡ true)
+    → ((cell : ℕ) → has tried cell ≡ true → IsListedOrUnserved old mid (put board (other_of player) cell) player) → HasLacking mid new board player cells under
     → HasUnservedOf first new board player cells under
 unserved_of first old mid new board player cells tried under one two three all each lacking =
     let next : Board = put board (other_of player) lacking.cell in
@@ -78,6 +65,6 @@ unserved_of first old mid new board player cells tried under one two three all e
       no_line = lacking.is.no_line;
       lacks = ⊎_elim
           (λ has. inr (lost-since first mid new next player player (extends-on first old mid one two) has lacking.is.lacks))
-          (λ was. inl (unserved-within first old mid new next player player one three was))
+          (λ was. inl (seen-within _ first old mid new one three was))
           (each lacking.cell (all lacking.cell lacking.among lacking.is.no_line));
     }

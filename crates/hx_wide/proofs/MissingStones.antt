@@ -1,15 +1,15 @@
 -- The opponent's stones that a position lacks of a wider one come one after the other, on empty cells, and lead to the wider one.
 use Rattle.std.proofs.Common.{◌≡◌, ℕ, List, [], ◌∷◌, ◌++◌, Bool, true, false, ◌||◌, ◌&&◌, not, eqb, eqb-true, length, arith, refl, sym, ap, ◌∙◌, subst, ⊎_elim, ◌↔◌}
-use Rattle.std.proofs.lemmas.Bool.{false≢true}
+use Rattle.std.proofs.lemmas.Bool.{false≢true, false_from_ne_true, or_right, true_from_ne_false}
 use Rattle.hx_board.specs.declared.colours.Colour.{Colour}
 use Rattle.hx_board.specs.declared.colours.Colour.TheVariants.{Black, White}
 use Rattle.hx_board.specs.Colours.{other_of}
 use Rattle.hx_board.specs.Sets.{has, insert, remove, union, difference, IsSubset}
 use Rattle.hx_board.specs.Cells.{Extent, OnBoard}
 use Rattle.hx_board.specs.Positions.{Board, IsBoard, IsEmpty, put, stones_of}
-use Rattle.hx_board.proofs.SetLaws.{has-union, has-insert, has-remove, has-empty, same_set, is_true, is_false, or_right, has-remove_before, has-union_cases, has-union_left, has-union_right, has-difference_left, has-difference_right, has-difference_both, by_member, removed, same_test}
+use Rattle.hx_board.proofs.SetLaws.{has-union, has-insert, has-remove, has-empty, same_set, has-remove_before, has-union_cases, has-union_left, has-union_right, has-difference_left, has-difference_right, has-difference_both, by_member, removed, same_test}
 use Rattle.hx_board.proofs.ColourLaws.{one_or_other}
-use Rattle.hx_board.proofs.PositionLaws.{same_board}
+use Rattle.hx_board.proofs.PositionLaws.{same_board, own-not_others}
 use Rattle.hx_board.proofs.StoneLaws.{empty-put}
 use Rattle.hx_inferior.specs.declared.fills.FillStep.{FillStep}
 use Rattle.hx_inferior.specs.declared.fills.FillStep.TheVariants.{Other}
@@ -20,7 +20,7 @@ use Rattle.hx_turn.proofs.TurnedBoards.{stone-on_board}
 use Rattle.hx_tree.specs.declared.nodes.Node.{Node}
 use Rattle.hx_book.specs.declared.wider.Wider.{Wider}
 use Rattle.hx_book.specs.WiderEntry.{IsWiderFound}
-use Rattle.hx_wide.specs.Inner.{put_all}
+use Rattle.hx_wide.specs.Inner.{put_set}
 
 -- ---- stones on all cells of a set
 
@@ -43,13 +43,13 @@ union-none set = same_set _ _ (λ n. has-union set 0 n ∙ rw (has-empty n) (or_
     or_false true = refl
     or_false false = refl
 
-put_all-moved : (board : Board) (who : Colour) (left cell : ℕ) → has left cell ≡ true → put_all (put board who cell) who (remove left cell) ≡ put_all board who left
-put_all-moved board Black left cell member = ap (λ (black : ℕ). record { size = board.size; black = black; white = board.white }) (union-moved board.black left cell member)
-put_all-moved board White left cell member = ap (λ (white : ℕ). record { size = board.size; black = board.black; white = white }) (union-moved board.white left cell member)
+put_set-moved : (board : Board) (who : Colour) (left cell : ℕ) → has left cell ≡ true → put_set (put board who cell) who (remove left cell) ≡ put_set board who left
+put_set-moved board Black left cell member = ap (λ (black : ℕ). record { size = board.size; black = black; white = board.white }) (union-moved board.black left cell member)
+put_set-moved board White left cell member = ap (λ (white : ℕ). record { size = board.size; black = board.black; white = white }) (union-moved board.white left cell member)
 
-put_all-none : (board : Board) (who : Colour) → put_all board who 0 ≡ board
-put_all-none board Black = ap (λ (black : ℕ). record { size = board.size; black = black; white = board.white }) (union-none board.black)
-put_all-none board White = ap (λ (white : ℕ). record { size = board.size; black = board.black; white = white }) (union-none board.white)
+put_set-none : (board : Board) (who : Colour) → put_set board who 0 ≡ board
+put_set-none board Black = ap (λ (black : ℕ). record { size = board.size; black = black; white = board.white }) (union-none board.black)
+put_set-none board White = ap (λ (white : ℕ). record { size = board.size; black = board.black; white = white }) (union-none board.white)
 
 -- ---- one step after the other
 
@@ -67,7 +67,7 @@ filled-push (step ∷ rest) board winner cell = filled-push rest (filled board w
 pub record IsFilling (board : Board) (winner : Colour) (cells left : ℕ) (steps : List FillStep) : Type 0 where
   pub right : MayFillAll board winner steps
   pub empty : (cell : ℕ) → has left cell ≡ true → IsEmpty (filled_all board winner steps) cell
-  pub same : put_all (filled_all board winner steps) (other_of winner) left ≡ put_all board (other_of winner) cells
+  pub same : put_set (filled_all board winner steps) (other_of winner) left ≡ put_set board (other_of winner) cells
 
 module _ (board : Board) (winner : Colour) (cells : ℕ) where
   pub none_yet : ((cell : ℕ) → has cells cell ≡ true → IsEmpty board cell) → IsFilling board winner cells cells []
@@ -84,19 +84,19 @@ module _ (board : Board) (winner : Colour) (cells : ℕ) where
               is.empty n (has-remove_before left cell n still),
               λ same. false≢true (sym (removed left cell) ∙ ap (λ (x : ℕ). has (remove left cell) x) (sym same) ∙ still),
             ));
-        same = rw (filled-push steps board winner cell) (put_all-moved mid (other_of winner) left cell member ∙ is.same);
+        same = rw (filled-push steps board winner cell) (put_set-moved mid (other_of winner) left cell member ∙ is.same);
       }
 
   pub none_left : (left : ℕ) (steps : List FillStep) → IsFilling board winner cells left steps → ((n : ℕ) → OnBoard board.size n → has left n ≡ false)
-      → LeadTo board winner steps (put_all board (other_of winner) cells)
+      → LeadTo board winner steps (put_set board (other_of winner) cells)
   none_left left steps is none =
       let mid : Board = filled_all board winner steps in
       let on_board : (n : ℕ) → has left n ≡ true → OnBoard board.size n =
       λ n member. subst (λ (size : Extent). OnBoard size n) (size-filled_all board winner steps) (is.empty n member).on_board in
-      let zero : left ≡ 0 = same_set left 0 (λ n. is_false _ (λ member. false≢true (sym (none n (on_board n member)) ∙ member)) ∙ sym (has-empty n)) in
+      let zero : left ≡ 0 = same_set left 0 (λ n. false_from_ne_true _ (λ member. false≢true (sym (none n (on_board n member)) ∙ member)) ∙ sym (has-empty n)) in
       record {
         right = is.right;
-        same = sym (put_all-none mid (other_of winner)) ∙ ap (put_all mid (other_of winner)) (sym zero) ∙ is.same;
+        same = sym (put_set-none mid (other_of winner)) ∙ ap (put_set mid (other_of winner)) (sym zero) ∙ is.same;
       }
 
 -- ---- the missing stones
@@ -110,21 +110,17 @@ no_stone : (board : Board) (player : Colour) (n : ℕ) → IsEmpty board n → h
 no_stone board Black n empty = empty.no_black
 no_stone board White n empty = empty.no_white
 
-apart : (board : Board) (winner : Colour) (n : ℕ) → IsBoard board → has (stones_of board winner) n ≡ true → has (stones_of board (other_of winner)) n ≡ false
-apart board Black n is own = is.1.apart n own
-apart board White n is own = is_false _ (λ black. false≢true (sym (is.1.apart n black) ∙ own))
+put_set-size : (board : Board) (who : Colour) (cells : ℕ) → (put_set board who cells).size ≡ board.size
+put_set-size board Black cells = refl
+put_set-size board White cells = refl
 
-put_all-size : (board : Board) (who : Colour) (cells : ℕ) → (put_all board who cells).size ≡ board.size
-put_all-size board Black cells = refl
-put_all-size board White cells = refl
+put_set-own : (board : Board) (winner : Colour) (cells : ℕ) → stones_of (put_set board (other_of winner) cells) winner ≡ stones_of board winner
+put_set-own board Black cells = refl
+put_set-own board White cells = refl
 
-put_all-own : (board : Board) (winner : Colour) (cells : ℕ) → stones_of (put_all board (other_of winner) cells) winner ≡ stones_of board winner
-put_all-own board Black cells = refl
-put_all-own board White cells = refl
-
-put_all-others : (board : Board) (who : Colour) (cells : ℕ) → stones_of (put_all board who cells) who ≡ union (stones_of board who) cells
-put_all-others board Black cells = refl
-put_all-others board White cells = refl
+put_set-others : (board : Board) (who : Colour) (cells : ℕ) → stones_of (put_set board who cells) who ≡ union (stones_of board who) cells
+put_set-others board Black cells = refl
+put_set-others board White cells = refl
 
 module _ (board there : Board) (winner : Colour) (is : IsBoard there) (size : there.size ≡ board.size) (own : stones_of there winner ≡ stones_of board winner)
     (inside : IsSubset (stones_of board (other_of winner)) (stones_of there (other_of winner)))
@@ -137,16 +133,16 @@ module _ (board there : Board) (winner : Colour) (is : IsBoard there) (size : th
       let empty : IsEmpty board n = missing_empty n member in
       let on : OnBoard there.size n = subst (λ (s : Extent). OnBoard s n) (sym size) empty.on_board in
       let not_own : has (stones_of there winner) n ≡ false = ap (λ (s : ℕ). has s n) own ∙ no_stone board winner n empty in
-      is_true _ (λ none. false≢true (sym (has-difference_right here_empties there_empties n member) ∙ (after n).1 (empty_of there winner n on not_own none)))
+      true_from_ne_false _ (λ none. false≢true (sym (has-difference_right here_empties there_empties n member) ∙ (after n).1 (empty_of there winner n on not_own none)))
 
   is_missing : (n : ℕ) → has (stones_of there (other_of winner)) n ≡ true → has (stones_of board (other_of winner)) n ≡ false
       → has (difference here_empties there_empties) n ≡ true
   is_missing n stone lacks =
       let on : OnBoard board.size n = subst (λ (s : Extent). OnBoard s n) size (stone-on_board there is (other_of winner) n stone) in
       let not_own : has (stones_of board winner) n ≡ false =
-      is_false _ (λ mine. false≢true (sym (apart there winner n is (ap (λ (s : ℕ). has s n) own ∙ mine)) ∙ stone)) in
+      false_from_ne_true _ (λ mine. false≢true (sym (own-not_others there is winner n (ap (λ (s : ℕ). has s n) own ∙ mine)) ∙ stone)) in
       has-difference_both here_empties there_empties n ((here n).1 (empty_of board winner n on not_own lacks))
-      (is_false _ (λ member. false≢true (sym (no_stone there (other_of winner) n ((after n).0 member)) ∙ stone)))
+      (false_from_ne_true _ (λ member. false≢true (sym (no_stone there (other_of winner) n ((after n).0 member)) ∙ stone)))
 
   others : union (stones_of board (other_of winner)) (difference here_empties there_empties) ≡ stones_of there (other_of winner)
   others = same_set _ _ (λ n. same_test _ _
@@ -155,22 +151,22 @@ module _ (board there : Board) (winner : Colour) (is : IsBoard there) (size : th
       (λ member. has-union_left (stones_of board (other_of winner)) (difference here_empties there_empties) n member)
       (λ lacks. has-union_right (stones_of board (other_of winner)) (difference here_empties there_empties) n (is_missing n stone lacks))))
 
-  pub put_missing : put_all board (other_of winner) (difference here_empties there_empties) ≡ there
-  put_missing = same_board _ _ (put_all-size board (other_of winner) (difference here_empties there_empties) ∙ sym size) (stones Black) (stones White)
+  pub put_missing : put_set board (other_of winner) (difference here_empties there_empties) ≡ there
+  put_missing = same_board _ _ (put_set-size board (other_of winner) (difference here_empties there_empties) ∙ sym size) (stones Black) (stones White)
     where
       P : Colour → Type 0
-      P who = stones_of (put_all board (other_of winner) (difference here_empties there_empties)) who ≡ stones_of there who
+      P who = stones_of (put_set board (other_of winner) (difference here_empties there_empties)) who ≡ stones_of there who
 
       stones : (player : Colour) → P player
       stones player = ⊎_elim
-          (λ same. subst P (sym same) (put_all-own board winner (difference here_empties there_empties) ∙ sym own))
-          (λ same. subst P (sym same) (put_all-others board (other_of winner) (difference here_empties there_empties) ∙ others))
+          (λ same. subst P (sym same) (put_set-own board winner (difference here_empties there_empties) ∙ sym own))
+          (λ same. subst P (sym same) (put_set-others board (other_of winner) (difference here_empties there_empties) ∙ others))
           (one_or_other player winner)
 
 -- what was found of a board is what its missing stones lead to
 pub wider_missing : (list : List Node) (board : Board) (mover : Colour) (wider : Wider) → IsWiderFound list board mover wider.found.winner wider → IsBoard wider.position
     → (here_empties there_empties : ℕ) → ((n : ℕ) → (has here_empties n ≡ true) ↔ IsEmpty board n) → ((n : ℕ) → (has there_empties n ≡ true) ↔ IsEmpty wider.position n)
-    → put_all board (other_of wider.found.winner) (difference here_empties there_empties) ≡ wider.position
+    → put_set board (other_of wider.found.winner) (difference here_empties there_empties) ≡ wider.position
 wider_missing list board mover wider found is here_empties there_empties here after =
     let winner : Colour = wider.found.winner in
     put_missing board wider.position winner is

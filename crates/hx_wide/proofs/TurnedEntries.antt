@@ -1,13 +1,13 @@
 -- An entry of a position turned back serves whatever the entry of the position serves turned. And where two entries of positions that
 -- are turned into one another name different winners, they clash.
 use Rattle.std.proofs.Common.{◌≡◌, ℕ, List, Bool, true, false, refl, sym, ap, ◌∙◌, subst}
-use Rattle.std.proofs.lemmas.Bool.{false≢true}
+use Rattle.std.proofs.lemmas.Bool.{false≢true, false_from_ne_true}
 use Rattle.hx_board.specs.declared.colours.Colour.{Colour}
 use Rattle.hx_board.specs.Colours.{other_of}
 use Rattle.hx_board.specs.Sets.{has, IsSubset}
 use Rattle.hx_board.specs.Cells.{Extent, OnBoard}
 use Rattle.hx_board.specs.Positions.{Board, IsBoard, stones_of}
-use Rattle.hx_board.proofs.SetLaws.{same_set, is_false}
+use Rattle.hx_board.proofs.SetLaws.{same_set}
 use Rattle.hx_tree.specs.declared.nodes.Heading.{Heading}
 use Rattle.hx_tree.specs.declared.nodes.Node.{Node}
 use Rattle.hx_tree.specs.Entries.{Extends, IsEntry}
@@ -42,7 +42,7 @@ module _ (board other there wide : Board) (player : Colour) (is : IsBoard board)
     where
       both : (n : ℕ) (b : Bool) → has (stones_of board player) n ≡ b → has (stones_of wide player) n ≡ b
       both n true e = carried-back (λ m member. ap (λ (s : ℕ). has s m) same ∙ member) n e
-      both n false e = is_false _ (λ member. false≢true (sym e ∙ carried (λ m k. ap (λ (s : ℕ). has s m) (sym same) ∙ k) n member))
+      both n false e = false_from_ne_true _ (λ member. false≢true (sym e ∙ carried (λ m k. ap (λ (s : ℕ). has s m) (sym same) ∙ k) n member))
 
 -- a heading of the wide position serves the board, where the one of the position that it was turned from serves the turned board
 pub turned_wider : (board other wide : Board) (mover winner : Colour) (from to : Heading) → IsBoard board → IsTurned board other
@@ -94,7 +94,7 @@ module _ (old : List Node) (board other : Board) (mover : Colour) (wider : Wider
           is_of = record { same_position = sym found.same_position; same_mover = found.entry.is_wider.same_mover };
         };
         other_entry = record { node = mine.node; there = node-later new mid has_entry.0 mine.node after mine.there; is_of = mine.is_of };
-        differ = λ same. was.none has_entry.0 (record {
+        differ = λ same. was.fact has_entry.0 (record {
           node = mine.node;
           there = node-later was.seen mid has_entry.0 mine.node was.after_old mine.there;
           is_wider = turned_wider board other wide mover winner found.entry.node.heading mine.node.heading is turn from found.entry.is_wider

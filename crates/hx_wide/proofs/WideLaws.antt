@@ -6,8 +6,8 @@ use Rattle.hx_board.specs.Colours.{other_of}
 use Rattle.hx_board.specs.Positions.{Board, stones_of}
 use Rattle.hx_board.specs.Sets.{IsSubset}
 use Rattle.hx_tree.specs.declared.nodes.Node.{Node}
-use Rattle.hx_nodes.specs.Stored.{HasEntry, IsStored, MissingFor}
-use Rattle.hx_wide.specs.Inner.{IsEnd}
+use Rattle.hx_nodes.specs.Stored.{HasEntry, TellsStored, MissingFor}
+use Rattle.hx_wide.specs.Inner.{EndsStores}
 use Rattle.hx_wide.specs.Wide.{IsServed, IsTrueRefusal, IsStoredWide}
 use Rattle.hx_nodes.specs.declared.stored.Stored.{Stored}
 use Rattle.hx_nodes.specs.declared.stored.Stored.TheVariants.{Done, Refused, Missing, Memory}
@@ -33,30 +33,30 @@ module _ (list : List Node) (slots : ℕ) (board : Board) (mover : Colour) where
         };
       }
 
-  pub stored_refusal : (stored : Stored) → IsStored list slots board mover stored → IsTrueRefusal list slots stored
+  pub stored_refusal : (stored : Stored) → TellsStored list slots board mover stored → IsTrueRefusal list slots stored
   stored_refusal Done is = tt
   stored_refusal (Refused refusal) is = is.0
   stored_refusal Missing is = tt
   stored_refusal Memory is = tt
 
-  pub stored_wide : (stored : Stored) → IsStored list slots board mover stored → IsStoredWide list slots board mover stored
+  pub stored_wide : (stored : Stored) → TellsStored list slots board mover stored → IsStoredWide list slots board mover stored
   stored_wide Done is = entry_served is
   stored_wide (Refused refusal) is = is.0
   stored_wide Missing is = tt
   stored_wide Memory is = tt
 
-  pub some_refusal : (stored : Option Stored) → IfSome stored (IsStored list slots board mover) → IfSome stored (IsTrueRefusal list slots)
+  pub some_refusal : (stored : Option Stored) → IfSome stored (TellsStored list slots board mover) → IfSome stored (IsTrueRefusal list slots)
   some_refusal None is = tt
   some_refusal (Some stored) is = stored_refusal stored is
 
   -- an end is an answer that says no more than that
-  pub end_stored : (stored : Stored) → IsEnd list slots stored → IsStoredWide list slots board mover stored
+  pub end_stored : (stored : Stored) → EndsStores list slots stored → IsStoredWide list slots board mover stored
   end_stored Done is = absurd is
   end_stored (Refused refusal) is = is
   end_stored Missing is = absurd is
   end_stored Memory is = tt
 
-pub end_answered : (list : List Node) (slots : ℕ) (Cause : Type 0) (stored : Stored) → IsEnd list slots stored → MissingFor Cause stored
+pub end_answered : (list : List Node) (slots : ℕ) (Cause : Type 0) (stored : Stored) → EndsStores list slots stored → MissingFor Cause stored
 end_answered list slots Cause Done is = absurd is
 end_answered list slots Cause (Refused refusal) is = tt
 end_answered list slots Cause Missing is = absurd is

@@ -21,17 +21,17 @@ AreKnown list (heading ∷ headings) [] = ⊥
 AreKnown list (heading ∷ headings) (place ∷ places) = (slice_get (headings_of list) place ≡ Some heading) × AreKnown list headings places
 
 -- the board with a player's stones on these cells too
-abbrev pub put_all : Board → Colour → ℕ → Board
-put_all board Black cells = record board { black = union board.black cells }
-put_all board White cells = record board { white = union board.white cells }
+abbrev pub put_set : Board → Colour → ℕ → Board
+put_set board Black cells = record board { black = union board.black cells }
+put_set board White cells = record board { white = union board.white cells }
 
 -- with the player to move the position has an entry, or no entry of the player's was seen to serve it
-abbrev pub IsTried : List Node → List Node → Board → Colour → Type 0
-IsTried old new board player = HasEntry new board player ⊎ WasUnserved old new board player player
+abbrev pub IsListedOrUnserved : List Node → List Node → Board → Colour → Type 0
+IsListedOrUnserved old new board player = HasEntry new board player ⊎ WasUnserved old new board player player
 
 -- no slot was left, or memory was wanting
-abbrev pub IsEnd : List Node → ℕ → Stored → Type 0
-IsEnd list slots Done = ⊥
-IsEnd list slots (Refused refusal) = IsOutOfSlots list slots refusal
-IsEnd list slots Missing = ⊥
-IsEnd list slots Memory = Unit {0}
+abbrev pub EndsStores : List Node → ℕ → Stored → Type 0
+EndsStores list slots Done = ⊥
+EndsStores list slots (Refused refusal) = IsOutOfSlots list slots refusal
+EndsStores list slots Missing = ⊥
+EndsStores list slots Memory = Unit {0}

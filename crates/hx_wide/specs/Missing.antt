@@ -6,21 +6,18 @@ use Rattle.hx_board.specs.Sets.{has}
 use Rattle.hx_board.specs.Positions.{Board, IsFull, put}
 use Rattle.hx_tree.specs.declared.nodes.Line.{Line}
 use Rattle.hx_tree.specs.declared.nodes.Node.{Node}
-use Rattle.hx_tree.specs.Entries.{Extends, IsEntry}
+use Rattle.hx_tree.specs.Entries.{IsEntry, WasSeen}
 use Rattle.hx_book.specs.WiderEntry.{HasNoWider}
 use Rattle.hx_turn.specs.Turned.{IsTurned}
 use Rattle.hx_linkset.specs.States.{Standing}
 use Rattle.hx_fill.specs.declared.fills.Fill.{Fill}
 use Rattle.hx_fill.specs.Musts.{IsMust}
-use Rattle.hx_fill.specs.Unders.{HasLine, AreByOrder}
+use Rattle.hx_fill.specs.Unders.{HasLineFor, AreByOrder}
 use Rattle.hx_nodes.specs.Missing.{NamesOther}
 
 -- some front of the new list, with the old one at its own front, has no entry of this winner that serves the position and mover
-pub record WasUnserved (old new : List Node) (board : Board) (mover winner : Colour) : Type 0 where
-  pub seen : List Node
-  pub after_old : Extends seen old
-  pub before_new : Extends new seen
-  pub none : HasNoWider seen board mover winner
+abbrev pub WasUnserved : List Node → List Node → Board → Colour → Colour → Type 0
+WasUnserved old new board mover winner = WasSeen (λ nodes. HasNoWider nodes board mover winner) old new
 
 -- for each winner none was seen
 abbrev pub WasUnservedByEach : List Node → List Node → Board → Colour → Type 0
@@ -50,11 +47,8 @@ LacksTurned old new board mover = WasUnservedByEach old new board mover × (WasT
 
 -- in some front of the new list, with the old one at its own front, the first entry of the position and mover names the player's
 -- opponent as the winner
-pub record WasLost (old new : List Node) (board : Board) (mover player : Colour) : Type 0 where
-  pub seen : List Node
-  pub after_old : Extends seen old
-  pub before_new : Extends new seen
-  pub names : NamesOther seen board mover player
+abbrev pub WasLost : List Node → List Node → Board → Colour → Colour → Type 0
+WasLost old new board mover player = WasSeen (λ nodes. NamesOther nodes board mover player) old new
 
 -- nothing was seen that serves the position as a win of the player's, or an entry of the position names the opponent
 abbrev pub LacksWin : List Node → List Node → Board → Colour → Colour → Type 0
@@ -73,7 +67,7 @@ LacksServedFill old new fills filled mover = (fills ≡ []) ⊎ WasUnservedByEac
 pub record HasUnservedOf (old new : List Node) (board : Board) (player : Colour) (cells : ℕ) (under : List Line) : Type 0 where
   pub cell : ℕ
   pub among : has cells cell ≡ true
-  pub no_line : ¬ HasLine under cell
+  pub no_line : ¬ HasLineFor under cell
   pub lacks : LacksWin old new (put board (other_of player) cell) player player
 
 -- one of the cells that must be answered is such a cell, where the better cells were gone through in the order

@@ -14,16 +14,18 @@ pub record IsServed (list : List Node) (board : Board) (mover : Colour) : Type 0
   pub place : ℕ
   pub entry : IsWiderEntry list board mover winner place
 
--- where no slot was left, it is so of the list
-abbrev pub IsTrueRefusal : List Node → ℕ → Stored → Type 0
-IsTrueRefusal list slots Done = Unit {0}
-IsTrueRefusal list slots (Refused refusal) = IsOutOfSlots list slots refusal
-IsTrueRefusal list slots Missing = Unit {0}
-IsTrueRefusal list slots Memory = Unit {0}
-
 -- what an answer says of the list, where a proof that serves this position and mover was to be stored
 abbrev pub IsStoredWide : List Node → ℕ → Board → Colour → Stored → Type 0
 IsStoredWide list slots board mover Done = IsServed list board mover
 IsStoredWide list slots board mover (Refused refusal) = IsOutOfSlots list slots refusal
 IsStoredWide list slots board mover Missing = Unit {0}
 IsStoredWide list slots board mover Memory = Unit {0}
+
+-- ---- words for the functions inside the crate alone
+
+-- where no slot was left, it is so of the list
+abbrev pub IsTrueRefusal : List Node → ℕ → Stored → Type 0
+IsTrueRefusal list slots Done = Unit {0}
+IsTrueRefusal list slots (Refused refusal) = IsOutOfSlots list slots refusal
+IsTrueRefusal list slots Missing = Unit {0}
+IsTrueRefusal list slots Memory = Unit {0}

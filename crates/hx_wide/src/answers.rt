@@ -8,9 +8,9 @@ ghost use Rattle.hx_board.specs.Positions.{IsEmpty, put};
 ghost use Rattle.hx_board.specs.Sets.{has, IsSubset};
 ghost use Rattle.hx_tree.specs.Entries.{Extends};
 ghost use Rattle.hx_fill.specs.Musts.{IsMust};
-ghost use Rattle.hx_fill.specs.Unders.{HasLine};
+ghost use Rattle.hx_fill.specs.Unders.{HasLineFor};
 ghost use Rattle.hx_nodes.specs.Stored.{MissingFor};
-ghost use Rattle.hx_wide.specs.Inner.{IsTried, IsEnd};
+ghost use Rattle.hx_wide.specs.Inner.{IsListedOrUnserved, EndsStores};
 ghost use Rattle.hx_wide.specs.Missing.{LacksServedAnswers};
 ghost use Rattle.hx_wide.specs.Wide.{IsTrueRefusal, IsStoredWide};
 
@@ -82,7 +82,7 @@ fn empties_after<P: Proofs, R: Wait>(
 /// The cells without those of these lines.
 fn without_lines(cells: Mask, lines: &[Line]) -> Mask
     ensures inside { IsSubset result cells }
-    ensures kept { (cell : ℕ) → has cells cell ≡ true → ¬ HasLine lines.now cell
+    ensures kept { (cell : ℕ) → has cells cell ≡ true → ¬ HasLineFor lines.now cell
         → has result cell ≡ true }
 {
     let mut left = cells;
@@ -181,9 +181,9 @@ fn store_each<P: Proofs, R: Wait>(
     ensures slots { P.slots proofs.new ≡ P.slots proofs.old }
     ensures over { P.over proofs.new ≡ P.over proofs.old }
     ensures seen { Extends (P.list proofs.new) (P.list proofs.old) }
-    ensures end { IfSome result (IsEnd (P.list proofs.new) (P.slots proofs.new)) }
+    ensures end { IfSome result (EndsStores (P.list proofs.new) (P.slots proofs.new)) }
     ensures tried { IfNone result ((cell : ℕ) → has cells cell ≡ true →
-        IsTried (P.list proofs.old) (P.list proofs.new)
+        IsListedOrUnserved (P.list proofs.old) (P.list proofs.new)
         (put position.now (other_of winner) cell) winner) }
 {
     let size = position.size();
@@ -210,9 +210,9 @@ fn store_next<P: Proofs, R: Wait>(
     ensures slots { P.slots proofs.new ≡ P.slots proofs.old }
     ensures over { P.over proofs.new ≡ P.over proofs.old }
     ensures seen { Extends (P.list proofs.new) (P.list proofs.old) }
-    ensures end { IfSome result (IsEnd (P.list proofs.new) (P.slots proofs.new)) }
+    ensures end { IfSome result (EndsStores (P.list proofs.new) (P.slots proofs.new)) }
     ensures tried { IfNone result
-        (IsTried (P.list proofs.old) (P.list proofs.new) next.now winner) }
+        (IsListedOrUnserved (P.list proofs.old) (P.list proofs.new) next.now winner) }
 {
     match store_wider(rt, alloc, proofs, next, winner, winner) {
         Stored::Refused(refusal) => Some(Stored::Refused(refusal)),

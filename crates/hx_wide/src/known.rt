@@ -9,7 +9,7 @@ ghost use Rattle.hx_tree.specs.declared.nodes.Node.{Node as Proof};
 ghost use Rattle.hx_tree.specs.Entries.{Extends};
 ghost use Rattle.hx_tree.specs.Rules.{IsRightNode};
 ghost use Rattle.hx_tree.specs.Trees.{headings_of};
-ghost use Rattle.hx_nodes.specs.Stored.{IsStored, IsAnswered};
+ghost use Rattle.hx_nodes.specs.Stored.{TellsStored, IsAnswered};
 ghost use Rattle.hx_wide.specs.Inner.{AreKnown};
 
 use hx_board::Memory;
@@ -73,7 +73,7 @@ pub(crate) fn store_known<P: Proofs, R: Wait>(
     ensures slots { P.slots proofs.new ≡ P.slots proofs.old }
     ensures over { P.over proofs.new ≡ P.over proofs.old }
     ensures seen { Extends (P.list proofs.new) (P.list proofs.old) }
-    ensures stored { IfSome result (IsStored (P.list proofs.new) (P.slots proofs.new)
+    ensures stored { IfSome result (TellsStored (P.list proofs.new) (P.slots proofs.new)
         node.heading.position node.heading.to_move) }
     ensures answered { IfSome result IsAnswered }
     ensures wrong { IfNone result (¬ IsRightNode known.now.headings.items node) }

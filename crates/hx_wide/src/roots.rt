@@ -6,7 +6,7 @@
 ghost use Rattle.std.specs.Prelude.{◌≡◌, IfSome};
 ghost use Rattle.hx_board.specs.Positions.{IsEmpty};
 ghost use Rattle.hx_tree.specs.Entries.{Extends};
-ghost use Rattle.hx_nodes.specs.Stored.{IsStored, MissingFor};
+ghost use Rattle.hx_nodes.specs.Stored.{TellsStored, MissingFor};
 ghost use Rattle.hx_wide.specs.Missing.{WasUnserved};
 
 use crate::wider::store_wider;
@@ -29,7 +29,7 @@ pub fn store_root<P: Proofs, R: Wait>(
     ensures slots { P.slots proofs.new ≡ P.slots proofs.old }
     ensures over { P.over proofs.new ≡ P.over proofs.old }
     ensures seen { Extends (P.list proofs.new) (P.list proofs.old) }
-    ensures stored { IsStored (P.list proofs.new) (P.slots proofs.new) position.now to_move result }
+    ensures stored { TellsStored (P.list proofs.new) (P.slots proofs.new) position.now to_move result }
     ensures missing { MissingFor (WasUnserved (P.list proofs.old) (P.list proofs.new)
         position.now to_move winner) result }
 {
@@ -54,7 +54,7 @@ fn by_some_move<P: Proofs, R: Wait>(
     ensures over { P.over proofs.new ≡ P.over proofs.old }
     ensures seen { Extends (P.list proofs.new) (P.list proofs.old) }
     ensures stored { IfSome result
-        (IsStored (P.list proofs.new) (P.slots proofs.new) position.now to_move) }
+        (TellsStored (P.list proofs.new) (P.slots proofs.new) position.now to_move) }
 {
     if winner != to_move {
         return None;

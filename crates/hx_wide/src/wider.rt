@@ -8,8 +8,8 @@ ghost use Rattle.hx_tree.specs.Entries.{Extends};
 ghost use Rattle.hx_tree.specs.Fills.{LeadTo};
 ghost use Rattle.hx_book.specs.WiderEntry.{IsWiderFound};
 ghost use Rattle.hx_wide.specs.Missing.{WasUnserved, WasUnservedByEach};
-ghost use Rattle.hx_nodes.specs.Stored.{IsStored, IsAnswered, MissingFor, HadMemory};
-ghost use Rattle.hx_wide.specs.Inner.{put_all};
+ghost use Rattle.hx_nodes.specs.Stored.{TellsStored, IsAnswered, MissingFor, HadMemory};
+ghost use Rattle.hx_wide.specs.Inner.{put_set};
 ghost use Rattle.hx_wide.specs.Wide.{IsTrueRefusal, IsStoredWide};
 
 use crate::known::{Known, store_known};
@@ -85,7 +85,7 @@ fn others_on(
 ) -> Result<Vec<FillStep>, Memory>
     requires { (cell : ℕ) → has cells cell ≡ true → IsEmpty position.now cell }
     ensures { IfOk result (λ steps.
-        LeadTo position.now winner steps.items (put_all position.now (other_of winner) cells)) }
+        LeadTo position.now winner steps.items (put_set position.now (other_of winner) cells)) }
 {
     let size = position.size();
     let Ok(mut steps) = Vec::with_capacity(alloc, cells.count() as usize) else {
@@ -114,7 +114,7 @@ pub fn store_wider<P: Proofs, R: Wait>(
     ensures slots { P.slots proofs.new ≡ P.slots proofs.old }
     ensures over { P.over proofs.new ≡ P.over proofs.old }
     ensures seen { Extends (P.list proofs.new) (P.list proofs.old) }
-    ensures stored { IsStored (P.list proofs.new) (P.slots proofs.new) position.now to_move result }
+    ensures stored { TellsStored (P.list proofs.new) (P.slots proofs.new) position.now to_move result }
     ensures missing { MissingFor (WasUnserved (P.list proofs.old) (P.list proofs.new)
         position.now to_move winner) result }
 {
@@ -141,7 +141,7 @@ pub(crate) fn fill_missing<P: Proofs, R: Wait>(
     ensures slots { P.slots proofs.new ≡ P.slots proofs.old }
     ensures over { P.over proofs.new ≡ P.over proofs.old }
     ensures seen { Extends (P.list proofs.new) (P.list proofs.old) }
-    ensures stored { IsStored (P.list proofs.new) (P.slots proofs.new) position.now to_move result }
+    ensures stored { TellsStored (P.list proofs.new) (P.slots proofs.new) position.now to_move result }
     ensures answered { IsAnswered result }
 {
     // The proof takes from here that the board of the entry's position is one.
@@ -178,7 +178,7 @@ pub(crate) fn fill_to<P: Proofs, R: Wait>(
     ensures over { P.over proofs.new ≡ P.over proofs.old }
     ensures seen { Extends (P.list proofs.new) (P.list proofs.old) }
     ensures stored { IfSome result
-        (IsStored (P.list proofs.new) (P.slots proofs.new) position.now to_move) }
+        (TellsStored (P.list proofs.new) (P.slots proofs.new) position.now to_move) }
     ensures answered { IfSome result IsAnswered }
     ensures wrong { IfNone result
         (¬ LeadTo position.now wider.now.found.winner steps wider.now.position) }

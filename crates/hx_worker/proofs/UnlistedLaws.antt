@@ -4,8 +4,8 @@ use Rattle.hx_board.specs.declared.colours.Colour.{Colour}
 use Rattle.hx_board.specs.Positions.{Board}
 use Rattle.hx_tree.specs.declared.nodes.Node.{Node}
 use Rattle.hx_tree.specs.Entries.{Extends}
-use Rattle.hx_tree.proofs.EntryLaws.{extends-itself, extends-on}
-use Rattle.hx_book.specs.EitherEntry.{WasMissed, IsNeitherFound}
+use Rattle.hx_tree.proofs.EntryLaws.{seen-now, seen-within}
+use Rattle.hx_book.specs.EitherEntry.{IsNeitherFound}
 use Rattle.hx_worker.specs.Ends.{WasUnlisted}
 
 pub neither-unlisted : (old new : List Node) (board : Board) (mover : Colour) → Extends new old → IsNeitherFound old new board mover → WasUnlisted old new board mover
@@ -13,23 +13,14 @@ neither-unlisted old new board mover grown neither = record {
   missed = neither.missed;
   turned = neither.turned;
   is_turned = neither.is_turned;
-  turned_missed = record { seen = new; after_old = grown; before_new = extends-itself new; none = neither.none };
-}
-
-missed-wider : (first old new last : List Node) (board : Board) (mover : Colour) → Extends old first → Extends last new → WasMissed old new board mover
-    → WasMissed first last board mover
-missed-wider first old new last board mover before after missed = record {
-  seen = missed.seen;
-  after_old = extends-on first old missed.seen before missed.after_old;
-  before_new = extends-on missed.seen new last missed.before_new after;
-  none = missed.none;
+  turned_missed = seen-now _ old new grown neither.none;
 }
 
 pub unlisted-wider : (first old new last : List Node) (board : Board) (mover : Colour) → Extends old first → Extends last new → WasUnlisted old new board mover
     → WasUnlisted first last board mover
 unlisted-wider first old new last board mover before after unlisted = record {
-  missed = missed-wider first old new last board mover before after unlisted.missed;
+  missed = seen-within _ first old new last before after unlisted.missed;
   turned = unlisted.turned;
   is_turned = unlisted.is_turned;
-  turned_missed = missed-wider first old new last unlisted.turned mover before after unlisted.turned_missed;
+  turned_missed = seen-within _ first old new last before after unlisted.turned_missed;
 }

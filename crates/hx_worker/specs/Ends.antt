@@ -2,7 +2,7 @@
 use Rattle.std.specs.Prelude.{◌≡◌, ℕ, List, length, ◌⊎◌}
 use Rattle.hx_board.specs.declared.colours.Colour.{Colour}
 use Rattle.hx_board.specs.Positions.{Board}
-use Rattle.hx_board.specs.Graph.{HasChain}
+use Rattle.hx_board.specs.Graph.{HasNoChain}
 use Rattle.hx_tree.specs.declared.nodes.Node.{Node}
 use Rattle.hx_tree.specs.Entries.{IsFirstFound}
 use Rattle.hx_turn.specs.Turned.{IsTurned}
@@ -47,10 +47,6 @@ pub record WasUnlisted (old new : List Node) (board : Board) (mover : Colour) : 
   pub turned : Board
   pub is_turned : IsTurned board turned
   pub turned_missed : WasMissed old new turned mover
-
--- neither player has a chain
-abbrev pub HasNoChain : Board → Type 0
-HasNoChain board = (player : Colour) → HasChain board player → ⊥
 
 -- the position is decided neither by a chain nor by the links of the sets, which were closed as far as that goes
 pub record IsTried (board : Board) (mover : Colour) (black white : Standing) : Type 0 where

@@ -3,7 +3,7 @@
 ghost use Rattle.std.specs.Prelude.{◌≡◌, IfSome, IsSome};
 ghost use Rattle.hx_count.specs.Seats.{Seat};
 ghost use Rattle.hx_tree.specs.Entries.{Extends};
-ghost use Rattle.hx_nodes.specs.Stored.{HasEntry, IsStored, IsAnswered};
+ghost use Rattle.hx_nodes.specs.Stored.{HasEntry, TellsStored, IsAnswered};
 ghost use Rattle.hx_worker.specs.Ends.{IsEnded, EndsSpent};
 
 use hx_board::{Colour, Position};
@@ -61,7 +61,7 @@ pub(crate) fn ended_by<P: Proofs, R: Wait>(
     to_move: Colour,
     stored: Stored,
 ) -> Ended
-    requires stored { IsStored (P.list proofs.old) (P.slots proofs.old) position.now to_move
+    requires stored { TellsStored (P.list proofs.old) (P.slots proofs.old) position.now to_move
         stored }
     requires answered { IsAnswered stored }
     ensures slots { P.slots proofs.new ≡ P.slots proofs.old }

@@ -72,7 +72,8 @@ pub fn work<P: Proofs, G: Gate, R: Wait>(rt: &R, job: &mut Job<'_, P>, gate: &G)
     ensures tried { EndsSpent result → (own job.old.seat).granted < (own job.new.seat).granted
         → IsTried job.old.position job.old.to_move job.new.black job.new.white }
     ensures unlisted { EndsSpent result → (own job.old.seat).granted < (own job.new.seat).granted
-        → WasUnlisted (P.list job.old.proofs) (P.list job.new.proofs) job.old.position job.old.to_move }
+        → WasUnlisted (P.list job.old.proofs) (P.list job.new.proofs)
+        job.old.position job.old.to_move }
 {
     let worker = Worker {
         number: job.worker,

@@ -2,7 +2,7 @@
 //! wanting.
 
 ghost use Rattle.std.specs.Prelude.{◌≡◌, ◌+◌, ◌<◌, IfSome};
-ghost use Rattle.hx_board.specs.Positions.{Board};
+ghost use Rattle.hx_count.specs.declared.events.TheConstants.{MOST_HELD};
 ghost use Rattle.hx_count.specs.Machine.{held_in_all};
 ghost use Rattle.hx_count.specs.Seats.{Seat, own as own_account};
 ghost use Rattle.hx_tree.specs.Entries.{Extends};
@@ -75,7 +75,7 @@ fn round<P: Proofs, G: Gate, R: Wait>(
 ) -> Option<Ended>
     requires seat { seat.old.made ≡ worker.now.counts.now }
     requires words { worker.now.counts.now.limits.words ≡ LOSS_WORDS }
-    requires room { held_in_all (own_account seat.old) + DEPTH < 1024 }
+    requires room { held_in_all (own_account seat.old) + DEPTH < MOST_HELD }
     ensures slots { P.slots proofs.new ≡ P.slots proofs.old }
     ensures over { P.over proofs.new ≡ P.over proofs.old }
     ensures seen { Extends (P.list proofs.new) (P.list proofs.old) }
@@ -116,7 +116,7 @@ fn rounds<P: Proofs, G: Gate, R: Wait>(
 ) -> Ended
     requires seat { seat.old.made ≡ worker.now.counts.now }
     requires words { worker.now.counts.now.limits.words ≡ LOSS_WORDS }
-    requires room { held_in_all (own_account seat.old) + DEPTH < 1024 }
+    requires room { held_in_all (own_account seat.old) + DEPTH < MOST_HELD }
     ensures slots { P.slots proofs.new ≡ P.slots proofs.old }
     ensures over { P.over proofs.new ≡ P.over proofs.old }
     ensures seen { Extends (P.list proofs.new) (P.list proofs.old) }
@@ -144,7 +144,7 @@ pub(crate) fn search<P: Proofs, G: Gate, R: Wait>(
 ) -> Ended
     requires seat { seat.old.made ≡ worker.now.counts.now }
     requires words { worker.now.counts.now.limits.words ≡ LOSS_WORDS }
-    requires room { held_in_all (own_account seat.old) + DEPTH < 1024 }
+    requires room { held_in_all (own_account seat.old) + DEPTH < MOST_HELD }
     ensures slots { P.slots proofs.new ≡ P.slots proofs.old }
     ensures over { P.over proofs.new ≡ P.over proofs.old }
     ensures seen { Extends (P.list proofs.new) (P.list proofs.old) }

@@ -5,6 +5,7 @@
 //! takes back all that it put, and releases all that it held.
 
 ghost use Rattle.std.specs.Prelude.{◌≡◌, ◌+◌, ◌<◌};
+ghost use Rattle.hx_count.specs.declared.events.TheConstants.{MOST_HELD};
 ghost use Rattle.hx_count.specs.Machine.{held_in_all};
 ghost use Rattle.hx_count.specs.Seats.{Seat, own as own_account};
 ghost use Rattle.hx_tree.specs.Entries.{Extends};
@@ -46,7 +47,7 @@ fn turn<P: Proofs, G: Gate, R: Wait>(
 ) -> Outcome
     requires seat { seat.old.made ≡ worker.now.counts.now }
     requires words { worker.now.counts.now.limits.words ≡ LOSS_WORDS }
-    requires room { held_in_all (own_account seat.old) + depth < 1024 }
+    requires room { held_in_all (own_account seat.old) + depth < MOST_HELD }
     ensures slots { P.slots proofs.new ≡ P.slots proofs.old }
     ensures over { P.over proofs.new ≡ P.over proofs.old }
     ensures seen { Extends (P.list proofs.new) (P.list proofs.old) }
@@ -78,7 +79,7 @@ pub(crate) fn visit<P: Proofs, G: Gate, R: Wait>(
 ) -> Outcome
     requires seat { seat.old.made ≡ worker.now.counts.now }
     requires words { worker.now.counts.now.limits.words ≡ LOSS_WORDS }
-    requires room { held_in_all (own_account seat.old) + depth < 1024 }
+    requires room { held_in_all (own_account seat.old) + depth < MOST_HELD }
     ensures slots { P.slots proofs.new ≡ P.slots proofs.old }
     ensures over { P.over proofs.new ≡ P.over proofs.old }
     ensures seen { Extends (P.list proofs.new) (P.list proofs.old) }
@@ -121,7 +122,7 @@ fn with_own<P: Proofs, G: Gate, R: Wait>(
 ) -> Outcome
     requires seat { seat.old.made ≡ worker.now.counts.now }
     requires words { worker.now.counts.now.limits.words ≡ LOSS_WORDS }
-    requires room { held_in_all (own_account seat.old) + depth < 1024 }
+    requires room { held_in_all (own_account seat.old) + depth < MOST_HELD }
     ensures slots { P.slots proofs.new ≡ P.slots proofs.old }
     ensures over { P.over proofs.new ≡ P.over proofs.old }
     ensures seen { Extends (P.list proofs.new) (P.list proofs.old) }
@@ -166,7 +167,7 @@ fn with_others<P: Proofs, G: Gate, R: Wait>(
 ) -> Outcome
     requires seat { seat.old.made ≡ worker.now.counts.now }
     requires words { worker.now.counts.now.limits.words ≡ LOSS_WORDS }
-    requires room { held_in_all (own_account seat.old) + depth < 1024 }
+    requires room { held_in_all (own_account seat.old) + depth < MOST_HELD }
     ensures slots { P.slots proofs.new ≡ P.slots proofs.old }
     ensures over { P.over proofs.new ≡ P.over proofs.old }
     ensures seen { Extends (P.list proofs.new) (P.list proofs.old) }
@@ -211,7 +212,7 @@ fn expand<P: Proofs, G: Gate, R: Wait>(
 ) -> Outcome
     requires seat { seat.old.made ≡ worker.now.counts.now }
     requires words { worker.now.counts.now.limits.words ≡ LOSS_WORDS }
-    requires room { held_in_all (own_account seat.old) + depth < 1024 }
+    requires room { held_in_all (own_account seat.old) + depth < MOST_HELD }
     ensures slots { P.slots proofs.new ≡ P.slots proofs.old }
     ensures over { P.over proofs.new ≡ P.over proofs.old }
     ensures seen { Extends (P.list proofs.new) (P.list proofs.old) }
@@ -278,7 +279,7 @@ fn descend<P: Proofs, G: Gate, R: Wait>(
 ) -> Outcome
     requires seat { seat.old.made ≡ worker.now.counts.now }
     requires words { worker.now.counts.now.limits.words ≡ LOSS_WORDS }
-    requires room { held_in_all (own_account seat.old) + depth < 1024 }
+    requires room { held_in_all (own_account seat.old) + depth < MOST_HELD }
     ensures slots { P.slots proofs.new ≡ P.slots proofs.old }
     ensures over { P.over proofs.new ≡ P.over proofs.old }
     ensures seen { Extends (P.list proofs.new) (P.list proofs.old) }

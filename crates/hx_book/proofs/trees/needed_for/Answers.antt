@@ -1,7 +1,8 @@
-use Rattle.std.proofs.Common.{◌≡◌, ◌<◌, ◌+◌, ◌-◌, ℕ, length, sym, ◌∙◌, subst, Some, false, arith}
+use Rattle.std.proofs.Common.{◌≡◌, ◌<◌, ◌+◌, ◌-◌, ℕ, length, sym, ◌∙◌, subst, Some, false, arith, refl}
+use Rattle.std.proofs.lemmas.Option.{slice_get_read}
 use Rattle.std.specs.Prelude.{slice_get}
 use Rattle.std.proofs.lemmas.Bool.{false≢true}
-use Rattle.hx_board.proofs.ListLaws.{read-get, read-or}
+use Rattle.hx_board.proofs.ListLaws.{read-or}
 use Rattle.hx_tree.specs.declared.nodes.Node.{Node}
 use Rattle.hx_book.specs.Trees.{Names}
 use Rattle.hx_book.specs.Renaming.{IsMarked, MarksMore, AreMarkedFrom}
@@ -23,7 +24,7 @@ loop-bound-preserved-then-index c =
     let inside_marks : c.loop-bound.bound - 1 < length c.loop-bound.marks.items = omega (arith, inside, c.loop-bound.invariant.marked.long) in
     let here : IsMarked c.loop-bound.marks.items (c.loop-bound.bound - 1) = read-or c.loop-bound.marks.items (c.loop-bound.bound - 1) c.index.result.now false inside_marks c.index.ensures ∙ c.if-index.true in
     let there : slice_get c.args.nodes.now (c.loop-bound.bound - 1) ≡ Some c.index-nodes-bound.result =
-    read-get c.args.nodes.now (c.loop-bound.bound - 1) c.index-nodes-bound.result inside c.index-nodes-bound.is in
+    slice_get_read c.args.nodes.now _ (c.loop-bound.bound - 1) c.index-nodes-bound.result refl inside c.index-nodes-bound.is in
     let more : MarksMore (Names c.index-nodes-bound.result.rule) c.loop-bound.marks.items c.mark_children.new.marks.items =
     subst (λ (n : Node). MarksMore (Names n.rule) c.loop-bound.marks.items c.mark_children.new.marks.items) (sym c.index-nodes-bound.is) c.mark_children.ensures in
     record {

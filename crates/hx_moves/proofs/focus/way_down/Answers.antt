@@ -1,5 +1,5 @@
 use Rattle.std.proofs.Common.{refl, rules}
-use Rattle.hx_board.proofs.ListLaws.{read-get}
+use Rattle.std.proofs.lemmas.Option.{slice_get_read}
 use Rattle.hx_moves.proofs.focus.way_down.Goals as goal
 
 pub returns-in_default : goal.returns-in_default
@@ -7,7 +7,7 @@ returns-in_default c = (c.args.place, c.index-child.result.now, c.requires.place
 
 pub returns : goal.returns
 returns c = record {
-  there = read-get _ _ _ c.requires.place c.index-child.ensures;
+  there = slice_get_read _ _ _ _ refl c.requires.place c.index-child.ensures;
   empty = search rules;
   next = search rules;
   mover = search rules;

@@ -3,8 +3,9 @@ use Rattle.hx_board.specs.Colours.{other_of}
 use Rattle.hx_board.specs.Positions.{put}
 use Rattle.hx_tree.specs.Entries.{HasNoEntry, IsFirstFound}
 use Rattle.hx_nodes.proofs.CellLines.{line_by_better, line_by_child}
-use Rattle.hx_nodes.proofs.FoundEntries.{found-heading, other-no_win, not_won-now}
+use Rattle.hx_nodes.proofs.FoundEntries.{found-heading, other-no_win}
 use Rattle.hx_nodes.proofs.lines.line_for.Goals as goal
+use Rattle.hx_tree.proofs.EntryLaws.{seen-now}
 
 pub returns-in-Some-clause-line : goal.returns-in-Some-clause-line
 returns-in-Some-clause-line g c = line_by_better _ _ _ _ _ c.requires.under c.in-Some.ensures.0 c.in-Some.ensures.1
@@ -14,7 +15,7 @@ returns-in_default-look-clause-line g c =
     let none : HasNoEntry (g.P.Proofs.list c.look.new.self) c.with-next.result c.args.winner = c.in_default-look.ensures.found in
     record {
       no_line = c.in_default.ensures;
-      lacks = not_won-now _ _ _ _ _ c.look.ensures.seen (inl (rw (c.with-next.ensures, c.other.ensures) at none));
+      lacks = seen-now _ _ _ c.look.ensures.seen (inl (rw (c.with-next.ensures, c.other.ensures) at none));
     }
 
 pub returns-then-ne-clause-line : goal.returns-then-ne-clause-line
@@ -23,7 +24,7 @@ returns-then-ne-clause-line g c =
     let differs : c.in-Some-look.found.winner ≢ c.args.winner = search rules in
     record {
       no_line = c.in_default.ensures;
-      lacks = not_won-now _ _ _ _ _ c.look.ensures.seen (other-no_win _ _ _ _ c.in-Some-look.found (rw (c.with-next.ensures, c.other.ensures) at is) differs);
+      lacks = seen-now _ _ _ c.look.ensures.seen (other-no_win _ _ _ _ c.in-Some-look.found (rw (c.with-next.ensures, c.other.ensures) at is) differs);
     }
 
 pub returns-clause-line : goal.returns-clause-line

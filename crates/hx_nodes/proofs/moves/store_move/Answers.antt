@@ -1,19 +1,20 @@
 use Rattle.std.proofs.Common.{rules, ◌≡◌, ◌≢◌, inl}
 use Rattle.hx_tree.specs.Entries.{HasNoEntry, IsFirstFound}
-use Rattle.hx_nodes.proofs.FoundEntries.{other-no_win, not_won-now}
+use Rattle.hx_nodes.proofs.FoundEntries.{other-no_win}
 use Rattle.hx_nodes.proofs.MoveNodes.{move_right}
 use Rattle.hx_nodes.proofs.moves.store_move.Goals as goal
+use Rattle.hx_tree.proofs.EntryLaws.{seen-now}
 
 pub returns-in_default-clause-missing : goal.returns-in_default-clause-missing
 returns-in_default-clause-missing g c =
     let none : HasNoEntry (g.P.Proofs.list c.look.new.self) c.with-next.result c.other.result = c.in_default.ensures.found in
-    not_won-now _ _ _ _ _ c.look.ensures.seen (inl (rw (c.with-next.ensures, c.other.ensures) at none))
+    seen-now _ _ _ c.look.ensures.seen (inl (rw (c.with-next.ensures, c.other.ensures) at none))
 
 pub returns-then-ne-clause-missing : goal.returns-then-ne-clause-missing
 returns-then-ne-clause-missing g c =
     let is : IsFirstFound (g.P.Proofs.list c.look.new.self) c.with-next.result c.other.result c.in-Some.found = c.in-Some.ensures.found in
     let differs : c.in-Some.found.winner ≢ c.args.to_move = search rules in
-    not_won-now _ _ _ _ _ c.look.ensures.seen (other-no_win _ _ _ _ c.in-Some.found (rw (c.with-next.ensures, c.other.ensures) at is) differs)
+    seen-now _ _ _ c.look.ensures.seen (other-no_win _ _ _ _ c.in-Some.found (rw (c.with-next.ensures, c.other.ensures) at is) differs)
 
 pub store-requires : goal.store-requires
 store-requires g c =

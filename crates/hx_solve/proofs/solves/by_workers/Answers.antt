@@ -1,6 +1,6 @@
 use Rattle.std.proofs.Common.{◌<◌, arith}
 use Rattle.std.proofs.lemmas.Result.{IfErr-weaker, IfOk-weaker}
-use Rattle.hx_worker.specs.Ends.{HasNoChain}
+use Rattle.hx_board.specs.Graph.{HasNoChain}
 use Rattle.hx_solve.specs.Solutions.{IsSolution}
 use Rattle.hx_solve.specs.Causes.{LacksUnit}
 use Rattle.hx_solve.specs.Searches.{IsTreeFrom, SaysWhy}

@@ -1,4 +1,4 @@
-use Rattle.std.proofs.Common.{ℕ, zero, suc, ◌<◌, List, [], ◌∷◌, slice_index_or, arith}
+use Rattle.std.proofs.Common.{ℕ, zero, suc, ◌<◌, [], ◌∷◌, slice_index_or, arith}
 use Rattle.hx_pn.specs.declared.proof_numbers.Numbers.{Numbers}
 use Rattle.hx_pn.specs.Numbers.{IsNumbers}
 use Rattle.hx_trials_books.proofs.numbers.compare.Goals as goal

@@ -5,7 +5,7 @@ use Rattle.hx_board.proofs.CellLaws.{on_board-small}
 use Rattle.hx_board.proofs.SetLaws.{has-remove_before}
 use Rattle.hx_board.proofs.Tallies.{count_below-remove}
 use Rattle.hx_tree.proofs.EntryLaws.{extends-on}
-use Rattle.hx_wide.specs.Inner.{IsTried}
+use Rattle.hx_wide.specs.Inner.{IsListedOrUnserved}
 use Rattle.hx_wide.proofs.CellsTried.{one_tried-more}
 use Rattle.hx_wide.proofs.answers.store_each.Goals as goal
 
@@ -25,7 +25,7 @@ loop-cell-preserved g c =
     let old = g.P.Proofs.list c.loop-cell.proofs in
     let new = g.P.Proofs.list c.store_next.new.proofs in
     let next : ℕ → Board = λ cell. put c.args.position.now (other_of c.args.winner) cell in
-    let tried : IsTried old new c.with-next.result c.args.winner = c.in_default-store_next.ensures.tried in
+    let tried : IsListedOrUnserved old new c.with-next.result c.args.winner = c.in_default-store_next.ensures.tried in
     record {
       slots = c.store_next.ensures.slots ∙ before.slots;
       over = c.store_next.ensures.over ∙ before.over;

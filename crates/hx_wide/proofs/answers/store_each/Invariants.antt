@@ -3,7 +3,7 @@ use Rattle.hx_board.specs.Colours.{other_of}
 use Rattle.hx_board.specs.Positions.{put}
 use Rattle.hx_board.specs.Sets.{has, count_below, IsSubset}
 use Rattle.hx_tree.specs.Entries.{Extends}
-use Rattle.hx_wide.specs.Inner.{IsTried}
+use Rattle.hx_wide.specs.Inner.{IsListedOrUnserved}
 use Rattle.hx_wide.proofs.answers.store_each.Given as goal
 
 abbrev pub invariant-loop-cell : goal.invariant-loop-cell
@@ -13,7 +13,7 @@ invariant-loop-cell g l = record {
   seen : Extends (g.P.Proofs.list l.proofs) (g.P.Proofs.list l.fn.proofs);
   inside : IsSubset l.left l.fn.cells;
   tried : (cell : ℕ) → has l.fn.cells cell ≡ true → has l.left cell ≡ false
-      → IsTried (g.P.Proofs.list l.fn.proofs) (g.P.Proofs.list l.proofs) (put l.fn.position (other_of l.fn.winner) cell) l.fn.winner;
+      → IsListedOrUnserved (g.P.Proofs.list l.fn.proofs) (g.P.Proofs.list l.proofs) (put l.fn.position (other_of l.fn.winner) cell) l.fn.winner;
 }
 
 abbrev pub decreases-loop-cell : goal.decreases-loop-cell

@@ -5,9 +5,9 @@ use Rattle.hx_tree.specs.Entries.{Extends}
 use Rattle.hx_nodes.specs.Missing.{LacksMove}
 use Rattle.hx_nodes.specs.Stored.{HasEntry}
 use Rattle.hx_wide.specs.Missing.{WasUnserved, LacksServedMove}
-use Rattle.hx_tree.proofs.EntryLaws.{extends-itself, extends-on}
+use Rattle.hx_tree.proofs.EntryLaws.{extends-itself, extends-on, seen-within}
 use Rattle.hx_nodes.proofs.GrowingLists.{missing-too}
-use Rattle.hx_wide.proofs.LackingLaws.{unserved-within, lost-since}
+use Rattle.hx_wide.proofs.LackingLaws.{lost-since}
 use Rattle.hx_wide.proofs.WideLaws.{stored_wide}
 use Rattle.hx_wide.proofs.moves.widen_move.Goals as goal
 
@@ -37,7 +37,7 @@ returns-in-Missing-clause-missing g c =
     let new = g.P.Proofs.list c.store_wider.new.proofs in
     let grown : Extends ended old = extends-on old wide ended c.move_wide-tried.ensures.seen c.end_of.ensures.seen in
     let was : WasUnserved ended new c.with-next.result c.other.result c.args.to_move = c.in-Missing.ensures.missing in
-    inl (unserved-within old ended new new _ _ _ grown (extends-itself new) (rw (c.with-next.ensures, c.other.ensures) at was))
+    inl (seen-within _ old ended new new grown (extends-itself new) (rw (c.with-next.ensures, c.other.ensures) at was))
 
 pub returns-in-Some-clause-seen : goal.returns-in-Some-clause-seen
 returns-in-Some-clause-seen g c = extends-on _ _ _ c.move_wide-tried.ensures.seen c.end_of.ensures.seen

@@ -1,7 +1,6 @@
-use Rattle.hx_tree.proofs.EntryLaws.{extends-itself, extends-on}
+use Rattle.hx_tree.proofs.EntryLaws.{extends-itself, extends-on, seen-within}
 use Rattle.hx_nodes.proofs.GrowingLists.{missing-too}
 use Rattle.hx_wide.specs.Missing.{WasUnserved}
-use Rattle.hx_wide.proofs.LackingLaws.{unserved-within}
 use Rattle.hx_wide.proofs.roots.store_root.Goals as goal
 
 pub returns-clause-seen : goal.returns-clause-seen
@@ -14,5 +13,5 @@ returns-clause-missing g c =
     let new = g.P.Proofs.list c.store_wider.new.proofs in
     let board = c.args.position.now in
     missing-too (WasUnserved mid new board c.args.to_move c.args.winner) (WasUnserved old new board c.args.to_move c.args.winner) c.store_wider.result
-    (unserved-within old mid new new board c.args.to_move c.args.winner c.by_some_move-stored.ensures.seen (extends-itself new))
+    (seen-within _ old mid new new c.by_some_move-stored.ensures.seen (extends-itself new))
     c.store_wider.ensures.missing

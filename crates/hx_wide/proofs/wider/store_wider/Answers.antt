@@ -1,8 +1,7 @@
 use Rattle.std.proofs.Common.{sym, subst}
 use Rattle.hx_board.specs.declared.colours.Colour.{Colour}
 use Rattle.hx_book.specs.WiderEntry.{IsWiderFound}
-use Rattle.hx_tree.proofs.EntryLaws.{extends-on}
-use Rattle.hx_wide.proofs.LackingLaws.{unserved-now}
+use Rattle.hx_tree.proofs.EntryLaws.{extends-on, seen-now}
 use Rattle.hx_wide.proofs.wider.store_wider.Goals as goal
 
 pub fill_missing-requires : goal.fill_missing-requires
@@ -14,7 +13,7 @@ fill_missing-requires g c =
 
 pub returns-in-None-clause-missing : goal.returns-in-None-clause-missing
 returns-in-None-clause-missing g c =
-    unserved-now _ _ _ _ _ (extends-on _ _ _ c.look.ensures.seen c.look_wider.ensures.seen) c.in-None.ensures.found
+    seen-now _ _ _ (extends-on _ _ _ c.look.ensures.seen c.look_wider.ensures.seen) c.in-None.ensures.found
 
 pub returns-in-Some-look_wider-clause-seen : goal.returns-in-Some-look_wider-clause-seen
 returns-in-Some-look_wider-clause-seen g c =

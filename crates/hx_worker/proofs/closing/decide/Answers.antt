@@ -1,12 +1,11 @@
-use Rattle.hx_board.specs.declared.colours.Colour.{Colour}
 use Rattle.hx_board.specs.declared.colours.Colour.TheVariants.{Black, White}
 use Rattle.hx_board.specs.Positions.{Board}
-use Rattle.hx_board.specs.Graph.{HasChain}
+use Rattle.hx_board.specs.Graph.{HasChain, HasNoChain}
 use Rattle.hx_tree.proofs.EntryLaws.{extends-itself, extends-on}
 use Rattle.hx_worker.proofs.UnlistedLaws.{unlisted-wider}
 use Rattle.hx_worker.proofs.closing.decide.Goals as goal
 
-no-chains : (board : Board) → (HasChain board Black → ⊥) → (HasChain board White → ⊥) → (player : Colour) → HasChain board player → ⊥
+no-chains : (board : Board) → (HasChain board Black → ⊥) → (HasChain board White → ⊥) → HasNoChain board
 no-chains board black white Black = black
 no-chains board black white White = white
 

@@ -1,7 +1,7 @@
 use Rattle.std.proofs.Common.{◌≡◌, ℕ, ◌<◌, true, length, sym, ap, ◌∙◌}
-use Rattle.std.proofs.lemmas.Bool.{false≢true}
+use Rattle.std.proofs.lemmas.Bool.{false≢true, false_from_ne_true}
 use Rattle.hx_board.specs.Sets.{has, remove, difference}
-use Rattle.hx_board.proofs.SetLaws.{has-remove_before, has-difference_left, has-intersection_left, removed, is_false}
+use Rattle.hx_board.proofs.SetLaws.{has-remove_before, has-difference_left, has-intersection_left, removed}
 use Rattle.hx_board.proofs.GroupLaws.{read-is}
 use Rattle.hx_fill.proofs.TurnLaws.{killed_possible}
 use Rattle.hx_fill.proofs.unders.Sieve.take_turn.Goals as goal
@@ -17,7 +17,7 @@ kill_all-killed-requires c =
       cells = λ n h. c.requires.cells n (has-difference_left c.args.self.now.without_line c.args.self.now.betters n
           (has-remove_before (difference c.args.self.now.without_line c.args.self.now.betters) c.args.better n (inside n h)));
       better = c.requires.cells c.args.better c.requires.better;
-      differ = is_false _ (λ h. false≢true (sym (removed (difference c.args.self.now.without_line c.args.self.now.betters) c.args.better) ∙ inside c.args.better h));
+      differ = false_from_ne_true _ (λ h. false≢true (sym (removed (difference c.args.self.now.without_line c.args.self.now.betters) c.args.better) ∙ inside c.args.better h));
     }
 
 pub returns-clause-takes : goal.returns-clause-takes

@@ -1,12 +1,13 @@
-use Rattle.std.proofs.Common.{◌≡◌, ◌∷◌, ◌++◌, [], ap, sym, ◌∙◌, arith, append_assoc}
+use Rattle.std.proofs.Common.{◌≡◌, ◌∷◌, ◌++◌, [], ap, sym, ◌∙◌, arith, append_assoc, Some}
+use Rattle.std.proofs.lemmas.List.Elements.{All-pop}
 use Rattle.hx_share.proofs.Keeps.{joins-keep}
-use Rattle.hx_share.proofs.ReaderLaws.{front-all, last-all, joined-parts}
+use Rattle.hx_share.proofs.ReaderLaws.{joined-parts}
 use Rattle.hx_share.proofs.shared.Shared.gather.Goals as goal
 
 pub join_seat-requires : goal.join_seat-requires
 join_seat-requires c =
     let i = c.loop-other.invariant in let table = ap (λ w. w.made.table) c.self.view_is in let other = c.in-Some-pop.other in let v = c.into_seat.ensures in
-    let of : other.made ≡ c.args.self.now.made = last-all (λ s. s.made ≡ c.args.self.now.made) _ other _ c.in-Some-pop.ensures.items i.left in (
+    let of : other.made ≡ c.args.self.now.made = (All-pop (λ s. s.made ≡ c.args.self.now.made) _ _ (Some other) c.in-Some-pop.ensures.items i.left).1 in (
       i.table ∙ sym table,
       v.table ∙ (ap (λ m. m.table) of ∙ sym table),
       ap (λ m. m.1) v.part,
@@ -18,7 +19,7 @@ pub loop-other-preserved : goal.loop-other-preserved
 loop-other-preserved c =
     let i = c.loop-other.invariant in let other = c.in-Some-pop.other in let t = i.parts in let e = c.in-Some-pop.ensures.items in record {
       table = c.join_seat.ensures.0 ∙ i.table;
-      left = front-all (λ s. s.made ≡ c.args.self.now.made) _ other _ e i.left;
+      left = (All-pop (λ s. s.made ≡ c.args.self.now.made) _ _ (Some other) e i.left).0;
       parts = (
         other ∷ t.0,
         t.1 ∙ (ap (λ l. l ++ t.0) e ∙ append_assoc c.pop-in-loop-other.new.self.items (other ∷ []) t.0),

@@ -1,0 +1,17 @@
+//! What workers share, in one thread and in many: a book of proofs, counts, and hints.
+//!
+//! The contracts say what each call answers where it returns. They do not say that memory suffices where it is ample, nor that
+//! threads which step at the same time all come to an end. So each call is made here once, and threads step until a book is full
+//! or the units are spent. The tests stand in a crate of their own, so that hx_share and hx_count are proved once.
+#![tactic(auto)]
+
+#[cfg(test)]
+mod counts;
+#[cfg(test)]
+mod hints;
+#[cfg(test)]
+mod made;
+#[cfg(test)]
+mod shared_books;
+#[cfg(test)]
+mod told_seats;
