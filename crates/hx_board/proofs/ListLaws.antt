@@ -1,19 +1,17 @@
 -- The laws of lists that the crates above share: what is read at a place, and a list with one element more.
 use Rattle.std.proofs.Common.{◌≡◌, ℕ, zero, suc, ◌+◌, ◌<◌, List, [], ◌∷◌, ◌++◌, length, take, get_or, refl, sym, ap, ◌∙◌, subst, Some, None, ◌⊎◌, inl, inr, ⊎_elim, arith}
-use Rattle.std.specs.Prelude.{Option, IfSome, Contains, map, slice_get, slice_index}
+use Rattle.std.specs.Prelude.{Option, IfSome, Contains, map, slice_get, slice_index, IsSomeAnd, option_map}
 use Rattle.std.proofs.lemmas.List.{take_more}
-use Rattle.std.proofs.lemmas.Option.{slice_get-get_or}
+use Rattle.std.proofs.lemmas.Option.{slice_get-get_or, slice_get-map}
 use Rattle.std.proofs.lemmas.List.Elements.{Contains-push_cases}
-
-pub same_some : {A : Type 0} → (x y : A) → Some x ≡ Some y → x ≡ y
-same_some x y e = cc
 
 -- ---- what is read at a place
 
-pub get-lt : {A : Type 0} → (xs : List A) (place : ℕ) (x : A) → slice_get xs place ≡ Some x → place < length xs
-get-lt [] place x e = cc
-get-lt (y ∷ ys) zero x e = omega arith
-get-lt (y ∷ ys) (suc place) x e = omega (arith, get-lt ys place x e)
+-- a place at which something holds of what is there is inside the list
+pub holds-inside : {A : Type 0} → (P : A → Type 0) (xs : List A) (place : ℕ) → IsSomeAnd (slice_get xs place) P → place < length xs
+holds-inside P [] place there = absurd there
+holds-inside P (y ∷ ys) zero there = omega arith
+holds-inside P (y ∷ ys) (suc place) there = omega (arith, holds-inside P ys place there)
 
 pub get-there : {A : Type 0} → (xs : List A) (place : ℕ) → place < length xs → (x : A) × (slice_get xs place ≡ Some x)
 get-there [] place inside = absurd (omega arith)
@@ -31,14 +29,10 @@ read-or (y ∷ ys) zero x other inside read = sym read
 read-or (y ∷ ys) (suc place) x other inside read = read-or ys place x other (omega arith) read
 
 pub get-map : {A B : Type 0} → (f : A → B) (xs : List A) (place : ℕ) (x : A) → slice_get xs place ≡ Some x → slice_get (map f xs) place ≡ Some (f x)
-get-map f [] place x e = cc
-get-map f (y ∷ ys) zero x e = cc
-get-map f (y ∷ ys) (suc place) x e = get-map f ys place x e
+get-map f xs place x e = slice_get-map f xs place ∙ ap (option_map f) e
 
 pub get-map_none : {A B : Type 0} → (f : A → B) (xs : List A) (place : ℕ) → slice_get xs place ≡ None → slice_get (map f xs) place ≡ None
-get-map_none f [] place e = refl
-get-map_none f (y ∷ ys) zero e = cc
-get-map_none f (y ∷ ys) (suc place) e = get-map_none f ys place e
+get-map_none f xs place e = slice_get-map f xs place ∙ ap (option_map f) e
 
 -- what holds at each place holds of each element
 pub of_contained : {X : Type 0} (P : X → Type 0) (items : List X) (item : X) → ((k : ℕ) → IfSome (slice_get items k) P) → Contains items item → P item

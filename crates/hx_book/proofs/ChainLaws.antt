@@ -1,10 +1,9 @@
 -- The chain of a bucket, walked from its head: below the link that was reached stands what was not looked at yet. What is
 -- looked for is a property of nodes, and each node that has it is in the bucket.
 use Rattle.std.proofs.Common.{◌≡◌, ◌≢◌, ℕ, ◌-◌, ◌<◌, ◌≤◌, List, length, get_or, sym, ◌∙◌, subst, ⊎_elim, arith, Some, refl}
-use Rattle.std.proofs.lemmas.Option.{slice_get_read}
+use Rattle.std.proofs.lemmas.Option.{slice_get_read, slice_get_within, same_Some}
 use Rattle.std.specs.Prelude.{slice_get, slice_index}
 use Rattle.std.proofs.lemmas.Bool.{cases_lt, cases_eq}
-use Rattle.hx_board.proofs.ListLaws.{get-lt, same_some}
 use Rattle.hx_tree.specs.declared.nodes.Node.{Node}
 use Rattle.hx_book.specs.Chains.{IsIn, IsNewestBelow, AreChains}
 
@@ -18,7 +17,7 @@ pub record IsReached (key : Node → ℕ) (nodes : List Node) (bucket : ℕ) (Ha
 other-read : (nodes : List Node) (Has : Node → Type 0) (place : ℕ) (node : Node) → place < length nodes → node ≡ get_or nodes place node
     → (Has node → ⊥) → (there : Node) → slice_get nodes place ≡ Some there → Has there → ⊥
 other-read nodes Has place node inside read lacks there stands has =
-    let same : there ≡ node = same_some there node (sym stands ∙ slice_get_read nodes _ place node refl inside read) in
+    let same : there ≡ node = same_Some there node (sym stands ∙ slice_get_read nodes _ place node refl inside read) in
     lacks (subst Has same has)
 
 module _ (key : ℕ → Node → ℕ) (nodes : List Node) (heads next : List ℕ) (chains : AreChains key nodes heads next) (Has : Node → Type 0)
@@ -35,7 +34,7 @@ module _ (key : ℕ → Node → ℕ) (nodes : List Node) (heads next : List ℕ
       record {
         within = first.within;
         is_in = first.is_in;
-        none = λ place from node there has. first.newest place from (get-lt nodes place node there) (has-in place node there has);
+        none = λ place from node there has. first.newest place from (slice_get_within nodes place node there) (has-in place node there has);
       }
 
   module _ (link : ℕ) (some : link ≢ 0) (reached : IsReached own nodes bucket Has link) (node : Node) (node_read : node ≡ get_or nodes (link - 1) node) where

@@ -1,7 +1,8 @@
 -- A child of a right node stands before it, on a board of the same size.
 use Rattle.std.proofs.Common.{◌≡◌, ℕ, zero, suc, ◌<◌, List, [], ◌∷◌, take, refl, sym, ap, ◌∙◌, subst, Option, Some, None, arith}
+use Rattle.std.proofs.lemmas.Option.{same_Some}
 use Rattle.std.specs.Prelude.{slice_get, IsSomeAnd, IfSome}
-use Rattle.hx_board.proofs.ListLaws.{same_some, get-map}
+use Rattle.hx_board.proofs.ListLaws.{get-map}
 use Rattle.hx_board.specs.Cells.{Extent}
 use Rattle.hx_board.specs.declared.colours.Colour.{Colour}
 use Rattle.hx_board.specs.Positions.{Board, put}
@@ -102,10 +103,10 @@ leads-further nodes (step ∷ path) first last next leads child =
 pub needed-size : (nodes : List Node) → AreRight nodes → (path : List ℕ) (root place : ℕ) (top heading : Heading) → LeadsTo nodes root path place
     → slice_get (headings_of nodes) root ≡ Some top → slice_get (headings_of nodes) place ≡ Some heading → heading.position.size ≡ top.position.size
 needed-size nodes right [] root place top heading leads at_root at_place =
-    let same : top ≡ heading = same_some top heading (sym at_root ∙ ap (λ (p : ℕ). slice_get (headings_of nodes) p) leads ∙ at_place) in
+    let same : top ≡ heading = same_Some top heading (sym at_root ∙ ap (λ (p : ℕ). slice_get (headings_of nodes) p) leads ∙ at_place) in
     ap (λ (h : Heading). h.position.size) (sym same)
 needed-size nodes right (next ∷ path) root place top heading leads at_root at_place =
     let step : HasChildAt nodes root next = leads.0 in
     let size : HasSize (headings_of nodes) step.node.heading.position.size next = child-size nodes right root step.node step.there next step.names in
-    let same : step.node.heading ≡ top = same_some step.node.heading top (sym (get-map (λ (n : Node). n.heading) nodes root step.node step.there) ∙ at_root) in
+    let same : step.node.heading ≡ top = same_Some step.node.heading top (sym (get-map (λ (n : Node). n.heading) nodes root step.node step.there) ∙ at_root) in
     needed-size nodes right path next place size.heading heading leads.1 size.there at_place ∙ size.same_size ∙ ap (λ (h : Heading). h.position.size) same

@@ -4,7 +4,8 @@ use Rattle.std.proofs.Common.{◌≡◌, ◌≢◌, ℕ, zero, suc, ◌+◌, ◌
 use Rattle.std.specs.Prelude.{slice_index}
 use Rattle.std.proofs.lemmas.Bool.{cases_eq}
 use Rattle.std.proofs.lemmas.List.{length-set, get_or-set_same, get_or-set_other}
-use Rattle.hx_board.proofs.ListLaws.{get-lt, get-push, get-push_before, get-push_last}
+use Rattle.std.proofs.lemmas.Option.{slice_get_within}
+use Rattle.hx_board.proofs.ListLaws.{get-push, get-push_before, get-push_last}
 use Rattle.hx_tree.specs.declared.nodes.Node.{Node}
 use Rattle.hx_tree.specs.Rules.{IsRightNode}
 use Rattle.hx_tree.specs.Trees.{headings_of}
@@ -55,7 +56,7 @@ module _ (key : Node → ℕ) (nodes : List Node) (node : Node) where
     within = omega (arith, newest.within);
     is_in = λ some. in-before bucket (link - 1) (newest.is_in some);
     newest = λ place from below is. ⊎_elim
-        (λ was. newest.newest place from (get-lt nodes place was.node was.there) was)
+        (λ was. newest.newest place from (slice_get_within nodes place was.node was.there) was)
         (λ last. other last.1)
         (in-cases bucket place is);
   }
@@ -91,7 +92,7 @@ module _ (key : ℕ → Node → ℕ) (nodes : List Node) (heads next : List ℕ
 
   next-more_before : (b place : ℕ) → IsIn own nodes b place → IsNewestBelow own more b place (slice_index new_next place)
   next-more_before b place was =
-      let less : place < length nodes = get-lt nodes place was.node was.there in
+      let less : place < length nodes = slice_get_within nodes place was.node was.there in
       let less_next : place < length next = omega (arith, less, chains.long) in
       let within : place ≤ length nodes = omega (arith, less) in
       let value : slice_index new_next place ≡ slice_index next place = index-push_before next (slice_index heads bucket) place less_next in

@@ -4,8 +4,9 @@ use Rattle.std.proofs.Common.{◌≡◌, ◌≢◌, ℕ, zero, suc, ◌+◌, ◌
 use Rattle.std.specs.Prelude.{slice_get, slice_index, slice_index_or, Result, Ok, Err, OnOk, is_err}
 use Rattle.std.proofs.lemmas.Bool.{cases_eq, false≢true}
 use Rattle.std.proofs.lemmas.List.{length-set, get_or-set_same, get_or-set_other, length-map}
+use Rattle.std.proofs.lemmas.Option.{slice_get_within, same_Some}
 use Rattle.hx_board.specs.Lists.{StandsIn}
-use Rattle.hx_board.proofs.ListLaws.{get-lt, get-push, get-push_before, get-push_last, same_some, get-map, get-there}
+use Rattle.hx_board.proofs.ListLaws.{get-push, get-push_before, get-push_last, get-map, get-there}
 use Rattle.hx_tree.specs.declared.nodes.Heading.{Heading}
 use Rattle.hx_tree.specs.declared.nodes.Node.{Node}
 use Rattle.hx_tree.specs.Rules.{IsRightNode}
@@ -72,13 +73,13 @@ kept-none nodes root marks names long = record {
   places = [];
   needed = record {
     as_many = refl;
-    needed = λ k place e. absurd (omega (arith, get-lt {A = ℕ} [] k place e));
-    in_order = λ j k one other less e f. absurd (omega (arith, get-lt {A = ℕ} [] k other f));
-    renamed = λ k place e. absurd (omega (arith, get-lt {A = ℕ} [] k place e));
-    same_node = λ k place node e there. absurd (omega (arith, get-lt {A = ℕ} [] k place e));
+    needed = λ k place e. absurd (omega (arith, slice_get_within {A = ℕ} [] k place e));
+    in_order = λ j k one other less e f. absurd (omega (arith, slice_get_within {A = ℕ} [] k other f));
+    renamed = λ k place e. absurd (omega (arith, slice_get_within {A = ℕ} [] k place e));
+    same_node = λ k place node e there. absurd (omega (arith, slice_get_within {A = ℕ} [] k place e));
   };
   each = λ place h less. absurd (omega (arith, less));
-  below = λ k place e. absurd (omega (arith, get-lt {A = ℕ} [] k place e));
+  below = λ k place e. absurd (omega (arith, slice_get_within {A = ℕ} [] k place e));
   last = λ less. absurd (omega (arith, less));
 }
 
@@ -108,7 +109,7 @@ module _ (nodes : List Node) (right : AreRight nodes) (root : ℕ) (marks : List
   }
 
   pub child-kept : (node : Node) → slice_get nodes bound ≡ Some node → (child : ℕ) → Names node.rule child → child < length names
-  child-kept node there child names_it = omega (arith, child-before nodes right bound node there child names_it, get-lt nodes bound node there, old.named)
+  child-kept node there child names_it = omega (arith, child-before nodes right bound node there child names_it, slice_get_within nodes bound node there, old.named)
 
   module _ (node : Node) (there : slice_get nodes bound ≡ Some node) (here : IsMarked marks bound) where
     abbrev name : ℕ → ℕ
@@ -124,7 +125,7 @@ module _ (nodes : List Node) (right : AreRight nodes) (root : ℕ) (marks : List
     new_names = set names bound (length kept)
 
     within : bound < length nodes
-    within = get-lt nodes bound node there
+    within = slice_get_within nodes bound node there
 
     own_heading : slice_get (headings_of nodes) bound ≡ Some node.heading
     own_heading = get-map (λ (n : Node). n.heading) nodes bound node there
@@ -188,7 +189,7 @@ module _ (nodes : List Node) (right : AreRight nodes) (root : ℕ) (marks : List
         (λ was. get-push_before kept new k (renamed_node name at) (old.needed.same_node k place at was there_at)
         ∙ ap Some (node-before place at (omega (arith, old.below k place was)) there_at))
         (λ last.
-        let same : node ≡ at = same_some node at (sym there ∙ ap (λ (p : ℕ). slice_get nodes p) (sym last.1) ∙ there_at) in
+        let same : node ≡ at = same_Some node at (sym there ∙ ap (λ (p : ℕ). slice_get nodes p) (sym last.1) ∙ there_at) in
         ap (λ (j : ℕ). slice_get more j) (last.0 ∙ old.needed.as_many) ∙ get-push_last kept new
         ∙ ap Some (node-before bound node (omega arith) there ∙ ap (λ (n : Node). renamed_node new_name n) same))
         (get-push old.places bound place k e)
@@ -206,7 +207,7 @@ module _ (nodes : List Node) (right : AreRight nodes) (root : ℕ) (marks : List
         (λ b. omega (arith, old.below j one a, b.1))
         (get-push old.places bound other k second))
         (λ a. absurd (⊎_elim
-        (λ b. omega (arith, get-lt old.places k other b, a.0, less))
+        (λ b. omega (arith, slice_get_within old.places k other b, a.0, less))
         (λ b. omega (arith, a.0, b.0, less))
         (get-push old.places bound other k second)))
         (get-push old.places bound one j first)
@@ -247,7 +248,7 @@ module _ (nodes : List Node) (right : AreRight nodes) (root : ℕ) (marks : List
       rw (is.grown, is.named) (kept-more node there mark)
   kept-next node there false mark new_kept new_names needed dropped =
       let same : (new_kept ≡ kept) × (new_names ≡ names) = dropped refl in
-      rw (same.0, same.1) (kept-skip (get-lt nodes bound node there) (λ h. false≢true (sym mark ∙ h)))
+      rw (same.0, same.1) (kept-skip (slice_get_within nodes bound node there) (λ h. false≢true (sym mark ∙ h)))
 
   module _ (past : length nodes ≤ bound) (inside : root < length nodes) where
     end : EndsInRoot nodes root kept
@@ -260,12 +261,12 @@ module _ (nodes : List Node) (right : AreRight nodes) (root : ℕ) (marks : List
 
     size-of : (k : ℕ) (node : Node) → slice_get kept k ≡ Some node → node.heading.position.size ≡ end.last.heading.position.size
     size-of k node e =
-        let within : k < length kept = get-lt kept k node e in
+        let within : k < length kept = slice_get_within kept k node e in
         let found = get-there old.places k (omega (arith, within, old.needed.as_many)) in
         let below : found.0 < length nodes = omega (arith, old.below k found.0 found.1, old.inside) in
         let own = get-there nodes found.0 below in
         let same : renamed_node (λ (place : ℕ). slice_index names place) own.0 ≡ node =
-        same_some _ node (sym (old.needed.same_node k found.0 own.0 found.1 own.1) ∙ e) in
+        same_Some _ node (sym (old.needed.same_node k found.0 own.0 found.1 own.1) ∙ e) in
         let at : slice_get (headings_of nodes) found.0 ≡ Some node.heading =
         get-map (λ (n : Node). n.heading) nodes found.0 own.0 own.1 ∙ ap (λ (n : Node). Some n.heading) same in
         let path = old.needed.needed k found.0 found.1 in

@@ -1,8 +1,8 @@
 -- What a mark more changes: the marked places are those of before and the new one. So after a mark on each child of some lines
 -- the marked ones are those of before and these.
 use Rattle.std.proofs.Common.{◌≡◌, ℕ, ◌+◌, ◌<◌, List, [], ◌∷◌, ◌++◌, length, take, get_or, refl, sym, ◌∙◌, subst, inl, inr, Bool, ◌⊎◌, ⊎_elim, arith}
-use Rattle.std.proofs.lemmas.Option.{slice_get_read}
-use Rattle.hx_board.proofs.ListLaws.{get-lt, get-push, get-push_before, get-push_last, take-read}
+use Rattle.std.proofs.lemmas.Option.{slice_get_read, slice_get_within}
+use Rattle.hx_board.proofs.ListLaws.{get-push, get-push_before, get-push_last, take-read}
 use Rattle.hx_tree.specs.declared.nodes.Line.{Line}
 use Rattle.hx_book.specs.Trees.{NamesChild, HasLine}
 use Rattle.hx_book.specs.Renaming.{MarksMore}
@@ -24,7 +24,7 @@ mark-as A B old new to from m = record {
 }
 
 no_line : (place : ℕ) → HasLine [] place → ⊥
-no_line place has = absurd (omega (arith, get-lt [] has.k has.line has.there))
+no_line place has = absurd (omega (arith, slice_get_within [] has.k has.line has.there))
 
 pub lines-none : (lines : List Line) (marks : List Bool) → MarksMore (HasLine (take 0 lines)) marks marks
 lines-none lines marks = record { long = refl; stay = λ p h. h; each = λ p has. absurd (no_line p has); only = λ p h. inl h }

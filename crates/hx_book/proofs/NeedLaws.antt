@@ -3,7 +3,7 @@
 use Rattle.std.proofs.Common.{◌≡◌, ℕ, ◌+◌, ◌<◌, ◌≤◌, List, [], ◌∷◌, length, refl, sym, ◌∙◌, subst, Some, Bool, ⊎_elim, arith}
 use Rattle.std.specs.Prelude.{slice_get}
 use Rattle.std.proofs.lemmas.Bool.{cases_eq}
-use Rattle.hx_board.proofs.ListLaws.{same_some}
+use Rattle.std.proofs.lemmas.Option.{same_Some}
 use Rattle.hx_tree.specs.declared.nodes.Node.{Node}
 use Rattle.hx_tree.specs.Trees.{AreRight}
 use Rattle.hx_book.specs.Trees.{Names, HasChildAt, LeadsTo, IsNeeded}
@@ -46,7 +46,7 @@ module _ (nodes : List Node) (right : AreRight nodes) (root bound : ℕ) (marks 
         (more.only place h)
 
     own_child : (child : ℕ) → HasChildAt nodes bound child → IsMarked new child
-    own_child child has = more.each child (subst (λ (n : Node). Names n.rule child) (same_some has.node node (sym has.there ∙ there)) has.names)
+    own_child child has = more.each child (subst (λ (n : Node). Names n.rule child) (same_Some has.node node (sym has.there ∙ there)) has.names)
 
     closed_more : (place child : ℕ) → bound ≤ place → IsMarked new place → HasChildAt nodes place child → IsMarked new child
     closed_more place child from h has = ⊎_elim

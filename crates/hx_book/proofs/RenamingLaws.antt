@@ -1,8 +1,8 @@
 -- A node with new numbers for its children is right after headings that hold those of its children at the new numbers.
 use Rattle.std.proofs.Common.{◌≡◌, ℕ, zero, suc, add-one, ◌+◌, ◌<◌, List, [], ◌∷◌, map, length, get_or, set, refl, sym, ap, ◌∙◌, Option, Some, None, inl, inr, ⊎_elim}
-use Rattle.std.proofs.lemmas.Option.{get_or_from_slice_get, slice_get_read}
+use Rattle.std.proofs.lemmas.Option.{get_or_from_slice_get, slice_get_read, slice_get_within}
 use Rattle.std.specs.Prelude.{slice_get, IfSome, Contains}
-use Rattle.hx_board.proofs.ListLaws.{get-lt, get-map, get-map_none}
+use Rattle.hx_board.proofs.ListLaws.{get-map, get-map_none}
 use Rattle.hx_link.specs.declared.links.Link.{Link}
 use Rattle.hx_tree.specs.declared.nodes.Heading.{Heading}
 use Rattle.hx_tree.specs.declared.nodes.Line.{Line}
@@ -55,7 +55,7 @@ contains-map : {A B : Type 0} → (f : A → B) (xs : List A) (x : A) → Contai
 contains-map f xs x has =
     let there : slice_get xs has.0 ≡ Some x = slice_get_read xs _ has.0 x refl has.1 (sym has.2) in
     let mapped_there : slice_get (map f xs) has.0 ≡ Some (f x) = get-map f xs has.0 x there in
-    (has.0, get-lt (map f xs) has.0 (f x) mapped_there, get_or_from_slice_get (map f xs) has.0 (f x) (f x) mapped_there)
+    (has.0, slice_get_within (map f xs) has.0 (f x) mapped_there, get_or_from_slice_get (map f xs) has.0 (f x) (f x) mapped_there)
 
 module _ (before after : List Heading) (heading : Heading) (links : List Link) (threats : List ℕ) (name : ℕ → ℕ) (lines : List Line) where
   line-renamed : (line : Line) → ((child : ℕ) → NamesChild line child → slice_get after (name child) ≡ slice_get before child)

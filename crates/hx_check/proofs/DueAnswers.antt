@@ -2,10 +2,10 @@
 use Rattle.std.proofs.Common.{◌≡◌, ◌≢◌, ℕ, ◌+◌, ◌-◌, ◌<◌, ◌≤◌, ◌^◌, inl, inr, Bool, true, false, List, [], ◌∷◌, ◌++◌, length, refl, sym, ap, ◌∙◌, subst, arith, append_assoc, append-nil, length-append, Option, Some, None}
 use Rattle.std.proofs.lemmas.Bool.{false≢true}
 use Rattle.std.proofs.lemmas.List.{length-map}
+use Rattle.std.proofs.lemmas.Option.{same_Some}
 use Rattle.std.specs.Prelude.{IfSome, IsTrue, flat_map, MatchOption}
 use Rattle.std.specs.Option.{IfNone}
 use Rattle.hx_io.specs.Causes.{next_count}
-use Rattle.hx_board.proofs.ListLaws.{same_some}
 use Rattle.hx_io.specs.Sources.{prepend}
 use Rattle.hx_lines.specs.Lines.{HasLf, longest, lines_of}
 use Rattle.hx_lines.specs.declared.cutters.Cut.{Cut}
@@ -46,7 +46,7 @@ pub says_of : (before : Option (List ℕ)) (front held : List ℕ) (left : Optio
 says_of None front held left Says parts says = tt
 says_of (Some input) front held None Says parts says = absurd (some_not_none input parts)
 says_of (Some input) front held (Some rest) Says parts says =
-    says input rest refl (same_some input ((front ++ held) ++ rest) parts ∙ append_assoc front held rest)
+    says input rest refl (same_Some input ((front ++ held) ++ rest) parts ∙ append_assoc front held rest)
 
 -- the bytes that come next, where a line was cut off them or nothing was there
 stream_of : (old new : Cutter) (rest : List ℕ) (then_left : Option (List ℕ)) (told : TellsStream old new rest then_left (Line true))

@@ -1,6 +1,6 @@
 -- A round: cell by cell it either fills something, or the cell is settled on the board of its start, which is then still the board.
-use Rattle.std.proofs.Common.{◌≡◌, ◌≢◌, ℕ, zero, suc, ◌+◌, ◌<◌, Bool, true, false, List, [], ◌∷◌, ◌++◌, length, length-append, append_assoc, refl, sym, ap, ◌∙◌, subst, ◌⊎◌, inl, inr, ⊎_elim, arith, ◌↔◌}
-use Rattle.std.proofs.lemmas.Bool.{false≢true}
+use Rattle.std.proofs.Common.{◌≡◌, ◌≢◌, ℕ, suc, ◌+◌, ◌<◌, Bool, true, false, List, [], ◌∷◌, ◌++◌, length, length-append, append_assoc, refl, sym, ap, ◌∙◌, subst, ◌⊎◌, ⊎_elim, arith, ◌↔◌}
+use Rattle.std.proofs.lemmas.Bool.{false≢true, cases_lt}
 use Rattle.std.proofs.lemmas.List.{append-nil}
 use Rattle.std.proofs.lemmas.List.Elements.{All-nil, All-append, All-push}
 use Rattle.hx_board.specs.declared.colours.Colour.{Colour}
@@ -134,11 +134,7 @@ module _ (player : Colour) (board next : Board) (fills more : List Fill) (adds :
   round-fewer : IsBoard board → (length more ≡ length fills → ⊥) → empty_count next < empty_count board
   round-fewer is grew =
       let all = lengths in
-      fewer_empty adds.added board next is adds.to (⊎_elim (λ none. absurd (grew (omega arith))) (λ some. some) (zero_or_more (length adds.added)))
-    where
-      zero_or_more : (n : ℕ) → (n ≡ 0) ⊎ (0 < n)
-      zero_or_more zero = inl refl
-      zero_or_more (suc n) = inr (omega arith)
+      fewer_empty adds.added board next is adds.to (⊎_elim (λ some. some) (λ none. absurd (grew (omega arith))) (cases_lt 0 (length adds.added)))
 
 one_less : (n : ℕ) → n + n < suc (n + n)
 one_less n = omega arith

@@ -6,13 +6,14 @@ use Rattle.std.specs.List.Sorted.{IsPermutation}
 use Rattle.std.proofs.lemmas.List.{take_all, take-append-le, map-append, append-nil}
 use Rattle.std.proofs.lemmas.List.Sorted.{All-permutation, Contains-permutation, IsPermutation-map}
 use Rattle.std.proofs.lemmas.List.Elements.{All-nil, All-more, All-map, All-weaker, All-push, All-contains, Contains-push, Contains-push_cases, Contains-append_left, Contains-append_right}
+use Rattle.std.proofs.lemmas.Option.{slice_get_within, same_Some}
 use Rattle.hx_board.specs.declared.vertices.Vertex.TheVariants.{First, Last}
 use Rattle.hx_board.specs.Sets.{has, intersection, count_below, IsSubset}
 use Rattle.hx_board.specs.Positions.{IsEmpty}
 use Rattle.hx_board.proofs.SetLaws.{has-intersection_left, has-intersection_right, has-intersection_both}
 use Rattle.hx_board.proofs.CellLaws.{on_board-small}
 use Rattle.hx_board.proofs.CountLaws.{count-small, count-less, lacks_one}
-use Rattle.hx_board.proofs.ListLaws.{get-lt, get-push, same_some}
+use Rattle.hx_board.proofs.ListLaws.{get-push}
 use Rattle.hx_link.specs.declared.links.Link.{Link}
 use Rattle.hx_linkset.specs.States.{Standing, IsRight}
 use Rattle.hx_linkset.specs.LivePairs.{IsLivePair}
@@ -32,14 +33,14 @@ module _ (set : Standing) (right : IsRight set.player set.present) where
   }
     where
       none_there : (k place : ℕ) → slice_get {X = ℕ} [] k ≡ Some place → ⊥
-      none_there k place at = absurd (omega (arith, get-lt [] k place at))
+      none_there k place at = absurd (omega (arith, slice_get_within [] k place at))
 
   -- ---- a link more
 
   module _ (place : ℕ) (live : IsLivePair set First Last place) (carrier : ℕ) (carrier_is : carrier ≡ live.0.carrier) where
     has_cell : (cell : ℕ) → has carrier cell ≡ true → HasCell set cell place
     has_cell cell h link there =
-        let same : live.0 ≡ link = same_some live.0 link (sym live.1.0 ∙ there) in ap (λ (l : Link). has l.carrier cell) (sym same) ∙ ap (λ (c : ℕ). has c cell) (sym carrier_is) ∙ h
+        let same : live.0 ≡ link = same_Some live.0 link (sym live.1.0 ∙ there) in ap (λ (l : Link). has l.carrier cell) (sym same) ∙ ap (λ (c : ℕ). has c cell) (sym carrier_is) ∙ h
 
     pub taken_same : (places : List ℕ) (cells : ℕ) → AreKept set places cells → IsSubset cells carrier → IsTaken set place cells places cells
     taken_same places cells threats inside = record { threats = threats; less = λ n h. h; inside = λ cell h. has_cell cell (inside cell h) }
@@ -85,7 +86,7 @@ module _ (set : Standing) (right : IsRight set.player set.present) where
               cell = gone.cell;
               had = (threats.shared gone.cell).0 gone.member;
               lacks = λ link there.
-                  let same : live.0 ≡ link = same_some live.0 link (sym live.1.0 ∙ there) in
+                  let same : live.0 ≡ link = same_Some live.0 link (sym live.1.0 ∙ there) in
                   ap (λ (l : Link). has l.carrier gone.cell) (sym same) ∙ ap (λ (c : ℕ). has c gone.cell) (sym carrier_is) ∙ gone.lacks;
             }
 
@@ -93,7 +94,7 @@ module _ (set : Standing) (right : IsRight set.player set.present) where
         more_take k other at = ⊎_elim early late (get-push places place other k at)
           where
             early : slice_get places k ≡ Some other → TakesAway set (take k (places ++ place ∷ [])) other
-            early before = let low = get-lt places k other before in rw (take-append-le k places (place ∷ []) (omega arith)) (threats.each_takes k other before)
+            early before = let low = slice_get_within places k other before in rw (take-append-le k places (place ∷ []) (omega arith)) (threats.each_takes k other before)
 
             late : (k ≡ length places) × (other ≡ place) → TakesAway set (take k (places ++ place ∷ [])) other
             late last =

@@ -5,13 +5,13 @@ use Rattle.std.specs.Prelude.{slice_get, slice_index}
 use Rattle.std.specs.declared.option.Option.{Option}
 use Rattle.std.proofs.lemmas.Bool.{false≢true, cases_lt, false_from_ne_true}
 use Rattle.std.proofs.lemmas.Bool.Decides.{eqb_tells}
+use Rattle.std.proofs.lemmas.Option.{slice_get_within, same_Some}
 use Rattle.hx_board.specs.declared.colours.Colour.{Colour}
 use Rattle.hx_board.specs.Sets.{has, insert, remove, intersection, difference, IsSubset}
 use Rattle.hx_board.specs.Cells.{OnBoard, IsLeastOn}
 use Rattle.hx_board.specs.Positions.{Board}
 use Rattle.hx_board.proofs.SetLaws.{has-empty, has-remove_before, has-insert_cases, has-insert_same, has-insert_other, has-intersection_left, has-intersection_both, has-difference_left, has-difference_right, has-difference_both, removed, removed_cases, has-remove_other, by_member, same_set}
 use Rattle.hx_board.proofs.DifferenceLaws.{difference-lt}
-use Rattle.hx_board.proofs.ListLaws.{get-lt, same_some}
 use Rattle.hx_inferior.specs.declared.dominations.Kill.{Kill}
 use Rattle.hx_inferior.specs.Inferior.{IsDominated}
 use Rattle.hx_fill.specs.declared.choices.Better.{Better}
@@ -309,7 +309,7 @@ none_waits-more order count waiting waiting_next cell there fewer done none k ot
         let same : k ≡ count = omega arith in
         let P : ℕ → Type 0 = λ x. slice_get order x ≡ Some other in
         let Q : ℕ → Type 0 = λ x. has waiting_next x ≡ false in
-        subst Q (same_some cell other (sym there ∙ subst P same at)) done
+        subst Q (same_Some cell other (sym there ∙ subst P same at)) done
 
 -- a cell of the order that still waits is next where all before its place had their turn
 pub next_listed : (order : List ℕ) (place waiting cell : ℕ) → slice_get order place ≡ Some cell → NoneWaits order place waiting → IsNext order waiting cell
@@ -320,7 +320,7 @@ next_listed order place waiting cell there none other waits (Unlisted _ lacks _)
 -- and where no cell of the order waits, the first one that waits is next
 pub next_least : (board : Board) (order : List ℕ) (waiting cell : ℕ) → NoneWaits order (length order) waiting → ((n : ℕ) → has waiting n ≡ true → OnBoard board.size n)
     → IsLeastOn board.size waiting cell → IsNext order waiting cell
-next_least board order waiting cell none on_board least other waits (Listed k at _) = false≢true (sym (none k other (get-lt order k other at) at) ∙ waits)
+next_least board order waiting cell none on_board least other waits (Listed k at _) = false≢true (sym (none k other (slice_get_within order k other at) at) ∙ waits)
 next_least board order waiting cell none on_board least other waits (Unlisted _ _ low) = false≢true (sym (least.first other low (on_board other waits)) ∙ waits)
 
 pub none_waits-fewer : (order : List ℕ) (count waiting waiting_next : ℕ) → IsSubset waiting_next waiting → NoneWaits order count waiting → NoneWaits order count waiting_next

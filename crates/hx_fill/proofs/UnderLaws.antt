@@ -5,12 +5,12 @@ use Rattle.std.specs.declared.option.Option.{Option}
 use Rattle.std.proofs.lemmas.Bool.{false≢true, cases_lt, false_from_ne_true}
 use Rattle.std.proofs.lemmas.List.{map-append, length-map}
 use Rattle.std.proofs.lemmas.List.Elements.{All-nil, All-push, All-map, All-weaker, All-contains, Contains-push, Contains-push_cases, Contains-append_left, Contains-get_or}
+use Rattle.std.proofs.lemmas.Option.{same_Some}
 use Rattle.hx_board.specs.declared.colours.Colour.{Colour}
 use Rattle.hx_board.specs.Sets.{has, remove, difference}
 use Rattle.hx_board.specs.Cells.{Extent, OnBoard, IsLeastOn}
 use Rattle.hx_board.specs.Positions.{Board}
 use Rattle.hx_board.proofs.SetLaws.{has-empty, has-remove_before, has-difference_left, has-difference_right, has-difference_both, removed, removed_cases, by_member}
-use Rattle.hx_board.proofs.ListLaws.{same_some}
 use Rattle.hx_inferior.specs.declared.dominations.Kill.{Kill}
 use Rattle.hx_inferior.specs.Inferior.{IsDominated}
 use Rattle.hx_tree.specs.declared.nodes.Line.{Line}
@@ -96,7 +96,7 @@ same_line : (choices : List (Option Better)) (cell better other : ℕ) (kill how
 same_line choices cell better other kill how one two =
     let x : Better = record { cell = better; kill = kill } in
     let y : Better = record { cell = other; kill = how } in
-    let same : x ≡ y = same_some x y (sym one ∙ two) in
+    let same : x ≡ y = same_Some x y (sym one ∙ two) in
     (ap (λ (b : Better). b.cell) same, ap (λ (b : Better). b.kill) same)
 
 -- a cell that got no better one has no line to add
@@ -106,7 +106,7 @@ adds_none choices cell lines none better is = cc
 pub adds_one : (choices : List (Option Better)) (cell : ℕ) (better : Better) → better_for choices cell ≡ Some better → (lines more : List Line)
     → more ≡ lines ++ Under cell better.cell better.kill ∷ [] → AddsLine choices cell lines more
 adds_one choices cell better is lines more pushed other is_other =
-    let P : Better → Type 0 = λ b. more ≡ lines ++ Under cell b.cell b.kill ∷ [] in subst P (same_some better other (sym is ∙ is_other)) pushed
+    let P : Better → Type 0 = λ b. more ≡ lines ++ Under cell b.cell b.kill ∷ [] in subst P (same_Some better other (sym is ∙ is_other)) pushed
 
 -- ---- the end
 

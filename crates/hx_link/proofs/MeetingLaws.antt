@@ -4,6 +4,7 @@
 -- four orders). So two places have one meeting at the most (`met-same`), and what a rule says of some meeting holds of the
 -- one that was found: `stone-from` and `stone-to`, `cell-from` and `cell-to` go from the one to the other and back.
 use Rattle.std.proofs.Common.{◌≡◌, ◌≢◌, ℕ, List, refl, sym, ap, ◌∙◌, subst, inl, inr, Some, None, Option}
+use Rattle.std.proofs.lemmas.Option.{same_Some}
 use Rattle.std.specs.Prelude.{slice_get}
 use Rattle.hx_board.specs.declared.colours.Colour.{Colour}
 use Rattle.hx_board.specs.declared.vertices.Vertex.{Vertex}
@@ -12,7 +13,6 @@ use Rattle.hx_board.specs.Finds.{Finds}
 use Rattle.hx_board.specs.Sets.{insert, union}
 use Rattle.hx_board.specs.Positions.{Board}
 use Rattle.hx_board.specs.Graph.{IsOwn}
-use Rattle.hx_board.proofs.ListLaws.{same_some}
 use Rattle.hx_link.specs.declared.links.Kind.TheVariants.{Full, Semi}
 use Rattle.hx_link.specs.declared.links.Link.{Link}
 use Rattle.hx_link.specs.declared.steps.Step.TheVariants.{AndStone, AndCell}
@@ -69,8 +69,8 @@ module _ (before : List Link) (left right : ℕ) where
   -- there is one meeting of two places at most
   pub met-same : (m n : Met) → IsMet before left right m → IsMet before left right n → m ≡ n
   met-same m n h k =
-      let first : m.first ≡ n.first = same_some m.first n.first (sym h.first_there ∙ k.first_there) in
-      let second : m.second ≡ n.second = same_some m.second n.second (sym h.second_there ∙ k.second_there) in
+      let first : m.first ≡ n.first = same_Some m.first n.first (sym h.first_there ∙ k.first_there) in
+      let second : m.second ≡ n.second = same_Some m.second n.second (sym h.second_there ∙ k.second_there) in
       let once : (m.at.from ≡ n.at.from) × (m.at.middle ≡ n.at.middle) × (m.at.to ≡ n.at.to) =
       meets_once m.first m.second m.at.from m.at.middle m.at.to n.at.from n.at.middle n.at.to h.meet.first_ends h.meet.second_ends h.meet.other_ends_differ
       (rw first k.meet.first_ends) (rw second k.meet.second_ends) k.meet.other_ends_differ in
@@ -163,6 +163,6 @@ module _ (before : List Link) (left right : ℕ) where
 -- two links that are there and do not meet
 pub no_meeting : (before : List Link) (left right : ℕ) (f s : Link) → slice_get before left ≡ Some f → slice_get before right ≡ Some s → ((meeting : Meeting) → MeetIn f s meeting → ⊥) → (m : Met) → IsMet before left right m → ⊥
 no_meeting before left right f s there there' none m h =
-    let first : f ≡ m.first = same_some f m.first (sym there ∙ h.first_there) in
-    let second : s ≡ m.second = same_some s m.second (sym there' ∙ h.second_there) in
+    let first : f ≡ m.first = same_Some f m.first (sym there ∙ h.first_there) in
+    let second : s ≡ m.second = same_Some s m.second (sym there' ∙ h.second_there) in
     none m.at (rw (first, second) h.meet)

@@ -4,7 +4,7 @@
 -- are in some. The start is the first part's carrier, so a cell outside it is missing there (`lacking`). The ends of the
 -- first part are those of the result, since all parts have the same ends (`ends_along`).
 use Rattle.std.proofs.lemmas.List.{take_more, take_all}
-use Rattle.std.proofs.lemmas.Option.{slice_get-get_or}
+use Rattle.std.proofs.lemmas.Option.{slice_get-get_or, same_Some}
 use Rattle.std.proofs.Common.{◌≡◌, ◌≢◌, ℕ, zero, suc, ◌≤◌, ◌<◌, ◌+◌, take, get_or, Bool, true, false, ◌||◌, List, [], ◌∷◌, ◌++◌, map, length, refl, sym, ap, ◌∙◌, inl, inr, Some, None, Option, ◌⊎◌, ⊎_elim, subst}
 use Rattle.std.specs.Prelude.{slice_get}
 use Rattle.hx_board.specs.Finds.{Finds}
@@ -13,8 +13,8 @@ use Rattle.hx_board.specs.declared.colours.Colour.{Colour}
 use Rattle.hx_board.specs.declared.vertices.Vertex.{Vertex}
 use Rattle.hx_board.specs.Sets.{has, union, intersection}
 use Rattle.hx_board.specs.Positions.{Board}
-use Rattle.hx_board.proofs.ListLaws.{same_some, get-push, get-push_before, get-push_last}
-use Rattle.hx_board.proofs.SetLaws.{has-empty, has-union, has-intersection_left, has-intersection_right, same_set, has_not-intersection}
+use Rattle.hx_board.proofs.ListLaws.{get-push, get-push_before, get-push_last}
+use Rattle.hx_board.proofs.SetLaws.{has-empty, has-union, has-intersection_left, has-intersection_right, same_set, has_not-intersection, or_false}
 use Rattle.hx_link.specs.declared.links.Kind.TheVariants.{Full}
 use Rattle.hx_link.specs.declared.links.Link.{Link}
 use Rattle.hx_link.specs.declared.parts.TheConstants.{MOST_PARTS}
@@ -43,10 +43,6 @@ links_at-push before (p ∷ ps) place (l ∷ ls) part e h = let more : links_at 
 or_assoc : (a b c : Bool) → (a || (b || c)) ≡ ((a || b) || c)
 or_assoc true b c = refl
 or_assoc false b c = refl
-
-or_false : (a : Bool) → (a || false) ≡ a
-or_false true = refl
-or_false false = refl
 
 carriers_of-push : (links : List Link) (part : Link) (n : ℕ) → has (carriers_of (links ++ part ∷ [])) n ≡ (has (carriers_of links) n || has part.carrier n)
 carriers_of-push [] part n = has-union part.carrier 0 n ∙ (ap (λ b. has part.carrier n || b) (has-empty n) ∙ (or_false (has part.carrier n) ∙ sym (ap (λ b. b || has part.carrier n) (has-empty n))))
@@ -103,7 +99,7 @@ module _ (before : List Link) (places : List ℕ) (link : Link) (g : GivesOr bef
   -- the first part's ends are the link's
   pub first-ends : (place : ℕ) (first : Link) → slice_get places 0 ≡ Some place → slice_get before place ≡ Some first → HasEnds first link.a link.b
   first-ends place first h there = let w = part_at before places g.links g.there 0 place h in
-      let P : Link → Type 0 = λ l. HasEnds l link.a link.b in subst P (same_some w.0 first (sym w.1.1 ∙ there)) (g.same_ends w.0 w.1.0)
+      let P : Link → Type 0 = λ l. HasEnds l link.a link.b in subst P (same_Some w.0 first (sym w.1.1 ∙ there)) (g.same_ends w.0 w.1.0)
 
   pub or-parts : (place : ℕ) (first : Link) → slice_get places 0 ≡ Some place → slice_get before place ≡ Some first → ArePartsFrom before places first.a first.b
   or-parts place first h there k other e = let w = part_at before places g.links g.there k other e in (
@@ -141,7 +137,7 @@ module _ (before : List Link) (places : List ℕ) (place : ℕ) (first : Link) (
     no_or-shared some link g = some (or-none_in_all before places link g first.a first.b first.carrier in_all in_some p)
 
     first_one : IsOneOf first p.links
-    first_one = let w = part_at before places p.links p.there 0 place h in let P : Link → Type 0 = λ l. IsOneOf l p.links in subst P (same_some w.0 first (sym w.1.1 ∙ there)) w.1.0
+    first_one = let w = part_at before places p.links p.there 0 place h in let P : Link → Type 0 = λ l. IsOneOf l p.links in subst P (same_Some w.0 first (sym w.1.1 ∙ there)) w.1.0
 
     lacking : in_all ≡ 0 → (cell : ℕ) (b : Bool) → has first.carrier cell ≡ b → (part : Link) × (IsOneOf part p.links × (has part.carrier cell ≡ false))
     lacking none cell true e = p.missing cell e (ap (λ c. has c cell) none ∙ has-empty cell)

@@ -1,6 +1,7 @@
 -- A chain that is followed to its end: it has an end, since each place is above the one before it and below the number of
 -- links (`chain-ends`); and what it gives is the list of all its links (`chain-exact`).
 use Rattle.std.proofs.lemmas.Bool.{cases_lt}
+use Rattle.std.proofs.lemmas.Option.{slice_get_within}
 use Rattle.std.proofs.Common.{ℕ, zero, suc, ◌+◌, ◌-◌, ◌≤◌, List, [], ◌∷◌, length, get_or, refl, ⊎_elim, arith}
 use Rattle.hx_board.specs.declared.vertices.Vertex.{Vertex}
 use Rattle.hx_link.specs.declared.links.Kind.{Kind}
@@ -8,7 +9,6 @@ use Rattle.hx_linkset.specs.States.{Standing, IsRight}
 use Rattle.hx_linkset.specs.Rings.{Rings}
 use Rattle.hx_linkset.specs.Held.{IsHeadBetween, RingsHold, IsLiveThere}
 use Rattle.hx_linkset.specs.LiveOf.{IsLiveOf, IsFirstFrom, IsChainFrom, AreLiveOf, ChainLists}
-use Rattle.hx_board.proofs.ListLaws.{get-lt}
 use Rattle.hx_linkset.proofs.RisingLists.{AreAllFrom, all-rising, all-each, all-contains}
 use Rattle.hx_linkset.proofs.NextLaws.{first-none, first-some, later-none, later-some}
 
@@ -32,7 +32,7 @@ module _ (set : Standing) (kind : Kind) (a b : Vertex) where
   module _ (right : IsRight set.player set.present) (rings : Rings) (hold : RingsHold set.present.links (IsLiveThere set.present.board set.player) rings) where
     -- from a live link on
     chain_after : (left index : ℕ) → Is index → length set.present.links ≤ index + left → (places : List ℕ) × IsChainFrom set kind a b (index + 1) places
-    chain_after zero index is few = absurd (omega (arith, few, get-lt set.present.links index is.link is.there))
+    chain_after zero index is few = absurd (omega (arith, few, slice_get_within set.present.links index is.link is.there))
     chain_after (suc left) index is few = ⊎_elim
         (λ low. ([], λ place le. later-none set right rings hold kind a b index is low place (omega (arith, le))))
         (λ high.

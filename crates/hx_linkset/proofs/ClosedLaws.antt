@@ -3,13 +3,13 @@
 use Rattle.std.proofs.Common.{◌≡◌, ℕ, zero, suc, ◌<◌, ◌≤◌, List, [], ◌∷◌, length, take, sym, ap, ◌∙◌, subst, inl, inr, Some, ◌⊎◌, ⊎_elim, arith}
 use Rattle.std.specs.Prelude.{slice_get}
 use Rattle.std.proofs.lemmas.Bool.{cases_eq, cases_lt}
+use Rattle.std.proofs.lemmas.Option.{same_Some}
 use Rattle.hx_board.specs.declared.colours.Colour.{Colour}
 use Rattle.hx_board.specs.Lists.{StandsIn}
 use Rattle.hx_link.specs.declared.steps.Step.{Step}
 use Rattle.hx_linkset.specs.States.{State, Names, IsLiveAt, IsRight, GivesFromLive}
 use Rattle.hx_linkset.specs.Marks.{IsMarked, AreUnmarked, MarksMore, IsLastMarkBelow}
 use Rattle.hx_linkset.specs.Derivations.{AreClosedFrom, AreMarkedUnder}
-use Rattle.hx_board.proofs.ListLaws.{same_some}
 use Rattle.hx_linkset.proofs.MarkLaws.{marked-inside}
 
 get-take : {A : Type 0} → (n : ℕ) (xs : List A) (place : ℕ) (x : A) → slice_get (take n xs) place ≡ Some x → (place < n) × (slice_get xs place ≡ Some x)
@@ -50,7 +50,7 @@ module _ (player : Colour) (state : State) (r : IsRight player state) where
 
     closed_at : (p : ℕ) (s : Step) → (p ≡ place) ⊎ (p ≡ place → ⊥) → place ≤ p → IsMarked new p → slice_get state.steps p ≡ Some s → (part : ℕ) → Names s part → IsMarked new part
     closed_at p s (inl e) le h here part k =
-        let same : s ≡ step = same_some s step (sym here ∙ (ap (λ q. slice_get state.steps q) e ∙ there)) in
+        let same : s ≡ step = same_Some s step (sym here ∙ (ap (λ q. slice_get state.steps q) e ∙ there)) in
         let P : Step → Type 0 = λ t. Names t part in
         m.each part (subst P same k)
     closed_at p s (inr ne) le h here part k = ⊎_elim

@@ -6,12 +6,12 @@
 use Rattle.std.proofs.Common.{◌≡◌, ℕ, zero, suc, ◌+◌, ◌<◌, ◌≤◌, ◌-◌, Bool, true, false, cond, List, [], ◌∷◌, ◌++◌, map, refl, sym, ap, ◌∙◌, subst, inl, inr, Some, ◌⊎◌, ⊎_elim, ◌↔◌, arith, eq-eqb, eqb-true}
 use Rattle.std.proofs.lemmas.Bool.{cases_lt, cases_eq, false≢true, and_from}
 use Rattle.std.proofs.lemmas.List.Elements.{filter-append}
+use Rattle.std.proofs.lemmas.Option.{same_Some}
 use Rattle.std.specs.Prelude.{All, Contains, slice_get, nat_eq}
 use Rattle.hx_board.specs.declared.vertices.Vertex.{Vertex}
 use Rattle.hx_board.specs.Sets.{has, intersection}
 use Rattle.hx_board.specs.Positions.{IsEmpty}
 use Rattle.hx_board.specs.VertexSets.{code_of, IsSomeVertex}
-use Rattle.hx_board.proofs.ListLaws.{same_some}
 use Rattle.hx_board.proofs.SetLaws.{and_left, and_right, intersection-is_subset, is_subset-intersection}
 use Rattle.hx_board.proofs.VertexSetLaws.{code-same}
 use Rattle.hx_link.specs.declared.links.Kind.{Kind}
@@ -97,7 +97,7 @@ module _ (set : Standing) (empties ends : ℕ) (empties_are : (cell : ℕ) → (
 
   one_at_index : (full other : FullLink) → full.index ≡ other.index → IsFullAt set vertex full → IsFullAt set vertex other → full ≡ other
   one_at_index full other e h k =
-      let same : h.link ≡ k.link = same_some h.link k.link (sym h.there ∙ (ap (λ (n : ℕ). slice_get set.present.links n) e ∙ k.there)) in
+      let same : h.link ≡ k.link = same_Some h.link k.link (sym h.there ∙ (ap (λ (n : ℕ). slice_get set.present.links n) e ∙ k.there)) in
       let P : Link → Type 0 = λ link. HasEnds link vertex other.to in
       same_full full other e (other_end h.link full.to other.to h.ends (subst P (sym same) k.ends)) (h.carrier_is ∙ (ap (λ (link : Link). link.carrier) same ∙ sym k.carrier_is))
 
@@ -175,7 +175,7 @@ module _ (set : Standing) (empties ends : ℕ) (empties_are : (cell : ℕ) → (
       -- the link at this index is the one that is seen
       seen_at : (full : FullLink) → full.index ≡ place → IsFullAt set vertex full → IsSeen full × IsLive set.present.board set.player link
       seen_at full e h =
-          let same : h.link ≡ link = same_some h.link link (sym h.there ∙ (ap (λ (n : ℕ). slice_get set.present.links n) e ∙ there)) in
+          let same : h.link ≡ link = same_Some h.link link (sym h.there ∙ (ap (λ (n : ℕ). slice_get set.present.links n) e ∙ there)) in
           let P : Link → Type 0 = λ l. HasEnds l vertex full.to in
           let Q : Link → Type 0 = λ l. IsLive set.present.board set.player l in (
             record { index_is = e; kind_is = ap (λ (l : Link). l.kind) (sym same) ∙ h.kind_is; of_ends = subst P same h.ends; carrier_is = h.carrier_is ∙ ap (λ (l : Link). l.carrier) same },

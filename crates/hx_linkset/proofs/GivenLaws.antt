@@ -3,6 +3,7 @@
 use Rattle.std.proofs.Common.{◌≡◌, ℕ, zero, suc, true, List, [], ◌∷◌, refl, sym, ap, ◌∙◌, subst, inl, inr, Some, ⊎_elim}
 use Rattle.std.specs.Prelude.{slice_get}
 use Rattle.std.proofs.lemmas.Bool.{false≢true}
+use Rattle.std.proofs.lemmas.Option.{same_Some}
 use Rattle.hx_board.specs.declared.colours.Colour.{Colour}
 use Rattle.hx_board.specs.Sets.{has, union}
 use Rattle.hx_board.specs.Positions.{Board, IsEmpty, IsPosition}
@@ -13,7 +14,6 @@ use Rattle.hx_link.specs.declared.steps.Step.TheVariants.{Base, AndStone, AndCel
 use Rattle.hx_link.specs.Steps.{IsOneOf, carriers_of, StepGives, GivesByRule}
 use Rattle.hx_link.proofs.LinkLaws.{place_of}
 use Rattle.hx_linkset.specs.States.{IsLive, IsLiveAt, Names, GivesFromLive}
-use Rattle.hx_board.proofs.ListLaws.{same_some}
 use Rattle.hx_linkset.proofs.LiveLaws.{parts_live}
 
 pub given-from_live : (board : Board) (player : Colour) (links : List Link) (step : Step) (link : Link) → IsPosition board.size board.black board.white → StepGives board player links step link → IsLive board player link
@@ -26,7 +26,7 @@ carriers_cases (l ∷ ls) n h = ⊎_elim (λ k. (l, ((zero, refl), k))) (λ k. l
 
 module _ (board : Board) (player : Colour) (held : List Link) where
   named_empty : (place : ℕ) (part : Link) → IsLiveAt board player held place → slice_get held place ≡ Some part → (n : ℕ) → has part.carrier n ≡ true → IsEmpty board n
-  named_empty place part w there n h = let same : w.0 ≡ part = same_some w.0 part (sym w.1.0 ∙ there) in w.1.1.empty n (ap (λ (l : Link). has l.carrier n) same ∙ h)
+  named_empty place part w there n h = let same : w.0 ≡ part = same_Some w.0 part (sym w.1.0 ∙ there) in w.1.1.empty n (ap (λ (l : Link). has l.carrier n) same ∙ h)
 
   rule_empty : (step : Step) (link : Link) → GivesByRule board player held step link → ((place : ℕ) → Names step place → IsLiveAt board player held place)
       → (n : ℕ) → has link.carrier n ≡ true → IsEmpty board n

@@ -3,6 +3,7 @@
 -- After a play the rings hold what is live after it, and to put back what it dropped gives the rings before it. A link
 -- more can be cut off again, which gives the same rings, so it does not change what was before a play.
 use Rattle.std.proofs.lemmas.List.{take_all, take-append-le, reverse-reverse, length-set, get_or_push}
+use Rattle.std.proofs.lemmas.Option.{slice_get_within}
 use Rattle.std.proofs.Common.{◌≡◌, ℕ, suc, get_or, set, length-append, ◌-◌, ◌+◌, ◌<◌, ◌≤◌, List, [], ◌∷◌, ◌++◌, length, take, drop, reverse, refl, sym, ap, ◌∙◌, subst, inl, inr, ⊎_elim, arith}
 use Rattle.hx_board.specs.declared.colours.Colour.{Colour}
 use Rattle.hx_board.specs.Positions.{Board}
@@ -12,7 +13,6 @@ use Rattle.hx_linkset.specs.States.{IsLive}
 use Rattle.hx_linkset.specs.Rings.{Rings, cut, grown, IsInside}
 use Rattle.hx_linkset.specs.Held.{head_of, IsKeptBelow, IsPassed, IsLiveThere}
 use Rattle.hx_linkset.specs.History.{cut_times, rings_before, HoldsLive, CanCut, CanUndo, HasDropped, HasHistory}
-use Rattle.hx_board.proofs.ListLaws.{get-lt}
 use Rattle.hx_linkset.proofs.RingLaws.{cut-grown}
 use Rattle.hx_linkset.proofs.LogLaws.{log-less, log-more}
 use Rattle.hx_linkset.proofs.PassLaws.{rings-same, linked-small, hold-grown}
@@ -36,7 +36,7 @@ module _ (links : List Link) (before after : Board) (player : Colour) (old new :
   passed-live = record {
     hold = record {
       rings_ok = rings-same _ _ _ _ _
-          (λ v k. ⊎_elim inl (λ w. inr (w.0, (w.1.0, (w.1.1.0, (w.1.1.1.0, w.1.1.1.1.1 (get-lt links w.0 w.1.0 w.1.1.1.0)))))) k)
+          (λ v k. ⊎_elim inl (λ w. inr (w.0, (w.1.0, (w.1.1.0, (w.1.1.1.0, w.1.1.1.1.1 (slice_get_within links w.0 w.1.0 w.1.1.1.0)))))) k)
           (λ v k. ⊎_elim inl (λ w. inr (w.0, (w.1.0, (w.1.1.0, (w.1.1.1.0, kept w.0 w.1.0 w.1.1.1.1))))) k)
           p.hold.rings_ok;
       next_long = p.hold.next_long;

@@ -4,6 +4,7 @@ use Rattle.std.proofs.Common.{◌≡◌, ℕ, zero, suc, ◌+◌, ◌<◌, ◌�
 use Rattle.std.specs.Prelude.{slice_get, slice_index}
 use Rattle.std.proofs.lemmas.Bool.{cases_eq, cases_lt}
 use Rattle.std.proofs.lemmas.List.{length-set, get_or-set_same, get_or-set_other, length-map}
+use Rattle.std.proofs.lemmas.Option.{slice_get_within, same_Some}
 use Rattle.hx_board.specs.declared.colours.Colour.{Colour}
 use Rattle.hx_board.specs.Positions.{Board}
 use Rattle.hx_link.specs.declared.links.Link.{Link}
@@ -12,7 +13,7 @@ use Rattle.hx_link.specs.Steps.{StepGives, AreRightSteps}
 use Rattle.hx_linkset.specs.States.{State, Names, IsLiveAt, IsRight}
 use Rattle.hx_linkset.specs.Marks.{IsMarked, IsFirstMarkFrom}
 use Rattle.hx_linkset.specs.Derivations.{IsDerived, AreClosedFrom, AreMarkedUnder, AreKeptBelow, renamed}
-use Rattle.hx_board.proofs.ListLaws.{get-lt, get-map, same_some, get-push_before, get-push_last}
+use Rattle.hx_board.proofs.ListLaws.{get-map, get-push_before, get-push_last}
 use Rattle.hx_linkset.proofs.MarkLaws.{marked-inside}
 use Rattle.hx_linkset.proofs.ClosedLaws.{part-before}
 use Rattle.hx_linkset.proofs.RenamingLaws.{gives-renamed}
@@ -117,8 +118,8 @@ module _ (player : Colour) (state : State) (marks : List ℕ) where
     top_one : length named ≡ 1 → (place : ℕ) → slice_get named 0 ≡ Some place → (other : ℕ) → IsMarked marks other → other ≤ place
     top_one one place first other h =
         let top = u.under other h in
-        let k0 : top.1.0.0 ≡ 0 = omega (arith, get-lt named top.1.0.0 top.0 top.1.0.1) in
-        let same : top.0 ≡ place = same_some top.0 place (sym top.1.0.1 ∙ (ap (λ q. slice_get named q) k0 ∙ first)) in
+        let k0 : top.1.0.0 ≡ 0 = omega (arith, slice_get_within named top.1.0.0 top.0 top.1.0.1) in
+        let same : top.0 ≡ place = same_Some top.0 place (sym top.1.0.1 ∙ (ap (λ q. slice_get named q) k0 ∙ first)) in
         omega (arith, top.1.1, same)
 
     last_one : (ns : List ℕ) → ns ≡ named → length ns ≡ 1 → (new : ℕ) → slice_get (map (λ (p : ℕ). slice_index names p) ns) 0 ≡ Some new → suc new ≡ length steps
@@ -127,7 +128,7 @@ module _ (player : Colour) (state : State) (marks : List ℕ) where
         let first : slice_get named 0 ≡ Some n = ap (λ (xs : List ℕ). slice_get xs 0) (sym e) in
         let marked : IsMarked marks n = u.each n (0, first) in
         let is : new ≡ slice_index names n =
-        same_some new (slice_index names n) (sym h ∙ get-map (λ (p : ℕ). slice_index names p) (n ∷ ns) 0 n refl) in
+        same_Some new (slice_index names n) (sym h ∙ get-map (λ (p : ℕ). slice_index names p) (n ∷ ns) 0 n refl) in
         let alone : length named ≡ 1 = ap (λ (xs : List ℕ). length xs) (sym e) ∙ one in
         let last : suc (slice_index names n) ≡ length steps = k.last n marked (held n marked) (λ other g l. top_one alone n first other g) in
         omega (arith, is, last)
@@ -141,7 +142,7 @@ module _ (player : Colour) (state : State) (marks : List ℕ) where
       gives = λ i place new there there'.
           let marked : IsMarked marks place = u.each place (i, there) in
           let is : new ≡ slice_index names place =
-          same_some new (slice_index names place) (sym there' ∙ get-map (λ (p : ℕ). slice_index names p) named i place there) in
+          same_Some new (slice_index names place) (sym there' ∙ get-map (λ (p : ℕ). slice_index names p) named i place there) in
           ap (λ q. slice_get k.links q) is ∙ k.gives place marked (held place marked);
       last = λ one new h. last_one named refl one new h;
     }

@@ -5,10 +5,10 @@ use Rattle.std.proofs.lemmas.Bool.Decides.{eqb_tells}
 use Rattle.std.proofs.lemmas.List.{length-take-le, take_all, drop_all, take-append-drop, drop-append-le}
 use Rattle.std.proofs.lemmas.List.Folds.{list_any_at}
 use Rattle.std.proofs.lemmas.Map.Views.{Contains-from_any}
+use Rattle.std.proofs.lemmas.Option.{slice_get_within}
 use Rattle.std.proofs.Common.{◌≡◌, ◌≢◌, ℕ, ◌≤◌, ◌==◌, true, false, List, [], ◌∷◌, ◌++◌, length, take, drop, reverse, get_or, refl, sym, ◌∙◌, ap, subst, if◌then◌else◌, ⊎_elim, arith, eqb, eqb-true, eq-eqb}
 use Rattle.hx_board.specs.declared.colours.Colour.{Colour}
 use Rattle.hx_board.specs.Positions.{Board}
-use Rattle.hx_board.proofs.ListLaws.{get-lt}
 use Rattle.hx_link.specs.declared.links.Link.{Link}
 use Rattle.hx_link.specs.declared.steps.Step.{Step}
 use Rattle.hx_linkset.specs.declared.plays.Stage.{Stage}
@@ -131,5 +131,5 @@ module _ (player : Colour) (board : Board) (links : List Link) (steps : List Ste
         let P : Board → Type 0 = λ b. IsLive b player d.link in
         Contains-from_any eqb-true place (drop first.logged log)
         (⊎_elim (λ live. absurd (d.is_dead live)) (λ k. k)
-        (since.1.all_dropped.all place d.link d.there (get-lt links place d.link d.there) (subst P (sym board-first) d.was_live)));
+        (since.1.all_dropped.all place d.link d.there (slice_get_within links place d.link d.there) (subst P (sym board-first) d.was_live)));
   }

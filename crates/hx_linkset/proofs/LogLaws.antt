@@ -5,12 +5,13 @@ use Rattle.std.proofs.lemmas.Cmp.{nat_eq_equiv}
 use Rattle.std.proofs.lemmas.List.Folds.{list_any-append}
 use Rattle.std.proofs.lemmas.Map.Keys.{IsDistinct-push}
 use Rattle.std.proofs.lemmas.Map.Steps.{length-le_from_distinct_below}
+use Rattle.std.proofs.lemmas.Option.{slice_get_within, same_Some}
 use Rattle.std.proofs.Common.{◌≡◌, ℕ, ◌<◌, ◌≤◌, true, false, List, [], ◌∷◌, ◌++◌, length, sym, ◌∙◌, subst, inl, inr, Some, ◌⊎◌, ⊎_elim, arith, length-append, eqb, eqb-true}
 use Rattle.std.specs.Prelude.{slice_get}
 use Rattle.std.specs.List.{list_any, IsDistinct}
 use Rattle.hx_link.specs.declared.links.Link.{Link}
 use Rattle.hx_linkset.specs.Held.{IsOut, LogHolds}
-use Rattle.hx_board.proofs.ListLaws.{get-lt, get-push, same_some}
+use Rattle.hx_board.proofs.ListLaws.{get-push}
 
 none_distinct : IsDistinct eqb []
 unfolding IsDistinct
@@ -36,8 +37,8 @@ module _ (links : List Link) (Has : ℕ → Link → Type 0) where
 
       place_out : IsOut links Less place
       place_out = record {
-        inside = get-lt links place link there;
-        lacks = λ l there' less_has. let same : l ≡ link = same_some l link (sym there' ∙ there) in let P : Link → Type 0 = λ x. Less place x in lacks (subst P same less_has);
+        inside = slice_get_within links place link there;
+        lacks = λ l there' less_has. let same : l ≡ link = same_Some l link (sym there' ∙ there) in let P : Link → Type 0 = λ x. Less place x in lacks (subst P same less_has);
       }
 
       either : (q : ℕ) → (list_any (eqb q) log ≡ true) ⊎ (list_any (eqb q) (place ∷ []) ≡ true) → IsOut links Less q

@@ -3,6 +3,7 @@
 use Rattle.std.proofs.Common.{◌≡◌, ℕ, ◌+◌, ◌-◌, ◌<◌, ◌≤◌, get_or, refl, sym, ap, ◌∙◌, inl, inr, Some, ◌⊎◌, ⊎_elim, arith}
 use Rattle.std.specs.Prelude.{slice_get}
 use Rattle.std.proofs.lemmas.Bool.{cases_lt}
+use Rattle.std.proofs.lemmas.Option.{slice_get_within}
 use Rattle.hx_board.specs.declared.vertices.Vertex.{Vertex}
 use Rattle.hx_link.specs.declared.links.Kind.{Kind}
 use Rattle.hx_link.specs.declared.links.Link.{Link}
@@ -11,7 +12,7 @@ use Rattle.hx_linkset.specs.States.{Standing, IsLive, IsRight}
 use Rattle.hx_linkset.specs.Rings.{Rings}
 use Rattle.hx_linkset.specs.Held.{IsHeadBetween, head_for, head_of, head_at, IsLinked, RingsHold, IsLiveThere}
 use Rattle.hx_linkset.specs.LiveOf.{IsLiveOf, IsFirstFrom}
-use Rattle.hx_board.proofs.ListLaws.{get-lt, get-there}
+use Rattle.hx_board.proofs.ListLaws.{get-there}
 use Rattle.hx_linkset.proofs.OrderLaws.{ends-to, ends-from}
 use Rattle.hx_linkset.proofs.HeadLaws.{head-small, live-some, live-same}
 use Rattle.hx_linkset.proofs.PassLaws.{head_at-link, head_at-low}
@@ -21,7 +22,7 @@ module _ (set : Standing) (right : IsRight set.player set.present) where
   -- a live link is one that there can be on the board
   pub live-is_link : (place : ℕ) (link : Link) → slice_get set.present.links place ≡ Some link → IsLive set.present.board set.player link → IsLink set.present.board set.player link
   live-is_link place link there live =
-      let step = get-there set.present.steps place (omega (arith, right.steps_of, get-lt set.present.links place link there)) in
+      let step = get-there set.present.steps place (omega (arith, right.steps_of, slice_get_within set.present.links place link there)) in
       (right.given place link step.0 there step.1 live).gives.link_ok
 
   -- a live link's own head is that of its ends

@@ -4,6 +4,7 @@
 -- lower of the two nodes is then the next link of either ring, and after it both walks reach on from the next number. No
 -- more come than there are links, so the bound on their number never cuts the walk short.
 use Rattle.std.proofs.lemmas.Bool.{cases_lt, cases_eq, ltb-true, ltb-false}
+use Rattle.std.proofs.lemmas.Option.{slice_get_within}
 use Rattle.std.proofs.Common.{◌≡◌, ◌≢◌, ℕ, zero, suc, ◌+◌, ◌-◌, ◌<◌, ◌≤◌, Bool, true, false, List, [], ◌∷◌, length, get_or, refl, sym, ap, ◌∙◌, subst, inl, inr, Some, None, Option, ◌⊎◌, ⊎_elim, arith}
 use Rattle.std.specs.Prelude.{slice_get}
 use Rattle.hx_board.specs.declared.vertices.Vertex.{Vertex}
@@ -16,7 +17,6 @@ use Rattle.hx_linkset.specs.States.{Standing, IsRight}
 use Rattle.hx_linkset.specs.Rings.{Rings}
 use Rattle.hx_linkset.specs.Held.{AreLowAndHigh, head_for, head_of, head_at, IsLinked, RingsHold, IsLiveThere}
 use Rattle.hx_linkset.specs.LivePairs.{IsLivePair, AreLivePairs, turn_by, turn_of, from_turn, pairs_from}
-use Rattle.hx_board.proofs.ListLaws.{get-lt}
 use Rattle.hx_board.proofs.VertexSetLaws.{code-small}
 use Rattle.hx_linkset.proofs.RisingLists.{AreAllFrom, all-rising, all-each, all-contains}
 use Rattle.hx_linkset.proofs.OrderLaws.{ends-to, ends-from}
@@ -194,7 +194,7 @@ module _ (links : List Link) (Has : ℕ → Link → Type 0) (rings : Rings) (ho
         )
 
     pairs-are : (left full semi from : ℕ) → length links ≤ left + from → Reaches one full from → Reaches other semi from → AreAllFrom (IsInEither links Has one other) from (pairs_from rings.next left full semi)
-    pairs-are zero full semi from few r s = rw (pairs-none rings.next 0 full semi refl) (λ n le w. absurd (omega (arith, get-lt links n w.0 w.1.0, few, le)))
+    pairs-are zero full semi from few r s = rw (pairs-none rings.next 0 full semi refl) (λ n le w. absurd (omega (arith, slice_get_within links n w.0 w.1.0, few, le)))
     pairs-are (suc left) full semi from few r s = rw (pairs-step rings.next left full semi (turn_of full semi) refl) (step left full semi from (pairs-are left) few r s (turn_of full semi) refl)
 
     pairs-start : AreAllFrom (IsInEither links Has one other) 0 (pairs_from rings.next (length links) (get_or rings.next one 0) (get_or rings.next other 0))

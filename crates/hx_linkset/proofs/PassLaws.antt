@@ -3,6 +3,7 @@ use Rattle.std.proofs.lemmas.List.{get_or_push, get_or-set_same, get_or-set_othe
 use Rattle.std.proofs.lemmas.Grind.{reverse_onto}
 use Rattle.std.proofs.lemmas.Bool.{false≢true, cases_eq, or_left, or_right, or_cases}
 use Rattle.std.proofs.lemmas.Bool.Decides.{nat_tests}
+use Rattle.std.proofs.lemmas.Option.{slice_get_within, same_Some}
 use Rattle.std.proofs.Common.{◌≡◌, ◌≢◌, ℕ, ◌+◌, ◌-◌, ◌<◌, ◌≤◌, Bool, true, false, List, [], ◌∷◌, ◌++◌, length, reverse, set, get_or, refl, sym, ap, ◌∙◌, subst, inl, inr, Some, Option, ◌⊎◌, ⊎_elim, arith, append_assoc, if◌then◌else◌, append-nil, zero, suc, length-append, eqb-true, eq-eqb}
 use Rattle.std.specs.Prelude.{slice_get, nat_lt}
 use Rattle.hx_board.specs.declared.colours.Colour.{Colour}
@@ -12,7 +13,7 @@ use Rattle.hx_linkset.specs.States.{IsLive}
 use Rattle.hx_linkset.specs.Rings.{AreRings, Rings, unlinked, grown, IsInside}
 use Rattle.hx_linkset.specs.Held.{head_of, head_or, head_at, IsLinked, RingsHold, relinked_all, CanRelink, IsKeptBelow, AreAllDropped, IsPassed, LogHolds, IsLiveThere}
 use Rattle.hx_linkset.proofs.RingLaws.{IsBetween, rings-grown, rings-unlinked, after_other, before_other, relinked-unlinked, inside-unlinked}
-use Rattle.hx_board.proofs.ListLaws.{get-lt, same_some, get-push, get-push_before, get-push_last}
+use Rattle.hx_board.proofs.ListLaws.{get-push, get-push_before, get-push_last}
 use Rattle.hx_linkset.proofs.LogLaws.{log-less, log-push, log-room_more}
 
 pub reverse-first : (x : ℕ) (xs : List ℕ) → reverse (x ∷ xs) ≡ reverse xs ++ x ∷ []
@@ -48,7 +49,7 @@ rings-same f g h P Q to from r = record {
 module _ (links : List Link) (Has : ℕ → Link → Type 0) where
   pub linked-small : (v : ℕ) → IsLinked links Has v → v < 30258 + length links
   linked-small v (inl lt) = omega arith
-  linked-small v (inr w) = omega (arith, w.1.1.0, get-lt links w.0 w.1.0 w.1.1.1.0)
+  linked-small v (inr w) = omega (arith, w.1.1.0, slice_get_within links w.0 w.1.0 w.1.1.1.0)
 
   module _ (rings : Rings) (hold : RingsHold links Has rings) (place : ℕ) (link : Link) (there : slice_get links place ≡ Some link) (has : Has place link) (small : head_of link < 30258) where
     abbrev node : ℕ
@@ -118,7 +119,7 @@ module _ (links : List Link) (before after : Board) (player : Colour) (bound : �
 
   -- the link at the bound is this one
   at_bound : (place : ℕ) (l : Link) → place ≡ bound → slice_get links place ≡ Some l → l ≡ link
-  at_bound place l e at = same_some l link (sym at ∙ (ap (λ n. slice_get links n) e ∙ there))
+  at_bound place l e at = same_Some l link (sym at ∙ (ap (λ n. slice_get links n) e ∙ there))
 
   stays_if : (v : ℕ) → ((l : Link) → v ≡ 30258 + bound → l ≡ link → IsLive before player l → IsLive after player l) → IsLinked links Now v → IsLinked links Next v
   stays_if v kept (inl lt) = inl lt

@@ -1,5 +1,6 @@
 -- A right state with one more link that live links give, or with one more stone, is right.
 use Rattle.std.proofs.lemmas.List.{take_all, take-append-le}
+use Rattle.std.proofs.lemmas.Option.{slice_get_within}
 use Rattle.std.proofs.Common.{◌≡◌, ℕ, ◌≤◌, [], ◌∷◌, ◌++◌, length, take, refl, inl, inr, Some, ◌⊎◌, arith, length-append}
 use Rattle.std.specs.Prelude.{slice_get}
 use Rattle.hx_board.specs.declared.colours.Colour.{Colour}
@@ -8,7 +9,7 @@ use Rattle.hx_board.proofs.StoneLaws.{board-put}
 use Rattle.hx_link.specs.declared.links.Link.{Link}
 use Rattle.hx_link.specs.declared.steps.Step.{Step}
 use Rattle.hx_linkset.specs.States.{IsLive, IsUntouched, State, GivesFromLive, IsRight, added, played}
-use Rattle.hx_board.proofs.ListLaws.{get-lt, get-push}
+use Rattle.hx_board.proofs.ListLaws.{get-push}
 use Rattle.hx_linkset.proofs.GivenLaws.{given-from_live}
 use Rattle.hx_linkset.proofs.KeptLaws.{live-before, untouched-live, gives-played}
 
@@ -17,9 +18,9 @@ module _ (player : Colour) (state : State) (step : Step) (link : Link) (r : IsRi
       → (slice_get state.links place ≡ Some l) ⊎ ((place ≡ length state.links) × (l ≡ link))
       → (slice_get state.steps place ≡ Some s) ⊎ ((place ≡ length state.steps) × (s ≡ step))
       → IsLive state.board player l → GivesFromLive state.board player (take place (state.links ++ link ∷ [])) s l
-  given_more place l s (inl w) (inl w') live = let le : place ≤ length state.links = omega (arith, get-lt state.links place l w) in rw take-append-le (r.given place l s w w' live)
-  given_more place l s (inl w) (inr w') live = absurd (omega (arith, r.steps_of, get-lt state.links place l w, w'.0))
-  given_more place l s (inr w) (inl w') live = absurd (omega (arith, r.steps_of, w.0, get-lt state.steps place s w'))
+  given_more place l s (inl w) (inl w') live = let le : place ≤ length state.links = omega (arith, slice_get_within state.links place l w) in rw take-append-le (r.given place l s w w' live)
+  given_more place l s (inl w) (inr w') live = absurd (omega (arith, r.steps_of, slice_get_within state.links place l w, w'.0))
+  given_more place l s (inr w) (inl w') live = absurd (omega (arith, r.steps_of, w.0, slice_get_within state.steps place s w'))
   given_more place l s (inr w) (inr w') live =
       let le : length state.links ≤ length state.links = omega arith in
       let all : take place (state.links ++ link ∷ []) ≡ state.links = rw (w.0, take-append-le, take_all) refl in

@@ -14,9 +14,6 @@ use Rattle.hx_linkset.specs.States.{State, Standing, IsRight, GivesFromLive, add
 use Rattle.hx_linkset.specs.Plays.{undone, past_of, Stands, HasRoom, Keeps, standing}
 use Rattle.hx_linkset.proofs.RightLaws.{right-added}
 
-full : {A : Type 0} → (xs : List A) → take (length xs) xs ≡ xs
-full xs = let le : length xs ≤ length xs = omega arith in rw take_all refl
-
 states : (board board' : Board) (links links' : List Link) (steps steps' : List Step) → board ≡ board' → links ≡ links' → steps ≡ steps'
     → (let x : State = record { board = board; links = links; steps = steps } in x) ≡ record { board = board'; links = links'; steps = steps' }
 states board board' links links' steps steps' e f g = cc
@@ -32,7 +29,7 @@ moved state after = record state { board = after }
 module _ (player : Colour) (state : State) where
   -- a play and its taking back
   undone-played : (after : Board) (logged : ℕ) → length state.steps ≡ length state.links → undone (moved state after) (stage_at state logged) ≡ state
-  undone-played after logged same = states _ _ _ _ _ _ refl (full state.links) (ap (λ n. take n state.steps) (sym same) ∙ full state.steps)
+  undone-played after logged same = states _ _ _ _ _ _ refl (take_all state.links) (ap (λ n. take n state.steps) (sym same) ∙ take_all state.steps)
 
   -- a link more does not change what is before a play
   undone-added : (link : Link) (step : Step) (play : Stage) → play.count ≤ length state.links → length state.steps ≡ length state.links → undone (added state link step) play ≡ undone state play

@@ -2,13 +2,13 @@
 -- between a node and the next one is not in the ring, and the next one is higher or the head.
 use Rattle.std.proofs.lemmas.Bool.{false≢true, cases_lt, cases_eq}
 use Rattle.std.proofs.lemmas.Bool.Decides.{nat_tests}
+use Rattle.std.proofs.lemmas.Option.{same_Some}
 use Rattle.std.proofs.Common.{◌≡◌, ℕ, ◌+◌, ◌-◌, ◌<◌, ◌≤◌, Bool, true, false, List, length, get_or, refl, sym, ap, ◌∙◌, subst, inl, inr, Some, ◌⊎◌, ⊎_elim, arith, if◌then◌else◌}
 use Rattle.std.specs.Prelude.{slice_get, nat_lt}
 use Rattle.hx_link.specs.declared.links.Link.{Link}
 use Rattle.hx_linkset.specs.declared.sets.TheConstants.{MOST_LINKS}
 use Rattle.hx_linkset.specs.Rings.{Rings, IsNotBetween}
 use Rattle.hx_linkset.specs.Held.{head_of, head_at, IsLinked, RingsHold}
-use Rattle.hx_board.proofs.ListLaws.{same_some}
 use Rattle.hx_linkset.proofs.PassLaws.{head_at-link, head_at-low, linked-small}
 
 -- how far a walk may still go: not at all from a head
@@ -131,7 +131,7 @@ module _ (links : List Link) (Has : ℕ → Link → Type 0) (rings : Rings) (ho
           here place link there same wanted =
               let at : LinkAt links Has head node = walk-link low in
               let places : place ≡ at.place = omega (arith, same, at.node_is) in
-              let one : link ≡ at.link = same_some link at.link (sym there ∙ (ap (λ n. slice_get links n) places ∙ at.there)) in
+              let one : link ≡ at.link = same_Some link at.link (sym there ∙ (ap (λ n. slice_get links n) places ∙ at.there)) in
               let P : Link → Type 0 = λ l. Wanted l in
               unwanted (subst P one wanted)
 

@@ -52,7 +52,7 @@ pub record IsRefused (old new : Standing) (step : Step) : Type 0 where
   pub none : (link : Link) → Gives old step link → ⊥
   pub same : new ≡ old
 
--- the step gives a link that no live link covers, but 8,192 are held already, and nothing changes
+-- the step gives a link that no live link covers, but `MOST_LINKS` are held already, and nothing changes
 pub record IsAtLimit (old new : Standing) (step : Step) : Type 0 where
   pub link : Link
   pub gives : Gives old step link

@@ -28,7 +28,8 @@ pub fn store_fill<P: Proofs, R: Wait>(
     ensures slots { P.slots proofs.new ≡ P.slots proofs.old }
     ensures over { P.over proofs.new ≡ P.over proofs.old }
     ensures seen { Extends (P.list proofs.new) (P.list proofs.old) }
-    ensures stored { TellsStored (P.list proofs.new) (P.slots proofs.new) position.now to_move result }
+    ensures stored { TellsStored (P.list proofs.new) (P.slots proofs.new)
+        position.now to_move result }
     ensures missing { MissingFor (LacksFill (P.list proofs.old) (P.list proofs.new)
         filled.now.steps.items filled.now.position to_move) result }
 {

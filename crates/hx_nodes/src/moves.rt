@@ -25,7 +25,8 @@ pub fn store_move<P: Proofs, R: Wait>(
     ensures slots { P.slots proofs.new ≡ P.slots proofs.old }
     ensures over { P.over proofs.new ≡ P.over proofs.old }
     ensures seen { Extends (P.list proofs.new) (P.list proofs.old) }
-    ensures stored { TellsStored (P.list proofs.new) (P.slots proofs.new) position.now to_move result }
+    ensures stored { TellsStored (P.list proofs.new) (P.slots proofs.new)
+        position.now to_move result }
     ensures missing { MissingFor (LacksMove (P.list proofs.old) (P.list proofs.new)
         position.now to_move cell) result }
     ensures memory { HadMemory result }

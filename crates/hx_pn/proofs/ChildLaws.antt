@@ -5,6 +5,7 @@ use Rattle.std.specs.Prelude.{min, sum_by, slice_get}
 use Rattle.std.specs.List.{All}
 use Rattle.std.proofs.lemmas.List.{take_more}
 use Rattle.std.proofs.lemmas.List.Sums.{sum_by-append, sum_by-cons}
+use Rattle.std.proofs.lemmas.Option.{slice_get_within}
 use Rattle.hx_pn.specs.declared.proof_numbers.Numbers.{Numbers}
 use Rattle.hx_pn.specs.declared.descents.Best.{Best}
 use Rattle.hx_pn.specs.declared.proof_numbers.TheConstants.{INF}
@@ -55,11 +56,6 @@ get-last : (xs : List Numbers) (x : Numbers) → slice_get (xs ++ x ∷ []) (len
 get-last [] x = refl
 get-last (z ∷ xs) x = get-last xs x
 
-get-inside : (xs : List Numbers) (y : Numbers) (k : ℕ) → slice_get xs k ≡ Some y → k < length xs
-get-inside [] y k e = cc
-get-inside (z ∷ xs) y zero e = omega arith
-get-inside (z ∷ xs) y (suc k) e = omega (arith, get-inside xs y k e)
-
 -- each delta is the least one at the least
 at_least : (xs : List Numbers) (y : Numbers) (k : ℕ) → slice_get xs k ≡ Some y → least_delta xs ≤ y.delta
 at_least [] y k e = cc
@@ -97,11 +93,11 @@ module _ (xs : List Numbers) (x : Numbers) (best : Best) (is : IsNumbers x) (bef
       least = rw child (omega (arith, least_delta-push xs x is, before.chosen.least));
       first = λ other earlier below e. ⊎_elim
           (λ w. rw child (before.chosen.first other earlier (omega (arith, place)) w.1))
-          (λ w. absurd (omega (arith, w.0, place, get-inside xs best.child best.place before.chosen.there)))
+          (λ w. absurd (omega (arith, w.0, place, slice_get_within xs best.place best.child before.chosen.there)))
           (get-push xs x earlier other e);
     };
     second = second ∙ ap (λ (n : ℕ). min n x.delta) before.second
-        ∙ sym (ap (second_delta (xs ++ x ∷ [])) place ∙ second_delta-push xs x best.place (get-inside xs best.child best.place before.chosen.there) is);
+        ∙ sym (ap (second_delta (xs ++ x ∷ [])) place ∙ second_delta-push xs x best.place (slice_get_within xs best.place best.child before.chosen.there) is);
   }
 
 -- ---- bounds

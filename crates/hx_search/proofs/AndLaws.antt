@@ -4,6 +4,7 @@
 use Rattle.std.proofs.Common.{◌≡◌, ℕ, suc, ◌<◌, ◌≤◌, ◌+◌, ◌-◌, Bool, true, false, length, refl, sym, ◌∙◌, subst, inl, inr, Some, None, Option, ◌⊎◌, ⊎_elim, arith}
 use Rattle.std.specs.Prelude.{slice_get, MatchOption, ◌↔◌, IsTrue}
 use Rattle.std.proofs.lemmas.Bool.{false≢true, cases_eq, cases_lt}
+use Rattle.std.proofs.lemmas.Option.{same_Some}
 use Rattle.hx_board.specs.declared.colours.Colour.{Colour}
 use Rattle.hx_board.specs.declared.vertices.Vertex.{Vertex}
 use Rattle.hx_board.specs.declared.vertices.Vertex.TheVariants.{Of}
@@ -17,7 +18,6 @@ use Rattle.hx_link.specs.declared.steps.Step.TheVariants.{AndStone, AndCell}
 use Rattle.hx_link.specs.Steps.{HasEnds, MeetAt, GivesAndStone, GivesAndCell}
 use Rattle.hx_linkset.specs.States.{Standing, IsLive, IsLiveAt, Names}
 use Rattle.hx_linkset.specs.LiveOf.{IsLiveOf, IsFirstFrom}
-use Rattle.hx_board.proofs.ListLaws.{same_some}
 use Rattle.hx_board.proofs.VertexSetLaws.{some-vertex, code-small}
 use Rattle.hx_search.specs.Closed.{IsSettled, IsGrown, IsStuck}
 use Rattle.hx_search.specs.Progress.{IsUnsettled, IsPairSettled, AreRowsSettled, and_at, IsChainSettled, IsChainSettledTo, IsEndSettledBelow, IsEndSettled}
@@ -148,7 +148,7 @@ module _ (set : Standing) (right : ℕ) where
             record {
               link = first;
               there = meet.first_there;
-              live = subst P (same_some at_left.0 first (sym at_left.1.0 ∙ meet.first_there)) at_left.1.1;
+              live = subst P (same_Some at_left.0 first (sym at_left.1.0 ∙ meet.first_there)) at_left.1.1;
               kind_is = meet.first_full;
               ends = turned first from middle meet.first_ends;
             }
@@ -159,7 +159,7 @@ module _ (set : Standing) (right : ℕ) where
 
         over : (IsOwn set.present.board set.player middle → IsSettled set (AndStone left right)) × ((IsOwn set.present.board set.player middle → ⊥) → IsSettled set (AndCell left right))
         over =
-            let same : second ≡ later = same_some second later (sym meet.second_there ∙ there) in
+            let same : second ≡ later = same_Some second later (sym meet.second_there ∙ there) in
             let P : Link → Type 0 = λ l. HasEnds l middle to in
             ⊎_elim (λ e. at_end later.a e.0 over_a) (λ e. at_end later.b e.1 over_b) (subst P same meet.second_ends)
 

@@ -4,6 +4,7 @@
 use Rattle.std.proofs.Common.{◌≡◌, ◌≢◌, ℕ, zero, suc, ◌<◌, ◌≤◌, ◌+◌, true, false, ◌||◌, List, [], ◌∷◌, ◌++◌, map, length, refl, sym, ap, ◌∙◌, subst, Some, ◌⊎◌, ⊎_elim, arith, length-append}
 use Rattle.std.specs.Prelude.{slice_get}
 use Rattle.std.proofs.lemmas.Bool.{false≢true, cases_lt, true_from_ne_false, or_from}
+use Rattle.std.proofs.lemmas.Option.{slice_get_within, same_Some}
 use Rattle.hx_board.specs.declared.colours.Colour.{Colour}
 use Rattle.hx_board.specs.declared.vertices.Vertex.{Vertex}
 use Rattle.hx_board.specs.declared.vertices.Vertex.TheVariants.{Of, First, Last}
@@ -20,7 +21,7 @@ use Rattle.hx_link.proofs.LinkLaws.{ends_along, one_of_later, same_front, place_
 use Rattle.hx_link.proofs.PartLaws.{part_at}
 use Rattle.hx_linkset.specs.States.{Standing, IsRight}
 use Rattle.hx_linkset.specs.LiveOf.{IsLiveOf, IsFirstFrom}
-use Rattle.hx_board.proofs.ListLaws.{get-lt, get-there, same_some, get-push, get-push_before, get-push_last}
+use Rattle.hx_board.proofs.ListLaws.{get-there, get-push, get-push_before, get-push_last}
 use Rattle.hx_linkset.proofs.NextLaws.{live-is_link}
 use Rattle.hx_search.specs.Closed.{IsForked}
 use Rattle.hx_search.specs.Progress.{AreParts, AllShare, IsFork}
@@ -44,14 +45,14 @@ semi_cell board player before (Or parts) link g semi = let e : Full ≡ Semi = s
 module _ (set : Standing) (right : IsRight set.player set.present) (a b : Vertex) where
   some_cell : (place : ℕ) (is : IsLiveOf set Semi a b place) → (n : ℕ) × (has is.link.carrier n ≡ true)
   some_cell place is =
-      let step = get-there set.present.steps place (omega (arith, right.steps_of, get-lt set.present.links place is.link is.there)) in
+      let step = get-there set.present.steps place (omega (arith, right.steps_of, slice_get_within set.present.links place is.link is.there)) in
       semi_cell set.present.board set.player _ step.0 is.link (right.given place is.link step.0 is.there step.1 is.live).gives.rule is.kind_is
 
   small_cells : (place : ℕ) (is : IsLiveOf set Semi a b place) (n : ℕ) → has is.link.carrier n ≡ true → n < 121
   small_cells place is n h = on_board-small set.present.board.size n right.is_board.0 (is.live.empty n h).on_board
 
   same_link : (place : ℕ) (is : IsLiveOf set Semi a b place) (link : Link) → slice_get set.present.links place ≡ Some link → link ≡ is.link
-  same_link place is link there = same_some link is.link (sym there ∙ is.there)
+  same_link place is link there = same_Some link is.link (sym there ∙ is.there)
 
   -- ---- the first part
 
@@ -65,7 +66,7 @@ module _ (set : Standing) (right : IsRight set.player set.present) (a b : Vertex
     }
       where
         each : (k place : ℕ) → slice_get (first ∷ []) k ≡ Some place → IsLiveOf set Semi a b place
-        each zero place h = let P : ℕ → Type 0 = λ n. IsLiveOf set Semi a b n in subst P (same_some first place h) is.is
+        each zero place h = let P : ℕ → Type 0 = λ n. IsLiveOf set Semi a b n in subst P (same_Some first place h) is.is
         each (suc k) place h = cc
 
     pub share-one : AllShare set a b carrier first
@@ -201,8 +202,8 @@ module _ (set : Standing) (right : IsRight set.player set.present) (a b : Vertex
   several = by_place other.0 other.1.0 other.1.1.0 other.1.1.1
     where
       by_place : (k place : ℕ) → slice_get parts k ≡ Some place → first ≢ place → 2 ≤ length parts
-      by_place zero place e differ = absurd (differ (same_some first place (sym ok.some.1 ∙ e)))
-      by_place (suc k) place e differ = omega (arith, get-lt parts (suc k) place e)
+      by_place zero place e differ = absurd (differ (same_Some first place (sym ok.some.1 ∙ e)))
+      by_place (suc k) place e differ = omega (arith, slice_get_within parts (suc k) place e)
 
   found : (links : List Link) × (links_at set.present.links parts ≡ map (λ (l : Link). Some l) links)
   found = links_there set.present.links parts (λ k place e. let is = ok.each k place e in (is.link, is.there))
@@ -258,7 +259,7 @@ module _ (set : Standing) (right : IsRight set.player set.present) (a b : Vertex
           none_in_all = λ cell.
               let w = lacks cell in
               let p = part_at set.present.links parts found.0 found.1 w.0 w.1.0 w.1.1.0 in
-              let same : p.0 ≡ w.1.1.1.0 = same_some p.0 w.1.1.1.0 (sym p.1.1 ∙ w.1.1.1.1.0) in
+              let same : p.0 ≡ w.1.1.1.0 = same_Some p.0 w.1.1.1.0 (sym p.1.1 ∙ w.1.1.1.1.0) in
               (p.0, (p.1.0, ap (λ (l : Link). has l.carrier cell) same ∙ w.1.1.1.1.1));
           kind = refl;
           carrier = refl;

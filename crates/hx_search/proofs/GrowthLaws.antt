@@ -1,6 +1,7 @@
 -- What stays as links are added: each place holds what it held, so a live link stays live, and a settled step of places that
 -- were there stays settled, since it gives the same link.
 use Rattle.std.proofs.Common.{◌≡◌, ℕ, suc, ◌<◌, List, [], ◌∷◌, map, length, refl, sym, ◌∙◌, subst, inl, inr, Some, arith, length-append}
+use Rattle.std.proofs.lemmas.Option.{slice_get_within}
 use Rattle.std.specs.Prelude.{slice_get}
 use Rattle.hx_board.specs.declared.colours.Colour.{Colour}
 use Rattle.hx_board.specs.declared.vertices.Vertex.{Vertex}
@@ -15,7 +16,7 @@ use Rattle.hx_linkset.specs.States.{Standing, IsLive, Names, GivesFromLive, adde
 use Rattle.hx_linkset.specs.Answers.{Gives, Covers, IsNew, IsCovered, IsAtLimit}
 use Rattle.hx_linkset.specs.LiveOf.{IsLiveOf}
 use Rattle.hx_linkset.proofs.GivenLaws.{from_live-live}
-use Rattle.hx_board.proofs.ListLaws.{get-lt, get-there, get-push_before, get-push_last}
+use Rattle.hx_board.proofs.ListLaws.{get-there, get-push_before, get-push_last}
 use Rattle.hx_search.specs.Closed.{IsSettled, IsGrown}
 use Rattle.hx_search.specs.Progress.{IsUnsettled}
 
@@ -103,7 +104,7 @@ module _ (old new : Standing) (step : Step) where
   pub new-settled : (place : ℕ) → IsNew old new step place → IsSettled new step
   new-settled place n link h =
       let grown : IsGrown old new = new-grown place n in
-      let below : (p : ℕ) → Names step p → p < length old.present.links = λ p k. (let w = n.gives.from_live p k in get-lt old.present.links p w.0 w.1.0) in
+      let below : (p : ℕ) → Names step p → p < length old.present.links = λ p k. (let w = n.gives.from_live p k in slice_get_within old.present.links p w.0 w.1.0) in
       let was : Gives old step link = gives-before old new step link grown below h in
       let same : n.link ≡ link = step-unique old.present.board old.player old.present.links n.link link step n.gives.gives was.gives in
       let covers : Covers (record old { present = added old.present n.link step }) (length old.present.links) n.link = record {

@@ -2,6 +2,7 @@
 -- nothing with itself. So where each link is settled with the earlier ones, all Ands are.
 use Rattle.std.proofs.Common.{◌≡◌, ℕ, ◌<◌, ◌≤◌, length, refl, sym, ap, ◌∙◌, subst, inl, inr, ◌⊎◌, ⊎_elim, arith, List}
 use Rattle.std.proofs.lemmas.Bool.{false≢true, cases_eq, cases_lt, false_from_ne_true}
+use Rattle.std.proofs.lemmas.Option.{slice_get_within, same_Some}
 use Rattle.hx_board.specs.declared.vertices.Vertex.{Vertex}
 use Rattle.hx_board.specs.declared.vertices.Vertex.TheVariants.{Of}
 use Rattle.hx_board.specs.Sets.{has, insert}
@@ -11,7 +12,6 @@ use Rattle.hx_link.specs.declared.steps.Step.TheVariants.{AndStone, AndCell}
 use Rattle.hx_link.specs.Steps.{HasEnds, MeetAt, GivesAndStone, GivesAndCell}
 use Rattle.hx_linkset.specs.States.{Standing, IsLiveAt}
 use Rattle.hx_linkset.specs.Answers.{Gives, Covers}
-use Rattle.hx_board.proofs.ListLaws.{get-lt, same_some}
 use Rattle.hx_search.specs.Progress.{AreRowsSettled}
 use Rattle.hx_search.proofs.VertexLaws.{turned}
 
@@ -30,7 +30,7 @@ meet-turned links left right from middle to f s m = record {
 -- no link meets itself in one end alone
 no_meet : (links : List Link) (n : ℕ) (from middle to : Vertex) (f s : Link) → MeetAt links n n from middle to f s → ⊥
 no_meet links n from middle to f s m =
-    let same : f ≡ s = same_some f s (sym m.first_there ∙ m.second_there) in
+    let same : f ≡ s = same_Some f s (sym m.first_there ∙ m.second_there) in
     let P : Link → Type 0 = λ l. HasEnds l middle to in
     ends f (turned f from middle m.first_ends) (subst P (sym same) m.second_ends)
   where
@@ -78,7 +78,7 @@ module _ (set : Standing) (rows : AreRowsSettled set (length set.present.links))
   cell_case l r h (inr ne) (inr le) = (rows right left (omega arith) l).1 link (cell-turned set left right link h)
 
   there_at : (n : ℕ) → IsLiveAt set.present.board set.player set.present.links n → n < length set.present.links
-  there_at n w = get-lt set.present.links n w.0 w.1.0
+  there_at n w = slice_get_within set.present.links n w.0 w.1.0
 
   pub all-stones : Gives set (AndStone left right) link → (place : ℕ) × Covers set place link
   all-stones h = stone_case (there_at left (h.from_live left (inl refl))) (there_at right (h.from_live right (inr refl))) h (cases_eq left right) (cases_lt left right)

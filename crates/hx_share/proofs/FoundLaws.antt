@@ -2,12 +2,13 @@
 use Rattle.std.proofs.Common.{◌≡◌, ℕ, zero, suc, ◌<◌, ◌≤◌, List, [], ◌∷◌, ◌++◌, refl, sym, ◌∙◌, subst, ⊎_elim, arith, Option, Some, None, Ok, Err}
 use Rattle.std.specs.Prelude.{slice_get, IfSome, IsSomeAnd}
 use Rattle.std.proofs.lemmas.Bool.{cases_lt}
+use Rattle.std.proofs.lemmas.Option.{slice_get_within}
 use Rattle.hx_board.specs.declared.colours.Colour.{Colour}
 use Rattle.hx_board.specs.Colours.{other_of}
 use Rattle.hx_board.specs.Positions.{Board}
 use Rattle.hx_board.specs.Game.{Wins}
 use Rattle.hx_board.proofs.ColourLaws.{one_or_other}
-use Rattle.hx_board.proofs.ListLaws.{get-lt, get-append, get-append_before}
+use Rattle.hx_board.proofs.ListLaws.{get-append, get-append_before}
 use Rattle.hx_tree.specs.declared.nodes.Node.{Node}
 use Rattle.hx_tree.specs.declared.entries.Found.{Found}
 use Rattle.hx_tree.specs.Trees.{headings_of, AreRight}
@@ -25,7 +26,7 @@ module _ (board : Board) (mover : Colour) where
     entry = record { node = is.entry.node; there = get-append nodes more place is.entry.node is.entry.there; is_of = is.entry.is_of };
     first = λ earlier less entry. is.first earlier less (record {
       node = entry.node;
-      there = sym (get-append_before nodes more earlier (omega (arith, less, get-lt nodes place is.entry.node is.entry.there))) ∙ entry.there;
+      there = sym (get-append_before nodes more earlier (omega (arith, less, slice_get_within nodes place is.entry.node is.entry.there))) ∙ entry.there;
       is_of = entry.is_of;
     });
   }

@@ -1,7 +1,6 @@
 -- The rule of the table. There is one list of nodes, of which each seat and each note has seen a front. The one word is twice
 -- the length of the list, and one more while a seat has the turn. Until a seat has the turn, the book of the list is in the
--- one slot. The seat that has the turn has seen the whole list. These words are for the
--- functions inside the crate alone.
+-- one slot. The seat that has the turn has seen the whole list. These words are for the functions inside the crate alone.
 use Rattle.std.specs.Prelude.{◌≡◌, ◌≢◌, ℕ, ◌+◌, ◌*◌, ◌≤◌, Bool, true, false, List, [], ◌∷◌, ◌++◌, length, map, take, drop, replicate, slice_index, slice_index_or, sum_by, count_by, Option, Some}
 use mathlib.Core.Option.{some}
 use lib.ListN.{get_elem?}

@@ -1,21 +1,21 @@
 -- Elements by their places, and lists of nodes that go on: what was found stays found, and what is full stays as it is.
 use Rattle.std.proofs.Common.{◌≡◌, ℕ, ◌<◌, ◌≤◌, List, [], ◌∷◌, ◌++◌, length, sym, ap, ◌∙◌, subst, All, Any, Some, length-append, append-nil, arith}
-use Rattle.std.proofs.lemmas.Option.{get_or_from_slice_get}
+use Rattle.std.proofs.lemmas.Option.{get_or_from_slice_get, slice_get_within}
 use Rattle.std.specs.Prelude.{slice_get}
 use Rattle.hx_board.specs.declared.colours.Colour.{Colour}
 use Rattle.hx_board.specs.Positions.{Board}
-use Rattle.hx_board.proofs.ListLaws.{get-lt, get-append, get-append_before}
+use Rattle.hx_board.proofs.ListLaws.{get-append, get-append_before}
 use Rattle.hx_tree.specs.declared.nodes.Node.{Node}
 use Rattle.hx_tree.specs.declared.entries.Found.{Found}
 use Rattle.hx_tree.specs.Entries.{IsEntry, IsFirstFound, Extends}
 
 -- what holds of each element holds of the one at a place
 pub all-get : {A : Type 0} → (P : A → Type 0) (xs : List A) (place : ℕ) (x : A) → All P xs → slice_get xs place ≡ Some x → P x
-all-get P xs place x all there = subst P (get_or_from_slice_get xs place x x there) (all place x (get-lt xs place x there))
+all-get P xs place x all there = subst P (get_or_from_slice_get xs place x x there) (all place x (slice_get_within xs place x there))
 
 -- some element has what the one at a place has
 pub any-get : {A : Type 0} → (P : A → Type 0) (xs : List A) (place : ℕ) (x : A) → slice_get xs place ≡ Some x → P x → Any P xs
-any-get P xs place x there has = (place, x, get-lt xs place x there, get_or_from_slice_get xs place x x there, has)
+any-get P xs place x there has = (place, x, slice_get_within xs place x there, get_or_from_slice_get xs place x x there, has)
 
 -- what was found first is found first in a list that goes on
 pub found-later : (old new : List Node) (board : Board) (mover : Colour) (found : Found) → Extends new old → IsFirstFound old board mover found
@@ -23,7 +23,7 @@ pub found-later : (old new : List Node) (board : Board) (mover : Colour) (found 
 found-later old new board mover found more first = rw more.1 later
   where
     inside : found.index < length old
-    inside = get-lt old found.index first.first.entry.node first.first.entry.there
+    inside = slice_get_within old found.index first.first.entry.node first.first.entry.there
 
     before : (earlier : ℕ) → earlier < found.index → IsEntry (old ++ more.0) board mover earlier → ⊥
     before earlier less entry = first.first.first earlier less (record {

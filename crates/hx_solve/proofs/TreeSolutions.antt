@@ -1,11 +1,11 @@
 -- The tree of a proof that a search came to solves the position; what else the search came to is a cause.
 use Rattle.std.proofs.Common.{◌≡◌, ℕ, ◌≤◌, List, length, get_or, sym, ap, ◌∙◌, subst, arith}
-use Rattle.std.proofs.lemmas.Option.{slice_get-get_or}
+use Rattle.std.proofs.lemmas.Option.{slice_get-get_or, same_Some, slice_get_within}
 use Rattle.hx_board.specs.declared.colours.Colour.{Colour}
 use Rattle.hx_board.specs.Positions.{Board}
 use Rattle.hx_board.specs.Counts.{empty_count}
 use Rattle.hx_board.proofs.EmptyCells.{sweep_size-below, sweep_size-nine}
-use Rattle.hx_board.proofs.ListLaws.{same_some, get-map, get-lt}
+use Rattle.hx_board.proofs.ListLaws.{get-map}
 use Rattle.hx_tree.specs.declared.nodes.Heading.{Heading}
 use Rattle.hx_tree.specs.declared.nodes.Node.{Node}
 use Rattle.hx_book.specs.declared.books.TheConstants.{MOST_SLOTS}
@@ -29,7 +29,7 @@ root-heading : (nodes tree : List Node) (board : Board) (mover : Colour) (index 
     → (found : IsFirstFound nodes board mover (record { index = index; winner = winner })) (is : IsTreeOf nodes index tree)
     → is.root.heading ≡ found.first.entry.node.heading
 root-heading nodes tree board mover index winner found is =
-    same_some is.root.heading found.first.entry.node.heading
+    same_Some is.root.heading found.first.entry.node.heading
     (sym is.same_heading ∙ get-map (λ (node : Node). node.heading) nodes index found.first.entry.node found.first.entry.there)
 
 entry-solves : (nodes tree : List Node) (board : Board) (mover : Colour) (index : ℕ) (winner : Colour) → length nodes ≤ MOST_SLOTS
@@ -59,7 +59,7 @@ tree-solves nodes tree granted board mover settings Memory few says is = absurd 
 
 pub entry-there : (nodes : List Node) (granted : ℕ) (board : Board) (mover : Colour) (settings : Settings) (ended : Ended)
     → IsClosedEnd nodes granted board mover settings ended → HasEntryFor nodes ended
-entry-there nodes granted board mover settings (Proved index winner) says = get-lt nodes index says.first.entry.node says.first.entry.there
+entry-there nodes granted board mover settings (Proved index winner) says = slice_get_within nodes index says.first.entry.node says.first.entry.there
 entry-there nodes granted board mover settings (Spent taken) says = tt
 entry-there nodes granted board mover settings (NoSlots refusal) says = tt
 entry-there nodes granted board mover settings Memory says = tt

@@ -1,6 +1,6 @@
 -- Numbers in decimal digits: a word of digits that is of the shape of a number is the one word of its value, and a loop
 -- over the digits reads that value.
-use Rattle.std.proofs.Common.{◌≡◌, ℕ, ◌+◌, ◌-◌, ◌*◌, ◌<◌, ◌≤◌, ◌^◌, List, length, get_or, take, zero, suc, refl, sym, ap, ◌∙◌, subst, arith, length-take-le, ◌⊎◌, inl, inr, Result, Ok, Err, Option}
+use Rattle.std.proofs.Common.{◌≡◌, ℕ, ◌+◌, ◌-◌, ◌*◌, ◌<◌, ◌≤◌, ◌^◌, List, length, get_or, take, zero, sym, ap, ◌∙◌, subst, arith, length-take-le, ◌⊎◌, inl, inr, Result, Ok, Err, Option}
 use Rattle.std.specs.Fmt.{decimal}
 use Rattle.std.specs.Str.Parse.{AllDigits, digits_value}
 use Rattle.std.proofs.lemmas.Fmt.{decimal_nonempty, length-decimal-le, first_decimal, decimal_digit, decimal-digits_value, digits_decimal, digits_value-decimal}
@@ -11,6 +11,7 @@ use Rattle.std.proofs.lemmas.Str.{digit_value_digit}
 use Rattle.std.specs.Char.{digit_value}
 use Rattle.std.specs.Int.{IsInRange}
 use Rattle.std.proofs.lemmas.Int.Digits.{digits_value_more, digits_more}
+use Rattle.std.proofs.lemmas.Bool.{cases_lt}
 use Rattle.std.specs.Result.{OkIff, result_ok}
 use Rattle.hx_text.specs.Words.{IsCanonical, Reads, IsNumber}
 
@@ -20,19 +21,15 @@ own = numerals_by_value (AllDigits 10) tells_digits
 pub decimal_digits : (n : ℕ) → n < 2 ^ 32 → AllDigits 10 (decimal n) × (digits_value 10 (decimal n) ≡ n)
 decimal_digits n small = (digits_decimal own n (omega arith), digits_value-decimal own n (omega arith))
 
-zero_or_more : (n : ℕ) → (n ≡ 0) ⊎ (0 < n)
-zero_or_more zero = inl refl
-zero_or_more (suc n) = inr (omega arith)
-
-canonical_zero : (n : ℕ) → n < 2 ^ 64 → (n ≡ 0) ⊎ (0 < n) → get_or (decimal n) 0 0 ≡ 48 → length (decimal n) ≡ 1
-canonical_zero n small (inl none) first = rw none (ap length (decimal_digit 0 (omega arith)))
-canonical_zero n small (inr some) first = absurd (omega (arith, first_decimal n some small))
+canonical_zero : (n : ℕ) → n < 2 ^ 64 → (0 < n) ⊎ (n ≤ 0) → get_or (decimal n) 0 0 ≡ 48 → length (decimal n) ≡ 1
+canonical_zero n small (inl some) first = absurd (omega (arith, first_decimal n some small))
+canonical_zero n small (inr none) first = let zero : n ≡ 0 = omega (arith, none) in rw zero (ap length (decimal_digit 0 (omega arith)))
 
 pub decimal_canonical : (n : ℕ) → n < 2 ^ 32 → IsCanonical (decimal n)
 decimal_canonical n small = record {
   some = decimal_nonempty n (omega arith);
   short = length-decimal-le 10 n (omega arith) (omega arith) (omega arith);
-  no_zero = λ e. canonical_zero n (omega arith) (zero_or_more n) e;
+  no_zero = λ e. canonical_zero n (omega arith) (cases_lt 0 n) e;
 }
 
 pub short_power : (n most : ℕ) → n ≤ most → 10 ^ n ≤ 10 ^ most

@@ -16,6 +16,7 @@ use Rattle.hx_board.specs.Colours.{other_of}
 use Rattle.hx_board.specs.Positions.{Board, IsBoard, IsEmpty, put}
 use Rattle.hx_board.proofs.CellLaws.{on_board-small}
 use Rattle.hx_board.proofs.StoneLaws.{empty-put}
+use Rattle.hx_board.proofs.ListLaws.{holds-inside}
 use Rattle.hx_inferior.specs.declared.dominations.Kill.{Kill}
 use Rattle.hx_inferior.specs.declared.dominations.Kill.TheVariants.{ByDead, ByPair}
 use Rattle.hx_inferior.specs.Inferior.{IsKilled}
@@ -46,12 +47,6 @@ use Rattle.hx_text.specs.Places.{most_nodes}
 use Rattle.hx_text.proofs.EntryLists.{step_entry, threat_entry, answer_entry, EachEntryFits-entries_for}
 use Rattle.hx_text.proofs.FillCounts.{few_fill_steps, fill_steps_fit}
 
--- a heading that is there is at a place below the length
-place_below : (P : Heading → Type 0) (before : List Heading) (k : ℕ) → IsSomeAnd (slice_get before k) P → k < length before
-place_below P [] k there = absurd there
-place_below P (first ∷ before) zero there = omega arith
-place_below P (first ∷ before) (suc k) there = omega (arith, place_below P before k there)
-
 -- each cell of a list in order has its place below 121, so there are at most 121
 few_cells : (size : Extent) (cells : List ℕ) (Fact : ℕ → Type 0) → IsExtent size.rows size.cols → ((cell : ℕ) → Fact cell → OnBoard size cell)
     → AreInOrder Fact cells → length cells ≤ CELLS
@@ -71,7 +66,7 @@ line_fits : (size : Extent) (before : List Heading) (heading : Heading) (links :
     → heading.position.size ≡ size → length before ≤ most_nodes → OnBoard size (cell_of line) → IsRightLine before heading links threats all line
     → AnswerFits size line
 line_fits size before heading links threats all (Child cell child) same few on right =
-    let below : child < length before = place_below _ before child right in (on, omega arith)
+    let below : child < length before = holds-inside _ before child right in (on, omega arith)
 line_fits size before heading links threats all (Under cell better kill) same few on right =
     let fits = kill_fits heading.position (other_of heading.winner) cell better kill right.dominated.better_empty right.dominated.killed in
     (on, subst (λ (s : Extent). ReasonFits s (Under cell better kill)) same fits)
@@ -87,10 +82,6 @@ lines_fit size before heading links threats all (line ∷ lines) same few on rig
 
 -- ---- steps
 
--- an earlier link is at a place below their number
-link_below : (links : List Link) (place : ℕ) (link : Link) → slice_get links place ≡ Some link → place < length links
-link_below links place link there = slice_get_within links place link there
-
 base_fits : (board : Board) (player : Colour) (a b : Vertex) (link : Link) → IsLink board player link → HasEnds link a b → IsVertex board.size a × IsVertex board.size b
 base_fits board player a b link ok (inl ends) =
     (rw ends.0 at (end-vertex board player link.a ok.a_end), rw ends.1 at (end-vertex board player link.b ok.b_end))
@@ -104,19 +95,19 @@ parts_fit before (place ∷ places) [] few there = cc
 parts_fit before (place ∷ places) (link ∷ links) few there =
     let here : slice_get before place ≡ Some link = cc in
     let later : links_at before places ≡ map (λ (part : Link). Some part) links = cc in
-    let below : place < length before = link_below before place link here in
+    let below : place < length before = slice_get_within before place link here in
     (omega arith, parts_fit before places links few later)
 
 step_fits : (board : Board) (player : Colour) (before : List Link) (step : Step) (link : Link) → length before ≤ MOST_STEPS
     → StepGives board player before step link → StepFits board.size step
 step_fits board player before (Base a b) link few gives = base_fits board player a b link gives.link_ok gives.rule.ends
 step_fits board player before (AndStone left right) link few gives =
-    let first : left < length before = link_below before left gives.rule.first gives.rule.meet.first_there in
-    let second : right < length before = link_below before right gives.rule.second gives.rule.meet.second_there in
+    let first : left < length before = slice_get_within before left gives.rule.first gives.rule.meet.first_there in
+    let second : right < length before = slice_get_within before right gives.rule.second gives.rule.meet.second_there in
     (omega arith, omega arith)
 step_fits board player before (AndCell left right) link few gives =
-    let first : left < length before = link_below before left gives.rule.first gives.rule.meet.first_there in
-    let second : right < length before = link_below before right gives.rule.second gives.rule.meet.second_there in
+    let first : left < length before = slice_get_within before left gives.rule.first gives.rule.meet.first_there in
+    let second : right < length before = slice_get_within before right gives.rule.second gives.rule.meet.second_there in
     (omega arith, omega arith)
 step_fits board player before (Or parts) link few gives = (gives.rule.few, parts_fit before parts gives.rule.links few gives.rule.there)
 
@@ -130,16 +121,11 @@ steps_fit board player before (step ∷ steps) links few right = (
 
 -- ---- threats
 
-threat_below : (P : Link → Type 0) (links : List Link) (place : ℕ) → IsSomeAnd (slice_get links place) P → place < length links
-threat_below P [] place there = absurd there
-threat_below P (first ∷ links) zero there = omega arith
-threat_below P (first ∷ links) (suc place) there = omega (arith, threat_below P links place there)
-
 threats_fit : (size : Extent) (links : List Link) (threats : List ℕ) → length links ≤ MOST_STEPS → ((k : ℕ) → IfSome (slice_get threats k) (IsThreat links))
     → EachEntryFits size (map threat_entry threats)
 threats_fit size links [] few each = tt
 threats_fit size links (place ∷ threats) few each =
-    let below : place < length links = threat_below _ links place (each 0) in
+    let below : place < length links = holds-inside _ links place (each 0) in
     (omega arith, threats_fit size links threats few (λ k. each (suc k)))
 
 -- ---- rules
@@ -154,17 +140,17 @@ opening_fits : (preamble : Preamble) (before : List Heading) (heading : Heading)
 opening_fits preamble before heading Chain same is few two right = tt
 opening_fits preamble before heading (Links steps) same is few two right = right.steps_right.few
 opening_fits preamble before heading (Move cell child) same is few two right =
-    let below : child < length before = place_below _ before child right.leads in (on_this preamble.size heading same cell right.empty, omega arith)
+    let below : child < length before = holds-inside _ before child right.leads in (on_this preamble.size heading same cell right.empty, omega arith)
 opening_fits preamble before heading (All steps threats lines) same is few two right =
     let extent : IsExtent preamble.size.rows preamble.size.cols = rw same at is.0 in
     let count = few_cells preamble.size (cells_of lines) (IsToAnswer heading.position right.links threats) extent (λ cell is. on_this preamble.size heading same cell is.empty)
     right.answered.cells in
     (right.steps_right.few, right.answered.threats_right.few, omega (arith, count, length-map lines cell_of))
 opening_fits preamble before heading (Fill fills child) same is few two right =
-    let below : child < length before = place_below _ before child right.leads in
+    let below : child < length before = holds-inside _ before child right.leads in
     (few_fill_steps heading.position heading.winner fills is right.right, omega arith)
 opening_fits preamble before heading (Turned child) same is few two right =
-    let below : child < length before = place_below _ before child right in (two child refl, omega arith)
+    let below : child < length before = holds-inside _ before child right in (two child refl, omega arith)
 
 rule_fits : (size : Extent) (before : List Heading) (heading : Heading) (rule : Rule) → heading.position.size ≡ size
     → length before ≤ most_nodes → IsRightRule before heading rule → EachEntryFits size (entries_of rule)

@@ -1,7 +1,8 @@
 -- Entries that are known: one more of them, a list that grew, and the children of a node that is right after them.
 use Rattle.std.proofs.Common.{◌≡◌, ℕ, zero, suc, ◌<◌, List, [], ◌∷◌, ◌++◌, length, refl, sym, ap, ◌∙◌, Some, arith}
+use Rattle.std.proofs.lemmas.Option.{slice_get_within}
 use Rattle.std.specs.Prelude.{slice_get, slice_index}
-use Rattle.hx_board.proofs.ListLaws.{get-append, get-lt, get-map}
+use Rattle.hx_board.proofs.ListLaws.{get-append, get-map}
 use Rattle.hx_tree.specs.declared.nodes.Heading.{Heading}
 use Rattle.hx_tree.specs.declared.nodes.Node.{Node}
 use Rattle.hx_tree.specs.Entries.{Extends}
@@ -40,7 +41,7 @@ module _ (list : List Node) where
   pub child_known : (headings : List Heading) (node : Node) (child : ℕ) → IsRightNode headings node → Names node.rule child → child < length headings
   child_known headings node child right names =
       let found = rule-size headings node.heading node.rule child right.rule names in
-      get-lt headings child found.heading found.there
+      slice_get_within headings child found.heading found.there
 
   pub known_length : (headings : List Heading) (places : List ℕ) → AreKnown list headings places → length places ≡ length headings
   known_length [] [] known = refl

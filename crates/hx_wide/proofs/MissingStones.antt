@@ -7,7 +7,7 @@ use Rattle.hx_board.specs.Colours.{other_of}
 use Rattle.hx_board.specs.Sets.{has, insert, remove, union, difference, IsSubset}
 use Rattle.hx_board.specs.Cells.{Extent, OnBoard}
 use Rattle.hx_board.specs.Positions.{Board, IsBoard, IsEmpty, put, stones_of}
-use Rattle.hx_board.proofs.SetLaws.{has-union, has-insert, has-remove, has-empty, same_set, has-remove_before, has-union_cases, has-union_left, has-union_right, has-difference_left, has-difference_right, has-difference_both, by_member, removed, same_test}
+use Rattle.hx_board.proofs.SetLaws.{has-union, has-insert, has-remove, has-empty, same_set, has-remove_before, has-union_cases, has-union_left, has-union_right, has-difference_left, has-difference_right, has-difference_both, by_member, removed, same_test, union-none}
 use Rattle.hx_board.proofs.ColourLaws.{one_or_other}
 use Rattle.hx_board.proofs.PositionLaws.{same_board, own-not_others}
 use Rattle.hx_board.proofs.StoneLaws.{empty-put}
@@ -35,13 +35,6 @@ union-moved set left cell member = same_set _ _ (λ n.
     moved false true there h = refl
     moved false false true h = refl
     moved false false false h = refl
-
-union-none : (set : ℕ) → union set 0 ≡ set
-union-none set = same_set _ _ (λ n. has-union set 0 n ∙ rw (has-empty n) (or_false (has set n)))
-  where
-    or_false : (b : Bool) → (b || false) ≡ b
-    or_false true = refl
-    or_false false = refl
 
 put_set-moved : (board : Board) (who : Colour) (left cell : ℕ) → has left cell ≡ true → put_set (put board who cell) who (remove left cell) ≡ put_set board who left
 put_set-moved board Black left cell member = ap (λ (black : ℕ). record { size = board.size; black = black; white = board.white }) (union-moved board.black left cell member)

@@ -114,7 +114,8 @@ pub fn store_wider<P: Proofs, R: Wait>(
     ensures slots { P.slots proofs.new ≡ P.slots proofs.old }
     ensures over { P.over proofs.new ≡ P.over proofs.old }
     ensures seen { Extends (P.list proofs.new) (P.list proofs.old) }
-    ensures stored { TellsStored (P.list proofs.new) (P.slots proofs.new) position.now to_move result }
+    ensures stored { TellsStored (P.list proofs.new) (P.slots proofs.new)
+        position.now to_move result }
     ensures missing { MissingFor (WasUnserved (P.list proofs.old) (P.list proofs.new)
         position.now to_move winner) result }
 {
@@ -141,7 +142,8 @@ pub(crate) fn fill_missing<P: Proofs, R: Wait>(
     ensures slots { P.slots proofs.new ≡ P.slots proofs.old }
     ensures over { P.over proofs.new ≡ P.over proofs.old }
     ensures seen { Extends (P.list proofs.new) (P.list proofs.old) }
-    ensures stored { TellsStored (P.list proofs.new) (P.slots proofs.new) position.now to_move result }
+    ensures stored { TellsStored (P.list proofs.new) (P.slots proofs.new)
+        position.now to_move result }
     ensures answered { IsAnswered result }
 {
     // The proof takes from here that the board of the entry's position is one.

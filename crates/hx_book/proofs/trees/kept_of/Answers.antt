@@ -1,8 +1,8 @@
 use Rattle.std.proofs.Common.{◌≡◌, ◌≤◌, ◌+◌, ℕ, Some, false, length, refl, sym, ap, ◌∙◌, arith}
 use Rattle.std.specs.Prelude.{slice_get, slice_index_or, is_err}
 use Rattle.std.proofs.lemmas.List.{nil_from_length}
+use Rattle.std.proofs.lemmas.Option.{slice_get_within}
 use Rattle.std.specs.Vec.Iter.{into_iter_items}
-use Rattle.hx_board.proofs.ListLaws.{get-lt}
 use Rattle.hx_book.proofs.KeptLaws.{kept-none, kept-next, kept-all, child-kept, rest-node, rest-more, rest-end, on-ok}
 use Rattle.hx_book.proofs.trees.kept_of.Goals as goal
 
@@ -17,13 +17,13 @@ pub bounds-marks-place : goal.bounds-marks-place
 bounds-marks-place c =
     let there : slice_get c.args.nodes.items c.loop-node.place ≡ Some c.in-Some.node =
     rest-node c.args.nodes.items c.loop-node.place (into_iter_items c.loop-node.rest) c.in-Some.node (into_iter_items c.next.new.self) c.loop-node.invariant.rest c.in-Some.ensures.items in
-    omega (arith, get-lt c.args.nodes.items c.loop-node.place c.in-Some.node there, c.requires.marked.long)
+    omega (arith, slice_get_within c.args.nodes.items c.loop-node.place c.in-Some.node there, c.requires.marked.long)
 
 pub keep_needed-requires-clause-inside : goal.keep_needed-requires-clause-inside
 keep_needed-requires-clause-inside c =
     let there : slice_get c.args.nodes.items c.loop-node.place ≡ Some c.in-Some.node =
     rest-node c.args.nodes.items c.loop-node.place (into_iter_items c.loop-node.rest) c.in-Some.node (into_iter_items c.next.new.self) c.loop-node.invariant.rest c.in-Some.ensures.items in
-    omega (arith, get-lt c.args.nodes.items c.loop-node.place c.in-Some.node there, c.loop-node.invariant.kept.named)
+    omega (arith, slice_get_within c.args.nodes.items c.loop-node.place c.in-Some.node there, c.loop-node.invariant.kept.named)
 
 pub keep_needed-requires-clause-children : goal.keep_needed-requires-clause-children
 keep_needed-requires-clause-children c =

@@ -1,14 +1,14 @@
 use Rattle.std.proofs.Common.{◌≡◌, ℕ, map, arith}
+use Rattle.std.proofs.lemmas.Option.{slice_get_within}
 use Rattle.std.specs.Prelude.{slice_index}
 use Rattle.hx_linkset.specs.States.{State}
-use Rattle.hx_board.proofs.ListLaws.{get-lt}
 use Rattle.hx_linkset.proofs.KeptStepLaws.{derived}
 use Rattle.hx_linkset.proofs.derivations.derivation_of.Goals as goal
 
 pub names_of-requires : goal.names_of-requires
 names_of-requires c = λ place s.
     let live = c.requires.live place s in
-    rw c.as_slice.ensures.value (omega (arith, get-lt c.args.links.now place live.0 live.1.0, c.in-Ok-kept_for.ensures.named))
+    rw c.as_slice.ensures.value (omega (arith, slice_get_within c.args.links.now place live.0 live.1.0, c.in-Ok-kept_for.ensures.named))
 
 pub returns : goal.returns
 returns c =

@@ -1,9 +1,8 @@
 use Rattle.std.proofs.Common.{◌≡◌, ◌<◌, length, refl, Some, arith}
 use Rattle.std.specs.Prelude.{slice_get}
-use Rattle.std.proofs.lemmas.Option.{slice_get_read}
+use Rattle.std.proofs.lemmas.Option.{slice_get_read, slice_get_within}
 use Rattle.hx_linkset.specs.States.{State}
 use Rattle.hx_linkset.specs.Marks.{IsLastMarkBelow}
-use Rattle.hx_board.proofs.ListLaws.{get-lt}
 use Rattle.hx_linkset.proofs.MarkLaws.{marked-inside}
 use Rattle.hx_linkset.proofs.ClosedLaws.{part-before, closed-begun, under-begun, closed-more, under-more, closed-all}
 use Rattle.hx_linkset.proofs.derivations.wanted_for.Goals as goal
@@ -11,7 +10,7 @@ use Rattle.hx_linkset.proofs.derivations.wanted_for.Goals as goal
 pub mark_all-requires : goal.mark_all-requires
 mark_all-requires c = λ place s.
     let live = c.requires.live place s in
-    omega (arith, get-lt c.args.links.now place live.0 live.1.0, c.in-Ok.ensures.long)
+    omega (arith, slice_get_within c.args.links.now place live.0 live.1.0, c.in-Ok.ensures.long)
 
 pub loop-place-init : goal.loop-place-init
 loop-place-init c =

@@ -1,9 +1,9 @@
 use Rattle.std.proofs.Common.{◌≡◌, ℕ, ◌<◌, ◌+◌, List, [], ◌∷◌, ◌++◌, sym, ap, ◌∙◌, subst, arith, rules}
+use Rattle.std.proofs.lemmas.Option.{slice_get_within}
 use Rattle.std.specs.Prelude.{MatchOption}
 use Rattle.std.specs.declared.option.Option.{Option}
 use Rattle.hx_link.specs.declared.links.Kind.TheVariants.{Semi}
 use Rattle.hx_linkset.specs.LiveOf.{IsLiveOf, IsFirstFrom}
-use Rattle.hx_board.proofs.ListLaws.{get-lt}
 use Rattle.hx_search.specs.Progress.{AreParts, IsFork}
 use Rattle.hx_search.proofs.ForkLaws.{parts-one, share-one, share-same, share-more, parts-more, not-forked, fork-of}
 use Rattle.hx_search.proofs.parts.parts_of.Goals as goal
@@ -42,7 +42,7 @@ loop-shared-smaller-then-has_all c =
     let M : Option ℕ → Type 0 = λ next. MatchOption next ((place : ℕ) → c.loop-shared.last < place → IsLiveOf c.args.set.now Semi c.args.a.now c.args.b.now place → ⊥) (IsFirstFrom c.args.set.now Semi c.args.a.now c.args.b.now (c.loop-shared.last + 1)) in
     let is : IsFirstFrom c.args.set.now Semi c.args.a.now c.args.b.now (c.loop-shared.last + 1) c.in-Some-next_of.next = subst M c.in-Some-next_of.is (c.next_of.ensures Semi c.args.a.now c.args.b.now c.loop-shared.invariant.at) in
     let at : IsLiveOf c.args.set.now Semi c.args.a.now c.args.b.now c.loop-shared.last = c.loop-shared.invariant.at in
-    omega (arith, is.not_below, get-lt c.args.set.now.present.links c.loop-shared.last at.link at.there)
+    omega (arith, is.not_below, slice_get_within c.args.set.now.present.links c.loop-shared.last at.link at.there)
 
 pub loop-shared-preserved-then-has_all : goal.loop-shared-preserved-then-has_all
 loop-shared-preserved-then-has_all c =
@@ -61,7 +61,7 @@ loop-shared-smaller c =
     let M : Option ℕ → Type 0 = λ next. MatchOption next ((place : ℕ) → c.loop-shared.last < place → IsLiveOf c.args.set.now Semi c.args.a.now c.args.b.now place → ⊥) (IsFirstFrom c.args.set.now Semi c.args.a.now c.args.b.now (c.loop-shared.last + 1)) in
     let is : IsFirstFrom c.args.set.now Semi c.args.a.now c.args.b.now (c.loop-shared.last + 1) c.in-Some-next_of.next = subst M c.in-Some-next_of.is (c.next_of.ensures Semi c.args.a.now c.args.b.now c.loop-shared.invariant.at) in
     let at : IsLiveOf c.args.set.now Semi c.args.a.now c.args.b.now c.loop-shared.last = c.loop-shared.invariant.at in
-    omega (arith, is.not_below, get-lt c.args.set.now.present.links c.loop-shared.last at.link at.there)
+    omega (arith, is.not_below, slice_get_within c.args.set.now.present.links c.loop-shared.last at.link at.there)
 
 pub loop-shared-preserved : goal.loop-shared-preserved
 loop-shared-preserved c =
