@@ -29,7 +29,8 @@ moved state after = record state { board = after }
 module _ (player : Colour) (state : State) where
   -- a play and its taking back
   undone-played : (after : Board) (logged : ℕ) → length state.steps ≡ length state.links → undone (moved state after) (stage_at state logged) ≡ state
-  undone-played after logged same = states _ _ _ _ _ _ refl (take_all state.links) (ap (λ n. take n state.steps) (sym same) ∙ take_all state.steps)
+  undone-played after logged same = states _ _ _ _ _ _ refl (take_all (length state.links) state.links (omega arith))
+      (ap (λ n. take n state.steps) (sym same) ∙ take_all (length state.steps) state.steps (omega arith))
 
   -- a link more does not change what is before a play
   undone-added : (link : Link) (step : Step) (play : Stage) → play.count ≤ length state.links → length state.steps ≡ length state.links → undone (added state link step) play ≡ undone state play
