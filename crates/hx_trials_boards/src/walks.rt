@@ -2,8 +2,8 @@
 
 ghost use Rattle.std.specs.Prelude.{◌≡◌};
 
-use super::*;
 use hx_board::{Colour, Groups, Position, Size, VERTICES, chain};
+use hx_samples::{Draws, SMALL_BOARDS, empty_count, has_chain, is_vertex, joined_to, numbered};
 use std::process::Abort;
 use std::test::Fail;
 
