@@ -3,7 +3,7 @@
 //! and on drawn ones of larger boards.
 
 use super::killed_cells::{after_step, are_pair, is_dead, is_dominated, is_empty};
-use super::made_nodes::cells_of;
+use super::listed_cells::cells_of;
 use hx_board::{Cell, Colour, Position, Size};
 use hx_inferior::{FillStep, Kill, dead, dominates, fill_one, pair};
 use hx_samples::{Draws, SMALL_BOARDS, numbered};
