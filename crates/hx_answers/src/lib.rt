@@ -8,6 +8,3 @@ mod statuses;
 pub use counted::{write_counted, write_numbered};
 pub use input::{Unread, read_all};
 pub use statuses::{OUT_OF_MEMORY, READ_FAULT, WRITE_FAULT};
-
-#[cfg(test)]
-mod tests;

@@ -12,6 +12,3 @@ mod laws;
 pub use check::run_check;
 pub use judgements::Judgement;
 pub use laws::one_fault;
-
-#[cfg(test)]
-mod tests;

@@ -15,6 +15,3 @@ pub use dominations::{Kill, dominates};
 pub use fills::{FillStep, after_fill, fill_one};
 pub use open_neighbours::open_around;
 pub use pairs::pair;
-
-#[cfg(test)]
-mod tests;

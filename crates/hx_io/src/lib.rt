@@ -14,6 +14,3 @@ pub use memory_sources::{MemorySource, SureSource};
 pub use sinks::{Sink, write_all};
 pub use sources::{Failed, Source};
 pub use standard::{StdSink, StdSource};
-
-#[cfg(test)]
-mod tests;

@@ -6,6 +6,3 @@ mod laws;
 
 pub use cutters::{Cut, LineCutter};
 pub use laws::{cut_lines_come_first, each_cut_is_the_next_line};
-
-#[cfg(test)]
-mod tests;

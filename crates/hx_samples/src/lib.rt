@@ -15,6 +15,3 @@ pub use draws::Draws;
 pub use games::{wins, wins_by};
 pub use numbering::{SMALL_BOARDS, numbered};
 pub use walks::{empty_count, has_chain, is_own, is_vertex, joined_to, touch};
-
-#[cfg(test)]
-mod tests;

@@ -6,6 +6,3 @@ mod serving;
 
 pub use laws::only_lines_above_a_limit_are_too_long;
 pub use serving::{Ended, serve};
-
-#[cfg(test)]
-mod tests;

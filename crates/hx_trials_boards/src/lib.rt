@@ -1,13 +1,9 @@
-//! The calls of hx_board, each once, beside values that were worked out by hand.
+//! What is joined on a board, beside walks from cell to cell.
 //!
-//! The contracts say what each call answers. They do not say that their definitions mean what Hex means: which cells are
-//! neighbours, at which bit a cell stands, and that a column of stones joins the sides. The tests stand in a crate of their own,
-//! so that hx_board, on which nearly all others stand, is proved once.
+//! The contracts of hx_board say what each call answers. They do not say that their definitions mean what Hex means. So the plain
+//! programs of hx_samples, which walk by rows and columns, are held against its calls here, on tables. The test stands in a crate of
+//! its own, so that hx_board and hx_samples, on which other crates stand, are proved once.
 #![tactic(auto)]
 
 #[cfg(test)]
-mod sets;
-#[cfg(test)]
-mod sizes;
-#[cfg(test)]
-mod stones;
+mod walks;

@@ -1,6 +1,5 @@
 //! What a search keeps, beside plain programs: proof numbers, books, and what workers share, of which each answer is worked
-//! out from the whole list of events before it. Two modules have short runs, of a book and of the machine, with answers that
-//! were worked out by hand.
+//! out from the whole list of events before it.
 //!
 //! A proof shows that a call gives what its definition says, and not that the definition means what Hex means. So beside each
 //! definition stands a program here that works it out in the slowest obvious way, and a test holds the call against it on a
@@ -8,13 +7,9 @@
 #![tactic(auto)]
 
 #[cfg(test)]
-mod book_calls;
-#[cfg(test)]
 mod books;
 #[cfg(test)]
 mod counts;
-#[cfg(test)]
-mod machine_runs;
 #[cfg(test)]
 mod made_nodes;
 #[cfg(test)]

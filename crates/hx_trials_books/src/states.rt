@@ -242,11 +242,7 @@ fn look_for(worker: u32, node: &Node) -> Event {
 }
 
 /// The machine's answer to an event. None where it may not happen.
-pub(crate) fn answer(
-    alloc: Global,
-    state: &mut State,
-    event: Event,
-) -> Result<Option<Reply>, Fail> {
+fn answer(alloc: Global, state: &mut State, event: Event) -> Result<Option<Reply>, Fail> {
     if can_happen(alloc, state, &event).or(Err("memory"))? {
         return Ok(Some(apply(state, event)));
     }

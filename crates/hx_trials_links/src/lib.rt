@@ -4,20 +4,14 @@
 //! definition stands a program here that works it out in the slowest obvious way, and a test holds the call against it on a
 //! table. The tests stand in a crate of their own, so that no crate below is proved again for a change of them.
 //!
-//! The tests of hx_linkset, hx_search and hx_fill stand here and in hx_trials_reaches, also where no program is beside them, since a
-//! crate is proved a second time with its tests.
+//! The tests of hx_linkset, hx_search and hx_fill stand here and in hx_trials_reaches, since a crate is proved a second time with
+//! its tests.
 #![tactic(auto)]
 
 #[cfg(test)]
 mod closed;
 #[cfg(test)]
-mod closings;
-#[cfg(test)]
-mod fill_steps;
-#[cfg(test)]
 mod fills;
-#[cfg(test)]
-mod links_kept;
 #[cfg(test)]
 mod made;
 #[cfg(test)]
@@ -29,8 +23,4 @@ mod runs_of_sets;
 #[cfg(test)]
 mod tests;
 #[cfg(test)]
-mod threats_chosen;
-#[cfg(test)]
 mod unders;
-#[cfg(test)]
-mod winners_kept;

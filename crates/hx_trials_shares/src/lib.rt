@@ -1,8 +1,8 @@
-//! What workers share, in one thread and in many: a book of proofs, counts, and hints.
+//! What workers share, in many threads: a book of proofs, and counts; and hints.
 //!
 //! The contracts say what each call answers where it returns. They do not say that memory suffices where it is ample, nor that
-//! threads which step at the same time all come to an end. So each call is made here once, and threads step until a book is full
-//! or the units are spent. The tests stand in a crate of their own, so that hx_share and hx_count are proved once.
+//! threads which step at the same time all come to an end. So threads step here until a book is full or the units are spent. The
+//! tests stand in a crate of their own, so that hx_share and hx_count are proved once.
 #![tactic(auto)]
 
 #[cfg(test)]
@@ -13,5 +13,3 @@ mod hints;
 mod made;
 #[cfg(test)]
 mod shared_books;
-#[cfg(test)]
-mod told_seats;

@@ -14,6 +14,3 @@ mod settings;
 
 pub use commands::{Command, command_of};
 pub use laws::one_command;
-
-#[cfg(test)]
-mod tests;

@@ -1,0 +1,50 @@
+"""Who wins a position, by trying each game to its end: the plain program that other scripts hold the built program against.
+
+Boards, and what is joined, are those of the checker in Python, which shares no code with the program.
+"""
+import functools
+import pathlib
+import sys
+
+TOP = pathlib.Path(__file__).resolve().parent.parent
+sys.path.insert(0, str(TOP / "checkers"))
+sys.dont_write_bytecode = True  # nothing is left beside the module
+import check  # noqa: E402
+
+PROGRAM = TOP / "crates" / "hx_main" / "out" / "hx_main"
+
+
+@functools.cache
+def size_of(rows, columns):
+    return check.Size(rows, columns)
+
+
+def board_of(rows, columns, black=0, white=0):
+    return check.Board(size_of(rows, columns), black, white)
+
+
+def has_chain(board, player):
+    return check.Graph(board, player).are_joined(check.FIRST, check.LAST)
+
+
+@functools.cache
+def winner_of(board, mover):
+    """Who wins with this player to move. Only on a board where nobody has a chain is there a move to try."""
+    for player in check.OTHER:
+        if has_chain(board, player):
+            return player
+    for cell in check.members_of(board.empty()):
+        if winner_of(board.put(mover, cell), check.OTHER[mover]) == mover:
+            return mover
+    return check.OTHER[mover]
+
+
+def drawn_board(draws, rows, columns, empty):
+    """A board with so many empty cells, half of the others Black's."""
+    cells = draws.sample(size_of(rows, columns).cells, rows * columns - empty)
+    half = (len(cells) + draws.randrange(2)) // 2
+    return board_of(rows, columns).put("black", *cells[:half]).put("white", *cells[half:])
+
+
+def text_of(board, mover):
+    return check.position_text(check.Heading(board, mover, mover))
