@@ -21,7 +21,8 @@ append-then old between new front back whole then =
 
 -- one more write, in a loop over the places of a slice
 pub append-take-add : (first old new : Option (List ℕ)) (bytes : List ℕ) (place count : ℕ)
-    → old ≡ append first (take place bytes) → new ≡ append old (take count (drop place bytes)) → new ≡ append first (take (place + count) bytes)
+    → old ≡ append first (take place bytes) → new ≡ append old (take count (drop place bytes))
+    → new ≡ append first (take (place + count) bytes)
 append-take-add first old new bytes place count so_far now =
     append-then first old new (take place bytes) (take count (drop place bytes)) so_far now
     ∙ ap (append first) (sym (take-add place count bytes))
