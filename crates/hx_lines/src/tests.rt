@@ -92,9 +92,7 @@ fn longest_line_is_cut_and_a_longer_one_is_not(rt: HostRuntime) -> Result<(), Fa
 struct Endless;
 
 impl Source for Endless {
-    ghost left = { λ _. None };
-
-    ghost faults = { λ _. 0 };
+    ghost reading = { λ _. record { left = None; faults = 0 } };
 
     fn read(&mut self, buffer: &mut [u8]) -> Result<usize, Failed> {
         for byte in buffer.iter_mut() {
