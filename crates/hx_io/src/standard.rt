@@ -2,7 +2,7 @@
 //! of the bytes that a real input gives or a real output takes, nor of when it fails, so these
 //! adapters are trusted there. What std says of its reader and writer they pass on as it is.
 
-ghost use Rattle.std.specs.Prelude.{◌≡◌, None, ◌<◌, length, OnOk, OnErr, IfOk};
+ghost use Rattle.std.specs.Prelude.{◌≡◌, None, ◌<◌, length, OnOk, OnErr};
 ghost use Rattle.std.specs.Io.{ReadsAtMost};
 ghost use Rattle.std.specs.Io.KnownBytes.{ReadConsumes, WriteAppends};
 ghost use Rattle.hx_io.specs.Causes.{next_count};
