@@ -1,11 +1,16 @@
 -- How a command ends that gives one answer: with the answer and its status, or with a fault or want of memory.
-use Rattle.std.specs.Prelude.{◌≡◌, ◌⊎◌, ℕ, List, Option}
-use Rattle.hx_io.specs.Sinks.{append, TakesFront}
+use Rattle.std.specs.Prelude.{◌≡◌, ◌⊎◌, ℕ, List, [], Option, Some, IfSome}
+use Rattle.hx_io.specs.Sinks.{Writing, SomeWriteFailed, append, TakesFront}
 
 -- a text with its status: it was written whole, or the sink failed before it took all of it
-pub data IsWritten (before now : Option (List ℕ)) (rose : Type 0) (text : List ℕ) (wanted status : ℕ) : Type 0 where
-  Whole : status ≡ wanted → now ≡ append before text → IsWritten before now rose text wanted status
-  Cut : status ≡ 6 → rose → TakesFront before now text → IsWritten before now rose text wanted status
+pub data IsWritten (before now : Writing) (text : List ℕ) (wanted status : ℕ) : Type 0 where
+  Whole : status ≡ wanted → now.taken ≡ append before.taken text → IsWritten before now text wanted status
+  Cut : status ≡ 6 → SomeWriteFailed before now → TakesFront before.taken now.taken text
+      → IsWritten before now text wanted status
+
+-- the input was read to its end, where the source tells it
+abbrev pub IsReadToEnd : Option (List ℕ) → Option (List ℕ) → Type 0
+IsReadToEnd before now = IfSome before (λ input. now ≡ Some [])
 
 -- a read failed, a write failed, or memory was wanting
 abbrev pub IsStopped : ℕ → Type 0

@@ -1,7 +1,6 @@
 //! Words with a number behind them, and a line that ends so.
 
-ghost use Rattle.hx_io.specs.Causes.{HasCause};
-ghost use Rattle.hx_io.specs.Sinks.{TakesAll};
+ghost use Rattle.hx_io.specs.Sinks.{WritesAll};
 ghost use Rattle.hx_answers.specs.Texts.{counted_text, numbered_text};
 
 use hx_io::{Failed, Sink, write_all};
@@ -10,9 +9,8 @@ use itoa::Buffer;
 /// Writes some words and a number.
 #[tactic(auto, using(hx_io::proofs::SinkLaws::several_writes))]
 pub fn write_numbered<K: Sink>(sink: &mut K, words: &[u8], n: u64) -> Result<(), Failed>
-    ensures bytes { TakesAll (K.taken sink.old) (K.taken sink.new) result
+    ensures { WritesAll (K.writing sink.old) (K.writing sink.new) result
         (numbered_text words.now n) }
-    ensures cause { HasCause (K.faults sink.old) (K.faults sink.new) result }
 {
     let mut buffer = Buffer::new();
     match write_all(sink, words) {
@@ -24,9 +22,8 @@ pub fn write_numbered<K: Sink>(sink: &mut K, words: &[u8], n: u64) -> Result<(),
 /// Writes some words, a number and an LF.
 #[tactic(auto, using(hx_io::proofs::SinkLaws::several_writes))]
 pub fn write_counted<K: Sink>(sink: &mut K, words: &[u8], n: u64) -> Result<(), Failed>
-    ensures bytes { TakesAll (K.taken sink.old) (K.taken sink.new) result
+    ensures { WritesAll (K.writing sink.old) (K.writing sink.new) result
         (counted_text words.now n) }
-    ensures cause { HasCause (K.faults sink.old) (K.faults sink.new) result }
 {
     match write_numbered(sink, words, n) {
         Ok(()) => write_all(sink, b"\n"),

@@ -1,8 +1,8 @@
 //! Reading all that a source has, up to a limit on its bytes, which bounds the memory that an input takes.
 
-ghost use Rattle.std.specs.Prelude.{◌≡◌, ℕ, ◌<◌, ◌≤◌, List, length, IfOk, IsErrOf};
-ghost use Rattle.hx_io.specs.Causes.{Rose};
-ghost use Rattle.hx_io.specs.Sources.{prepend, IsAtEnd};
+ghost use Rattle.std.specs.Prelude.{◌≡◌, ℕ, ◌<◌, ◌≤◌, List, length, IfOk, IsErrOf, OnOk};
+ghost use Rattle.hx_io.specs.Sources.{SomeReadFailed, prepend, IsAtEnd};
+ghost use Rattle.hx_answers.specs.Endings.{IsReadToEnd};
 
 use hx_io::Source;
 use std::alloc::Global;
@@ -26,15 +26,19 @@ pub enum Unread {
 const BUFFER: usize = 16_384;
 
 /// Reads to the end of a source that has no more bytes than the limit.
+#[tactic(auto, using(crate::proofs::ReadInputs::read_to_end))]
 pub fn read_all<S: Source>(alloc: Global, source: &mut S, limit: usize) -> Result<Vec<u8>, Unread>
     ensures all { IfOk result (λ bytes. (length bytes.items ≤ limit)
-        × (S.left source.old ≡ prepend bytes.items (S.left source.new))
-        × IsAtEnd (S.left source.new)) }
+        × ((S.reading source.old).left ≡ prepend bytes.items (S.reading source.new).left)
+        × IsAtEnd (S.reading source.new).left) }
     ensures too_long { IsErrOf result Unread.TooLong → (bytes : List ℕ)
-        × (limit < length bytes) × (S.left source.old ≡ prepend bytes (S.left source.new)) }
+        × (limit < length bytes)
+        × ((S.reading source.old).left ≡ prepend bytes (S.reading source.new).left) }
+    ensures read_to_end { OnOk result
+        (IsReadToEnd (S.reading source.old).left (S.reading source.new).left) }
     ensures failed { IsErrOf result Unread.Failed
-        → Rose (S.faults source.old) (S.faults source.new) }
-    ensures later { S.faults source.old ≤ S.faults source.new }
+        → SomeReadFailed (S.reading source.old) (S.reading source.new) }
+    ensures later { (S.reading source.old).faults ≤ (S.reading source.new).faults }
 {
     let mut bytes = Vec::new(alloc);
     let mut buffer = [0u8; BUFFER];

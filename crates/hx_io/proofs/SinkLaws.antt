@@ -3,7 +3,7 @@ use Rattle.std.proofs.Common.{◌≡◌, ℕ, ◌+◌, List, [], ◌++◌, take,
 use Rattle.std.proofs.Math.Seq.{take-add, take-append-add}
 use Rattle.std.proofs.lemmas.List.{take-append-le}
 use Rattle.std.specs.Prelude.{Option, None, Some, Result, Ok, Err}
-use Rattle.hx_io.specs.Sinks.{append, TakesFront, TakesAll}
+use Rattle.hx_io.specs.Sinks.{Writing, append, TakesFront, TakesAll, WritesAll}
 
 pub append-nil : (taken : Option (List ℕ)) → append taken [] ≡ taken
 append-nil None = refl
@@ -21,7 +21,8 @@ append-then old between new front back whole then =
 
 -- one more write, in a loop over the places of a slice
 pub append-take-add : (first old new : Option (List ℕ)) (bytes : List ℕ) (place count : ℕ)
-    → old ≡ append first (take place bytes) → new ≡ append old (take count (drop place bytes)) → new ≡ append first (take (place + count) bytes)
+    → old ≡ append first (take place bytes) → new ≡ append old (take count (drop place bytes))
+    → new ≡ append first (take (place + count) bytes)
 append-take-add first old new bytes place count so_far now =
     append-then first old new (take place bytes) (take count (drop place bytes)) so_far now
     ∙ ap (append first) (sym (take-add place count bytes))
@@ -49,6 +50,29 @@ pub TakesAll-then : {T E : Type 0} (old between new : Option (List ℕ)) (result
     → between ≡ append old front → TakesAll between new result back → TakesAll old new result (front ++ back)
 TakesAll-then old between new (Ok x) front back whole then = append-then old between new front back whole then
 TakesAll-then old between new (Err e) front back whole then = TakesFront-then old between new front back whole then
+
+-- the front was written, and then the back
+pub WritesAll-then : {T E R F : Type 0} (before between now : Writing) (done : T) (result : Result R F) (front back : List ℕ)
+    → WritesAll {E = E} before between (Ok done) front → WritesAll between now result back → WritesAll before now result (front ++ back)
+WritesAll-then before between now done (Ok x) front back first then = record {
+  bytes = append-then before.taken between.taken now.taken front back first.bytes then.bytes;
+  cause = record { later = omega (arith, first.cause.later, then.cause.later); failed = tt };
+}
+WritesAll-then before between now done (Err e) front back first then = record {
+  bytes = TakesFront-then before.taken between.taken now.taken front back first.bytes then.bytes;
+  cause = record {
+    later = omega (arith, first.cause.later, then.cause.later);
+    failed = omega (arith, first.cause.later, then.cause.failed);
+  };
+}
+
+-- the writing of the front failed, and the back was not written
+pub WritesAll-cut : {T R E : Type 0} (before now : Writing) (failed : E) (front back : List ℕ)
+    → WritesAll {T = T} before now (Err failed) front → WritesAll {T = R} before now (Err failed) (front ++ back)
+WritesAll-cut before now failed front back cut = record {
+  bytes = TakesFront-append before.taken now.taken front back cut.bytes;
+  cause = record { later = cut.cause.later; failed = cut.cause.failed };
+}
 
 -- what a function needs that writes its bytes in several pieces: name it in its `#[tactic(auto, using(..))]`
 pub ruleset several_writes = (append-then, TakesFront-append, TakesFront-then, TakesAll-then)

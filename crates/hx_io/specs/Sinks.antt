@@ -1,5 +1,16 @@
 -- What a sink took, where it tells that, and what a write adds to it.
 use Rattle.std.specs.Prelude.{◌≡◌, ℕ, ◌<◌, ◌≤◌, List, ◌++◌, take, length, Result, MatchResult, IfOk, Option, None, Some}
+use Rattle.hx_io.specs.Causes.{HasCause, Rose}
+
+-- how far was written to a sink: the bytes that it took so far, or `None` where it tells nothing of them, and how many
+-- of its calls failed, up to the last value
+pub record Writing : Type 0 where
+  pub taken : Option (List ℕ)
+  pub faults : ℕ
+
+-- some write failed between these two
+abbrev pub SomeWriteFailed : Writing → Writing → Type 0
+SomeWriteFailed before now = Rose before.faults now.faults
 
 -- what was taken, and then these bytes
 abbrev pub append : Option (List ℕ) → List ℕ → Option (List ℕ)
@@ -14,6 +25,13 @@ WritesSome result piece = IfOk result (λ n. (0 < n) × (n ≤ length piece))
 abbrev pub WriteAdds : {E : Type 0} → Option (List ℕ) → Option (List ℕ) → Result ℕ E → List ℕ → Type 0
 WriteAdds old new result piece = MatchResult result (λ n. new ≡ append old (take n piece)) (λ _. new ≡ old)
 
+-- what a write does, by how far was written before and is now: the sink took some of the piece or nothing, and where it
+-- failed the count of faults rose
+pub record Writes {E : Type 0} (before now : Writing) (result : Result ℕ E) (piece : List ℕ) : Type 0 where
+  pub bound : WritesSome result piece
+  pub bytes : WriteAdds before.taken now.taken result piece
+  pub cause : HasCause before.faults now.faults result
+
 -- the bytes up to some place before their end were added
 pub record TakesFront (old new : Option (List ℕ)) (bytes : List ℕ) : Type 0 where
   pub count : ℕ
@@ -23,6 +41,11 @@ pub record TakesFront (old new : Option (List ℕ)) (bytes : List ℕ) : Type 0 
 -- at `Ok` all bytes were added; at `Err` those up to some place before their end
 abbrev pub TakesAll : {T E : Type 0} → Option (List ℕ) → Option (List ℕ) → Result T E → List ℕ → Type 0
 TakesAll old new result bytes = MatchResult result (λ _. new ≡ append old bytes) (λ _. TakesFront old new bytes)
+
+-- what a call does that writes all of a text, in as many writes as the sink wants
+pub record WritesAll {T E : Type 0} (before now : Writing) (result : Result T E) (text : List ℕ) : Type 0 where
+  pub bytes : TakesAll before.taken now.taken result text
+  pub cause : HasCause before.faults now.faults result
 
 -- a sink in memory: the bytes that it took, how many it takes in all and in a call, the numbers of the calls that fail,
 -- and how many calls were made and how many of them failed

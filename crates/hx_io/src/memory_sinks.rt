@@ -2,8 +2,8 @@
 //! names or where its room is used up, and one that only counts.
 
 ghost use Rattle.std.specs.Prelude.{◌≡◌, ℕ, ◌+◌, ◌-◌, ◌<◌, ◌↔◌, ◌⊎◌, min, [], ◌++◌, take, length, Some, None, Ok, IfOk, OnErr, IsErr, Contains};
-ghost use Rattle.hx_io.specs.Causes.{HasCause, last_count, next_count};
-ghost use Rattle.hx_io.specs.Sinks.{WritesSome, WriteAdds};
+ghost use Rattle.hx_io.specs.Causes.{last_count, next_count};
+ghost use Rattle.hx_io.specs.Sinks.{Writes};
 
 use crate::sinks::Sink;
 use crate::sources::Failed;
@@ -98,16 +98,13 @@ impl MemorySink {
 }
 
 impl Sink for MemorySink {
-    ghost taken = { λ s. Some s.taken };
-
-    ghost faults = { λ s. s.faults };
+    ghost writing = { λ s. record { taken = Some s.taken; faults = s.faults } };
 
     // It takes no memory.
     fn write(&mut self, piece: &[u8]) -> Result<usize, Failed>
         requires { 0 < length piece.now }
-        ensures bound { WritesSome result piece.now }
-        ensures bytes { WriteAdds (Some self.old.taken) (Some self.new.taken) result piece.now }
-        ensures cause { HasCause self.old.faults self.new.faults result }
+        ensures writes { Writes (record { taken = Some self.old.taken; faults = self.old.faults })
+            (record { taken = Some self.new.taken; faults = self.new.faults }) result piece.now }
 
         // It fails at the calls whose numbers were given and where the room is used up, and at no other.
         ensures fails { IsErr result
@@ -174,15 +171,12 @@ impl CountSink {
 }
 
 impl Sink for CountSink {
-    ghost taken = { λ _. None };
-
-    ghost faults = { λ _. 0 };
+    ghost writing = { λ _. record { taken = None; faults = 0 } };
 
     fn write(&mut self, piece: &[u8]) -> Result<usize, Failed>
         requires { 0 < length piece.now }
-        ensures bound { WritesSome result piece.now }
-        ensures bytes { WriteAdds None None result piece.now }
-        ensures cause { HasCause 0 0 result }
+        ensures writes { Writes (record { taken = None; faults = 0 })
+            (record { taken = None; faults = 0 }) result piece.now }
 
         // It takes the whole piece.
         ensures whole { result ≡ Ok (length piece.now) }

@@ -3,8 +3,8 @@
 
 ghost use Rattle.std.specs.Prelude.{◌≡◌, ◌<◌, ◌↔◌, min, take, drop, ◌++◌, length, Some, Ok, IfOk, OnErr, IsErr, Contains};
 ghost use Rattle.std.specs.Io.{ReadsAtMost};
-ghost use Rattle.hx_io.specs.Causes.{HasCause, next_count};
-ghost use Rattle.hx_io.specs.Sources.{ReadTakes, IsAtEnd};
+ghost use Rattle.hx_io.specs.Causes.{next_count};
+ghost use Rattle.hx_io.specs.Sources.{Reads};
 
 use crate::sources::{Failed, Source};
 use std::marker::Model;
@@ -36,16 +36,13 @@ impl SureSource {
 }
 
 impl Source for SureSource {
-    ghost left = { λ s. Some s };
-
-    ghost faults = { λ _. 0 };
+    ghost reading = { λ s. record { left = Some s; faults = 0 } };
 
     fn read(&mut self, buffer: &mut [u8]) -> Result<usize, Failed>
         requires { 0 < length buffer.old }
         ensures bound { ReadsAtMost result buffer.new }
-        ensures bytes { ReadTakes (Some self.old) (Some self.new) result buffer.new }
-        ensures end { IfOk result (λ n. n ≡ 0 → IsAtEnd (Some self.new)) }
-        ensures cause { HasCause 0 0 result }
+        ensures reads { Reads (record { left = Some self.old; faults = 0 })
+            (record { left = Some self.new; faults = 0 }) result buffer.new }
 
         // It gives as much as the buffer and what is left allow.
         ensures count { result ≡ Ok (min (length buffer.old) (length self.old)) }
@@ -132,16 +129,13 @@ impl MemorySource {
 }
 
 impl Source for MemorySource {
-    ghost left = { λ s. Some s.left };
-
-    ghost faults = { λ s. s.faults };
+    ghost reading = { λ s. record { left = Some s.left; faults = s.faults } };
 
     fn read(&mut self, buffer: &mut [u8]) -> Result<usize, Failed>
         requires { 0 < length buffer.old }
         ensures bound { ReadsAtMost result buffer.new }
-        ensures bytes { ReadTakes (Some self.old.left) (Some self.new.left) result buffer.new }
-        ensures end { IfOk result (λ n. n ≡ 0 → IsAtEnd (Some self.new.left)) }
-        ensures cause { HasCause self.old.faults self.new.faults result }
+        ensures reads { Reads (record { left = Some self.old.left; faults = self.old.faults })
+            (record { left = Some self.new.left; faults = self.new.faults }) result buffer.new }
 
         // It fails at the calls whose numbers were given, and at no other.
         ensures fails { IsErr result ↔ Contains self.old.fail self.old.calls }

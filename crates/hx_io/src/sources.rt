@@ -8,10 +8,9 @@
 //! it cannot give that answer at all. A count has 64 bits: it stands at its last value, 2^64 - 1,
 //! where a failure does not raise it.
 
-ghost use Rattle.std.specs.Prelude.{◌≡◌, ℕ, ◌<◌, List, length, Option, IfOk};
+ghost use Rattle.std.specs.Prelude.{◌<◌, length};
 ghost use Rattle.std.specs.Io.{ReadsAtMost};
-ghost use Rattle.hx_io.specs.Causes.{HasCause};
-ghost use Rattle.hx_io.specs.Sources.{ReadTakes, IsAtEnd};
+ghost use Rattle.hx_io.specs.Sources.{Reading, Reads};
 
 /// The answer of a source or a sink that failed. It may be used again.
 #[derive(Clone, Copy, Debug, PartialEq, Eq)]
@@ -19,11 +18,8 @@ pub struct Failed;
 
 /// Where bytes come from.
 pub trait Source {
-    /// The bytes that are not yet read, or `None` where the source tells nothing of them.
-    ghost left: { Self → Option (List ℕ) };
-
-    /// How many calls failed, up to the last value.
-    ghost faults: { Self → ℕ };
+    /// How far it was read: what is left, if it tells that, and how many calls failed.
+    ghost reading: { Self → Reading };
 
     /// Reads the next bytes into the front of the buffer, and answers how many they are: at most
     /// the buffer's length, and 0 only at the end. `Failed` loses nothing: the same bytes are still
@@ -31,7 +27,5 @@ pub trait Source {
     fn read(&mut self, buffer: &mut [u8]) -> Result<usize, Failed>
         requires { 0 < length buffer.old }
         ensures bound { ReadsAtMost result buffer.new }
-        ensures bytes { ReadTakes (left self.old) (left self.new) result buffer.new }
-        ensures end { IfOk result (λ n. n ≡ 0 → IsAtEnd (left self.new)) }
-        ensures cause { HasCause (faults self.old) (faults self.new) result };
+        ensures reads { Reads (reading self.old) (reading self.new) result buffer.new };
 }

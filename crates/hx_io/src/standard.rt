@@ -2,12 +2,12 @@
 //! of the bytes that a real input gives or a real output takes, nor of when it fails, so these
 //! adapters are trusted there. What std says of its reader and writer they pass on as it is.
 
-ghost use Rattle.std.specs.Prelude.{◌≡◌, None, ◌<◌, length, OnOk, OnErr, IfOk};
+ghost use Rattle.std.specs.Prelude.{◌≡◌, None, ◌<◌, length, OnOk, OnErr};
 ghost use Rattle.std.specs.Io.{ReadsAtMost};
 ghost use Rattle.std.specs.Io.KnownBytes.{ReadConsumes, WriteAppends};
-ghost use Rattle.hx_io.specs.Causes.{HasCause, next_count};
-ghost use Rattle.hx_io.specs.Sources.{ReadTakes, IsAtEnd};
-ghost use Rattle.hx_io.specs.Sinks.{WriteAdds, WritesSome};
+ghost use Rattle.hx_io.specs.Causes.{next_count};
+ghost use Rattle.hx_io.specs.Sources.{Reads};
+ghost use Rattle.hx_io.specs.Sinks.{Writes};
 
 use crate::sinks::Sink;
 use crate::sources::{Failed, Source};
@@ -39,17 +39,14 @@ impl<R: Read> StdSource<R> {
 }
 
 impl<R: Read> Source for StdSource<R> {
-    ghost left = { λ _. None };
-
-    ghost faults = { λ s. s.faults };
+    ghost reading = { λ s. record { left = None; faults = s.faults } };
 
     // Each error of the reader's is a fault.
     fn read(&mut self, buffer: &mut [u8]) -> Result<usize, Failed>
         requires { 0 < length buffer.old }
         ensures bound { ReadsAtMost result buffer.new }
-        ensures bytes { ReadTakes None None result buffer.new }
-        ensures end { IfOk result (λ n. n ≡ 0 → IsAtEnd None) }
-        ensures cause { HasCause self.old.faults self.new.faults result }
+        ensures reads { Reads (record { left = None; faults = self.old.faults })
+            (record { left = None; faults = self.new.faults }) result buffer.new }
 
         // What the reader says of its bytes is passed on.
         ensures passes { ReadConsumes (R.remaining self.old.inner) (R.remaining self.new.inner)
@@ -92,16 +89,13 @@ impl<W: Write> StdSink<W> {
 }
 
 impl<W: Write> Sink for StdSink<W> {
-    ghost taken = { λ _. None };
-
-    ghost faults = { λ s. s.faults };
+    ghost writing = { λ s. record { taken = None; faults = s.faults } };
 
     // Each error of the writer's is a fault, and so is a write that takes nothing.
     fn write(&mut self, piece: &[u8]) -> Result<usize, Failed>
         requires { 0 < length piece.now }
-        ensures bound { WritesSome result piece.now }
-        ensures bytes { WriteAdds None None result piece.now }
-        ensures cause { HasCause self.old.faults self.new.faults result }
+        ensures writes { Writes (record { taken = None; faults = self.old.faults })
+            (record { taken = None; faults = self.new.faults }) result piece.now }
 
         // What the writer says of its bytes is passed on.
         ensures passes { WriteAppends (W.contents self.old.inner) (W.contents self.new.inner)

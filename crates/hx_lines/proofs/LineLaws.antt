@@ -110,4 +110,4 @@ cut_tells_lines before after left_before left_after TooLong is =
     stream-loses _ _ _ _ _ is.0.same ∙ ap (λ held. held ++ left_after) long.held ∙ append_assoc long.front long.more left_after in
     subst (λ bytes. BeginLong (lines_of bytes)) (sym stream) (begin_long-front long.front (long.more ++ left_after) long.plain long.long)
 cut_tells_lines before after left_before left_after Over is =
-    ap lines_of (stream-loses _ _ _ _ _ is.0.same ∙ ap (λ held. held ++ left_after) is.1 ∙ is.2) ∙ lines_of-nil
+    ap lines_of (stream-loses _ _ _ _ _ is.0.same ∙ ap (λ held. held ++ left_after) is.1.none ∙ is.2) ∙ lines_of-nil

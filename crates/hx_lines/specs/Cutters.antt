@@ -41,11 +41,17 @@ pub record IsTooLong (cutter : Cutter) : Type 0 where
   pub plain : ¬ HasLf front
   pub long : longest < length front
 
+-- no byte is left: none is held, and the end of the source was met
+pub record IsOver (cutter : Cutter) : Type 0 where
+  pub none : cutter.held ≡ []
+  pub met_end : cutter.met_end ≡ true
+
 -- what each answer says
 abbrev pub IsCut : Cutter → Cutter → Option (List ℕ) → Option (List ℕ) → Cut → Type 0
 IsCut before after left_before left_after (Line ended) = CutsLine before after left_before left_after ended
 IsCut before after left_before left_after TooLong = Stays before after left_before left_after × IsTooLong after
-IsCut before after left_before left_after Over = Stays before after left_before left_after × (after.held ≡ []) × IsAtEnd left_after
+IsCut before after left_before left_after Over =
+    Stays before after left_before left_after × IsOver after × IsAtEnd left_after
 
 -- what is held tells the answer: the next line is whole or too long, or nothing comes any more
 pub data TellsAnswer (cutter : Cutter) : Type 0 where

@@ -4,7 +4,7 @@
 
 ghost use Rattle.std.specs.Prelude.{◌≡◌, ◌+◌, ◌-◌, ◌<◌, ◌≤◌, ◌⊎◌, ℕ, [], ◌∷◌, ◌++◌, true, false, List, Option, take, drop, length, slice_index, IsOk, IfOk, IfSome, IfNone, OnOk, OnErr, MatchOption};
 ghost use Rattle.hx_io.specs.Causes.{HasCause};
-ghost use Rattle.hx_io.specs.Sources.{IsAtEnd, ReadTakes};
+ghost use Rattle.hx_io.specs.Sources.{IsAtEnd, Reads};
 ghost use Rattle.hx_lines.specs.Lines.{HasLf, longest};
 
 use hx_io::{Failed, Source};
@@ -12,7 +12,7 @@ use memchr::memchr;
 use std::marker::Model;
 
 /// The most bytes of a line.
-const LONGEST: usize = 4096;
+pub const LONGEST: usize = 4096;
 
 /// The bytes of the buffer: three lines.
 const ROOM: usize = 12288;
@@ -61,7 +61,7 @@ impl Model for LineCutter {
 }
 
 impl LineCutter {
-    ghost use Rattle.hx_lines.specs.Cutters.{IsCut, TellsAnswer, Stays};
+    ghost use Rattle.hx_lines.specs.Cutters.{IsCut, IsOver, TellsAnswer, Stays};
 
     /// A cutter that has read nothing.
     pub fn new() -> LineCutter
@@ -87,22 +87,25 @@ impl LineCutter {
 
     /// Cuts the next line off what is held and what the source has left. One cutter goes with one source.
     pub fn next<S: Source>(&mut self, source: &mut S) -> Result<Cut, Failed>
-        requires { self.old.met_end ≡ true → IsAtEnd (S.left source.old) }
+        requires { self.old.met_end ≡ true → IsAtEnd (S.reading source.old).left }
         ensures cut { IfOk result
-            (IsCut self.old self.new (S.left source.old) (S.left source.new)) }
-        ensures met_end { self.new.met_end ≡ true → IsAtEnd (S.left source.new) }
+            (IsCut self.old self.new (S.reading source.old).left (S.reading source.new).left) }
+        ensures met_end { self.new.met_end ≡ true → IsAtEnd (S.reading source.new).left }
 
         // A fault loses nothing, and comes only when all lines whose LF was read have been cut and no line is known to be too
         // long.
         ensures failed { OnErr result
-            (Stays self.old self.new (S.left source.old) (S.left source.new)) }
+            (Stays self.old self.new (S.reading source.old).left (S.reading source.new).left) }
         ensures plain { OnErr result (¬ HasLf self.new.held) }
         ensures short { OnErr result (length self.new.held ≤ longest) }
-        ensures cause { HasCause (S.faults source.old) (S.faults source.new) result }
+        ensures cause { HasCause (S.reading source.old).faults (S.reading source.new).faults
+            result }
 
         // Where what is held tells the answer, nothing is read: so after `TooLong` and after `Over`.
+        // After `Over` the answer is `Over` again.
         ensures reads { TellsAnswer self.old → source.new ≡ source.old }
         ensures sure { TellsAnswer self.old → IsOk result }
+        ensures over { IsOver self.old → result ≡ Ok Cut.Over }
     {
         loop {
             if let Some(cut) = self.cut() {
@@ -123,12 +126,14 @@ impl LineCutter {
     /// Reads once.
     fn refill<S: Source>(&mut self, source: &mut S) -> Result<(), Failed>
         requires { ¬ TellsAnswer self.old }
-        ensures stays { Stays self.old self.new (S.left source.old) (S.left source.new) }
-        ensures met_end { self.new.met_end ≡ true → IsAtEnd (S.left source.new) }
+        ensures stays { Stays self.old self.new
+            (S.reading source.old).left (S.reading source.new).left }
+        ensures met_end { self.new.met_end ≡ true → IsAtEnd (S.reading source.new).left }
         ensures more { OnOk result
             ((self.new.met_end ≡ true) ⊎ (length self.old.held < length self.new.held)) }
         ensures err { OnErr result (self.new ≡ self.old) }
-        ensures cause { HasCause (S.faults source.old) (S.faults source.new) result }
+        ensures cause { HasCause (S.reading source.old).faults (S.reading source.new).faults
+            result }
     {
         move_to_front(&mut self.buffer, self.line_start, self.end);
         self.start -= self.line_start;
@@ -146,6 +151,7 @@ impl LineCutter {
             → (self.old.met_end ≡ true → IsAtEnd left) → IsCut self.old self.new left left cut) }
         ensures nothing_told { IfNone result (¬ TellsAnswer self.old) }
         ensures same { IfNone result (self.new ≡ self.old) }
+        ensures over { IsOver self.old → result ≡ Some Cut.Over }
         ensures met_end { self.new.met_end ≡ self.old.met_end }
     {
         let held = self.held();
@@ -207,10 +213,8 @@ fn read_behind<S: Source>(source: &mut S, buffer: &mut [u8], place: usize) -> Re
     requires { place < length buffer.old }
     ensures front { take place buffer.new ≡ take place buffer.old }
     ensures bound { IfOk result (λ count. place + count ≤ length buffer.new) }
-    ensures bytes { ReadTakes (S.left source.old) (S.left source.new) result
+    ensures reads { Reads (S.reading source.old) (S.reading source.new) result
         (drop place buffer.new) }
-    ensures end { IfOk result (λ count. count ≡ 0 → IsAtEnd (S.left source.new)) }
-    ensures cause { HasCause (S.faults source.old) (S.faults source.new) result }
 {
     source.read(&mut buffer[place..])
 }

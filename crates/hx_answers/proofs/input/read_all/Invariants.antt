@@ -4,8 +4,8 @@ use Rattle.hx_answers.proofs.input.read_all.Given as goal
 
 abbrev pub invariant-loop-buffer : goal.invariant-loop-buffer
 invariant-loop-buffer g l = record {
-  read : g.S.Source.left l.initial.source ≡ prepend l.bytes.items (g.S.Source.left l.source);
-  later : g.S.Source.faults l.initial.source ≤ g.S.Source.faults l.source;
+  read : (g.S.Source.reading l.initial.source).left ≡ prepend l.bytes.items (g.S.Source.reading l.source).left;
+  later : (g.S.Source.reading l.initial.source).faults ≤ (g.S.Source.reading l.source).faults;
 }
 
 abbrev pub decreases-loop-buffer : goal.decreases-loop-buffer

@@ -5,8 +5,8 @@ use Rattle.hx_io.proofs.sinks.write_all.Given as goal
 abbrev pub invariant-loop-place : goal.invariant-loop-place
 invariant-loop-place g l = record {
   within : l.place ≤ length l.bytes;
-  taken : g.K.Sink.taken l.sink ≡ append (g.K.Sink.taken l.initial.sink) (take l.place l.bytes);
-  later : g.K.Sink.faults l.initial.sink ≤ g.K.Sink.faults l.sink;
+  taken : (g.K.Sink.writing l.sink).taken ≡ append (g.K.Sink.writing l.initial.sink).taken (take l.place l.bytes);
+  later : (g.K.Sink.writing l.initial.sink).faults ≤ (g.K.Sink.writing l.sink).faults;
 }
 
 abbrev pub decreases-loop-place : goal.decreases-loop-place

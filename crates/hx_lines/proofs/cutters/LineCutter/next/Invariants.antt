@@ -5,9 +5,9 @@ use Rattle.hx_lines.proofs.cutters.LineCutter.next.Given as goal
 
 abbrev pub invariant-loop-cut : goal.invariant-loop-cut
 invariant-loop-cut g l = record {
-  stays : Stays l.initial.self l.self (g.S.Source.left l.initial.source) (g.S.Source.left l.source);
-  met_end : l.self.met_end ≡ true → IsAtEnd (g.S.Source.left l.source);
-  later : g.S.Source.faults l.initial.source ≤ g.S.Source.faults l.source;
+  stays : Stays l.initial.self l.self (g.S.Source.reading l.initial.source).left (g.S.Source.reading l.source).left;
+  met_end : l.self.met_end ≡ true → IsAtEnd (g.S.Source.reading l.source).left;
+  later : (g.S.Source.reading l.initial.source).faults ≤ (g.S.Source.reading l.source).faults;
   reads : TellsAnswer l.initial.self → l.source ≡ l.initial.source;
   same : TellsAnswer l.initial.self → l.self ≡ l.initial.self;
 }

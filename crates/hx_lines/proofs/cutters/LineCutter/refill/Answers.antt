@@ -10,7 +10,7 @@ returns-clause-stays g c =
     (record { line_first = c.self.invariant.line_first; order = c.self.invariant.order; to_front = c.move_to_front.ensures; same = c.read_behind.ensures.front })
     (ap (λ (v : Cutter). v.held) (sym c.self.view_is))
     (ap (λ (v : Cutter). v.line) (sym c.self.view_is))
-    c.in_ok-count.ensures.bytes
+    c.in_ok-count.ensures.reads.bytes
     refl
     refl
 
@@ -21,7 +21,7 @@ returns-in_err-count-clause-stays g c =
     (record { line_first = c.self.invariant.line_first; order = c.self.invariant.order; to_front = c.move_to_front.ensures; same = c.read_behind.ensures.front })
     (ap (λ (v : Cutter). v.held) (sym c.self.view_is))
     (ap (λ (v : Cutter). v.line) (sym c.self.view_is))
-    (sym c.in_err-count.ensures.bytes ∙ sym (prepend-nil _))
+    (sym c.in_err-count.ensures.reads.bytes ∙ sym (prepend-nil _))
     (ap (λ k. take k (drop (c.self.inside.start - c.self.inside.line_start) c.read_behind.new.buffer)) none)
     refl
 
