@@ -7,3 +7,4 @@ pub mod ChildLaws
 pub mod NeedLaws
 pub mod RenamingLaws
 pub mod KeptLaws
+pub mod SightLaws

@@ -1,5 +1,6 @@
 pub mod Entries
 pub mod Puts
+pub mod Sights
 pub mod EitherEntry
 pub mod WiderEntry
 pub mod Chains

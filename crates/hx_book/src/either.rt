@@ -3,9 +3,8 @@
 //! Who wins a position wins the one turned by 180 degrees. So where the position itself has no entry, that of the turned one
 //! serves. The position is turned only then.
 
-ghost use Rattle.std.specs.Prelude.{◌≡◌};
-ghost use Rattle.hx_tree.specs.Entries.{Extends};
 ghost use Rattle.hx_book.specs.EitherEntry.{FindsEither};
+ghost use Rattle.hx_book.specs.Sights.{Grows};
 
 use crate::growing::Proofs;
 use hx_board::{Colour, Position};
@@ -28,11 +27,9 @@ pub fn look_either<P: Proofs, R: Wait>(
     position: &Position,
     to_move: Colour,
 ) -> Option<Either>
-    ensures slots { P.slots proofs.new ≡ P.slots proofs.old }
-    ensures over { P.over proofs.new ≡ P.over proofs.old }
-    ensures seen { Extends (P.list proofs.new) (P.list proofs.old) }
-    ensures found { FindsEither (P.list proofs.old) (P.list proofs.new) position.now to_move
-        result }
+    ensures grew { Grows (P.sight proofs.old) (P.sight proofs.new) }
+    ensures found { FindsEither (P.sight proofs.old).list (P.sight proofs.new).list position.now
+        to_move result }
 {
     if let Some(found) = proofs.look(rt, position, to_move) {
         let turned = false;

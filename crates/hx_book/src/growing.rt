@@ -1,12 +1,10 @@
 //! A list of proofs that only grows, over a book of one's own or one that is shared.
 
-ghost use Rattle.std.specs.Prelude.{◌≡◌, ℕ, List, Option};
-ghost use Rattle.atomic_table.specs.Seated.{TableId};
-ghost use Rattle.hx_tree.specs.declared.nodes.Node.{Node as Proof};
 ghost use Rattle.hx_tree.specs.Rules.{IsRightNode};
 ghost use Rattle.hx_tree.specs.Trees.{headings_of};
-ghost use Rattle.hx_tree.specs.Entries.{Extends, FindsFirst};
+ghost use Rattle.hx_tree.specs.Entries.{FindsFirst};
 ghost use Rattle.hx_book.specs.Puts.{PutsLater};
+ghost use Rattle.hx_book.specs.Sights.{Sight, Grows};
 ghost use Rattle.hx_book.specs.WiderEntry.{FindsWider};
 
 use crate::books::Book;
@@ -19,21 +17,13 @@ use std::sync::Wait;
 /// Where proofs are looked for and stored. Others may store theirs in the same place: each call sees a list of nodes that
 /// begins with what was seen before.
 pub trait Proofs {
-    /// The nodes that were seen.
-    ghost list: { Self → List Proof };
-
-    /// The most nodes that the list may have.
-    ghost slots: { Self → ℕ };
-
-    /// The name of the shared object that it stands over, where it tells it.
-    ghost over: { Self → Option TableId };
+    /// The nodes that were seen, how many there is room for, and the shared object that they are in.
+    ghost sight: { Self → Sight };
 
     /// The first entry of a position and mover, of the nodes that are now seen. None exactly where there is none.
     fn look<R: Wait>(&mut self, rt: &R, position: &Position, to_move: Colour) -> Option<Found>
-        ensures slots { slots self.new ≡ slots self.old }
-        ensures over { over self.new ≡ over self.old }
-        ensures seen { Extends (list self.new) (list self.old) }
-        ensures found { FindsFirst (list self.new) position.now to_move result };
+        ensures grew { Grows (sight self.old) (sight self.new) }
+        ensures found { FindsFirst (sight self.new).list position.now to_move result };
 
     /// An entry of this mover and winner that serves the position, of the nodes that are now seen: its winner has the same
     /// stones, and the opponent's stones of the position are all in the entry's. None exactly where there is none.
@@ -44,29 +34,22 @@ pub trait Proofs {
         to_move: Colour,
         winner: Colour,
     ) -> Option<Wider>
-        ensures slots { slots self.new ≡ slots self.old }
-        ensures over { over self.new ≡ over self.old }
-        ensures seen { Extends (list self.new) (list self.old) }
-        ensures found { FindsWider (list self.new) position.now to_move winner result };
+        ensures grew { Grows (sight self.old) (sight self.new) }
+        ensures found { FindsWider (sight self.new).list position.now to_move winner result };
 
     /// Stores a node that is right after those that were seen. The index of the entry of its position and mover, of the nodes
     /// that are now seen. The node comes back exactly where there is no such entry and each slot is taken.
     fn store<R: Wait>(&mut self, rt: &R, node: Node) -> Result<u32, NoSlot>
-        requires { IsRightNode (headings_of (list self.old)) node }
-        ensures slots { slots self.new ≡ slots self.old }
-        ensures over { over self.new ≡ over self.old }
-        ensures seen { Extends (list self.new) (list self.old) }
-        ensures stored { PutsLater (slots self.new) (list self.old) node result (list self.new) };
+        requires { IsRightNode (headings_of (sight self.old).list) node }
+        ensures grew { Grows (sight self.old) (sight self.new) }
+        ensures stored { PutsLater (sight self.new).slots (sight self.old).list node result
+            (sight self.new).list };
 }
 
 impl Proofs for Book {
     ghost use Rattle.std.specs.Prelude.{None};
 
-    ghost list = { λ b. b.nodes };
-
-    ghost slots = { λ b. b.slots };
-
-    ghost over = { λ b. None };
+    ghost sight = { λ b. record { list = b.nodes; slots = b.slots; over = None } };
 
     fn look<R: Wait>(&mut self, _rt: &R, position: &Position, to_move: Colour) -> Option<Found> {
         self.find(position, to_move)
