@@ -1,7 +1,8 @@
 -- How a service ends, from how it stands before a line: one lemma an end.
 -- What the next cut tells of a told input (`tells_next`) gives the lines up to the one that asks to quit, or those before a limit; what
 -- ran is then an answer to the input.
-use Rattle.std.proofs.Common.{◌≤◌, ◌≡◌, ℕ, ◌+◌, ◌<◌, suc, Bool, true, false, cond, ◌||◌, not, List, [], ◌∷◌, ◌++◌, length, Option, Some, None, refl, sym, ap, ◌∙◌, subst, append_assoc, append-nil, length-append, arith}
+use Rattle.std.proofs.Common.{◌≤◌, ◌≡◌, ℕ, ◌+◌, ◌<◌, suc, Bool, true, false, cond, ◌||◌, not, List, [], ◌∷◌, ◌++◌, length, Option, Some}
+use Rattle.std.proofs.Common.{None, refl, sym, ap, ◌∙◌, subst, append_assoc, append-nil, length-append, arith}
 use Rattle.std.proofs.lemmas.Option.{IfSome_then}
 use Rattle.std.proofs.lemmas.List.Elements.{All-push, All-tail}
 use Rattle.std.specs.Prelude.{IfSome, MatchOption, Any}
@@ -14,7 +15,9 @@ use Rattle.hx_lines.specs.declared.cutters.Cut.TheVariants.{Line, TooLong as Is_
 use Rattle.hx_lines.specs.declared.ended.Ended.{Ended}
 use Rattle.hx_lines.specs.declared.ended.Ended.TheVariants.{Done, ReadFault, TooLong}
 use Rattle.hx_lines.specs.Cutters.{Cutter, Stays, CutsLine, IsCut, BeginLong}
-use Rattle.hx_lines.specs.Services.{Service, Answers, most_lines, AreShort, until_quit, IsWithinLimits, Answered, IsReadOut, IsDone, AreAllRead, IsAbove, AreBeforeLimit, IsTooLong, AreDue, IsWriteFault, Ends, SaysLast, Stands, StepsOn, Completes}
+use Rattle.hx_lines.specs.Services.{Service, Answers, most_lines, AreShort, until_quit, IsWithinLimits, Answered, IsReadOut, IsDone}
+use Rattle.hx_lines.specs.Services.{AreAllRead, IsAbove, AreBeforeLimit, IsTooLong, AreDue, IsWriteFault, Ends, SaysLast, Stands, StepsOn}
+use Rattle.hx_lines.specs.Services.{Completes}
 use Rattle.hx_lines.specs.Services.IsReadOut.{By_quit, By_end}
 use Rattle.hx_lines.specs.Services.IsAbove.{Long, Many}
 use Rattle.hx_lines.specs.Services.AreDue.{No_words, Of_fault, Of_limit}
@@ -270,24 +273,27 @@ ends_by_fault service runs answers before taken count old new left then_left now
     said all_read (Whole is writes) = rw is (record {
       lines = stands.lines;
       all_read = all_read;
-      answered = with_words service runs answers before taken count old.held service.read_fault_words left now then_now stands completes writes;
+      answered = with_words service runs answers before taken count old.held service.read_fault_words left now then_now stands completes
+          writes;
     })
     said all_read (Front is front) =
-        rw is (in_words service runs answers before taken count old.held service.read_fault_words left then_left now then_now stands completes
-        (Of_fault refl all_read) front)
+        rw is (in_words service runs answers before taken count old.held service.read_fault_words left then_left now then_now stands
+        completes (Of_fault refl all_read) front)
 
 -- the next line is above a limit
 above_limit : (service : Service) (runs answers : Answers) (before taken : Option (List ℕ)) (count : ℕ) (held : List ℕ)
     (left then_left now then_now : Option (List ℕ)) (result : Ended) → (stands : Stands service runs before taken count held left now)
     → Completes service runs answers → IfSome before (λ input. AreBeforeLimit service input stands.lines)
     → SaysLast now then_now service.too_long_words TooLong result → Ends service answers before then_left taken then_now result
-above_limit service runs answers before taken count held left then_left now then_now result stands completes before_limit (Whole is writes) =
+above_limit service runs answers before taken count held left then_left now then_now result stands completes before_limit
+    (Whole is writes) =
     rw is (IfSome_then before before_limit (λ input limit. record {
       lines = stands.lines;
       before_limit = limit;
       answered = with_words service runs answers before taken count held service.too_long_words left now then_now stands completes writes;
     }))
-above_limit service runs answers before taken count held left then_left now then_now result stands completes before_limit (Front is front) =
+above_limit service runs answers before taken count held left then_left now then_now result stands completes before_limit
+    (Front is front) =
     rw is (in_words service runs answers before taken count held service.too_long_words left then_left now then_now stands completes
     (Of_limit refl before_limit) front)
 

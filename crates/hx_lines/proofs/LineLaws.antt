@@ -1,6 +1,7 @@
 -- The lines of bytes that begin with a line, and what cuts tell of them.
 -- Each lemma goes over the bytes of one line; none of them is an LF, so `lines_of` puts each to the front of the first line.
-use Rattle.std.proofs.Common.{◌≡◌, ℕ, suc, ◌<◌, ◌≤◌, Bool, true, false, cond, List, [], ◌∷◌, ◌++◌, length, eqb, refl, sym, ap, ◌∙◌, subst, append_assoc, append-nil, arith}
+use Rattle.std.proofs.Common.{◌≡◌, ℕ, suc, ◌<◌, ◌≤◌, Bool, true, false, cond, List, [], ◌∷◌, ◌++◌, length, eqb, refl, sym, ap, ◌∙◌, subst}
+use Rattle.std.proofs.Common.{append_assoc, append-nil, arith}
 use Rattle.std.proofs.lemmas.Bool.{eqb-true, false_from_ne_true}
 use Rattle.std.proofs.lemmas.Option.{same_Some}
 use Rattle.std.proofs.lemmas.List.Elements.{All-head, All-tail}
@@ -68,8 +69,10 @@ first_has-front [] rest plain some = absurd (omega (arith, some))
 first_has-front (byte ∷ []) rest plain some =
     subst (FirstHas 1) (sym (lines_of-plain byte rest (first_is_no_lf byte [] plain))) (first_has-one byte (lines_of rest))
 first_has-front (byte ∷ next ∷ front) rest plain some =
-    subst (FirstHas (suc (length (next ∷ front)))) (sym (lines_of-plain byte (next ∷ front ++ rest) (first_is_no_lf byte (next ∷ front) plain)))
-    (first_has-onto (length (next ∷ front)) byte (lines_of (next ∷ front ++ rest)) (first_has-front (next ∷ front) rest (rest_has_no_lf byte (next ∷ front) plain) (omega arith)))
+    subst (FirstHas (suc (length (next ∷ front)))) (sym (lines_of-plain byte (next ∷ front ++ rest)
+    (first_is_no_lf byte (next ∷ front) plain)))
+    (first_has-onto (length (next ∷ front)) byte (lines_of (next ∷ front ++ rest))
+    (first_has-front (next ∷ front) rest (rest_has_no_lf byte (next ∷ front) plain) (omega arith)))
 
 begin_long : (n : ℕ) (lines : List (List ℕ)) → longest < n → FirstHas n lines → BeginLong lines
 unfolding FirstHas
@@ -81,7 +84,8 @@ begin_long-front front rest plain long =
     begin_long (length front) (lines_of (front ++ rest)) long (first_has-front front rest plain (omega (arith, long)))
 
 -- what is held and left, before and after
-pub stream-loses : (bytes held_before held_after left_before left_after : List ℕ) → Loses bytes held_before held_after (Some left_before) (Some left_after)
+pub stream-loses : (bytes held_before held_after left_before left_after : List ℕ)
+    → Loses bytes held_before held_after (Some left_before) (Some left_after)
     → held_before ++ left_before ≡ bytes ++ (held_after ++ left_after)
 stream-loses bytes held_before held_after left_before left_after loses =
     ap (λ left. held_before ++ left) (same_Some left_before (loses.read ++ left_after) loses.took)
@@ -89,7 +93,8 @@ stream-loses bytes held_before held_after left_before left_after loses =
     ∙ ap (λ held. held ++ left_after) loses.moved
     ∙ append_assoc bytes held_after left_after
 
-line_is_first : (ended : Bool) (before after : Cutter) (left_before left_after : List ℕ) → CutsLine before after (Some left_before) (Some left_after) ended
+line_is_first : (ended : Bool) (before after : Cutter) (left_before left_after : List ℕ)
+    → CutsLine before after (Some left_before) (Some left_after) ended
     → lines_of (before.held ++ left_before) ≡ after.line ∷ lines_of (after.held ++ left_after)
 line_is_first true before after left_before left_after cuts =
     ap lines_of (stream-loses _ _ _ _ _ cuts.loses ∙ append_assoc after.line (10 ∷ []) (after.held ++ left_after))
@@ -101,7 +106,8 @@ line_is_first false before after left_before left_after cuts =
     ∙ lines_of-last_piece after.line cuts.plain last.0
     ∙ ap (λ (others : List (List ℕ)). after.line ∷ others) (sym lines_of-nil ∙ ap lines_of (sym none))
 
-pub cut_tells_lines : (before after : Cutter) (left_before left_after : List ℕ) (cut : Cut) → IsCut before after (Some left_before) (Some left_after) cut
+pub cut_tells_lines : (before after : Cutter) (left_before left_after : List ℕ) (cut : Cut)
+    → IsCut before after (Some left_before) (Some left_after) cut
     → TellsLines (lines_of (before.held ++ left_before)) after.line (lines_of (after.held ++ left_after)) cut
 cut_tells_lines before after left_before left_after (Line ended) is = line_is_first ended before after left_before left_after is
 cut_tells_lines before after left_before left_after TooLong is =

@@ -13,7 +13,8 @@ use Rattle.hx_lines.proofs.StreamParts.{some_not_none, tells_stream}
 
 pub ended_lines-push : (lines : List (List ℕ)) (line : List ℕ) → ended_lines (lines ++ line ∷ []) ≡ ended_lines lines ++ (line ++ 10 ∷ [])
 ended_lines-push lines line =
-    flat_map-append (λ (l : List ℕ). l ++ 10 ∷ []) lines (line ∷ []) ∙ ap (λ bytes. ended_lines lines ++ bytes) (append-nil (line ++ 10 ∷ []))
+    flat_map-append (λ (l : List ℕ). l ++ 10 ∷ []) lines (line ∷ [])
+    ∙ ap (λ bytes. ended_lines lines ++ bytes) (append-nil (line ++ 10 ∷ []))
 
 -- What a cut tells of the lines of an input: behind those that were read come these, and the cut tells the first of them.
 pub record TellsNext (lines : List (List ℕ)) (new : Cutter) (then_left : Option (List ℕ)) (cut : Cut) (input : List ℕ) : Type 0 where
@@ -23,8 +24,10 @@ pub record TellsNext (lines : List (List ℕ)) (new : Cutter) (then_left : Optio
   pub parts : lines_of input ≡ lines ++ others
   pub tells : TellsLines others new.line (lines_of (new.held ++ rest)) cut
 
-pub tells_next : (before : Option (List ℕ)) (lines : List (List ℕ)) (old new : Cutter) (left then_left : Option (List ℕ)) (cut : Cut) → All (λ line. ¬ HasLf line) lines
-    → before ≡ prepend (ended_lines lines ++ old.held) left → IsCut old new left then_left cut → IfSome before (TellsNext lines new then_left cut)
+pub tells_next : (before : Option (List ℕ)) (lines : List (List ℕ)) (old new : Cutter) (left then_left : Option (List ℕ)) (cut : Cut)
+    → All (λ line. ¬ HasLf line) lines
+    → before ≡ prepend (ended_lines lines ++ old.held) left → IsCut old new left then_left cut
+    → IfSome before (TellsNext lines new then_left cut)
 tells_next None lines old new left then_left cut plain parts is = tt
 tells_next (Some input) lines old new None then_left cut plain parts is = absurd (some_not_none input parts)
 tells_next (Some input) lines old new (Some left) then_left cut plain parts is =

@@ -5,7 +5,7 @@ use Rattle.hx_text.proofs.writer.write_answers.Given as goal
 
 abbrev pub invariant-loop-line : goal.invariant-loop-line
 invariant-loop-line g l = record {
-  out : IsOut (g.K.Sink.taken l.initial.sink) (g.K.Sink.taken l.sink) l.text
+  out : IsOut (g.K.Sink.writing l.initial.sink).taken (g.K.Sink.writing l.sink).taken l.text
       (l.initial.text ++ each_line answer_line (take l.line-index l.lines));
-  later : g.K.Sink.faults l.initial.sink ≤ g.K.Sink.faults l.sink;
+  later : (g.K.Sink.writing l.initial.sink).faults ≤ (g.K.Sink.writing l.sink).faults;
 }

@@ -5,7 +5,7 @@ use Rattle.hx_text.proofs.writer.write_fills.Given as goal
 
 abbrev pub invariant-loop-fill : goal.invariant-loop-fill
 invariant-loop-fill g l = record {
-  out : IsOut (g.K.Sink.taken l.initial.sink) (g.K.Sink.taken l.sink) l.text
+  out : IsOut (g.K.Sink.writing l.initial.sink).taken (g.K.Sink.writing l.sink).taken l.text
       (l.initial.text ++ each_line fill_line (take l.fill-index l.fills));
-  later : g.K.Sink.faults l.initial.sink ≤ g.K.Sink.faults l.sink;
+  later : (g.K.Sink.writing l.initial.sink).faults ≤ (g.K.Sink.writing l.sink).faults;
 }

@@ -5,7 +5,7 @@ use Rattle.hx_text.proofs.writer.write_steps.Given as goal
 
 abbrev pub invariant-loop-step : goal.invariant-loop-step
 invariant-loop-step g l = record {
-  out : IsOut (g.K.Sink.taken l.initial.sink) (g.K.Sink.taken l.sink) l.text
+  out : IsOut (g.K.Sink.writing l.initial.sink).taken (g.K.Sink.writing l.sink).taken l.text
       (l.initial.text ++ each_line step_line (take l.step-index l.steps));
-  later : g.K.Sink.faults l.initial.sink ≤ g.K.Sink.faults l.sink;
+  later : (g.K.Sink.writing l.initial.sink).faults ≤ (g.K.Sink.writing l.sink).faults;
 }
