@@ -30,7 +30,7 @@ fn stones_on_a_board(rt: HostRuntime) -> Result<(), Fail> {
         (Some(Colour::Black), None)
     );
     assert!(rt; position.owns(Colour::Black, &Vertex::Of(a1)));
-    assert!(rt; !position.is_open(Colour::White, &Vertex::Of(a1)));
+    assert!(rt; !position.owns(Colour::White, &Vertex::Of(a1)));
     white_beside_black(&rt, size, &position, b2);
     position.lift(a1);
     assert_eq!(rt; position, Position::empty(size));
