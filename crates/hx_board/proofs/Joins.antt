@@ -1,4 +1,4 @@
--- What is joined is joined both ways, and over an own vertex: a walk can be turned round, since touching goes both ways,
+-- What is joined is joined both ways, and over an own vertex: a walk can be reversed, since touching goes both ways,
 -- and two walks that meet at an own vertex are one.
 use Rattle.std.proofs.Common.{ℕ, List, [], ◌∷◌, ◌++◌, sym, subst, inl, inr}
 use Rattle.hx_board.specs.declared.colours.Colour.{Colour}
@@ -39,12 +39,14 @@ touches-vertex size player Last First t = tt
 touches-vertex size player Last Last t = tt
 
 module _ (board : Board) (player : Colour) where
-  pub walk-append : (inner rest : List Vertex) (from mid to : Vertex) → Walk board player from inner mid → IsOwn board player mid → Walk board player mid rest to
+  pub walk-append : (inner rest : List Vertex) (from mid to : Vertex) → Walk board player from inner mid
+      → IsOwn board player mid → Walk board player mid rest to
       → Walk board player from (inner ++ mid ∷ rest) to
   walk-append [] rest from mid to w own r = (w, own, r)
   walk-append (v ∷ vs) rest from mid to w own r = (w.0, w.1, walk-append vs rest v mid to w.2 own r)
 
-  pub walk-reverse : (inner : List Vertex) (from to : Vertex) → Walk board player from inner to → (back : List Vertex) × Walk board player to back from
+  pub walk-reverse : (inner : List Vertex) (from to : Vertex) → Walk board player from inner to
+      → (back : List Vertex) × Walk board player to back from
   walk-reverse [] from to w = ([], touches-sym board.size player from to w)
   walk-reverse (v ∷ vs) from to w =
       let r : (back : List Vertex) × Walk board player to back v = walk-reverse vs v to w.2 in
@@ -54,7 +56,8 @@ module _ (board : Board) (player : Colour) where
   joined-sym v w (inl e) = inl (sym e)
   joined-sym v w (inr a) = inr (walk-reverse a.0 v w a.1)
 
-  pub joined-over_own : (v u w : Vertex) → IsOwn board player u → Joined board player v u → Joined board player u w → Joined board player v w
+  pub joined-over_own : (v u w : Vertex) → IsOwn board player u → Joined board player v u → Joined board player u w
+      → Joined board player v w
   joined-over_own v u w own (inl e) b = let P : Vertex → Type 0 = λ x. Joined board player x w in subst P (sym e) b
   joined-over_own v u w own (inr a) (inl e) = let P : Vertex → Type 0 = λ x. Joined board player v x in subst P e (inr a)
   joined-over_own v u w own (inr a) (inr b) = inr (a.0 ++ u ∷ b.0, walk-append a.0 b.0 v u w a.1 own b.1)

@@ -1,10 +1,12 @@
 -- The lowest number of a set, and the set without it. Below that number a set has no binary digit 1, so to take 1 away
--- turns that digit and those below it round and leaves the ones above.
-use Rattle.std.proofs.Common.{◌≡◌, ◌≢◌, ℕ, suc, ◌+◌, ◌-◌, ◌*◌, ◌/◌, ◌%◌, ◌^◌, ◌<◌, ◌≤◌, Bool, true, false, ◌&&◌, not, eqb, refl, sym, ap, ◌∙◌, arith, bit_and, ◌⊎◌, inl, inr, ⊎_elim}
+-- changes that digit to 0 and those below it to 1, and leaves the ones above.
+use Rattle.std.proofs.Common.{◌≡◌, ◌≢◌, ℕ, suc, ◌+◌, ◌-◌, ◌*◌, ◌/◌, ◌%◌, ◌^◌, ◌<◌, ◌≤◌, Bool, true, false, ◌&&◌, not, eqb}
+use Rattle.std.proofs.Common.{refl, sym, ap, ◌∙◌, arith, bit_and, ◌⊎◌, inl, inr, ⊎_elim}
 use Rattle.std.proofs.lemmas.Bool.{false≢true, cases_lt}
 use Rattle.std.proofs.lemmas.Bool.Decides.{nat_tests, eqb_tells}
 use Rattle.std.proofs.lemmas.Nat.{div-add-mod'}
-use Rattle.std.proofs.lemmas.Nat.Bits.{bit_at-trailing_zeros, bit_at-lt, bit_at-zero, bit_at_above, bit_at_cat_low, bit_at_cat_high, same_from_bits}
+use Rattle.std.proofs.lemmas.Nat.Bits.{bit_at-trailing_zeros, bit_at-lt, bit_at-zero, bit_at_above}
+use Rattle.std.proofs.lemmas.Nat.Bits.{bit_at_cat_low, bit_at_cat_high, same_from_bits}
 use Rattle.std.proofs.Math.Nat.{mod-lt}
 use Rattle.std.proofs.Math.Pow.{pow_pos, pow-lt}
 use Rattle.std.specs.Int.{bit_at}
@@ -43,7 +45,9 @@ module _ (s n : ℕ) (lowest : IsLowest s n) where
   none_below = same_from_bits (s % 2 ^ n) 0 (λ i. each i (cases_lt i n) ∙ sym (bit_at-zero i))
     where
       each : (i : ℕ) → (i < n) ⊎ (n ≤ i) → bit_at (s % 2 ^ n) i ≡ 0
-      each i (inl h) = sym (bit_at_cat_low (s / 2 ^ n) n (s % 2 ^ n) i h) ∙ ap (λ (x : ℕ). bit_at x i) (div-add-mod' s (2 ^ n)) ∙ is_none (bit_at s i) (bit_at-lt s i) (lowest.first i h)
+      each i (inl h) =
+          sym (bit_at_cat_low (s / 2 ^ n) n (s % 2 ^ n) i h) ∙ ap (λ (x : ℕ). bit_at x i) (div-add-mod' s (2 ^ n))
+          ∙ is_none (bit_at s i) (bit_at-lt s i) (lowest.first i h)
       each i (inr h) = bit_at_above (s % 2 ^ n) n i (mod-lt s (pow_pos n)) h
 
   whole : s ≡ rest * 2 ^ suc n + 2 ^ n
@@ -55,7 +59,12 @@ module _ (s n : ℕ) (lowest : IsLowest s n) where
   here : (i : ℕ) → i ≡ n → has (s - 1) i ≡ false
   unfolding has
   here i same =
-      rw (same, less, bit_at_cat_low rest (suc n) (2 ^ n - 1) n (omega arith), bit_at_above (2 ^ n - 1) n n (falls (2 ^ n) (pow_pos n)) (omega arith)) refl
+      rw (
+        same,
+        less,
+        bit_at_cat_low rest (suc n) (2 ^ n - 1) n (omega arith),
+        bit_at_above (2 ^ n - 1) n n (falls (2 ^ n) (pow_pos n)) (omega arith),
+      ) refl
     where
       falls : (x : ℕ) → 0 < x → x - 1 < x
       falls x h = omega arith
@@ -66,7 +75,8 @@ module _ (s n : ℕ) (lowest : IsLowest s n) where
       let next : n < suc n = omega arith in
       let smaller : 2 ^ n < 2 ^ suc n = pow-lt next in
       ap (λ (x : ℕ). eqb (bit_at x i) 1) less
-      ∙ ap (λ (b : ℕ). eqb b 1) (bit_at_cat_high rest (suc n) (2 ^ n - 1) i (omega arith) h ∙ sym (bit_at_cat_high rest (suc n) (2 ^ n) i smaller h))
+      ∙ ap (λ (b : ℕ). eqb b 1) (bit_at_cat_high rest (suc n) (2 ^ n - 1) i (omega arith) h
+      ∙ sym (bit_at_cat_high rest (suc n) (2 ^ n) i smaller h))
       ∙ ap (λ (x : ℕ). eqb (bit_at x i) 1) (sym whole)
 
   pub remove-lowest : bit_and (s - 1) s ≡ remove s n

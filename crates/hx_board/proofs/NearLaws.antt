@@ -1,6 +1,7 @@
 -- A cell with the cells that touch it, and the table of these. In the table a row follows from the one above it, since
 -- two cells touch exactly where the two below them touch.
-use Rattle.std.proofs.Common.{◌≡◌, ◌≢◌, ℕ, ◌+◌, ◌-◌, ◌/◌, ◌%◌, ◌<◌, ◌≤◌, true, ◌&&◌, List, length, slice_index, replicate, refl, sym, ◌∙◌, subst, arith, ◌⊎◌, inl, inr, ⊎_elim, ◌↔◌, leb}
+use Rattle.std.proofs.Common.{◌≡◌, ◌≢◌, ℕ, ◌+◌, ◌-◌, ◌/◌, ◌%◌, ◌<◌, ◌≤◌, true, ◌&&◌, List, length, slice_index, replicate}
+use Rattle.std.proofs.Common.{refl, sym, ◌∙◌, subst, arith, ◌⊎◌, inl, inr, ⊎_elim, ◌↔◌, leb}
 use Rattle.std.proofs.Math.ListN.{set}
 use Rattle.std.proofs.lemmas.Bool.{leb-true, le-leb, and_from}
 use Rattle.std.proofs.lemmas.Bool.Decides.{eqb_tells}
@@ -8,12 +9,14 @@ use Rattle.std.proofs.lemmas.List.{get_or-set_same, get_or-set_other, length-set
 use Rattle.hx_board.specs.Sets.{has, insert, union, intersection}
 use Rattle.hx_board.specs.Cells.{Extent, IsExtent, OnBoard, CellsTouch, Left, Right, Above, Below, Above_right, Below_left}
 use Rattle.hx_board.specs.Floods.{AreNear, TouchesCellOf}
-use Rattle.hx_board.proofs.SetLaws.{has-union_left, has-union_right, has-union_cases, has-insert_same, has-intersection_left, has-intersection_right, has-intersection_both, and_left, and_right}
+use Rattle.hx_board.proofs.SetLaws.{has-union_left, has-union_right, has-union_cases, has-insert_same}
+use Rattle.hx_board.proofs.SetLaws.{has-intersection_left, has-intersection_right, has-intersection_both, first_of_both, second_of_both}
 use Rattle.hx_board.proofs.CellLaws.{on_board-small}
 use Rattle.hx_board.proofs.FloodLaws.{has-single}
 
 -- what touches a set of one cell
-pub touches-one : (size : Extent) (cell around : ℕ) → OnBoard size cell → ((n : ℕ) → (has around n ≡ true) ↔ TouchesCellOf size (insert 0 cell) n)
+pub touches-one : (size : Extent) (cell around : ℕ) → OnBoard size cell
+    → ((n : ℕ) → (has around n ≡ true) ↔ TouchesCellOf size (insert 0 cell) n)
     → (n : ℕ) → (has around n ≡ true) ↔ (OnBoard size n × CellsTouch cell n)
 touches-one size cell around on is_around n = (
   (λ h.
@@ -30,7 +33,8 @@ near-is size cell around is_around on n = (
       (λ w. let t = (touches-one size cell around on is_around n).0 w in (t.0, inr t.1))
       (has-union_cases (insert 0 cell) around n h)),
   (λ w. ⊎_elim
-      (λ e. has-union_left (insert 0 cell) around n (let P : ℕ → Type 0 = λ x. has (insert 0 x) n ≡ true in subst P e (has-insert_same 0 n)))
+      (λ e. has-union_left (insert 0 cell) around n
+      (let P : ℕ → Type 0 = λ x. has (insert 0 x) n ≡ true in subst P e (has-insert_same 0 n)))
       (λ t. has-union_right (insert 0 cell) around n ((touches-one size cell around on is_around n).1 (w.0, t)))
       w.1),
 )
@@ -61,7 +65,8 @@ near_more size sets index near small before is = record {
     here : (cell : ℕ) → cell ≡ index → OnBoard size cell → (other : ℕ)
         → (has (slice_index (set sets index near) cell) other ≡ true) ↔ (OnBoard size other × ((other ≡ cell) ⊎ CellsTouch cell other))
     here cell same on other =
-        let P : ℕ → Type 0 = λ x. OnBoard size x → (has (slice_index (set sets index near) x) other ≡ true) ↔ (OnBoard size other × ((other ≡ x) ⊎ CellsTouch x other)) in
+        let P : ℕ → Type 0 = λ x. OnBoard size x
+        → (has (slice_index (set sets index near) x) other ≡ true) ↔ (OnBoard size other × ((other ≡ x) ⊎ CellsTouch x other)) in
         subst P (sym same) (λ stands. rw (get_or-set_same sets index near 0 within) (is stands other)) on
 
     there : (cell : ℕ) → cell < index + 1 → cell ≢ index → OnBoard size cell → (other : ℕ)
@@ -77,7 +82,7 @@ below-is size set all moved extent is_all is n = (
   (λ h.
       let on : OnBoard size n = (is_all n).0 (has-intersection_right moved all n h) in
       let t : (leb 11 n && has set (n - 11)) ≡ true = sym (is n (less on)) ∙ has-intersection_left moved all n h in
-      (on, leb-true 11 n (and_left (leb 11 n) _ t), and_right (leb 11 n) _ t)),
+      (on, leb-true 11 n (first_of_both (leb 11 n) _ t), second_of_both (leb 11 n) _ t)),
   (λ w. has-intersection_both moved all n (is n (less w.0) ∙ and_from _ _ (le-leb 11 n w.1) w.2) ((is_all n).1 w.0)),
 )
   where
@@ -114,7 +119,8 @@ on_board_above size n high on =
     let col : n % 11 < size.cols = on.col in
     record { row = omega arith; col = omega arith }
 
-pub near_below : (size : Extent) (sets : List ℕ) (index above near : ℕ) → 22 ≤ index → index < 121 → AreNear size index sets → above ≡ slice_index sets (index - 11)
+pub near_below : (size : Extent) (sets : List ℕ) (index above near : ℕ) → 22 ≤ index → index < 121
+    → AreNear size index sets → above ≡ slice_index sets (index - 11)
     → ((n : ℕ) → (has near n ≡ true) ↔ (OnBoard size n × (11 ≤ n) × (has above (n - 11) ≡ true)))
     → AreNear size (index + 1) (set sets index near)
 near_below size sets index above near high small before same is = near_more size sets index near small before row

@@ -1,11 +1,13 @@
 -- The list of a cell's neighbours has each cell of the board that touches it, and no other. Each of its six parts stands for
 -- one way of touching.
-use Rattle.std.proofs.Common.{◌≡◌, ℕ, zero, suc, ◌+◌, ◌-◌, ◌*◌, ◌/◌, ◌%◌, ◌<◌, ◌≤◌, Bool, true, false, ◌&&◌, List, [], ◌∷◌, ◌++◌, get_or, refl, sym, arith, ◌↔◌, ltb, ⊎_elim}
+use Rattle.std.proofs.Common.{◌≡◌, ℕ, zero, suc, ◌+◌, ◌-◌, ◌*◌, ◌/◌, ◌%◌, ◌<◌, ◌≤◌, Bool, true, false, ◌&&◌}
+use Rattle.std.proofs.Common.{List, [], ◌∷◌, ◌++◌, get_or, refl, sym, arith, ◌↔◌, ltb, ⊎_elim}
 use Rattle.std.specs.Prelude.{Contains}
 use Rattle.std.proofs.lemmas.Bool.{false≢true, ltb-true, lt-ltb, and_from}
 use Rattle.std.proofs.lemmas.List.Elements.{Contains-append_left, Contains-append_right, Contains-append_cases}
-use Rattle.hx_board.specs.Cells.{Extent, IsExtent, OnBoard, CellsTouch, Left, Right, Above, Below, Above_right, Below_left, row_of, col_of, index_of, kept, neighbours_of}
-use Rattle.hx_board.proofs.SetLaws.{and_left, and_right}
+use Rattle.hx_board.specs.Cells.{Extent, IsExtent, OnBoard, CellsTouch, Left, Right, Above, Below, Above_right, Below_left}
+use Rattle.hx_board.specs.Cells.{row_of, col_of, index_of, kept, neighbours_of}
+use Rattle.hx_board.proofs.SetLaws.{first_of_both, second_of_both}
 
 kept-has : (is_there : Bool) (cell other : ℕ) → Contains (kept is_there cell) other → (is_there ≡ true) × (other ≡ cell)
 kept-has true cell other h = (refl, first h.0 h.1 h.2)
@@ -19,7 +21,8 @@ has-kept : (is_there : Bool) (cell other : ℕ) → is_there ≡ true → other 
 has-kept true cell other h e = (0, omega arith, sym e)
 has-kept false cell other h e = absurd (false≢true h)
 
-in_either : {P : Type 0} (cells more : List ℕ) (other : ℕ) → (Contains cells other → P) → (Contains more other → P) → Contains (cells ++ more) other → P
+in_either : {P : Type 0} (cells more : List ℕ) (other : ℕ) → (Contains cells other → P) → (Contains more other → P)
+    → Contains (cells ++ more) other → P
 in_either cells more other first second h = ⊎_elim first second (Contains-append_cases cells more other h)
 
 module _ (size : Extent) (cell : ℕ) (extent : IsExtent size.rows size.cols) (here : OnBoard size cell) where
@@ -82,8 +85,8 @@ module _ (size : Extent) (cell : ℕ) (extent : IsExtent size.rows size.cols) (h
   from_above_right : (other : ℕ) → Contains above_right other → IsNeighbour other
   from_above_right other h =
       let w = kept-has (ltb 0 (cell / 11) && ltb (cell % 11 + 1) size.cols) (11 * (cell / 11 - 1) + (cell % 11 + 1)) other h in
-      let row : 0 < cell / 11 = ltb-true 0 (cell / 11) (and_left _ _ w.0) in
-      let col : cell % 11 + 1 < size.cols = ltb-true (cell % 11 + 1) size.cols (and_right (ltb 0 (cell / 11)) _ w.0) in
+      let row : 0 < cell / 11 = ltb-true 0 (cell / 11) (first_of_both _ _ w.0) in
+      let col : cell % 11 + 1 < size.cols = ltb-true (cell % 11 + 1) size.cols (second_of_both (ltb 0 (cell / 11)) _ w.0) in
       let place : other ≡ 11 * (cell / 11 - 1) + (cell % 11 + 1) = w.1 in
       let here_row : cell / 11 < size.rows = here.row in
       let bound : size.cols ≤ 11 = extent.3 in
@@ -92,8 +95,8 @@ module _ (size : Extent) (cell : ℕ) (extent : IsExtent size.rows size.cols) (h
   from_below_left : (other : ℕ) → Contains below_left other → IsNeighbour other
   from_below_left other h =
       let w = kept-has (ltb (cell / 11 + 1) size.rows && ltb 0 (cell % 11)) (11 * (cell / 11 + 1) + (cell % 11 - 1)) other h in
-      let row : cell / 11 + 1 < size.rows = ltb-true (cell / 11 + 1) size.rows (and_left _ _ w.0) in
-      let col : 0 < cell % 11 = ltb-true 0 (cell % 11) (and_right (ltb (cell / 11 + 1) size.rows) _ w.0) in
+      let row : cell / 11 + 1 < size.rows = ltb-true (cell / 11 + 1) size.rows (first_of_both _ _ w.0) in
+      let col : 0 < cell % 11 = ltb-true 0 (cell % 11) (second_of_both (ltb (cell / 11 + 1) size.rows) _ w.0) in
       let place : other ≡ 11 * (cell / 11 + 1) + (cell % 11 - 1) = w.1 in
       let here_col : cell % 11 < size.cols = here.col in
       (record { row = omega arith; col = omega arith }, Below_left (omega arith) (omega arith))

@@ -11,4 +11,5 @@ pub data Wins (player : Colour) : Board → Colour → Type 0 where
   By_move : (board : Board) (mover : Colour) (cell : ℕ) → mover ≡ player → IsEmpty board cell
       → Wins player (put board player cell) (other_of player) → Wins player board mover
   By_answers : (board : Board) (mover : Colour) (some : ℕ) → mover ≡ other_of player → IsEmpty board some
-      → ((cell : ℕ) → IsEmpty board cell → Wins player (put board (other_of player) cell) player) → Wins player board mover
+      → ((cell : ℕ) → IsEmpty board cell → Wins player (put board (other_of player) cell) player)
+      → Wins player board mover

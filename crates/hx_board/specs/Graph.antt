@@ -52,7 +52,8 @@ IsOpen board player Last = Unit {0}
 -- a walk from one vertex to another, by its inner vertices, each of which is the player's own
 abbrev pub Walk : Board → Colour → Vertex → List Vertex → Vertex → Type 0
 Walk board player from [] to = Touches board.size player from to
-Walk board player from (next ∷ rest) to = Touches board.size player from next × IsOwn board player next × Walk board player next rest to
+Walk board player from (next ∷ rest) to =
+    Touches board.size player from next × IsOwn board player next × Walk board player next rest to
 
 -- some walk leads from one to the other; a walk may be one vertex alone
 abbrev pub Joined : Board → Colour → Vertex → Vertex → Type 0

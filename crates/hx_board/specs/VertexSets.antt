@@ -1,4 +1,5 @@
--- Sets of vertices, each kept as a set of numbers. A cell has its index as its number, and the two sides come after the cells.
+-- Sets of vertices, each kept as a set of numbers. A cell has its index as its number, and the two sides come after the
+-- cells.
 use Rattle.std.specs.Prelude.{◌≡◌, ℕ, ◌+◌, ◌<◌, true, ◌↔◌}
 use Rattle.hx_board.specs.declared.cells.TheConstants.{CELLS}
 use Rattle.hx_board.specs.declared.vertices.Vertex.{Vertex}

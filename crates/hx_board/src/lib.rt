@@ -6,6 +6,7 @@ mod colours;
 mod floods;
 mod graphs;
 mod groups;
+mod least_cells;
 mod masks;
 mod positions;
 mod shifts;

@@ -5,11 +5,9 @@
 //! memory. The numbers from 121 to 127 are no cell's, and can stand for something else, as a player's sides.
 
 ghost use Rattle.std.specs.Prelude.{◌≡◌, ◌≢◌, ℕ, ◌+◌, ◌-◌, ◌<◌, ◌≤◌, ◌↔◌, ◌&&◌, ◌||◌, ◌==◌, not, IsTrue, nat_le, nat_lt, true, false, MatchOption};
-ghost use Rattle.hx_board.specs.Cells.{OnBoard, IsLeastOn};
 ghost use Rattle.hx_board.specs.Sets.{has, insert, remove, union, intersection, difference, IsSubset, ShareOne, ShareNone, IsLowest, count_below};
 
 use crate::cells::Cell;
-use crate::sizes::Size;
 use std::marker::Model;
 
 /// A set of numbers from 0 to 127, in which a cell stands by its index. Contracts see it as the number of its
@@ -135,20 +133,6 @@ impl Mask {
         ensures { result ≡ count_below 128 self }
     {
         self.bits().count_ones()
-    }
-
-    /// The first cell of a board of this size that is in the set, row by row from the top and from the left in each
-    /// row. None exactly where no cell of the board is in the set.
-    pub fn least(self, size: Size) -> Option<Cell>
-        ensures { MatchOption result ((n : ℕ) → OnBoard size n → has self n ≡ false)
-            (IsLeastOn size self) }
-    {
-        let here = self.meet(size.all()).bits();
-        if here == 0 {
-            None
-        } else {
-            Some(Cell::at_index(here.trailing_zeros() as u8))
-        }
     }
 
     /// The set where it is wanted, and else the empty set.

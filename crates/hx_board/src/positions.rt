@@ -1,12 +1,12 @@
 //! Positions: a board of some size and the stones on it.
 //!
-//! A position does not say whose turn it is, nor how its stones came: it may have any number of each colour.
+//! A position does not say who is to move, nor how its stones came: it may have any number of each colour.
 
 ghost use Rattle.std.specs.Prelude.{◌≡◌, ℕ, ◌≤◌, ◌↔◌, SomeIff, IsTrue, true};
 ghost use Rattle.hx_board.specs.Sets.{has};
 ghost use Rattle.hx_board.specs.Positions.{IsPosition, IsBoard, IsEmpty, IsHeld, Board, stones_of, stone_at, put, lifted};
 ghost use Rattle.hx_board.specs.Counts.{empty_count};
-ghost use Rattle.hx_board.specs.Graph.{IsOwn, IsOpen};
+ghost use Rattle.hx_board.specs.Graph.{IsOwn};
 
 use crate::cells::{CELLS, Cell};
 use crate::colours::Colour;
@@ -120,16 +120,6 @@ impl Position {
     {
         match vertex {
             Vertex::Of(cell) => self.stones(player).has(*cell),
-            Vertex::First | Vertex::Last => true,
-        }
-    }
-
-    /// Whether a vertex is open to the player: no stone of the opponent.
-    pub fn is_open(&self, player: Colour, vertex: &Vertex) -> bool
-        ensures { IsTrue result ↔ IsOpen self.now player vertex.now }
-    {
-        match vertex {
-            Vertex::Of(cell) => !self.stones(player.other()).has(*cell),
             Vertex::First | Vertex::Last => true,
         }
     }

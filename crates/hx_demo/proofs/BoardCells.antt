@@ -4,7 +4,7 @@ use Rattle.std.proofs.Common.{◌≡◌, ℕ, ◌+◌, ◌/◌, ◌%◌, ◌<◌
 use Rattle.std.proofs.lemmas.List.{take_more, length-take-le}
 use Rattle.std.proofs.lemmas.Bool.{agree_below_at, false≢true, ltb-true}
 use Rattle.hx_board.specs.Cells.{OnBoard, index_of}
-use Rattle.hx_board.proofs.SetLaws.{and_left, and_right}
+use Rattle.hx_board.proofs.SetLaws.{first_of_both, second_of_both}
 use Rattle.hx_demo.specs.DrawnPositions.{board_size, cells_in_order}
 use Rattle.hx_demo.proofs.DrawnLists.{IsIn, AreDistinct}
 
@@ -33,10 +33,10 @@ are_on_board (cell ∷ cells) = ltb (cell / 11) 5 && ltb (cell % 11) 5 && are_on
 on_board-by_tests : (cells : List ℕ) (cell : ℕ) → are_on_board cells ≡ true → IsIn cell cells → OnBoard board_size cell
 on_board-by_tests [] cell pass h = absurd h
 on_board-by_tests (first ∷ cells) cell pass (inl same) =
-    let both = and_left (ltb (first / 11) 5 && ltb (first % 11) 5) (are_on_board cells) pass in
-    let here : OnBoard board_size first = record { row = ltb-true _ _ (and_left _ _ both); col = ltb-true _ _ (and_right _ _ both) } in
+    let both = first_of_both (ltb (first / 11) 5 && ltb (first % 11) 5) (are_on_board cells) pass in
+    let here : OnBoard board_size first = record { row = ltb-true _ _ (first_of_both _ _ both); col = ltb-true _ _ (second_of_both _ _ both) } in
     let P : ℕ → Type 0 = OnBoard board_size in subst P (sym same) here
-on_board-by_tests (first ∷ cells) cell pass (inr h) = on_board-by_tests cells cell (and_right _ (are_on_board cells) pass) h
+on_board-by_tests (first ∷ cells) cell pass (inr h) = on_board-by_tests cells cell (second_of_both _ (are_on_board cells) pass) h
 
 pub in_order-on_board : (cell : ℕ) → IsIn cell cells_in_order → OnBoard board_size cell
 in_order-on_board cell = on_board-by_tests cells_in_order cell refl
@@ -53,12 +53,12 @@ are_distinct (x ∷ xs) = lacks x xs && are_distinct xs
 
 not_in-by_test : (n : ℕ) (xs : List ℕ) → lacks n xs ≡ true → IsIn n xs → ⊥
 not_in-by_test n [] pass h = h
-not_in-by_test n (x ∷ xs) pass (inl same) = false≢true (sym (ap not (eq-eqb n x same)) ∙ and_left (not (eqb n x)) (lacks n xs) pass)
-not_in-by_test n (x ∷ xs) pass (inr h) = not_in-by_test n xs (and_right (not (eqb n x)) (lacks n xs) pass) h
+not_in-by_test n (x ∷ xs) pass (inl same) = false≢true (sym (ap not (eq-eqb n x same)) ∙ first_of_both (not (eqb n x)) (lacks n xs) pass)
+not_in-by_test n (x ∷ xs) pass (inr h) = not_in-by_test n xs (second_of_both (not (eqb n x)) (lacks n xs) pass) h
 
 distinct-by_test : (xs : List ℕ) → are_distinct xs ≡ true → AreDistinct xs
 distinct-by_test [] pass = tt
-distinct-by_test (x ∷ xs) pass = (not_in-by_test x xs (and_left (lacks x xs) (are_distinct xs) pass), distinct-by_test xs (and_right (lacks x xs) (are_distinct xs) pass))
+distinct-by_test (x ∷ xs) pass = (not_in-by_test x xs (first_of_both (lacks x xs) (are_distinct xs) pass), distinct-by_test xs (second_of_both (lacks x xs) (are_distinct xs) pass))
 
 pub in_order-distinct : AreDistinct cells_in_order
 in_order-distinct = distinct-by_test cells_in_order refl

@@ -11,7 +11,7 @@ use Rattle.hx_board.specs.Cells.{IsExtent, OnBoard}
 use Rattle.hx_board.specs.Positions.{Board, IsEmpty, put}
 use Rattle.hx_board.specs.Graph.{Joined}
 use Rattle.hx_board.specs.VertexSets.{code_of, IsVertexCode, IsSetOf}
-use Rattle.hx_board.proofs.SetLaws.{has-empty, has-remove_before, has-intersection_left, has-intersection_right, has-intersection_both, and_left, removed, removed_cases, removed_still, has-remove_other, by_member}
+use Rattle.hx_board.proofs.SetLaws.{has-empty, has-remove_before, has-intersection_left, has-intersection_right, has-intersection_both, first_of_both, removed, removed_cases, removed_still, has-remove_other, by_member}
 use Rattle.hx_board.proofs.CellLaws.{on_board-small}
 use Rattle.hx_board.proofs.FloodLaws.{same_vertex}
 use Rattle.hx_board.proofs.StoneLaws.{empty-put}
@@ -63,7 +63,7 @@ module _ (board : Board) (player : Colour) (around : ℕ) (vertex : Vertex) (joi
         (λ h.
             let k : has (intersection makers.cells cells) other ≡ true = rw same at h in
             let before : has makers.cells other ≡ true = has-intersection_left makers.cells cells other k in
-            let here : has joined other ≡ true = and_left _ _ (sym (cells_are other) ∙ has-intersection_right makers.cells cells other k) in
+            let here : has joined other ≡ true = first_of_both _ _ (sym (cells_are other) ∙ has-intersection_right makers.cells cells other k) in
             (before, λ w in_w. inr ((is.members (Of other) (on other before)).0 here))),
         (λ both. rw same (has-intersection_both makers.cells cells other both.0 (by_member cells other (λ h. h)
             (λ misses. absurd (not (λ w in_w. ⊎_elim (λ j. j) (λ j. absurd (false≢true (sym misses ∙ member other (on other both.0) j))) (both.1 w in_w))))))),

@@ -1,6 +1,7 @@
 -- The open neighbours of a cell as a set: the cells that touch it without those of the opponent's stones, and the sides that it
 -- lies along. Each of the three parts has numbers of its own.
-use Rattle.std.proofs.Common.{◌≡◌, ℕ, ◌<◌, Bool, true, false, ◌&&◌, ◌||◌, not, eqb, ltb, refl, sym, ap, ◌∙◌, ⊎_elim, ◌↔◌, eq-eqb, eqb-true, arith}
+use Rattle.std.proofs.Common.{◌≡◌, ℕ, ◌<◌, Bool, true, false, ◌&&◌, ◌||◌, not, eqb, ltb}
+use Rattle.std.proofs.Common.{refl, sym, ap, ◌∙◌, ⊎_elim, ◌↔◌, eq-eqb, eqb-true, arith}
 use Rattle.std.proofs.lemmas.Bool.{lt-ltb, not-true, and_from, or_left, or_right, or_cases}
 use Rattle.hx_board.specs.declared.colours.Colour.{Colour}
 use Rattle.hx_board.specs.declared.vertices.Vertex.{Vertex}
@@ -11,7 +12,7 @@ use Rattle.hx_board.specs.Cells.{OnBoard, IsExtent, CellsTouch}
 use Rattle.hx_board.specs.Positions.{Board, stones_of}
 use Rattle.hx_board.specs.Graph.{IsVertex, IsFirstLine, IsLastLine}
 use Rattle.hx_board.specs.VertexSets.{code_of, IsSetOf}
-use Rattle.hx_board.proofs.SetLaws.{and_left, and_right}
+use Rattle.hx_board.proofs.SetLaws.{first_of_both, second_of_both}
 use Rattle.hx_board.proofs.CellLaws.{on_board-small}
 use Rattle.hx_inferior.specs.Inferior.{IsOpenNeighbour}
 
@@ -34,15 +35,16 @@ module _ (board : Board) (player : Colour) (cell touched cells with_first all : 
   small : (n : ℕ) → OnBoard board.size n → n < 121
   small n on = on_board-small board.size n k.extent on
 
-  cases : {P : Type 0} (n : ℕ) → has all n ≡ true → (at_last ≡ true → n ≡ 122 → P) → (at_first ≡ true → n ≡ 121 → P) → (IsOpenCell n → P) → P
+  cases : {P : Type 0} (n : ℕ) → has all n ≡ true → (at_last ≡ true → n ≡ 122 → P) → (at_first ≡ true → n ≡ 121 → P)
+      → (IsOpenCell n → P) → P
   cases n h last first rest = ⊎_elim
-      (λ w. last (and_left at_last _ w) (eqb-true n 122 (and_right at_last _ w)))
+      (λ w. last (first_of_both at_last _ w) (eqb-true n 122 (second_of_both at_last _ w)))
       (λ w. ⊎_elim
-      (λ v. first (and_left at_first _ v) (eqb-true n 121 (and_right at_first _ v)))
+      (λ v. first (first_of_both at_first _ v) (eqb-true n 121 (second_of_both at_first _ v)))
       (λ v.
-      let t = and_left (has touched n && not (has (stones_of board (other_of player)) n)) _ (sym (k.is_cells n) ∙ v) in
-      let touch = (k.is_touched n).0 (and_left (has touched n) _ t) in
-      rest (touch.0, touch.1, not-true _ (and_right (has touched n) _ t)))
+      let t = first_of_both (has touched n && not (has (stones_of board (other_of player)) n)) _ (sym (k.is_cells n) ∙ v) in
+      let touch = (k.is_touched n).0 (first_of_both (has touched n) _ t) in
+      rest (touch.0, touch.1, not-true _ (second_of_both (has touched n) _ t)))
       (or_cases _ _ (sym (k.is_with_first n) ∙ w)))
       (or_cases _ _ (sym (k.is_all n) ∙ h))
 
@@ -53,7 +55,8 @@ module _ (board : Board) (player : Colour) (cell touched cells with_first all : 
 
   members : (v : Vertex) → IsVertex board.size v → (has all (code_of v) ≡ true) ↔ IsOpenNeighbour board player cell v
   members (Of n) on = let low : n < 121 = small n on in (
-    (λ h. cases n h (λ _ e. absurd (omega arith)) (λ _ e. absurd (omega arith)) (λ w. record { touch = (k.on_board, w.0, w.1); is_open = w.2 })),
+    (λ h. cases n h (λ _ e. absurd (omega arith)) (λ _ e. absurd (omega arith))
+        (λ w. record { touch = (k.on_board, w.0, w.1); is_open = w.2 })),
     (λ o. in_cells n (o.touch.1, o.touch.2, o.is_open)),
   )
   members First on = (

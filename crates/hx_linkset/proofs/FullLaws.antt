@@ -12,7 +12,7 @@ use Rattle.hx_board.specs.declared.vertices.Vertex.{Vertex}
 use Rattle.hx_board.specs.Sets.{has, intersection}
 use Rattle.hx_board.specs.Positions.{IsEmpty}
 use Rattle.hx_board.specs.VertexSets.{code_of, IsSomeVertex}
-use Rattle.hx_board.proofs.SetLaws.{and_left, and_right, intersection-is_subset, is_subset-intersection}
+use Rattle.hx_board.proofs.SetLaws.{first_of_both, second_of_both, intersection-is_subset, is_subset-intersection}
 use Rattle.hx_board.proofs.VertexSetLaws.{code-same}
 use Rattle.hx_link.specs.declared.links.Kind.{Kind}
 use Rattle.hx_link.specs.declared.links.Kind.TheVariants.{Full, Semi}
@@ -151,8 +151,8 @@ module _ (set : Standing) (empties ends : ℕ) (empties_are : (cell : ℕ) → (
 
       live_if : MayEnd vertex → is_live_from empties ends full ≡ true → IsLive set.present.board set.player link
       live_if from test =
-          let inside = intersection-is_subset full.carrier empties (eqb-true _ _ (and_left _ (has ends (code_of full.to)) test)) in
-          let both = live_by seen.of_ends from ((ends_are full.to to_some).0 (and_right (nat_eq (intersection full.carrier empties) full.carrier) _ test)) in
+          let inside = intersection-is_subset full.carrier empties (eqb-true _ _ (first_of_both _ (has ends (code_of full.to)) test)) in
+          let both = live_by seen.of_ends from ((ends_are full.to to_some).0 (second_of_both (nat_eq (intersection full.carrier empties) full.carrier) _ test)) in
           record {
             empty = λ cell h. (empties_are cell).0 (inside cell (ap (λ (carrier : ℕ). has carrier cell) seen.carrier_is ∙ h));
             a_end = both.0;

@@ -12,7 +12,7 @@ use Rattle.std.specs.List.Sorted.{IsStrictlyIncreasing}
 use Rattle.hx_board.specs.declared.vertices.Vertex.{Vertex}
 use Rattle.hx_board.specs.Sets.{has, intersection, IsSubset}
 use Rattle.hx_board.specs.VertexSets.{code_of}
-use Rattle.hx_board.proofs.SetLaws.{same_test, and_left, and_right, has-intersection_left, has-intersection_right, has-intersection_both, intersection-is_subset, is_subset-intersection}
+use Rattle.hx_board.proofs.SetLaws.{same_test, first_of_both, second_of_both, has-intersection_left, has-intersection_right, has-intersection_both, intersection-is_subset, is_subset-intersection}
 use Rattle.hx_linkset.specs.declared.fulls.FullLink.{FullLink}
 use Rattle.hx_linkset.specs.States.{Standing}
 use Rattle.hx_linkset.specs.Fulls.{IsFullAt, AreFullAt, AreFullWithin, is_live_from, live_from}
@@ -69,10 +69,10 @@ module _ (p : FullLink → Bool) where
 
 module _ (full : FullLink) where
   inside_if : (cells ends : ℕ) → is_live_from cells ends full ≡ true → IsSubset full.carrier cells
-  inside_if cells ends test = intersection-is_subset full.carrier cells (eqb-true _ _ (and_left _ (has ends (code_of full.to)) test))
+  inside_if cells ends test = intersection-is_subset full.carrier cells (eqb-true _ _ (first_of_both _ (has ends (code_of full.to)) test))
 
   leads_if : (cells ends : ℕ) → is_live_from cells ends full ≡ true → has ends (code_of full.to) ≡ true
-  leads_if cells ends test = and_right (nat_eq (intersection full.carrier cells) full.carrier) _ test
+  leads_if cells ends test = second_of_both (nat_eq (intersection full.carrier cells) full.carrier) _ test
 
   live_if : (cells ends : ℕ) → IsSubset full.carrier cells → has ends (code_of full.to) ≡ true → is_live_from cells ends full ≡ true
   live_if cells ends inside leads = and_from _ _ (eq-eqb _ _ (is_subset-intersection full.carrier cells inside)) leads
@@ -86,8 +86,8 @@ module _ (full : FullLink) where
       (live_if empties ends (λ n h. has-intersection_left empties cells n (inside n h)) (has-intersection_left ends to (code_of full.to) leads))
       (live_if cells to (λ n h. has-intersection_right empties cells n (inside n h)) (has-intersection_right ends to (code_of full.to) leads)))
       (λ test.
-      let live = and_left (is_live_from empties ends full) (is_live_from cells to full) test in
-      let held = and_right (is_live_from empties ends full) (is_live_from cells to full) test in
+      let live = first_of_both (is_live_from empties ends full) (is_live_from cells to full) test in
+      let held = second_of_both (is_live_from empties ends full) (is_live_from cells to full) test in
       live_if (intersection empties cells) (intersection ends to)
       (λ n h. has-intersection_both empties cells n (inside_if empties ends live n h) (inside_if cells to held n h))
       (has-intersection_both ends to (code_of full.to) (leads_if empties ends live) (leads_if cells to held)))

@@ -6,7 +6,7 @@ use Rattle.std.proofs.lemmas.Bool.Decides.{nat_tests}
 use Rattle.std.proofs.Math.Seq.{take-append_seam, drop-append_seam}
 use Rattle.std.proofs.lemmas.Bool.{false≢true, ltb-true, lt-ltb}
 use Rattle.std.proofs.Math.Nat.{pow-le-pow_right}
-use Rattle.hx_board.proofs.SetLaws.{and_left, and_right}
+use Rattle.hx_board.proofs.SetLaws.{first_of_both, second_of_both}
 use Rattle.hx_text.specs.Words.{hex, hex_digit}
 use Rattle.hx_text.proofs.Ends.{push_injective}
 
@@ -42,10 +42,10 @@ right_more : (word : List ℕ) (i bits digit : ℕ) (known : Bool) → i < lengt
     → (known ≡ true → take i word ≡ hex i bits) → (known && ltb digit 16) ≡ true
     → take (i + 1) word ≡ hex (i + 1) (16 * bits + digit % 16)
 right_more word i bits digit known within is before holds =
-    let small : digit < 16 = ltb-true digit 16 (and_right known (ltb digit 16) holds) in
+    let small : digit < 16 = ltb-true digit 16 (second_of_both known (ltb digit 16) holds) in
     let same : digit % 16 ≡ digit = omega arith in
     take_more word i 0 within
-    ∙ ap (λ (t : List ℕ). t ++ get_or word i 0 ∷ []) (before (and_left known (ltb digit 16) holds))
+    ∙ ap (λ (t : List ℕ). t ++ get_or word i 0 ∷ []) (before (first_of_both known (ltb digit 16) holds))
     ∙ ap (λ (byte : ℕ). hex i bits ++ byte ∷ []) (is small)
     ∙ sym (hex_more i bits digit small) ∙ ap (λ (d : ℕ). hex (i + 1) (16 * bits + d)) (sym same)
 

@@ -3,7 +3,7 @@ use Rattle.std.proofs.Common.{◌≡◌, ℕ, ◌+◌, ◌-◌, ◌*◌, ◌/◌
 use Rattle.std.proofs.lemmas.Bool.{and_from}
 use Rattle.hx_board.specs.Sets.{has}
 use Rattle.hx_board.specs.Cells.{Extent, IsExtent, OnBoard}
-use Rattle.hx_board.proofs.SetLaws.{has-earlier, and_left, and_right}
+use Rattle.hx_board.proofs.SetLaws.{has-earlier, first_of_both, second_of_both}
 use Rattle.hx_turn.specs.Turned.{turned_cell}
 use Rattle.hx_turn.proofs.TurnedCells.{turned-is}
 
@@ -26,8 +26,8 @@ module _ (size : Extent) (extent : IsExtent size.rows size.cols) (cells reversed
   has-turned moved all result is_moved is_all is_both cell = (
     (λ h.
         let both : (has moved cell && has all cell) ≡ true = sym (is_both cell) ∙ h in
-        let here : OnBoard size cell = (is_all cell).0 (and_right (has moved cell) (has all cell) both) in
-        (here, sym (at_turned here) ∙ and_left (has moved cell) (has all cell) both)),
+        let here : OnBoard size cell = (is_all cell).0 (second_of_both (has moved cell) (has all cell) both) in
+        (here, sym (at_turned here) ∙ first_of_both (has moved cell) (has all cell) both)),
     (λ w. is_both cell ∙ and_from (has moved cell) (has all cell) (at_turned w.0 ∙ w.1) ((is_all cell).1 w.0)),
   )
     where

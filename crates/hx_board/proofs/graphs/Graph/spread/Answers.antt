@@ -1,5 +1,5 @@
 use Rattle.std.proofs.Common.{sym, ◌∙◌}
-use Rattle.hx_board.proofs.SetLaws.{and_right}
+use Rattle.hx_board.proofs.SetLaws.{second_of_both}
 use Rattle.hx_board.proofs.VertexSetLaws.{cells-small, union-codes}
 use Rattle.hx_board.proofs.Spread.{Parts, parts-are_set}
 use Rattle.hx_board.proofs.graphs.Graph.spread.Goals as goal
@@ -10,10 +10,16 @@ of-requires c =
     rw (c.union-to_cells.ensures.set, c.union.ensures.set)
     (union-codes _ _
     (union-codes _ _ c.around-cells.ensures.codes
-    (cells-small _ _ extent (λ n h. ((c.self.invariant.is_first n).0 (and_right c.has.result _ (sym (c.when-from_first.ensures n) ∙ h))).0)))
-    (cells-small _ _ extent (λ n h. ((c.self.invariant.is_last n).0 (and_right c.has-2.result _ (sym (c.when-from_last.ensures n) ∙ h))).0)))
+    (cells-small _ _ extent
+    (λ n h. ((c.self.invariant.is_first n).0 (second_of_both c.has.result _ (sym (c.when-from_first.ensures n) ∙ h))).0)))
+    (cells-small _ _ extent
+    (λ n h. ((c.self.invariant.is_last n).0 (second_of_both c.has-2.result _ (sym (c.when-from_last.ensures n) ∙ h))).0)))
 
-parts : (c : goal.After-union-2) → Parts c.self.inside.position.size c.self.inside.player c.args.set c.self.inside.first c.self.inside.last c.around-cells.result c.when-from_first.result c.when-from_last.result c.when-to_first.result c.when-to_last.result c.meets.result c.meets-2.result
+parts : (c : goal.After-union-2)
+    → Parts c.self.inside.position.size c.self.inside.player c.args.set
+    c.self.inside.first c.self.inside.last c.around-cells.result
+    c.when-from_first.result c.when-from_last.result c.when-to_first.result c.when-to_last.result
+    c.meets.result c.meets-2.result
 parts c = record {
   extent = c.self.invariant.valid.0;
   is_first = c.self.invariant.is_first;
@@ -29,5 +35,12 @@ parts c = record {
 
 pub returns : goal.returns
 returns c =
-    rw (c.union-2.ensures.set, c.of.ensures, c.union-to_cells.ensures.set, c.union-to_sides.ensures.set, c.union.ensures.set, ← c.self.view_is)
+    rw (
+      c.union-2.ensures.set,
+      c.of.ensures,
+      c.union-to_cells.ensures.set,
+      c.union-to_sides.ensures.set,
+      c.union.ensures.set,
+      ← c.self.view_is,
+    )
     (parts-are_set _ _ _ _ _ _ _ _ _ _ _ _ (parts c))
