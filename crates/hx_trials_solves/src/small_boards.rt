@@ -1,7 +1,7 @@
 //! Small boards, one worker and several, and what is answered where units or slots are wanting.
 
 ghost use Rattle.std.specs.Prelude.{◌≤◌, ◌^◌};
-ghost use Rattle.hx_solve.specs.Settings.{AreSettings};
+ghost use Rattle.hx_settings.specs.Settings.{AreSettings};
 ghost use Rattle.hx_solve.specs.Tallies.{tallied, IsCountedBy};
 
 use hx_board::{Colour, Mask, Position, Size};

@@ -1,7 +1,7 @@
 //! Which words are which command.
 
 use crate::{Command, command_of, one_command};
-use hx_solve::Settings;
+use hx_settings::Settings;
 use std::alloc::{AllocError, Global};
 use std::test::Fail;
 
