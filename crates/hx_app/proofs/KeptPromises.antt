@@ -9,7 +9,7 @@ use Rattle.hx_text.specs.declared.versions.Preamble.{Preamble}
 use Rattle.hx_text.specs.Versions.{HasTurned}
 use Rattle.hx_text.proofs.WholeTrees.{written_with}
 use Rattle.hx_text.proofs.OneFault.{one_position_fault}
-use Rattle.hx_solve.specs.declared.settings.Settings.{Settings}
+use Rattle.hx_settings.specs.declared.settings.Settings.{Settings}
 use Rattle.hx_solve.specs.Tallies.{Tallied}
 use Rattle.hx_answers.specs.Endings.{IsWritten, Whole, Cut, IsUnlessStopped, AnswersUnlessStopped}
 use Rattle.hx_check.proofs.KeptPromises.{of_any}

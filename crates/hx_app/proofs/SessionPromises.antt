@@ -1,7 +1,7 @@
 -- What a run of `htp` says with each status, by how the session ended.
 use Rattle.std.proofs.Common.{◌≡◌, ℕ, ◌<◌, ◌^◌, inl, inr, List, length, refl, sym, subst, arith}
 use Rattle.std.specs.Prelude.{Option}
-use Rattle.hx_solve.specs.declared.settings.Settings.{Settings}
+use Rattle.hx_settings.specs.declared.settings.Settings.{Settings}
 use Rattle.hx_solve.specs.Tallies.{Tallied, tallied}
 use Rattle.hx_htp.specs.Accounts.{Account}
 use Rattle.hx_htp.specs.States.{fresh}

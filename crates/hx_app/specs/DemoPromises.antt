@@ -2,7 +2,7 @@
 use Rattle.std.specs.Prelude.{◌≡◌, ◌⊎◌, ℕ, ◌<◌, ◌≤◌, List, codes, Option}
 use Rattle.hx_io.specs.Sinks.{append}
 use Rattle.hx_demo.specs.Draws.{first_positions}
-use Rattle.hx_solve.specs.declared.settings.Settings.{Settings}
+use Rattle.hx_settings.specs.declared.settings.Settings.{Settings}
 use Rattle.hx_app.specs.declared.demo_answers.WinCounts.{WinCounts}
 use Rattle.hx_app.specs.declared.finishes.Finish.{Finish}
 use Rattle.hx_app.specs.Promises.{SaysUnknown}

@@ -10,7 +10,7 @@ use Rattle.hx_text.specs.Versions.{HasTurned}
 use Rattle.hx_text.specs.TreeTexts.{IsTreeText}
 use Rattle.hx_text.specs.Places.{most_nodes}
 use Rattle.hx_proof.specs.Winners.{OnlyWinner}
-use Rattle.hx_solve.specs.declared.settings.Settings.{Settings}
+use Rattle.hx_settings.specs.declared.settings.Settings.{Settings}
 use Rattle.hx_solve.specs.Tallies.{Tallied}
 use Rattle.hx_answers.specs.Endings.{IsUnlessStopped, AnswersUnlessStopped}
 use Rattle.hx_app.specs.declared.finishes.Finish.{Finish}

@@ -1,6 +1,6 @@
 -- A run of the program: its words are a command, which then ran, or they are none.
 use Rattle.std.specs.Prelude.{◌≡◌, ℕ, List, codes, Option}
-use Rattle.hx_solve.specs.declared.settings.Settings.{Settings}
+use Rattle.hx_settings.specs.declared.settings.Settings.{Settings}
 use Rattle.hx_solve.specs.Tallies.{tallied}
 use Rattle.hx_words.specs.declared.commands.Command.{Command}
 use Rattle.hx_words.specs.declared.commands.Command.TheVariants.{Check, Solve, Htp, Demo}

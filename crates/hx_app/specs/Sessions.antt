@@ -1,7 +1,7 @@
 -- What the command `htp` does, and what a run of it is good for.
 use Rattle.std.specs.Prelude.{◌≡◌, ◌⊎◌, ℕ, ◌≤◌, List, length, Option, IfSome, Result, Ok, IsErr}
 use Rattle.hx_board.specs.declared.Memory.{Memory as OutOfMemory}
-use Rattle.hx_solve.specs.declared.settings.Settings.{Settings}
+use Rattle.hx_settings.specs.declared.settings.Settings.{Settings}
 use Rattle.hx_solve.specs.declared.unsolved.Unsolved.{Unsolved}
 use Rattle.hx_solve.specs.declared.unsolved.Unsolved.TheVariants as unsolved
 use Rattle.hx_solve.specs.Tallies.{Tallied, tallied}

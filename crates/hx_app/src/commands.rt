@@ -2,7 +2,7 @@
 
 ghost use Rattle.std.specs.Prelude.{◌≡◌, ◌⊎◌, ℕ};
 ghost use Rattle.hx_io.specs.Causes.{Rose};
-ghost use Rattle.hx_solve.specs.declared.settings.Settings.{Settings as Bounds};
+ghost use Rattle.hx_settings.specs.declared.settings.Settings.{Settings as Bounds};
 ghost use Rattle.hx_words.specs.Words.{words_of};
 ghost use Rattle.hx_answers.specs.Endings.{IsWritten};
 ghost use Rattle.hx_check.specs.Promises.{KeepsPromises as ChecksAsPromised};

@@ -2,7 +2,7 @@
 
 ghost use Rattle.std.specs.Prelude.{◌≡◌};
 ghost use Rattle.hx_io.specs.Causes.{Rose};
-ghost use Rattle.hx_solve.specs.Settings.{AreSettings};
+ghost use Rattle.hx_settings.specs.Settings.{AreSettings};
 ghost use Rattle.hx_app.specs.Sessions.{IsSessionRun, KeepsPromises, status_of_end};
 
 use crate::finishes::Finish;

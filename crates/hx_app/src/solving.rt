@@ -4,7 +4,7 @@ ghost use Rattle.std.specs.Prelude.{◌≡◌};
 ghost use Rattle.hx_io.specs.Causes.{Rose};
 ghost use Rattle.hx_tree.specs.declared.nodes.Node.{Node as TreeNode};
 ghost use Rattle.hx_tree.specs.Trees.{IsValidTree, IsRoot};
-ghost use Rattle.hx_solve.specs.Settings.{AreSettings};
+ghost use Rattle.hx_settings.specs.Settings.{AreSettings};
 ghost use Rattle.hx_solve.specs.Tallies.{tallied};
 ghost use Rattle.hx_solve.specs.Causes.{HasCause};
 ghost use Rattle.hx_answers.specs.Endings.{IsWritten};

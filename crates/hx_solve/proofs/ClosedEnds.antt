@@ -17,7 +17,7 @@ use Rattle.hx_nodes.specs.Stored.{IsOutOfSlots}
 use Rattle.hx_worker.specs.declared.ended.Ended.{Ended}
 use Rattle.hx_worker.specs.declared.ended.Ended.TheVariants.{Proved, Spent, NoSlots, Memory}
 use Rattle.hx_worker.specs.Ends.{IsEnded, EndsSpent}
-use Rattle.hx_solve.specs.declared.settings.Settings.{Settings}
+use Rattle.hx_settings.specs.declared.settings.Settings.{Settings}
 use Rattle.hx_solve.specs.Parts.{IsEndOfSome, AllFoundNoChain}
 use Rattle.hx_solve.specs.Searches.{IsClosedEnd}
 use Rattle.hx_solve.proofs.LaterLists.{all-get, any-get, found-later, no_longer}

@@ -1,4 +1,3 @@
-pub mod Settings
 pub mod Solutions
 pub mod Causes
 pub mod Tallies

@@ -11,7 +11,7 @@ use Rattle.hx_nodes.specs.Stored.{IsOutOfSlots}
 use Rattle.hx_worker.specs.Ends.{EndsSpent}
 use Rattle.hx_worker.specs.declared.ended.Ended.{Ended}
 use Rattle.hx_worker.specs.declared.ended.Ended.TheVariants.{Proved, Spent, NoSlots, Memory}
-use Rattle.hx_solve.specs.declared.settings.Settings.{Settings}
+use Rattle.hx_settings.specs.declared.settings.Settings.{Settings}
 use Rattle.hx_solve.specs.declared.searches.Searched.{Searched}
 use Rattle.hx_solve.specs.declared.unsolved.Unsolved.{Unsolved}
 use Rattle.hx_solve.specs.declared.unsolved.Unsolved.TheVariants.{Budget, Slots, Memory as NoMemory}

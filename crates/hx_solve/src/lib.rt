@@ -12,15 +12,14 @@ mod laws;
 mod parts;
 mod searches;
 mod seats;
-mod settings;
 mod small_positions;
 mod solves;
 mod tallies;
 mod trees;
 mod unsolved;
 
+pub use hx_settings::Settings;
 pub use laws::same_winner;
-pub use settings::Settings;
 pub use solves::solve;
 pub use tallies::Tally;
 pub use unsolved::Unsolved;

@@ -1,19 +1,19 @@
 //! A search by all workers, from the start of the book and of the counts to their end.
 
 ghost use Rattle.std.specs.Prelude.{IfOk};
-ghost use Rattle.hx_solve.specs.Settings.{AreSettings};
+ghost use Rattle.hx_settings.specs.Settings.{AreSettings};
 ghost use Rattle.hx_solve.specs.Searches.{IsSearched};
 
 use crate::crews::Crew;
 use crate::ends::foremost;
 use crate::hint_words::hint_words;
 use crate::parts::Parts;
-use crate::settings::Settings;
 use hx_board::{Colour, Memory, Position};
 use hx_book::Book;
 use hx_count::{Counts, Hints, Totals};
 use hx_io::Gate;
 use hx_moves::{LOSS_WORDS, Replies};
+use hx_settings::Settings;
 use hx_share::Shared;
 use hx_worker::Ended;
 use std::alloc::Global;

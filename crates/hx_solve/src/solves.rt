@@ -3,17 +3,17 @@
 ghost use Rattle.std.specs.Prelude.{◌<◌, IfOk, IfErr};
 ghost use Rattle.hx_board.specs.Counts.{IsSmall};
 ghost use Rattle.hx_board.specs.Graph.{HasNoChain};
-ghost use Rattle.hx_solve.specs.Settings.{AreSettings};
+ghost use Rattle.hx_settings.specs.Settings.{AreSettings};
 ghost use Rattle.hx_solve.specs.Solutions.{IsSolution};
 ghost use Rattle.hx_solve.specs.Causes.{HasCause, LacksMemory, LacksUnit};
 
 use crate::searches::search;
-use crate::settings::Settings;
 use crate::small_positions::{by_sweep, is_small};
 use crate::trees::conclude;
 use crate::unsolved::Unsolved;
 use hx_board::{Colour, Memory, Position};
 use hx_io::Gate;
+use hx_settings::Settings;
 use hx_tree::Node;
 use std::alloc::Global;
 use std::sync::Wait;

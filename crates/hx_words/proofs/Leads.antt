@@ -3,8 +3,8 @@
 use Rattle.std.proofs.Common.{◌≡◌, ℕ, ◌≤◌, ◌==◌, true, false, List, [], ◌∷◌, length, String, refl, sym, ap, ◌∙◌, subst, arith}
 use Rattle.std.specs.declared.alloc.Global.{Global}
 use Rattle.std.proofs.lemmas.Bool.{eqb-true}
-use Rattle.hx_solve.specs.declared.settings.Settings.{Settings}
-use Rattle.hx_solve.specs.Settings.{AreSettings}
+use Rattle.hx_settings.specs.declared.settings.Settings.{Settings}
+use Rattle.hx_settings.specs.Settings.{AreSettings}
 use Rattle.hx_words.specs.declared.settings.Setting.{Setting}
 use Rattle.hx_words.specs.declared.settings.Setting.TheVariants.{Workers, Budget, Proofs}
 use Rattle.hx_words.specs.declared.options.Choice.{Choice}

@@ -1,7 +1,7 @@
 -- Words tell one seed and one choice of settings: the first is the seed, and the others are the options.
 use Rattle.std.proofs.Common.{◌≡◌, ℕ, List, ◌∷◌, sym, ◌∙◌, subst}
-use Rattle.hx_solve.specs.declared.settings.Settings.{Settings}
-use Rattle.hx_solve.specs.Settings.{AreSettings}
+use Rattle.hx_settings.specs.declared.settings.Settings.{Settings}
+use Rattle.hx_settings.specs.Settings.{AreSettings}
 use Rattle.hx_words.specs.Choices.{AreOptions}
 use Rattle.hx_words.specs.Seeds.{IsSeed, SeedAndOptions}
 use Rattle.hx_words.proofs.Leads.{AreOptions-one, AreOptions-settings}

@@ -1,6 +1,6 @@
 -- What options choose, one after the other.
 use Rattle.std.specs.Prelude.{◌≡◌, ℕ, ◌≤◌, List, [], unwrap_or, Option, None, Some}
-use Rattle.hx_solve.specs.declared.settings.Settings.{Settings}
+use Rattle.hx_settings.specs.declared.settings.Settings.{Settings}
 use Rattle.hx_words.specs.declared.settings.Setting.{Setting}
 use Rattle.hx_words.specs.declared.settings.Setting.TheVariants.{Workers, Budget, Proofs}
 use Rattle.hx_words.specs.declared.options.Choice.{Choice}

@@ -1,7 +1,7 @@
 -- The commands of the program.
 use Rattle.std.specs.Prelude.{◌≡◌, ℕ, List, [], ◌∷◌, codes}
-use Rattle.hx_solve.specs.declared.settings.Settings.{Settings}
-use Rattle.hx_solve.specs.Settings.{AreSettings}
+use Rattle.hx_settings.specs.declared.settings.Settings.{Settings}
+use Rattle.hx_settings.specs.Settings.{AreSettings}
 use Rattle.hx_words.specs.declared.commands.Command.{Command}
 use Rattle.hx_words.specs.declared.commands.Command.TheVariants.{Check, Solve, Htp, Demo}
 use Rattle.hx_words.specs.Choices.{AreOptions}

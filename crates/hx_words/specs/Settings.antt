@@ -1,6 +1,6 @@
 -- The settings that an option may choose.
-use Rattle.std.specs.Prelude.{ℕ, ◌^◌, List, codes}
-use Rattle.hx_book.specs.declared.books.TheConstants.{MOST_SLOTS}
+use Rattle.std.specs.Prelude.{ℕ, List, codes}
+use Rattle.hx_settings.specs.declared.settings.TheConstants.{MOST_WORKERS, MOST_UNITS, MOST_PROOFS}
 use Rattle.hx_words.specs.declared.settings.Setting.{Setting}
 use Rattle.hx_words.specs.declared.settings.Setting.TheVariants.{Workers, Budget, Proofs}
 
@@ -17,6 +17,6 @@ least_of Proofs = 0
 
 -- the largest number that may be chosen
 abbrev pub most_of : Setting → ℕ
-most_of Workers = 64
-most_of Budget = 2 ^ 40
-most_of Proofs = MOST_SLOTS
+most_of Workers = MOST_WORKERS
+most_of Budget = MOST_UNITS
+most_of Proofs = MOST_PROOFS

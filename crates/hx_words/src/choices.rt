@@ -7,7 +7,7 @@ ghost use Rattle.hx_words.specs.Choices.{nothing, number_for, Adds, Lead, AreOpt
 
 use crate::options::{Choice, first_option};
 use crate::settings::Setting;
-use hx_solve::Settings;
+use hx_settings::Settings;
 
 /// The numbers that were chosen so far.
 #[derive(Clone, Copy, Debug, PartialEq, Eq)]

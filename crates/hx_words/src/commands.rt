@@ -7,7 +7,7 @@ ghost use Rattle.hx_words.specs.Commands.{Asks, IsWithinLimits};
 
 use crate::choices::settings_in;
 use crate::seeds::seed_and_settings_in;
-use hx_solve::Settings;
+use hx_settings::Settings;
 
 /// A command of the program, with its settings.
 #[derive(Clone, Copy, Debug, PartialEq, Eq)]

@@ -5,7 +5,7 @@ ghost use Rattle.hx_words.specs.Words.{words_of};
 ghost use Rattle.hx_words.specs.Seeds.{IsSeed, SeedAndOptions};
 
 use crate::choices::settings_in;
-use hx_solve::Settings;
+use hx_settings::Settings;
 
 /// The most digits of a seed, which are those of the largest number of 64 binary digits. Leading zeros count too.
 const MOST_DIGITS: usize = 20;

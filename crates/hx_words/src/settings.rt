@@ -4,7 +4,7 @@ ghost use Rattle.std.specs.Prelude.{◌≡◌};
 ghost use Rattle.hx_board.specs.Finds.{Finds};
 ghost use Rattle.hx_words.specs.Settings.{name_of, least_of, most_of};
 
-use hx_book::MOST_SLOTS;
+use hx_settings::{MOST_PROOFS, MOST_UNITS, MOST_WORKERS};
 
 /// What an option chooses.
 #[derive(Clone, Copy, Debug, PartialEq, Eq)]
@@ -45,9 +45,9 @@ impl Setting {
         ensures { result ≡ most_of self }
     {
         match self {
-            Setting::Workers => 64,
-            Setting::Budget => 1_099_511_627_776,
-            Setting::Proofs => u64::from(MOST_SLOTS),
+            Setting::Workers => u64::from(MOST_WORKERS),
+            Setting::Budget => MOST_UNITS,
+            Setting::Proofs => u64::from(MOST_PROOFS),
         }
     }
 }

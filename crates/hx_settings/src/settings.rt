@@ -1,4 +1,13 @@
-//! The bounds of a search.
+//! The bounds of a search. They stand below the search, so that the words of the command line choose them without it.
+
+/// The most workers that search at once.
+pub const MOST_WORKERS: u32 = 64;
+
+/// The most units that the workers of a search may spend.
+pub const MOST_UNITS: u64 = 1_099_511_627_776;
+
+/// The most proofs that their book may have room for.
+pub const MOST_PROOFS: u32 = 1_048_576;
 
 /// How many workers search, and what they may use together.
 #[derive(Clone, Copy, Debug, PartialEq, Eq)]
