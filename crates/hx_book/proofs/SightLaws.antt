@@ -12,3 +12,6 @@ grows-on first second third one two = record {
   over = two.over ∙ one.over;
   seen = extends-on first.list second.list third.list one.seen two.seen;
 }
+
+-- what a function needs that calls on a list of proofs more than once: name it in its `#[tactic(auto, using(..))]`
+pub ruleset growth = (grows-itself, grows-on)

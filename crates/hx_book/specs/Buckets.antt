@@ -1,6 +1,6 @@
--- The buckets of a book and its two sets of chains, for the functions inside the crate. One has an entry's bucket by its
--- position and mover, and the other by its winner's stones and its mover, so that the entries which may be wider than a
--- position are in one bucket.
+-- The buckets of a book and its two sets of chains, for the functions inside the crate. One has an entry's bucket by
+-- its position and mover, and the other by its winner's stones and its mover, so that the entries which may be wider
+-- than a position are in one bucket.
 use Rattle.std.specs.Prelude.{ℕ, ◌*◌, ◌/◌, ◌^◌, ◌≤◌, List}
 use Rattle.hx_board.specs.declared.colours.Colour.{Colour}
 use Rattle.hx_board.specs.declared.colours.Colour.TheVariants.{Black, White}

@@ -1,13 +1,13 @@
--- Chains of entries, for the functions inside the crate. Each entry has a bucket, by a key of the book's choice. The entries
--- of a bucket are chained: from its head to the newest of them, and from each to the next older one. A link is 0 at the end of
--- a chain, and else one more than the place of an entry.
+-- Chains of entries, for the functions inside the crate. Each entry has a bucket, by a key of the book's choice. The
+-- entries of a bucket are chained: from its head to the newest of them, and from each to the next older one. A link
+-- is 0 at the end of a chain, and else one more than the place of an entry.
 use Rattle.std.specs.Prelude.{◌≡◌, ℕ, ◌+◌, ◌-◌, ◌<◌, ◌≤◌, List, [], ◌∷◌, ◌++◌, length, set, slice_get, slice_index}
 use Rattle.std.specs.declared.option.Option.TheVariants.{Some}
 use Rattle.hx_tree.specs.declared.nodes.Node.{Node}
 use Rattle.hx_book.specs.declared.books.TheConstants.{MOST_BUCKETS}
 
--- for each bucket the link to its newest entry, for each entry the link to the next older one of its bucket, and how many
--- entries there is room for
+-- for each bucket the link to its newest entry, for each entry the link to the next older one of its bucket, and how
+-- many entries there is room for
 pub record Links : Type 0 where
   pub heads : List ℕ
   pub next : List ℕ

@@ -1,5 +1,5 @@
--- A book as contracts see it: its slots, and its nodes in the order in which they came. Each node is an entry, which is found
--- by its position and the player to move.
+-- A book as contracts see it: its slots, and its nodes in the order in which they came. Each node is an entry, which
+-- is found by its position and the player to move.
 use Rattle.std.specs.Prelude.{◌≤◌, ℕ, List, length}
 use Rattle.hx_tree.specs.declared.nodes.Node.{Node}
 use Rattle.hx_tree.specs.Entries.{AreDistinctEntries}

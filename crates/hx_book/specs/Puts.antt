@@ -14,7 +14,8 @@ Puts slots old node (Ok place) new = IsStored slots old node place new
 Puts slots old node (Err refusal) new = IsRefused slots old node refusal.held new × (refusal.node ≡ node)
 
 -- others may have put in nodes after those that were seen, and then the node is put in
-pub record PutsLater (slots : ℕ) (seen : List Node) (node : Node) (result : Result ℕ Refusal) (new : List Node) : Type 0 where
+pub record PutsLater (slots : ℕ) (seen : List Node) (node : Node) (result : Result ℕ Refusal) (new : List Node)
+    : Type 0 where
   pub before : List Node
   pub more : Extends before seen
   pub puts : Puts slots before node result new

@@ -4,8 +4,8 @@ use Rattle.atomic_table.specs.Seated.{TableId}
 use Rattle.hx_tree.specs.declared.nodes.Node.{Node}
 use Rattle.hx_tree.specs.Entries.{Extends}
 
--- the nodes that were seen of it, how many it has room for, and the name of the shared object that it stands over, where it
--- tells it
+-- the nodes that were seen of it, how many it has room for, and the name of the shared object that it stands over,
+-- where it tells it
 pub record Sight : Type 0 where
   pub list : List Node
   pub slots : ℕ

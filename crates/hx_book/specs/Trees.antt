@@ -66,18 +66,19 @@ renamed_node name node = record { heading = node.heading; rule = renamed_rule na
 
 -- ---- the tree
 
--- the nodes of the tree are those at these places, which the root needs, in rising order. Each has its children renamed, and
--- the new number of a place is where its node stands in the tree.
+-- the nodes of the tree are those at these places, which the root needs, in rising order. Each has its children
+-- renamed, and the new number of a place is where its node stands in the tree.
 pub record AreNeeded (nodes : List Node) (root : ℕ) (tree : List Node) (places : List ℕ) (name : ℕ → ℕ) : Type 0 where
   pub as_many : length places ≡ length tree
   pub needed : (k place : ℕ) → slice_get places k ≡ Some place → IsNeeded nodes root place
-  pub in_order : (j k one other : ℕ) → j < k → slice_get places j ≡ Some one → slice_get places k ≡ Some other → one < other
+  pub in_order : (j k one other : ℕ) → j < k → slice_get places j ≡ Some one → slice_get places k ≡ Some other
+      → one < other
   pub renamed : (k place : ℕ) → slice_get places k ≡ Some place → name place ≡ k
   pub same_node : (k place : ℕ) (node : Node) → slice_get places k ≡ Some place → slice_get nodes place ≡ Some node
       → slice_get tree k ≡ Some (renamed_node name node)
 
--- a valid tree of exactly the nodes that the node at this place needs, with new numbers for their children; its root has the
--- heading of this node, and all are on boards of one size
+-- a valid tree of exactly the nodes that the node at this place needs, with new numbers for their children; its root
+-- has the heading of this node, and all are on boards of one size
 pub record IsTreeOf (nodes : List Node) (place : ℕ) (tree : List Node) : Type 0 where
   pub valid : IsValidTree tree
   pub few : length tree ≤ length nodes
@@ -88,4 +89,5 @@ pub record IsTreeOf (nodes : List Node) (place : ℕ) (tree : List Node) : Type 
   pub name : ℕ → ℕ
   pub needed : AreNeeded nodes place tree places name
   pub each : (other : ℕ) → IsNeeded nodes place other → StandsIn places other
-  pub one_size : (k : ℕ) (node : Node) → slice_get tree k ≡ Some node → node.heading.position.size ≡ root.heading.position.size
+  pub one_size : (k : ℕ) (node : Node) → slice_get tree k ≡ Some node
+      → node.heading.position.size ≡ root.heading.position.size

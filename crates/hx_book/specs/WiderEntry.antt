@@ -1,5 +1,6 @@
--- A look for an entry that serves a position by fill steps. In the entry's position the winner has the same stones and the
--- opponent has all of the board's and maybe more. From the board one stone of the opponent's after another leads there.
+-- A look for an entry that serves a position by fill steps. In the entry's position the winner has the same stones
+-- and the opponent has all of the board's and maybe more. From the board one stone of the opponent's after another
+-- leads there.
 use Rattle.std.specs.Prelude.{◌≡◌, ℕ, List, slice_get, Option, MatchOption}
 use Rattle.std.specs.declared.option.Option.TheVariants.{Some}
 use Rattle.hx_board.specs.declared.colours.Colour.{Colour}
@@ -10,7 +11,8 @@ use Rattle.hx_tree.specs.declared.nodes.Heading.{Heading}
 use Rattle.hx_tree.specs.declared.nodes.Node.{Node}
 use Rattle.hx_book.specs.declared.wider.Wider.{Wider}
 
--- a heading of this size, mover and winner, with the same stones of the winner and each of the board's stones of the opponent
+-- a heading of this size, mover and winner, with the same stones of the winner and each of the board's stones of the
+-- opponent
 pub record IsWider (heading : Heading) (board : Board) (mover winner : Colour) : Type 0 where
   pub same_size : heading.position.size ≡ board.size
   pub same_mover : heading.to_move ≡ mover

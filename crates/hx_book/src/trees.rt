@@ -8,7 +8,6 @@ ghost use Rattle.hx_tree.specs.Trees.{AreRight};
 ghost use Rattle.hx_book.specs.Trees.{NamesChild, HasLine, Names, IsTreeOf, renamed_line, renamed_node};
 ghost use Rattle.hx_book.specs.Renaming.{AreUnmarked, MarksMore, AreMarkedFrom, IsKept};
 
-use crate::books::MOST_SLOTS;
 use hx_board::Memory;
 use hx_tree::{Line, Lines, Node, Rule};
 use std::alloc::Global;
@@ -183,7 +182,7 @@ fn keep_needed(kept: &mut Kept, place: usize, node: Node, is_needed: bool) -> Re
 /// The marked nodes with the new numbers of their children.
 fn kept_of(alloc: Global, nodes: Vec<Node>, root: u32, marks: &[bool]) -> Result<Vec<Node>, Memory>
     requires right { AreRight nodes.items }
-    requires small { length nodes.items ≤ MOST_SLOTS }
+    requires few { length nodes.items < 4294967296 }
     requires inside { root < length nodes.items }
     requires marked { AreMarkedFrom nodes.items root 0 marks.now }
     ensures { IfOk result (λ tree. IsTreeOf nodes.items root tree.items) }
@@ -209,7 +208,7 @@ fn kept_of(alloc: Global, nodes: Vec<Node>, root: u32, marks: &[bool]) -> Result
 /// The tree of the node at a place, of nodes that are right.
 pub(crate) fn tree_of(alloc: Global, nodes: Vec<Node>, root: u32) -> Result<Vec<Node>, Memory>
     requires right { AreRight nodes.items }
-    requires small { length nodes.items ≤ MOST_SLOTS }
+    requires few { length nodes.items < 4294967296 }
     requires inside { root < length nodes.items }
     ensures { IfOk result (λ tree. IsTreeOf nodes.items root tree.items) }
 {

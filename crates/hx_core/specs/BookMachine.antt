@@ -1,5 +1,5 @@
--- The book machine: a list of proofs that workers look in and add to. The list is one for all; how much of it each worker has
--- seen is a number of nodes at its front.
+-- The book machine: a list of proofs that workers look in and add to. The list is one for all; how much of it each
+-- worker has seen is a number of nodes at its front.
 use Rattle.std.specs.Prelude.{◌≡◌, ℕ, max, List, [], length, replicate, set, slice_index}
 use Rattle.hx_board.specs.declared.colours.Colour.{Colour}
 use Rattle.hx_board.specs.Positions.{Board}
@@ -30,7 +30,8 @@ with_seen book worker count = record book { seen = set book.seen worker count }
 abbrev pub with_all_seen : BookState → List Node → ℕ → BookState
 with_all_seen book nodes worker = with_seen (record book { nodes = nodes }) worker (length nodes)
 
--- a look finds the first entry, or that there is none. It changes only what the worker has seen, which is all nodes then
+-- a look finds the first entry, or that there is none. It changes only what the worker has seen, which is all nodes
+-- then
 abbrev pub LookStep : BookState → ℕ → Board → Colour → Reply → BookState → Type 0
 LookStep old worker board mover (Looked found) new =
     FindsFirst old.nodes board mover found × (new ≡ with_all_seen old old.nodes worker)

@@ -1,5 +1,5 @@
--- The state of the machine as contracts see it, made of the fields, and what is true of the fields. These words are for the functions
--- inside the crate alone.
+-- The state of the machine as contracts see it, made of the fields, and what is true of the fields. These words are
+-- for the functions inside the crate alone.
 use Rattle.std.specs.Prelude.{◌<◌, ◌≤◌, ◌^◌, ℕ, List}
 use Rattle.hx_tree.specs.declared.checkers.TheConstants.{MOST_NODES}
 use Rattle.hx_tree.specs.declared.nodes.Node.{Node}

@@ -7,8 +7,8 @@ use Rattle.hx_core.specs.declared.events.Event.{Event}
 use Rattle.hx_core.specs.BookMachine.{BookState, seen_by}
 use Rattle.hx_core.specs.Machine.{MachineState, machine_start, LeadsTo}
 
--- the book of so many workers and slots: each node is right after those before it, no two are of one position and mover, and
--- what each worker has seen is a front of the list
+-- the book of so many workers and slots: each node is right after those before it, no two are of one position and
+-- mover, and what each worker has seen is a front of the list
 pub record IsBook (workers slots : ℕ) (book : BookState) : Type 0 where
   pub same_workers : length book.seen ≡ workers
   pub same_slots : book.slots ≡ slots
@@ -17,8 +17,8 @@ pub record IsBook (workers slots : ℕ) (book : BookState) : Type 0 where
   pub distinct : AreDistinctEntries book.nodes
   pub seen : (worker : ℕ) → seen_by book worker ≤ length book.nodes
 
--- the counts of so many workers, units and words: no more units are granted than there are, all of them where a worker was refused,
--- and each worker has all the words and holds at most `MOST_HELD` in all
+-- the counts of so many workers, units and words: no more units are granted than there are, all of them where a
+-- worker was refused, and each worker has all the words and holds at most `MOST_HELD` in all
 pub record AreCounts (workers budget words : ℕ) (counts : CountsState) : Type 0 where
   pub same_workers : length counts.accounts ≡ workers
   pub same_budget : counts.budget ≡ budget
@@ -32,13 +32,15 @@ pub record IsKept (workers slots budget words : ℕ) (state : MachineState) : Ty
 -- what is true wherever events lead from the start
 abbrev pub EveryRunKeeps : Type 0
 EveryRunKeeps =
-    (workers slots budget words : ℕ) (events : List Event) (state : MachineState) → LeadsTo (machine_start workers slots budget words) events state
+    (workers slots budget words : ℕ) (events : List Event) (state : MachineState)
+    → LeadsTo (machine_start workers slots budget words) events state
     → IsKept workers slots budget words state
 
 -- where there is some node, the nodes are a valid tree
 abbrev pub EveryRunGivesATree : Type 0
 EveryRunGivesATree =
-    (workers slots budget words : ℕ) (events : List Event) (state : MachineState) → LeadsTo (machine_start workers slots budget words) events state
+    (workers slots budget words : ℕ) (events : List Event) (state : MachineState)
+    → LeadsTo (machine_start workers slots budget words) events state
     → state.book.nodes ≢ [] → IsValidTree state.book.nodes
 
 -- the later list begins with the earlier one, and each worker has seen what it had seen, or more
@@ -49,10 +51,13 @@ pub record IsLaterState (old new : MachineState) : Type 0 where
 -- a state that events lead to, and a state that further events lead to from there
 abbrev pub EveryRunGrows : Type 0
 EveryRunGrows =
-    (workers slots budget words : ℕ) (earlier later : List Event) (old new : MachineState) → LeadsTo (machine_start workers slots budget words) earlier old
+    (workers slots budget words : ℕ) (earlier later : List Event) (old new : MachineState)
+    → LeadsTo (machine_start workers slots budget words) earlier old
     → LeadsTo old later new → IsLaterState old new
 
--- events that lead from one state to a second, and events that lead from there to a third, lead from the first to the third
+-- events that lead from one state to a second, and events that lead from there to a third, lead from the first to the
+-- third
 abbrev pub EveryRunGoesOn : Type 0
 EveryRunGoesOn =
-    (old between new : MachineState) (earlier later : List Event) → LeadsTo old earlier between → LeadsTo between later new → LeadsTo old (earlier ++ later) new
+    (old between new : MachineState) (earlier later : List Event) → LeadsTo old earlier between
+    → LeadsTo between later new → LeadsTo old (earlier ++ later) new

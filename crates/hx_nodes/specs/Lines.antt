@@ -1,5 +1,5 @@
--- The lines of a node that answers each move of the opponent, while they are gathered in cell order, for the functions inside the
--- crate.
+-- The lines of a node that answers each move of the opponent, while they are gathered in cell order, for the
+-- functions inside the crate.
 use Rattle.std.specs.Prelude.{◌≡◌, ℕ, ◌<◌, true, false, List, slice_get, IfSome, Contains}
 use Rattle.hx_board.specs.Sets.{has}
 use Rattle.hx_board.specs.declared.colours.Colour.{Colour}
@@ -26,7 +26,8 @@ NamesBetter (Child cell child) = ⊥
 NamesBetter (Under cell better kill) = Unit {0}
 
 -- the line of a cell: the one that names a better cell, if there is one, and else one with a right child
-pub record IsLineOf (headings : List Heading) (heading : Heading) (under : List Line) (cell : ℕ) (line : Line) : Type 0 where
+pub record IsLineOf (headings : List Heading) (heading : Heading) (under : List Line) (cell : ℕ) (line : Line)
+    : Type 0 where
   pub same_cell : cell_of line ≡ cell
   pub gathered : IsGathered headings heading under line
   pub by_child : ¬ HasLineFor under cell → (child : ℕ) × (line ≡ Child cell child)
@@ -37,7 +38,8 @@ pub record IsDone (cells left cell : ℕ) : Type 0 where
   pub gone : has left cell ≡ false
 
 -- the lines of the cells that are not left, in cell order
-pub record AreGathered (headings : List Heading) (heading : Heading) (cells left : ℕ) (under lines : List Line) : Type 0 where
+pub record AreGathered (headings : List Heading) (heading : Heading) (cells left : ℕ) (under lines : List Line)
+    : Type 0 where
   pub inside : (cell : ℕ) → has left cell ≡ true → has cells cell ≡ true
   pub earlier : (done cell : ℕ) → IsDone cells left done → has left cell ≡ true → done < cell
   pub in_order : AreInOrder (IsDone cells left) (cells_of lines)

@@ -24,7 +24,8 @@ pub record NamesOther (nodes : List Node) (board : Board) (mover player : Colour
 abbrev pub NamesNoWin : List Node → Board → Colour → Colour → Type 0
 NamesNoWin nodes board mover player = HasNoEntry nodes board mover ⊎ NamesOther nodes board mover player
 
--- some front of the new list, with the old one at its own front, names no win of the player's for the position and mover
+-- some front of the new list, with the old one at its own front, names no win of the player's for the position and
+-- mover
 abbrev pub WasNotWon : List Node → List Node → Board → Colour → Colour → Type 0
 WasNotWon old new board mover player = WasSeen (λ nodes. NamesNoWin nodes board mover player) old new
 
@@ -41,19 +42,22 @@ abbrev pub LacksFill : List Node → List Node → List Fill → Board → Colou
 LacksFill old new fills filled mover = (fills ≡ []) ⊎ WasMissed old new filled mover
 
 -- a cell with no line among these, where the player was not seen to win after the opponent's move to it
-pub record IsLacking (old new : List Node) (board : Board) (player : Colour) (under : List Line) (cell : ℕ) : Type 0 where
+pub record IsLacking (old new : List Node) (board : Board) (player : Colour) (under : List Line) (cell : ℕ)
+    : Type 0 where
   pub no_line : ¬ HasLineFor under cell
   pub lacks : LacksAnswer old new board player cell
 
 -- one of the cells is such a cell
-pub record HasLacking (old new : List Node) (board : Board) (player : Colour) (cells : ℕ) (under : List Line) : Type 0 where
+pub record HasLacking (old new : List Node) (board : Board) (player : Colour) (cells : ℕ) (under : List Line)
+    : Type 0 where
   pub cell : ℕ
   pub among : has cells cell ≡ true
   pub is : IsLacking old new board player under cell
 
 -- the opponent of the set's player has no move, or one of these cells lacks an answer
 abbrev pub LacksOneOf : List Node → List Node → Standing → ℕ → List Line → Type 0
-LacksOneOf old new set cells under = IsFull set.present.board ⊎ HasLacking old new set.present.board set.player cells under
+LacksOneOf old new set cells under =
+    IsFull set.present.board ⊎ HasLacking old new set.present.board set.player cells under
 
 -- one of the cells that must be answered lacks an answer, where the better cells were gone through in the order
 pub record HasUnanswered (old new : List Node) (set : Standing) (order : List ℕ) : Type 0 where

@@ -1,10 +1,9 @@
 //! Proofs that whichever move the opponent makes, a player wins after it.
 
-ghost use Rattle.std.specs.Prelude.{◌≡◌};
 ghost use Rattle.hx_board.specs.Colours.{other_of};
-ghost use Rattle.hx_tree.specs.Entries.{Extends};
 ghost use Rattle.hx_nodes.specs.Stored.{TellsStored, MissingFor};
 ghost use Rattle.hx_fill.specs.Musts.{IsMust};
+ghost use Rattle.hx_book.specs.Sights.{Grows};
 ghost use Rattle.hx_nodes.specs.Missing.{LacksOneOf, LacksAnswers};
 
 use crate::lines::lines_for;
@@ -25,12 +24,10 @@ pub fn store_all<P: Proofs, R: Wait>(
     set: &LinkSet,
     order: &[Cell],
 ) -> Stored
-    ensures slots { P.slots proofs.new ≡ P.slots proofs.old }
-    ensures over { P.over proofs.new ≡ P.over proofs.old }
-    ensures seen { Extends (P.list proofs.new) (P.list proofs.old) }
-    ensures stored { TellsStored (P.list proofs.new) (P.slots proofs.new)
+    ensures grew { Grows (P.sight proofs.old) (P.sight proofs.new) }
+    ensures stored { TellsStored (P.sight proofs.new).list (P.sight proofs.new).slots
         set.now.present.board (other_of set.now.player) result }
-    ensures missing { MissingFor (LacksAnswers (P.list proofs.old) (P.list proofs.new)
+    ensures missing { MissingFor (LacksAnswers (P.sight proofs.old).list (P.sight proofs.new).list
         set.now order.now) result }
 {
     let Ok(found) = must(set, order) else {
@@ -48,12 +45,10 @@ pub fn store_answers<P: Proofs, R: Wait>(
     found: Must,
 ) -> Stored
     requires { IsMust set.now found.threats found.cells found.under }
-    ensures slots { P.slots proofs.new ≡ P.slots proofs.old }
-    ensures over { P.over proofs.new ≡ P.over proofs.old }
-    ensures seen { Extends (P.list proofs.new) (P.list proofs.old) }
-    ensures stored { TellsStored (P.list proofs.new) (P.slots proofs.new)
+    ensures grew { Grows (P.sight proofs.old) (P.sight proofs.new) }
+    ensures stored { TellsStored (P.sight proofs.new).list (P.sight proofs.new).slots
         set.now.present.board (other_of set.now.player) result }
-    ensures missing { MissingFor (LacksOneOf (P.list proofs.old) (P.list proofs.new)
+    ensures missing { MissingFor (LacksOneOf (P.sight proofs.old).list (P.sight proofs.new).list
         set.now found.cells found.under) result }
 {
     set.keeps();

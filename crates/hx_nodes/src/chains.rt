@@ -1,8 +1,7 @@
 //! Proofs by a chain.
 
-ghost use Rattle.std.specs.Prelude.{◌≡◌};
 ghost use Rattle.hx_board.specs.Graph.{HasChain};
-ghost use Rattle.hx_tree.specs.Entries.{Extends};
+ghost use Rattle.hx_book.specs.Sights.{Grows};
 ghost use Rattle.hx_nodes.specs.Stored.{TellsStored, IsAnswered, HadMemory};
 
 use crate::stored::{Stored, store};
@@ -20,10 +19,8 @@ pub fn store_chain<P: Proofs, R: Wait>(
     winner: Colour,
 ) -> Stored
     requires { HasChain position.now winner }
-    ensures slots { P.slots proofs.new ≡ P.slots proofs.old }
-    ensures over { P.over proofs.new ≡ P.over proofs.old }
-    ensures seen { Extends (P.list proofs.new) (P.list proofs.old) }
-    ensures stored { TellsStored (P.list proofs.new) (P.slots proofs.new)
+    ensures grew { Grows (P.sight proofs.old) (P.sight proofs.new) }
+    ensures stored { TellsStored (P.sight proofs.new).list (P.sight proofs.new).slots
         position.now to_move result }
     ensures answered { IsAnswered result }
     ensures memory { HadMemory result }

@@ -1,8 +1,7 @@
 //! Proofs by what fill-in leaves.
 
-ghost use Rattle.std.specs.Prelude.{◌≡◌};
-ghost use Rattle.hx_tree.specs.Entries.{Extends};
 ghost use Rattle.hx_fill.specs.Fills.{IsFillIn};
+ghost use Rattle.hx_book.specs.Sights.{Grows};
 ghost use Rattle.hx_nodes.specs.Stored.{TellsStored, MissingFor};
 ghost use Rattle.hx_nodes.specs.Missing.{LacksFill};
 
@@ -25,12 +24,10 @@ pub fn store_fill<P: Proofs, R: Wait>(
     filled: &Filled,
 ) -> Stored
     requires { IsFillIn position.now filled.now.steps.items filled.now.position }
-    ensures slots { P.slots proofs.new ≡ P.slots proofs.old }
-    ensures over { P.over proofs.new ≡ P.over proofs.old }
-    ensures seen { Extends (P.list proofs.new) (P.list proofs.old) }
-    ensures stored { TellsStored (P.list proofs.new) (P.slots proofs.new)
+    ensures grew { Grows (P.sight proofs.old) (P.sight proofs.new) }
+    ensures stored { TellsStored (P.sight proofs.new).list (P.sight proofs.new).slots
         position.now to_move result }
-    ensures missing { MissingFor (LacksFill (P.list proofs.old) (P.list proofs.new)
+    ensures missing { MissingFor (LacksFill (P.sight proofs.old).list (P.sight proofs.new).list
         filled.now.steps.items filled.now.position to_move) result }
 {
     // The proof takes from here that the position's board is one.

@@ -2,7 +2,7 @@
 //!
 //! Each is made of a chain, of a live link, or of entries that are looked up in the list of proofs. So it is right whatever the
 //! search believes of the position, and nothing that a search remembers is in a proof.
-#![tactic(auto)]
+#![tactic(auto, using(hx_book::proofs::SightLaws::growth))]
 
 mod answers;
 mod chains;

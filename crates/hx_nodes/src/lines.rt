@@ -5,8 +5,8 @@ ghost use Rattle.std.specs.List.{All};
 ghost use Rattle.hx_board.specs.Sets.{has};
 ghost use Rattle.hx_board.specs.Positions.{IsEmpty};
 ghost use Rattle.hx_tree.specs.Answers.{cell_of, cells_of};
-ghost use Rattle.hx_tree.specs.Entries.{Extends};
 ghost use Rattle.hx_tree.specs.Trees.{headings_of};
+ghost use Rattle.hx_book.specs.Sights.{Grows};
 ghost use Rattle.hx_nodes.specs.Lines.{wins_next, NamesBetter, IsLineOf, AreLines};
 ghost use Rattle.hx_nodes.specs.Missing.{IsLacking, HasLacking};
 
@@ -29,12 +29,11 @@ pub(crate) fn lines_for<P: Proofs, R: Wait>(
 ) -> Result<Option<Lines>, Memory>
     requires inside { (cell : ℕ) → has cells cell ≡ true → IsEmpty position.now cell }
     requires under { All NamesBetter under.now }
-    ensures slots { P.slots proofs.new ≡ P.slots proofs.old }
-    ensures over { P.over proofs.new ≡ P.over proofs.old }
-    ensures seen { Extends (P.list proofs.new) (P.list proofs.old) }
+    ensures grew { Grows (P.sight proofs.old) (P.sight proofs.new) }
     ensures lines { IfOk result (λ found. MatchOption found
-        (HasLacking (P.list proofs.old) (P.list proofs.new) position.now winner cells under.now)
-        (AreLines (headings_of (P.list proofs.new)) (wins_next position.now winner)
+        (HasLacking (P.sight proofs.old).list (P.sight proofs.new).list position.now winner
+        cells under.now)
+        (AreLines (headings_of (P.sight proofs.new).list) (wins_next position.now winner)
         cells under.now)) }
 {
     let size = position.size();
@@ -66,12 +65,11 @@ fn line_for<P: Proofs, R: Wait>(
 ) -> Option<Line>
     requires empty { IsEmpty position.now cell }
     requires under { All NamesBetter under.now }
-    ensures slots { P.slots proofs.new ≡ P.slots proofs.old }
-    ensures over { P.over proofs.new ≡ P.over proofs.old }
-    ensures seen { Extends (P.list proofs.new) (P.list proofs.old) }
+    ensures grew { Grows (P.sight proofs.old) (P.sight proofs.new) }
     ensures line { MatchOption result
-        (IsLacking (P.list proofs.old) (P.list proofs.new) position.now winner under.now cell)
-        (IsLineOf (headings_of (P.list proofs.new)) (wins_next position.now winner)
+        (IsLacking (P.sight proofs.old).list (P.sight proofs.new).list position.now winner
+        under.now cell)
+        (IsLineOf (headings_of (P.sight proofs.new).list) (wins_next position.now winner)
         under.now cell) }
 {
     if let Some(line) = line_among(under, cell) {

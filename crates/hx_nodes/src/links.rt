@@ -1,7 +1,6 @@
 //! Proofs by a link between the two sides.
 
-ghost use Rattle.std.specs.Prelude.{◌≡◌};
-ghost use Rattle.hx_tree.specs.Entries.{Extends};
+ghost use Rattle.hx_book.specs.Sights.{Grows};
 ghost use Rattle.hx_search.specs.Decided.{Decides};
 ghost use Rattle.hx_nodes.specs.Stored.{TellsStored, IsAnswered};
 
@@ -21,10 +20,8 @@ pub fn store_links<P: Proofs, R: Wait>(
     index: u32,
 ) -> Stored
     requires { Decides set.now to_move index }
-    ensures slots { P.slots proofs.new ≡ P.slots proofs.old }
-    ensures over { P.over proofs.new ≡ P.over proofs.old }
-    ensures seen { Extends (P.list proofs.new) (P.list proofs.old) }
-    ensures stored { TellsStored (P.list proofs.new) (P.slots proofs.new)
+    ensures grew { Grows (P.sight proofs.old) (P.sight proofs.new) }
+    ensures stored { TellsStored (P.sight proofs.new).list (P.sight proofs.new).slots
         set.now.present.board to_move result }
     ensures answered { IsAnswered result }
 {

@@ -1,8 +1,7 @@
 //! Proofs by a move of the player to move.
 
-ghost use Rattle.std.specs.Prelude.{◌≡◌};
 ghost use Rattle.hx_board.specs.Positions.{IsEmpty};
-ghost use Rattle.hx_tree.specs.Entries.{Extends};
+ghost use Rattle.hx_book.specs.Sights.{Grows};
 ghost use Rattle.hx_nodes.specs.Stored.{TellsStored, MissingFor, HadMemory};
 ghost use Rattle.hx_nodes.specs.Missing.{LacksMove};
 
@@ -22,12 +21,10 @@ pub fn store_move<P: Proofs, R: Wait>(
     cell: Cell,
 ) -> Stored
     requires { IsEmpty position.now cell }
-    ensures slots { P.slots proofs.new ≡ P.slots proofs.old }
-    ensures over { P.over proofs.new ≡ P.over proofs.old }
-    ensures seen { Extends (P.list proofs.new) (P.list proofs.old) }
-    ensures stored { TellsStored (P.list proofs.new) (P.slots proofs.new)
+    ensures grew { Grows (P.sight proofs.old) (P.sight proofs.new) }
+    ensures stored { TellsStored (P.sight proofs.new).list (P.sight proofs.new).slots
         position.now to_move result }
-    ensures missing { MissingFor (LacksMove (P.list proofs.old) (P.list proofs.new)
+    ensures missing { MissingFor (LacksMove (P.sight proofs.old).list (P.sight proofs.new).list
         position.now to_move cell) result }
     ensures memory { HadMemory result }
 {

@@ -1,9 +1,8 @@
 //! What became of a proof.
 
-ghost use Rattle.std.specs.Prelude.{◌≡◌};
-ghost use Rattle.hx_tree.specs.Entries.{Extends};
 ghost use Rattle.hx_tree.specs.Rules.{IsRightNode};
 ghost use Rattle.hx_tree.specs.Trees.{headings_of};
+ghost use Rattle.hx_book.specs.Sights.{Grows};
 ghost use Rattle.hx_nodes.specs.Stored.{TellsStored, HandsBack, IsAnswered, HadMemory};
 
 use hx_book::{NoSlot, Proofs};
@@ -29,11 +28,9 @@ pub enum Stored {
 /// Stores a right node. Done where the list of proofs has an entry of its position and mover then, be it this node or an earlier
 /// one; Refused, with the node, where no slot is left.
 pub fn store<P: Proofs, R: Wait>(rt: &R, proofs: &mut P, node: Node) -> Stored
-    requires { IsRightNode (headings_of (P.list proofs.old)) node }
-    ensures slots { P.slots proofs.new ≡ P.slots proofs.old }
-    ensures over { P.over proofs.new ≡ P.over proofs.old }
-    ensures seen { Extends (P.list proofs.new) (P.list proofs.old) }
-    ensures stored { TellsStored (P.list proofs.new) (P.slots proofs.new)
+    requires { IsRightNode (headings_of (P.sight proofs.old).list) node }
+    ensures grew { Grows (P.sight proofs.old) (P.sight proofs.new) }
+    ensures stored { TellsStored (P.sight proofs.new).list (P.sight proofs.new).slots
         node.heading.position node.heading.to_move result }
     ensures handed_back { HandsBack node result }
     ensures answered { IsAnswered result }

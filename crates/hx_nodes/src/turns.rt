@@ -1,8 +1,7 @@
 //! Proofs by the turned position.
 
-ghost use Rattle.std.specs.Prelude.{◌≡◌};
-ghost use Rattle.hx_tree.specs.Entries.{Extends};
 ghost use Rattle.hx_book.specs.EitherEntry.{IsNeitherFound};
+ghost use Rattle.hx_book.specs.Sights.{Grows};
 ghost use Rattle.hx_nodes.specs.Stored.{TellsStored, MissingFor, HadMemory};
 
 use crate::stored::{Stored, store};
@@ -19,12 +18,10 @@ pub fn store_turned<P: Proofs, R: Wait>(
     position: &Position,
     to_move: Colour,
 ) -> Stored
-    ensures slots { P.slots proofs.new ≡ P.slots proofs.old }
-    ensures over { P.over proofs.new ≡ P.over proofs.old }
-    ensures seen { Extends (P.list proofs.new) (P.list proofs.old) }
-    ensures stored { TellsStored (P.list proofs.new) (P.slots proofs.new)
+    ensures grew { Grows (P.sight proofs.old) (P.sight proofs.new) }
+    ensures stored { TellsStored (P.sight proofs.new).list (P.sight proofs.new).slots
         position.now to_move result }
-    ensures missing { MissingFor (IsNeitherFound (P.list proofs.old) (P.list proofs.new)
+    ensures missing { MissingFor (IsNeitherFound (P.sight proofs.old).list (P.sight proofs.new).list
         position.now to_move) result }
     ensures memory { HadMemory result }
 {

@@ -8,10 +8,10 @@ use Rattle.hx_tree.specs.declared.nodes.Node.{Node}
 use Rattle.hx_tree.specs.Entries.{Extends}
 use Rattle.hx_book.specs.Entries.{Contents, contents}
 use Rattle.hx_share.specs.declared.views.Limits.{Limits}
-use Rattle.hx_share.specs.OneList.{view, seats_of, turns_of, AreCurrentParts, IsOneList, Seated, no_parts}
+use Rattle.hx_share.specs.OneList.{view, seats_of, holders_of, AreCurrentParts, IsOneList, Seated, no_parts}
 use Rattle.hx_share.specs.Readers.{Reader, part_of}
 use Rattle.hx_share.proofs.Sums.{sum-whole}
-use Rattle.hx_share.proofs.PartLaws.{seats-of_seats, turns-of_seats, turns-le}
+use Rattle.hx_share.proofs.PartLaws.{seats-of_seats, holders-of_seats, holders-le}
 
 -- the book that was in the slot begins with what each of the seats has seen
 pub record IsLast (limits : Limits) (seats : List Reader) (held : Option Contents) : Type 0 where
@@ -29,7 +29,7 @@ closed : (limits : Limits) (id : ℕ) (seats : List Reader) (words : List ℕ) (
 closed limits id seats words slots held final all at =
     let s = final.0 in let c = final.1.0 in let there = final.1.1 in let v = view (map part_of seats) in
     let whole : sum_by seats_of s.views ≡ seats_of v = c.seats ∙ (sym all ∙ sym (seats-of_seats seats)) in
-    let nobody : sum_by turns_of s.views ≡ 0 = sum-whole turns_of seats_of turns-le s.views id v no_parts refl there whole ∙ turns-of_seats seats in record {
+    let nobody : sum_by holders_of s.views ≡ 0 = sum-whole holders_of seats_of holders-le s.views id v no_parts refl there whole ∙ holders-of_seats seats in record {
       nodes = c.nodes;
       book = some-injective held (Some (contents limits.slots c.nodes)) (sym at ∙ final.4 0 (Some (contents limits.slots c.nodes)) (c.home nobody));
       seen = fronts limits c.nodes seats (c.current id v there);

@@ -16,11 +16,11 @@ use Rattle.hx_share.specs.declared.views.Role.{Role}
 use Rattle.hx_share.specs.declared.views.Role.TheVariants.{Note, Waiting, Acting}
 use Rattle.hx_share.specs.declared.views.View.{View}
 use Rattle.hx_share.specs.Fronts.{longer}
-use Rattle.hx_share.specs.OneList.{part, view, AreSmall, has_turn, seats_of, turns_of, AreCurrentParts, AreCurrent, IsOneList, first_view, Seated, alone, acting, takes_turn, gives_back, settles, all_but_first, only_first, itself, notes_of, joined, no_parts}
+use Rattle.hx_share.specs.OneList.{part, view, AreSmall, has_book, seats_of, holders_of, AreCurrentParts, AreCurrent, IsOneList, first_view, Seated, alone, acting, takes_book, gives_back, settles, all_but_first, only_first, itself, notes_of, joined, no_parts}
 use Rattle.hx_count.proofs.Terms.{sum-set, others-none}
 use Rattle.hx_tree.proofs.EntryLaws.{extends-itself}
 use Rattle.hx_share.proofs.FrontLaws.{longer-begins}
-use Rattle.hx_share.proofs.PartLaws.{seat_part, turn_part, count-one, count-two, count-append, count-cut, count-replicate, count-replicate_none, seats-notes, turns-notes, current-append, current-first, current-rest, current-part, current-notes, current-new, current-more}
+use Rattle.hx_share.proofs.PartLaws.{seat_part, holder_part, count-one, count-two, count-append, count-cut, count-replicate, count-replicate_none, seats-notes, holders-notes, current-append, current-first, current-rest, current-part, current-notes, current-new, current-more}
 
 abbrev Table : Type 0
 Table = State (Option Contents) View
@@ -40,24 +40,24 @@ current-set limits nodes views id w all own other u at = ⊎_elim
 -- ---- a step that leaves the word and the slot as they are
 
 module _ (limits : Limits) (s : Table) (c : IsOneList limits s) (id : ℕ) (v w : View) (there : get_elem? s.views id ≡ some v) where
-  pub looked : turns_of w ≡ turns_of v → seats_of w ≡ seats_of v → AreCurrentParts limits c.nodes w.parts
+  pub looked : holders_of w ≡ holders_of v → seats_of w ≡ seats_of v → AreCurrentParts limits c.nodes w.parts
       → IsOneList limits (record { words = set s.words 0 (get_or s.words 0 0); homes = s.homes; views = set s.views id w })
-  looked turns seats current =
+  looked holders seats current =
       let same = set-get_or s.words 0 0 in
-      let all_turns : sum_by turns_of (set s.views id w) ≡ sum_by turns_of s.views = omega (arith, sum-set turns_of s.views id v w there, turns) in record {
+      let all_holders : sum_by holders_of (set s.views id w) ≡ sum_by holders_of s.views = omega (arith, sum-set holders_of s.views id v w there, holders) in record {
         nodes = c.nodes;
         few = c.few;
         small = c.small;
         one_word = ap length same ∙ c.one_word;
         one_slot = c.one_slot;
-        word = omega (arith, ap (λ l. get_or l 0 0) same, c.word, all_turns);
-        one_turn = omega (arith, c.one_turn, all_turns);
-        home = λ nobody. c.home (omega (arith, nobody, all_turns));
+        word = omega (arith, ap (λ l. get_or l 0 0) same, c.word, all_holders);
+        one_holder = omega (arith, c.one_holder, all_holders);
+        home = λ nobody. c.home (omega (arith, nobody, all_holders));
         seats = omega (arith, sum-set seats_of s.views id v w there, seats, c.seats);
         current = current-set limits c.nodes s.views id w c.current current;
       }
 
--- ---- a seat takes the turn
+-- ---- a seat takes the book
 
 module _ (limits : Limits) (id : ℕ) (seen : List Node) (s : Table) (c : IsOneList limits s) (there : get_elem? s.views id ≡ some (view (part limits.slots Waiting seen ∷ []))) where
   abbrev waiting : View
@@ -69,13 +69,13 @@ module _ (limits : Limits) (id : ℕ) (seen : List Node) (s : Table) (c : IsOneL
   front : Extends c.nodes seen
   front = (c.current id waiting there).0.front
 
-  more-turns : sum_by turns_of (set s.views id acts) ≡ sum_by turns_of s.views + 1
-  more-turns = omega (arith, sum-set turns_of s.views id waiting acts there, count-one turn_part (part limits.slots Waiting seen), count-one turn_part (part limits.slots Acting c.nodes))
+  more-holders : sum_by holders_of (set s.views id acts) ≡ sum_by holders_of s.views + 1
+  more-holders = omega (arith, sum-set holders_of s.views id waiting acts there, count-one holder_part (part limits.slots Waiting seen), count-one holder_part (part limits.slots Acting c.nodes))
 
   same-seats : sum_by seats_of (set s.views id acts) ≡ sum_by seats_of s.views
   same-seats = omega (arith, sum-set seats_of s.views id waiting acts there, count-one seat_part (part limits.slots Waiting seen), count-one seat_part (part limits.slots Acting c.nodes))
 
-  taken : (new : ℕ) → sum_by turns_of s.views ≡ 0 → new ≡ get_or s.words 0 0 + 1
+  taken : (new : ℕ) → sum_by holders_of s.views ≡ 0 → new ≡ get_or s.words 0 0 + 1
       → IsOneList limits (record { words = set s.words 0 new; homes = set s.homes 0 none; views = set s.views id acts })
   taken new nobody next = record {
     nodes = c.nodes;
@@ -83,22 +83,22 @@ module _ (limits : Limits) (id : ℕ) (seen : List Node) (s : Table) (c : IsOneL
     small = c.small;
     one_word = length-set s.words 0 new ∙ c.one_word;
     one_slot = length-set s.homes 0 none ∙ c.one_slot;
-    word = omega (arith, get_or-set_same s.words 0 new 0 (omega (arith, c.one_word)), next, c.word, nobody, more-turns);
-    one_turn = omega (arith, nobody, more-turns);
-    home = λ none_acts. absurd (omega (arith, none_acts, more-turns));
+    word = omega (arith, get_or-set_same s.words 0 new 0 (omega (arith, c.one_word)), next, c.word, nobody, more-holders);
+    one_holder = omega (arith, nobody, more-holders);
+    home = λ none_acts. absurd (omega (arith, none_acts, more-holders));
     seats = same-seats ∙ c.seats;
     current = current-set limits c.nodes s.views id acts c.current (record { same_slots = refl; front = extends-itself c.nodes; whole = λ _. refl }, tt);
   }
 
-even-word : (word twice turns : ℕ) → word ≡ 2 * twice + turns → turns ≤ 1 → word % 2 ≡ 0 → turns ≡ 0
-even-word word twice turns is one even = omega arith
+even-word : (word twice holders : ℕ) → word ≡ 2 * twice + holders → holders ≤ 1 → word % 2 ≡ 0 → holders ≡ 0
+even-word word twice holders is one even = omega arith
 
 pub takes-keep : (limits : Limits) (slots id : ℕ) (seen : List Node) (old new : ℕ) → old % 2 ≡ 0 → new ≡ old + 1
-    → Allows (IsOneList limits) slots id (alone limits.slots Waiting seen) 0 (λ n. either (eqb n old) new n) (takes_turn (step slots 0 old new none) (alone limits.slots Waiting seen))
+    → Allows (IsOneList limits) slots id (alone limits.slots Waiting seen) 0 (λ n. either (eqb n old) new n) (takes_book (step slots 0 old new none) (alone limits.slots Waiting seen))
 takes-keep limits slots id seen old new even next s c _ there _ =
     let v = view (part limits.slots Waiting seen ∷ []) in
-    exchanged (get_or s.words 0 0) old new (Goes limits s id (alone limits.slots Waiting seen) (takes_turn (step slots 0 old new none) (alone limits.slots Waiting seen)))
-    (λ hit. let nobody = even-word (get_or s.words 0 0) (length c.nodes) (sum_by turns_of s.views) c.word c.one_turn (ap (λ n. n % 2) hit ∙ even) in (
+    exchanged (get_or s.words 0 0) old new (Goes limits s id (alone limits.slots Waiting seen) (takes_book (step slots 0 old new none) (alone limits.slots Waiting seen)))
+    (λ hit. let nobody = even-word (get_or s.words 0 0) (length c.nodes) (sum_by holders_of s.views) c.word c.one_holder (ap (λ n. n % 2) hit ∙ even) in (
       acts limits id seen s c there,
       takes 0 (Some (contents limits.slots c.nodes)),
       c.home nobody,
@@ -107,27 +107,27 @@ takes-keep limits slots id seen old new even next s c _ there _ =
     ))
     (λ miss. (v, keeps, tt, looked limits s c id v v there refl refl (c.current id v there), ((λ hit. absurd (miss hit)), λ _. refl)))
 
--- ---- a seat gives back the turn and the book
+-- ---- a seat gives back the book
 
 module _ (limits : Limits) (id : ℕ) (seen nodes : List Node) (s : Table) (c : IsOneList limits s) (there : get_elem? s.views id ≡ some (view (part limits.slots Acting seen ∷ []))) where
-  abbrev had_turn : View
-  had_turn = view (part limits.slots Acting seen ∷ [])
+  abbrev had_book : View
+  had_book = view (part limits.slots Acting seen ∷ [])
 
   abbrev gave_back : View
   gave_back = view (part limits.slots Waiting nodes ∷ [])
 
-  own-turn : turns_of had_turn ≡ 1
-  own-turn = count-one turn_part (part limits.slots Acting seen)
+  own-book : holders_of had_book ≡ 1
+  own-book = count-one holder_part (part limits.slots Acting seen)
 
   -- the seat has seen the whole list
   whole : seen ≡ c.nodes
-  whole = (c.current id had_turn there).0.whole refl
+  whole = (c.current id had_book there).0.whole refl
 
-  no-turns : sum_by turns_of (set s.views id gave_back) ≡ 0
-  no-turns = omega (arith, sum-set turns_of s.views id had_turn gave_back there, own-turn, count-one turn_part (part limits.slots Waiting nodes), c.one_turn)
+  no-holders : sum_by holders_of (set s.views id gave_back) ≡ 0
+  no-holders = omega (arith, sum-set holders_of s.views id had_book gave_back there, own-book, count-one holder_part (part limits.slots Waiting nodes), c.one_holder)
 
   kept-seats : sum_by seats_of (set s.views id gave_back) ≡ sum_by seats_of s.views
-  kept-seats = omega (arith, sum-set seats_of s.views id had_turn gave_back there, count-one seat_part (part limits.slots Waiting nodes), count-one seat_part (part limits.slots Acting seen))
+  kept-seats = omega (arith, sum-set seats_of s.views id had_book gave_back there, count-one seat_part (part limits.slots Waiting nodes), count-one seat_part (part limits.slots Acting seen))
 
   given : (new : ℕ) → Extends nodes seen → length nodes ≤ limits.slots → new ≡ 2 * length nodes
       → IsOneList limits (record { words = set s.words 0 new; homes = set s.homes 0 (some (Some (contents limits.slots nodes))); views = set s.views id gave_back })
@@ -137,14 +137,14 @@ module _ (limits : Limits) (id : ℕ) (seen nodes : List Node) (s : Table) (c : 
     small = c.small;
     one_word = length-set s.words 0 new ∙ c.one_word;
     one_slot = length-set s.homes 0 (some (Some (contents limits.slots nodes))) ∙ c.one_slot;
-    word = omega (arith, get_or-set_same s.words 0 new 0 (omega (arith, c.one_word)), is, no-turns);
-    one_turn = omega (arith, no-turns);
+    word = omega (arith, get_or-set_same s.words 0 new 0 (omega (arith, c.one_word)), is, no-holders);
+    one_holder = omega (arith, no-holders);
     home = λ _. set_here s.homes 0 (some (Some (contents limits.slots nodes))) (omega (arith, c.one_slot));
     seats = kept-seats ∙ c.seats;
     current = λ other u at. ⊎_elim
         (λ (t : (other ≡ id) × (gave_back ≡ u)). subst (λ (v : View). AreCurrentParts limits nodes v.parts) t.1 (current-part limits nodes nodes Waiting refl (extends-itself nodes), tt))
         (λ (t : (other ≢ id) × (get_elem? s.views other ≡ some u)). current-more limits c.nodes nodes u.parts longer_now
-        (others-none turns_of s.views id other had_turn u no_parts refl c.one_turn own-turn t.0 there t.1) (c.current other u t.1))
+        (others-none holders_of s.views id other had_book u no_parts refl c.one_holder own-book t.0 there t.1) (c.current other u t.1))
         (at_set s.views id other gave_back u at);
   }
 
@@ -165,7 +165,7 @@ gives-keep limits slots id seen nodes new grown few is s c _ there _ = (
 
 -- ---- a seat has seen what its note has
 
-pub settles-keep : (limits : Limits) (slots id : ℕ) (role : Role) (told own : List Node) → has_turn role ≡ false
+pub settles-keep : (limits : Limits) (slots id : ℕ) (role : Role) (told own : List Node) → has_book role ≡ false
     → Allows (IsOneList limits) slots id (view (part limits.slots Note told ∷ part limits.slots role own ∷ []), []) 0 (λ n. n)
     (settles (step slots 0 0 0 none) (view (part limits.slots Note told ∷ part limits.slots role own ∷ []), []))
 settles-keep limits slots id role told own idle s c _ there _ =
@@ -176,7 +176,7 @@ settles-keep limits slots id role told own idle s c _ there _ =
       keeps,
       tt,
       looked limits s c id v w there
-          (omega (arith, count-one turn_part (part limits.slots role (longer own told)), count-two turn_part note (part limits.slots role own)))
+          (omega (arith, count-one holder_part (part limits.slots role (longer own told)), count-two holder_part note (part limits.slots role own)))
           (omega (arith, count-one seat_part (part limits.slots role (longer own told)), count-two seat_part note (part limits.slots role own)))
           (current-part limits c.nodes (longer own told) role idle long.front, tt),
       (refl, record { whole = c.nodes; of_one = both.1.0.front; of_other = both.0.front }),
@@ -184,23 +184,23 @@ settles-keep limits slots id role told own idle s c _ there _ =
 
 -- ---- seats are split and joined
 
-split-keeps : (limits : Limits) (id : ℕ) (v left right : View) → turns_of left + turns_of right ≡ turns_of v → seats_of left + seats_of right ≡ seats_of v
+split-keeps : (limits : Limits) (id : ℕ) (v left right : View) → holders_of left + holders_of right ≡ holders_of v → seats_of left + seats_of right ≡ seats_of v
     → ((nodes : List Node) → AreCurrentParts limits nodes v.parts → AreCurrentParts limits nodes left.parts × AreCurrentParts limits nodes right.parts)
     → Splits (IsOneList limits) id v left right
-split-keeps limits id v left right turns seats current s c there =
+split-keeps limits id v left right holders seats current s c there =
     let views = set s.views id left in
     let both : (f : View → ℕ) → sum_by f (views ++ right ∷ []) + f v ≡ sum_by f s.views + f left + f right =
     λ f. omega (arith, sum_by-append f views (right ∷ []), sum_by-cons f right [], sum-set f s.views id v left there) in
-    let all_turns : sum_by turns_of (views ++ right ∷ []) ≡ sum_by turns_of s.views = omega (arith, both turns_of, turns) in
+    let all_holders : sum_by holders_of (views ++ right ∷ []) ≡ sum_by holders_of s.views = omega (arith, both holders_of, holders) in
     let parts = current c.nodes (c.current id v there) in record {
       nodes = c.nodes;
       few = c.few;
       small = c.small;
       one_word = c.one_word;
       one_slot = c.one_slot;
-      word = omega (arith, c.word, all_turns);
-      one_turn = omega (arith, c.one_turn, all_turns);
-      home = λ nobody. c.home (omega (arith, nobody, all_turns));
+      word = omega (arith, c.word, all_holders);
+      one_holder = omega (arith, c.one_holder, all_holders);
+      home = λ nobody. c.home (omega (arith, nobody, all_holders));
       seats = omega (arith, both seats_of, seats, c.seats);
       current = λ other u at. ⊎_elim
           (λ (t : get_elem? views other ≡ some u). current-set limits c.nodes s.views id left c.current parts.0 other u t)
@@ -210,13 +210,13 @@ split-keeps limits id v left right turns seats current s c there =
 
 pub cuts-keep : (limits : Limits) (id : ℕ) (v : View) → Splits (IsOneList limits) id v (all_but_first v) (only_first v)
 cuts-keep limits id v = split-keeps limits id v (all_but_first v) (only_first v)
-    (omega (arith, count-cut turn_part v.parts))
+    (omega (arith, count-cut holder_part v.parts))
     (omega (arith, count-cut seat_part v.parts))
     (λ nodes current. (current-rest limits nodes v.parts current, current-first limits nodes v.parts current))
 
 pub notes-keep : (limits : Limits) (id : ℕ) (v : View) → Splits (IsOneList limits) id v (itself v) (notes_of v)
 notes-keep limits id v = split-keeps limits id v (itself v) (notes_of v)
-    (omega (arith, turns-notes v.parts))
+    (omega (arith, holders-notes v.parts))
     (omega (arith, seats-notes v.parts))
     (λ nodes current. (current, current-notes limits nodes v.parts current))
 
@@ -226,15 +226,15 @@ joins-keep limits id v other w s c there apart also =
     let was : get_elem? s.views other ≡ some w = sym (set_else s.views id other both apart) ∙ also in
     let all : (f : View → ℕ) → sum_by f (set views other no_parts) + f w + f v ≡ sum_by f s.views + f both + f no_parts =
     λ f. omega (arith, sum-set f views other w no_parts also, sum-set f s.views id v both there) in
-    let all_turns : sum_by turns_of (set views other no_parts) ≡ sum_by turns_of s.views = omega (arith, all turns_of, count-append turn_part w.parts v.parts) in record {
+    let all_holders : sum_by holders_of (set views other no_parts) ≡ sum_by holders_of s.views = omega (arith, all holders_of, count-append holder_part w.parts v.parts) in record {
       nodes = c.nodes;
       few = c.few;
       small = c.small;
       one_word = c.one_word;
       one_slot = c.one_slot;
-      word = omega (arith, c.word, all_turns);
-      one_turn = omega (arith, c.one_turn, all_turns);
-      home = λ nobody. c.home (omega (arith, nobody, all_turns));
+      word = omega (arith, c.word, all_holders);
+      one_holder = omega (arith, c.one_holder, all_holders);
+      home = λ nobody. c.home (omega (arith, nobody, all_holders));
       seats = omega (arith, all seats_of, count-append seat_part w.parts v.parts, c.seats);
       current = current-set limits c.nodes views other no_parts
           (current-set limits c.nodes s.views id both c.current (current-append limits c.nodes w.parts v.parts (c.current other w was) (c.current id v there))) tt;
@@ -246,7 +246,7 @@ pub opens : (limits : Limits) (words : List ℕ) (books : List (Option Contents)
     → IsOneList limits (opening words books (first_view limits))
 opens limits words books small zero_word empty_book =
     let seat = part limits.slots Waiting [] in
-    let turns : sum_by turns_of (first_view limits ∷ []) ≡ 0 = omega (arith, sum_by-cons turns_of (first_view limits) [], count-replicate_none turn_part limits.seats seat refl) in
+    let holders : sum_by holders_of (first_view limits ∷ []) ≡ 0 = omega (arith, sum_by-cons holders_of (first_view limits) [], count-replicate_none holder_part limits.seats seat refl) in
     subst (λ (l : List ℕ). IsOneList limits (opening l books (first_view limits))) (sym zero_word)
     (subst (λ (l : List (Option Contents)). IsOneList limits (opening (0 ∷ []) l (first_view limits))) (sym empty_book) (record {
       nodes = [];
@@ -254,8 +254,8 @@ opens limits words books small zero_word empty_book =
       small = small;
       one_word = refl;
       one_slot = refl;
-      word = omega (arith, turns);
-      one_turn = omega (arith, turns);
+      word = omega (arith, holders);
+      one_holder = omega (arith, holders);
       home = λ _. refl;
       seats = omega (arith, sum_by-cons seats_of (first_view limits) [], count-replicate seat_part limits.seats seat refl);
       current = λ id u at. ⊎_elim

@@ -1,4 +1,4 @@
--- Parts that come and go: how many of them are seats and have the turn, and that they stay current.
+-- Parts that come and go: how many of them are seats and how many have the book, and that they stay current.
 use Rattle.std.proofs.Common.{◌≡◌, ℕ, zero, suc, ◌+◌, ◌≤◌, Bool, true, false, cond, List, [], ◌∷◌, ◌++◌, length, map, take, drop, replicate, refl, sym, ap, ◌∙◌, arith}
 use Rattle.std.specs.List.{count_by}
 use Rattle.std.proofs.lemmas.List.Sums.{sum_by-cons, sum_by-append}
@@ -9,7 +9,7 @@ use Rattle.hx_share.specs.declared.views.Role.{Role}
 use Rattle.hx_share.specs.declared.views.Role.TheVariants.{Note, Waiting, Acting}
 use Rattle.hx_share.specs.declared.views.Part.{Part}
 use Rattle.hx_share.specs.declared.views.View.{View}
-use Rattle.hx_share.specs.OneList.{part, is_seat, has_turn, seats_of, turns_of, IsCurrent, AreCurrentParts, noted}
+use Rattle.hx_share.specs.OneList.{part, is_seat, has_book, seats_of, holders_of, IsCurrent, AreCurrentParts, noted}
 use Rattle.hx_share.specs.Readers.{Reader, part_of}
 use Rattle.hx_tree.proofs.EntryLaws.{extends-on}
 use Rattle.hx_share.proofs.FrontLaws.{extends-nothing}
@@ -21,8 +21,8 @@ one_if counted = cond counted 1 0
 abbrev pub seat_part : Part → Bool
 seat_part p = is_seat p.role
 
-abbrev pub turn_part : Part → Bool
-turn_part p = has_turn p.role
+abbrev pub holder_part : Part → Bool
+holder_part p = has_book p.role
 
 -- ---- how many parts are counted
 
@@ -52,36 +52,36 @@ module _ (counted : Part → Bool) where
   count-replicate_none zero p is = refl
   count-replicate_none (suc n) p is = omega (arith, count-first p (replicate n p), ap one_if is, count-replicate_none n p is)
 
--- notes are no seats, and have no turn
+-- notes are no seats, and have no book
 pub seats-notes : (parts : List Part) → count_by seat_part (map noted parts) ≡ 0
 seats-notes [] = refl
 seats-notes (p ∷ parts) = omega (arith, count-first seat_part (noted p) (map noted parts), seats-notes parts)
 
-pub turns-notes : (parts : List Part) → count_by turn_part (map noted parts) ≡ 0
-turns-notes [] = refl
-turns-notes (p ∷ parts) = omega (arith, count-first turn_part (noted p) (map noted parts), turns-notes parts)
+pub holders-notes : (parts : List Part) → count_by holder_part (map noted parts) ≡ 0
+holders-notes [] = refl
+holders-notes (p ∷ parts) = omega (arith, count-first holder_part (noted p) (map noted parts), holders-notes parts)
 
--- each of the seats' parts is one seat without the turn
+-- each of the seats' parts is one seat without the book
 pub seats-of_seats : (seats : List Reader) → count_by seat_part (map part_of seats) ≡ length seats
 seats-of_seats [] = refl
 seats-of_seats (r ∷ seats) = omega (arith, count-first seat_part (part_of r) (map part_of seats), seats-of_seats seats)
 
-pub turns-of_seats : (seats : List Reader) → count_by turn_part (map part_of seats) ≡ 0
-turns-of_seats [] = refl
-turns-of_seats (r ∷ seats) = omega (arith, count-first turn_part (part_of r) (map part_of seats), turns-of_seats seats)
+pub holders-of_seats : (seats : List Reader) → count_by holder_part (map part_of seats) ≡ 0
+holders-of_seats [] = refl
+holders-of_seats (r ∷ seats) = omega (arith, count-first holder_part (part_of r) (map part_of seats), holders-of_seats seats)
 
--- who has the turn is a seat
-one-le : (role : Role) → one_if (has_turn role) ≤ one_if (is_seat role)
+-- who has the book is a seat
+one-le : (role : Role) → one_if (has_book role) ≤ one_if (is_seat role)
 one-le Note = omega arith
 one-le Waiting = omega arith
 one-le Acting = omega arith
 
-turns-le_parts : (parts : List Part) → count_by turn_part parts ≤ count_by seat_part parts
-turns-le_parts [] = omega arith
-turns-le_parts (p ∷ parts) = omega (arith, count-first turn_part p parts, count-first seat_part p parts, one-le p.role, turns-le_parts parts)
+holders-le_parts : (parts : List Part) → count_by holder_part parts ≤ count_by seat_part parts
+holders-le_parts [] = omega arith
+holders-le_parts (p ∷ parts) = omega (arith, count-first holder_part p parts, count-first seat_part p parts, one-le p.role, holders-le_parts parts)
 
-pub turns-le : (v : View) → turns_of v ≤ seats_of v
-turns-le v = turns-le_parts v.parts
+pub holders-le : (v : View) → holders_of v ≤ seats_of v
+holders-le v = holders-le_parts v.parts
 
 -- ---- parts stay current
 
@@ -99,8 +99,8 @@ module _ (limits : Limits) where
   current-rest nodes [] current = current
   current-rest nodes (p ∷ parts) current = current.1
 
-  -- a part without the turn, which has seen a front
-  pub current-part : (nodes seen : List Node) (role : Role) → has_turn role ≡ false → Extends nodes seen → IsCurrent limits nodes (part limits.slots role seen)
+  -- a part without the book, which has seen a front
+  pub current-part : (nodes seen : List Node) (role : Role) → has_book role ≡ false → Extends nodes seen → IsCurrent limits nodes (part limits.slots role seen)
   current-part nodes seen role idle front = record { same_slots = refl; front = front; whole = λ acts. let never : true ≡ false = sym acts ∙ idle in cc }
 
   pub current-notes : (nodes : List Node) (parts : List Part) → AreCurrentParts limits nodes parts → AreCurrentParts limits nodes (map noted parts)
@@ -114,12 +114,12 @@ module _ (limits : Limits) where
   current-new zero = tt
   current-new (suc n) = (current-part [] [] Waiting refl (extends-nothing []), current-new n)
 
-  -- the list grows, while none of these parts has the turn
-  pub current-more : (nodes more : List Node) (parts : List Part) → Extends more nodes → count_by turn_part parts ≡ 0
+  -- the list grows, while none of these parts has the book
+  pub current-more : (nodes more : List Node) (parts : List Part) → Extends more nodes → count_by holder_part parts ≡ 0
       → AreCurrentParts limits nodes parts → AreCurrentParts limits more parts
   current-more nodes more [] grown none current = tt
   current-more nodes more (p ∷ parts) grown none current =
-      let first = count-first turn_part p parts in (
+      let first = count-first holder_part p parts in (
         record {
           same_slots = current.0.same_slots;
           front = extends-on p.seen nodes more current.0.front grown;

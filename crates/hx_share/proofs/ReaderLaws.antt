@@ -12,7 +12,7 @@ use Rattle.hx_share.specs.declared.views.Limits.{Limits}
 use Rattle.hx_share.specs.declared.views.Role.{Role}
 use Rattle.hx_share.specs.declared.views.Role.TheVariants.{Note, Waiting}
 use Rattle.hx_share.specs.declared.views.Part.{Part}
-use Rattle.hx_share.specs.OneList.{part, view, has_turn, IsOneList, Seated, alone, acting, first_part, IsTaken, takes_turn, gives_back, settles, all_but_first, only_first, joined}
+use Rattle.hx_share.specs.OneList.{part, view, has_book, IsOneList, Seated, alone, acting, first_part, IsTaken, takes_book, gives_back, settles, all_but_first, only_first, joined}
 use Rattle.hx_share.specs.Readers.{Reader, part_of, ReaderKeeps}
 use Rattle.hx_share.proofs.Keeps.{takes-keep, gives-keep, settles-keep}
 
@@ -20,9 +20,9 @@ use Rattle.hx_share.proofs.Keeps.{takes-keep, gives-keep, settles-keep}
 
 module _ (key : Limits) (room : ℕ) (same : room ≡ key.slots) (slots id : ℕ) (me : Seated) where
   pub may-take : (seen : List Node) (old new : ℕ) → me ≡ alone room Waiting seen → old % 2 ≡ 0 → new ≡ old + 1
-      → Allows (IsOneList key) slots id me 0 (λ n. either (eqb n old) new n) (takes_turn (step slots 0 old new none) me)
+      → Allows (IsOneList key) slots id me 0 (λ n. either (eqb n old) new n) (takes_book (step slots 0 old new none) me)
   may-take seen old new is even next =
-      subst (λ (m : Seated). Allows (IsOneList key) slots id m 0 (λ n. either (eqb n old) new n) (takes_turn (step slots 0 old new none) m))
+      subst (λ (m : Seated). Allows (IsOneList key) slots id m 0 (λ n. either (eqb n old) new n) (takes_book (step slots 0 old new none) m))
       (sym (is ∙ λ k. alone (same k) Waiting seen))
       (takes-keep key slots id seen old new even next)
 
@@ -33,7 +33,7 @@ module _ (key : Limits) (room : ℕ) (same : room ≡ key.slots) (slots id : ℕ
       (sym (is ∙ λ k. acting (same k) seen (Some (contents (same k) nodes))))
       (gives-keep key slots id seen nodes new grown (omega (arith, few, same)) twice)
 
-  pub may-settle : (role : Role) (told own : List Node) → me ≡ (view (part room Note told ∷ part room role own ∷ []), []) → has_turn role ≡ false
+  pub may-settle : (role : Role) (told own : List Node) → me ≡ (view (part room Note told ∷ part room role own ∷ []), []) → has_book role ≡ false
       → Allows (IsOneList key) slots id me 0 (λ n. n) (settles (step slots 0 0 0 none) me)
   may-settle role told own is idle =
       subst (λ (m : Seated). Allows (IsOneList key) slots id m 0 (λ n. n) (settles (step slots 0 0 0 none) m))

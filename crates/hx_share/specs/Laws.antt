@@ -12,19 +12,23 @@ use Rattle.hx_core.specs.declared.events.Reply.{Reply}
 use Rattle.hx_core.specs.declared.events.Reply.TheVariants.{Looked, Stored, NoSlot}
 use Rattle.hx_core.specs.BookMachine.{BookState, with_all_seen, LookStep, StoreStep}
 
--- a node was stored, or an entry of its position and mover was there before: each look in a list that begins with what was seen
--- then finds the entry at the answered index
+-- a node was stored, or an entry of its position and mover was there before: each look in a list that begins with
+-- what was seen then finds the entry at the answered index
 abbrev pub StoredIsFound : Type 0
 StoredIsFound =
-    (slots : ℕ) (seen stored later : List Node) (node : Node) (place : ℕ) (result : Option Found) → PutsLater slots seen node (Ok place) stored
-    → Extends later stored → FindsFirst later node.heading.position node.heading.to_move result → IsSomeAnd result (λ found. found.index ≡ place)
+    (slots : ℕ) (seen stored later : List Node) (node : Node) (place : ℕ) (result : Option Found)
+    → PutsLater slots seen node (Ok place) stored → Extends later stored
+    → FindsFirst later node.heading.position node.heading.to_move result
+    → IsSomeAnd result (λ found. found.index ≡ place)
 
 -- what is found names the winner that the node named which was stored
 abbrev pub StoredWinnerIsFound : Type 0
 StoredWinnerIsFound =
-    (slots : ℕ) (seen stored later : List Node) (node : Node) (place : ℕ) (result : Option Found) → AreRight seen → IsRightNode (headings_of seen) node
+    (slots : ℕ) (seen stored later : List Node) (node : Node) (place : ℕ) (result : Option Found)
+    → AreRight seen → IsRightNode (headings_of seen) node
     → AreRight later → PutsLater slots seen node (Ok place) stored
-    → Extends later stored → FindsFirst later node.heading.position node.heading.to_move result → IsSomeAnd result (λ found. found.winner ≡ node.heading.winner)
+    → Extends later stored → FindsFirst later node.heading.position node.heading.to_move result
+    → IsSomeAnd result (λ found. found.winner ≡ node.heading.winner)
 
 -- what begins with a later list begins with an earlier one
 abbrev pub ExtendsOn : Type 0
@@ -33,7 +37,8 @@ ExtendsOn = (old between new : List Node) → Extends between old → Extends ne
 -- entries of one position and mover in these lists name one winner
 abbrev pub Agree : List Node → List Node → Type 0
 Agree nodes others =
-    (board : Board) (mover : Colour) (place other_place : ℕ) (one : IsEntry nodes board mover place) (other : IsEntry others board mover other_place)
+    (board : Board) (mover : Colour) (place other_place : ℕ)
+    (one : IsEntry nodes board mover place) (other : IsEntry others board mover other_place)
     → one.node.heading.winner ≡ other.node.heading.winner
 
 -- ---- the book machine
@@ -46,11 +51,13 @@ reply_of (Err refusal) = NoSlot refusal.held
 -- a look answers as the machine, whose list is the one that was seen
 abbrev pub LooksAsTheMachine : Type 0
 LooksAsTheMachine =
-    (book : BookState) (worker : ℕ) (board : Board) (mover : Colour) (result : Option Found) → FindsFirst book.nodes board mover result
+    (book : BookState) (worker : ℕ) (board : Board) (mover : Colour) (result : Option Found)
+    → FindsFirst book.nodes board mover result
     → LookStep book worker board mover (Looked result) (with_all_seen book book.nodes worker)
 
 -- a store answers as the machine, whose list grows to the one that was seen
 abbrev pub StoresAsTheMachine : Type 0
 StoresAsTheMachine =
-    (book : BookState) (worker : ℕ) (node : Node) (result : Result ℕ Refusal) (nodes : List Node) → Puts book.slots book.nodes node result nodes
+    (book : BookState) (worker : ℕ) (node : Node) (result : Result ℕ Refusal) (nodes : List Node)
+    → Puts book.slots book.nodes node result nodes
     → StoreStep book worker node (reply_of result) (with_all_seen book nodes worker)

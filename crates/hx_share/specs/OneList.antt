@@ -1,7 +1,9 @@
--- The rule of the table. There is one list of nodes, of which each seat and each note has seen a front. The one word is twice
--- the length of the list, and one more while a seat has the turn. Until a seat has the turn, the book of the list is in the
--- one slot. The seat that has the turn has seen the whole list. These words are for the functions inside the crate alone.
-use Rattle.std.specs.Prelude.{◌≡◌, ◌≢◌, ℕ, ◌+◌, ◌*◌, ◌≤◌, Bool, true, false, List, [], ◌∷◌, ◌++◌, length, map, take, drop, replicate, slice_index, slice_index_or, sum_by, count_by, Option, Some}
+-- The rule of the table. There is one list of nodes, of which each seat and each note has seen a front. The one word
+-- is twice the length of the list, and one more while a seat has the book. While none has it, the book is in the one
+-- slot, and holds the list. The seat that has it has seen the whole list. These words are for the functions inside
+-- the crate alone.
+use Rattle.std.specs.Prelude.{◌≡◌, ◌≢◌, ℕ, ◌+◌, ◌*◌, ◌≤◌, Bool, true, false, Option, Some, List, [], ◌∷◌, ◌++◌}
+use Rattle.std.specs.Prelude.{length, map, take, drop, replicate, slice_index, slice_index_or, sum_by, count_by}
 use mathlib.Core.Option.{some}
 use lib.ListN.{get_elem?}
 use Rattle.atomic_table.specs.Table.{State, Me, Step}
@@ -33,24 +35,24 @@ is_seat Note = false
 is_seat Waiting = true
 is_seat Acting = true
 
-abbrev pub has_turn : Role → Bool
-has_turn Note = false
-has_turn Waiting = false
-has_turn Acting = true
+abbrev pub has_book : Role → Bool
+has_book Note = false
+has_book Waiting = false
+has_book Acting = true
 
 -- how many of a view's parts are seats
 abbrev pub seats_of : View → ℕ
 seats_of v = count_by (λ (p : Part). is_seat p.role) v.parts
 
--- how many of a view's parts have the turn
-abbrev pub turns_of : View → ℕ
-turns_of v = count_by (λ (p : Part). has_turn p.role) v.parts
+-- how many of a view's parts have the book
+abbrev pub holders_of : View → ℕ
+holders_of v = count_by (λ (p : Part). has_book p.role) v.parts
 
--- a part is of this table, and has seen a front of the list, or all of it where it has the turn
+-- a part is of this table, and has seen a front of the list, or all of it where it has the book
 pub record IsCurrent (limits : Limits) (nodes : List Node) (p : Part) : Type 0 where
   pub same_slots : p.slots ≡ limits.slots
   pub front : Extends nodes p.seen
-  pub whole : has_turn p.role ≡ true → p.seen ≡ nodes
+  pub whole : has_book p.role ≡ true → p.seen ≡ nodes
 
 abbrev pub AreCurrentParts : Limits → List Node → List Part → Type 0
 AreCurrentParts limits nodes [] = Unit {0}
@@ -66,9 +68,9 @@ pub record IsOneList (limits : Limits) (s : State (Option Contents) View) : Type
   pub small : AreSmall limits
   pub one_word : length s.words ≡ 1
   pub one_slot : length s.homes ≡ 1
-  pub word : slice_index s.words 0 ≡ 2 * length nodes + sum_by turns_of s.views
-  pub one_turn : sum_by turns_of s.views ≤ 1
-  pub home : sum_by turns_of s.views ≡ 0 → get_elem? s.homes 0 ≡ some (some (Some (contents limits.slots nodes)))
+  pub word : slice_index s.words 0 ≡ 2 * length nodes + sum_by holders_of s.views
+  pub one_holder : sum_by holders_of s.views ≤ 1
+  pub home : sum_by holders_of s.views ≡ 0 → get_elem? s.homes 0 ≡ some (some (Some (contents limits.slots nodes)))
   pub seats : sum_by seats_of s.views ≡ limits.seats
   pub current : AreCurrent limits nodes s.views
 
@@ -84,7 +86,7 @@ Seated = Me (Option Contents) View
 abbrev pub alone : ℕ → Role → List Node → Seated
 alone slots role seen = (view (part slots role seen ∷ []), [])
 
--- one part, which has the turn, and the slot, which holds this
+-- one part, which has the book, and the slot, which holds this
 abbrev pub acting : ℕ → List Node → Option Contents → Seated
 acting slots seen held = (view (part slots Acting seen ∷ []), (0, held) ∷ [])
 
@@ -98,24 +100,26 @@ first_part v = slice_index_or v.parts 0 no_part
 abbrev pub second_part : View → Part
 second_part v = slice_index_or v.parts 1 no_part
 
--- the seat has the turn and the book, and has seen all of its nodes
+-- the seat has the book, and has seen all of its nodes
 pub record IsTaken (slots : ℕ) (seen : List Node) (new : Seated) : Type 0 where
   pub nodes : List Node
   pub more : Extends nodes seen
   pub same : new ≡ acting slots nodes (Some (contents slots nodes))
 
 -- what each step tells the seat that makes it, of itself before, the number found, and itself after
-abbrev pub takes_turn : Step (Option Contents) → Seated → ℕ → Seated → Type 0
-takes_turn st old found new =
+abbrev pub takes_book : Step (Option Contents) → Seated → ℕ → Seated → Type 0
+takes_book st old found new =
     (found ≡ st.first → IsTaken (first_part old.0).slots (first_part old.0).seen new) × (found ≢ st.first → new ≡ old)
 
 abbrev pub gives_back : Step (Option Contents) → Seated → ℕ → Seated → Type 0
-gives_back st old found new = (book : Contents) → old.1 ≡ (0, Some book) ∷ [] → new ≡ alone (first_part old.0).slots Waiting book.nodes
+gives_back st old found new =
+    (book : Contents) → old.1 ≡ (0, Some book) ∷ [] → new ≡ alone (first_part old.0).slots Waiting book.nodes
 
 -- of two parts the second stays, and has seen the longer of the two lists, which are fronts of one list
 abbrev pub settles : Step (Option Contents) → Seated → ℕ → Seated → Type 0
 settles st old found new =
-    (new ≡ alone (second_part old.0).slots (second_part old.0).role (longer (second_part old.0).seen (first_part old.0).seen))
+    (new ≡ alone (second_part old.0).slots (second_part old.0).role
+    (longer (second_part old.0).seen (first_part old.0).seen))
     × AreFronts (second_part old.0).seen (first_part old.0).seen
 
 -- a seat is split: the new one has the first part, and the others stay

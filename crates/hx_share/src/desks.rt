@@ -20,11 +20,11 @@ pub struct Desk<'a> {
 impl<'a> Proofs for Desk<'a> {
     ghost use Rattle.std.specs.Prelude.{Some};
 
-    ghost list = { λ d. d.seat.seen };
-
-    ghost slots = { λ d. d.seat.made.slots };
-
-    ghost over = { λ d. Some d.seat.made.table };
+    ghost sight = { λ d. record {
+      list = d.seat.seen;
+      slots = d.seat.made.slots;
+      over = Some d.seat.made.table;
+    } };
 
     fn look<R: Wait>(&mut self, rt: &R, position: &Position, to_move: Colour) -> Option<Found> {
         self.shared.look(rt, &mut self.seat, position, to_move)

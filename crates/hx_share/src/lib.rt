@@ -1,5 +1,5 @@
-//! A book of proofs that many workers share. They take turns at it: a worker waits for its turn, looks or stores, and gives
-//! the book back.
+//! A book of proofs that many workers share. One at a time has it: a worker waits for the book, looks or stores, and gives it
+//! back.
 #![tactic(auto)]
 
 mod desks;

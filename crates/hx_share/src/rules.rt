@@ -1,6 +1,6 @@
 //! The rule of the table, and the names of its steps.
 
-ghost use Rattle.hx_share.specs.OneList.{IsOneList, first_view, takes_turn, gives_back, settles, all_but_first, only_first, itself, notes_of, joined, no_parts};
+ghost use Rattle.hx_share.specs.OneList.{IsOneList, first_view, takes_book, gives_back, settles, all_but_first, only_first, itself, notes_of, joined, no_parts};
 
 use crate::views::{Limits, View};
 use atomic_table::{Join, Play, Split, TableRule};
@@ -15,14 +15,14 @@ impl TableRule<Option<Book>, View, Limits> for OneList {
     ghost first = { first_view };
 }
 
-/// A seat takes the turn, where nobody has it.
-pub struct TakingTurn;
+/// A seat takes the book, where no other has it.
+pub struct TakingBook;
 
-impl Play<Option<Book>, View> for TakingTurn {
-    ghost then = { takes_turn };
+impl Play<Option<Book>, View> for TakingBook {
+    ghost then = { takes_book };
 }
 
-/// A seat gives back the turn and the book.
+/// A seat gives back the book.
 pub struct GivingBack;
 
 impl Play<Option<Book>, View> for GivingBack {

@@ -1,7 +1,7 @@
 //! The shared book, and what workers do with it.
 //!
 //! The book lies in the one slot of a table. The table's one word is twice the number of nodes that the book holds, and one
-//! more while a seat has the turn. A seat that wants the book makes an even word odd, takes the book out of the slot, puts it
+//! more while a seat has the book. A seat that wants it makes an even word odd, takes the book out of the slot, puts it
 //! back and writes the even word of the book as it is then. So a book is never copied, and nobody reads it while another writes.
 
 ghost use Rattle.std.specs.Prelude.{◌≡◌, ◌+◌, ◌*◌, ◌<◌, ◌≤◌, [], ◌∷◌, None, false, map, length, replicate, IfOk, IfErr};
@@ -14,11 +14,11 @@ ghost use Rattle.hx_book.specs.Puts.{PutsLater};
 ghost use Rattle.hx_book.specs.WiderEntry.{FindsWider};
 ghost use Rattle.hx_share.specs.declared.views.Role.TheVariants.{Note, Waiting};
 ghost use Rattle.hx_share.specs.Fronts.{AreFronts, longer};
-ghost use Rattle.hx_share.specs.OneList.{view, first_view, has_turn, alone, acting, first_part};
+ghost use Rattle.hx_share.specs.OneList.{view, first_view, has_book, alone, acting, first_part};
 ghost use Rattle.hx_share.specs.Readers.{reader, part_of};
 
 use crate::readers::{BookNote, BookSeat};
-use crate::rules::{AllParts, FirstPart, GivingBack, Noting, OneList, Settling, TakingTurn};
+use crate::rules::{AllParts, FirstPart, GivingBack, Noting, OneList, Settling, TakingBook};
 use crate::views::{Limits, View};
 use atomic_table::{Refused, Seat, Table};
 use crossbeam_utils::Backoff;
@@ -103,7 +103,7 @@ impl Shared {
     }
 
     /// The first entry of a position and mover, of the nodes that the seat has then seen, which are all that the book holds.
-    /// None exactly where there is none. It may wait for the turn.
+    /// None exactly where there is none. It may wait for the book.
     pub fn look<R: Wait>(
         &self,
         rt: &R,
@@ -116,7 +116,7 @@ impl Shared {
         ensures seen { Extends seat.new.seen seat.old.seen }
         ensures found { FindsFirst seat.new.seen position.now to_move result }
     {
-        let book = self.take_turn(rt, &mut seat.seat);
+        let book = self.take_book(rt, &mut seat.seat);
         book.keeps();
         let found = book.find(position, to_move);
         seat.seen = book.held();
@@ -126,7 +126,7 @@ impl Shared {
 
     /// An entry of this mover and winner that serves the position, of the nodes that the seat has then seen, which are all that
     /// the book holds: its winner has the same stones, and the opponent's stones of the position are all in the entry's. None
-    /// exactly where there is none. It may wait for the turn.
+    /// exactly where there is none. It may wait for the book.
     pub fn look_wider<R: Wait>(
         &self,
         rt: &R,
@@ -140,7 +140,7 @@ impl Shared {
         ensures seen { Extends seat.new.seen seat.old.seen }
         ensures found { FindsWider seat.new.seen position.now to_move winner result }
     {
-        let book = self.take_turn(rt, &mut seat.seat);
+        let book = self.take_book(rt, &mut seat.seat);
         book.keeps();
         let wider = book.find_wider(position, to_move, winner);
         seat.seen = book.held();
@@ -150,7 +150,7 @@ impl Shared {
 
     /// Stores a node that is right after those that the seat has seen. The index of the entry of its position and mover, of the
     /// nodes that the seat has then seen. The node comes back exactly where there is no such entry and each slot is taken. It
-    /// may wait for the turn.
+    /// may wait for the book.
     pub fn store<R: Wait>(&self, rt: &R, seat: &mut BookSeat, node: Node) -> Result<u32, NoSlot>
         requires seat { seat.old.made ≡ self.now.made }
         requires node { IsRightNode (headings_of seat.old.seen) node }
@@ -165,7 +165,7 @@ impl Shared {
         ensures back { IfErr result (λ refusal. refusal
             ≡ record { held = self.now.made.slots; node = node }) }
     {
-        let mut book = self.take_turn(rt, &mut seat.seat);
+        let mut book = self.take_book(rt, &mut seat.seat);
         let answer = book.put(node);
         book.keeps();
         seat.seen = book.held();
@@ -248,9 +248,9 @@ impl Shared {
         seat
     }
 
-    /// Waits for the turn, and takes the book. A seat that waits pauses, for longer each time, and then lets other threads run,
-    /// so that the one that has the turn gets on.
-    fn take_turn<R: Wait>(&self, rt: &R, seat: &mut Seat<Option<Book>, View>) -> Book
+    /// Waits until no other seat has the book, and takes it. A seat that waits pauses, for longer each time, and then lets other
+    /// threads run, so that the one that has the book gets on.
+    fn take_book<R: Wait>(&self, rt: &R, seat: &mut Seat<Option<Book>, View>) -> Book
         requires table { seat.old.table_id ≡ self.now.made.table }
         requires waits { seat.old.me
             ≡ alone self.now.made.slots Waiting (first_part seat.old.me.0).seen }
@@ -264,7 +264,7 @@ impl Shared {
         for _ in rt.forever() {
             let found = table.peek(0);
             if found % 2 == 0
-                && table.compare_exchange::<TakingTurn>(seat, 0, found, found + 1) == found
+                && table.compare_exchange::<TakingBook>(seat, 0, found, found + 1) == found
             {
                 return table.exchange(seat, 0, None).unwrap();
             }
@@ -273,7 +273,7 @@ impl Shared {
         unreachable!()
     }
 
-    /// Gives back the turn, and the book.
+    /// Gives back the book.
     fn give_back(&self, seat: &mut Seat<Option<Book>, View>, book: Book)
         requires table { seat.old.table_id ≡ self.now.made.table }
         requires acts { seat.old.me
@@ -295,7 +295,7 @@ impl Shared {
             × (note.table_id ≡ self.now.made.table) }
         requires own { seat.old.me ≡ alone self.now.made.slots (first_part seat.old.me.0).role
             (first_part seat.old.me.0).seen }
-        requires waits { has_turn (first_part seat.old.me.0).role ≡ false }
+        requires waits { has_book (first_part seat.old.me.0).role ≡ false }
         requires note { note.me ≡ alone self.now.made.slots Note (first_part note.me.0).seen }
         ensures table { seat.new.table_id ≡ seat.old.table_id }
         ensures own { seat.new.me ≡ alone self.now.made.slots (first_part seat.old.me.0).role

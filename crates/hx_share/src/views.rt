@@ -19,10 +19,10 @@ pub enum Role {
     /// A note of what a seat has seen.
     Note,
 
-    /// A seat that does not have the turn.
+    /// A seat that does not have the book.
     Waiting,
 
-    /// The seat that has the turn.
+    /// The seat that has the book.
     Acting,
 }
 

@@ -4,7 +4,7 @@ use Rattle.hx_nodes.proofs.fills.store_fill.Goals as goal
 use Rattle.hx_tree.proofs.EntryLaws.{seen-now}
 
 pub returns-in_default-clause-missing : goal.returns-in_default-clause-missing
-returns-in_default-clause-missing g c = inr (seen-now _ _ _ c.look.ensures.seen c.in_default.ensures.found)
+returns-in_default-clause-missing g c = inr (seen-now _ _ _ c.look.ensures.grew.seen c.in_default.ensures.found)
 
 pub store-requires : goal.store-requires
 store-requires g c =

@@ -1,9 +1,9 @@
-use Rattle.std.proofs.Common.{rules, ◌≡◌, ◌<◌, ◌++◌, [], ◌∷◌, ◌∙◌, arith}
+use Rattle.std.proofs.Common.{rules, ◌≡◌, ◌<◌, ◌++◌, [], ◌∷◌, arith}
 use Rattle.hx_board.specs.Cells.{IsLeastOn}
 use Rattle.hx_board.proofs.CellLaws.{on_board-small}
 use Rattle.hx_board.proofs.Tallies.{count_below-remove}
 use Rattle.hx_tree.specs.declared.nodes.Line.{Line}
-use Rattle.hx_tree.proofs.EntryLaws.{extends-on}
+use Rattle.hx_book.proofs.SightLaws.{grows-on}
 use Rattle.hx_nodes.proofs.GrowingLists.{extends-headings}
 use Rattle.hx_nodes.proofs.GatheredLines.{one_more_gathered, all_gathered, lacking_among}
 use Rattle.hx_nodes.proofs.lines.lines_for.Goals as goal
@@ -18,13 +18,11 @@ pub loop-cell-preserved : goal.loop-cell-preserved
 loop-cell-preserved g c =
     let before = c.loop-cell.invariant in
     let least : IsLeastOn c.args.position.now.size c.loop-cell.left c.in-Some.cell = rw c.size-size.ensures.value at c.in-Some.ensures in
-    let grown = extends-headings _ _ c.line_for.ensures.seen in
+    let grown = extends-headings _ _ c.line_for.ensures.grew.seen in
     let line : Line = c.in-Some-line_for.line in
     let pushed : c.push.new.self.items ≡ c.loop-cell.lines.items ++ line ∷ [] = search rules in
     record {
-      slots = c.line_for.ensures.slots ∙ before.slots;
-      over = c.line_for.ensures.over ∙ before.over;
-      seen = extends-on _ _ _ before.seen c.line_for.ensures.seen;
+      grew = grows-on _ _ _ before.grew c.line_for.ensures.grew;
       gathered =
           rw (grown.1, pushed, c.without-left.ensures.set)
           (one_more_gathered _ _ _ _ c.args.position.now.size grown.0 _ _ _ line before.gathered (λ n member. (c.requires.inside n member).on_board) least
@@ -34,7 +32,7 @@ loop-cell-preserved g c =
 pub returns-in_default-line_for-clause-lines : goal.returns-in_default-line_for-clause-lines
 returns-in_default-line_for-clause-lines g c =
     let before = c.loop-cell.invariant in
-    lacking_among _ _ _ _ _ _ _ c.in-Some.cell before.seen (before.gathered.inside c.in-Some.cell c.in-Some.ensures.member) c.in_default-line_for.ensures.line
+    lacking_among _ _ _ _ _ _ _ c.in-Some.cell before.grew.seen (before.gathered.inside c.in-Some.cell c.in-Some.ensures.member) c.in_default-line_for.ensures.line
 
 pub returns-clause-lines : goal.returns-clause-lines
 returns-clause-lines g c =

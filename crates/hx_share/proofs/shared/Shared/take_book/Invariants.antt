@@ -1,5 +1,5 @@
 use Rattle.std.proofs.Common.{◌≡◌}
-use Rattle.hx_share.proofs.shared.Shared.take_turn.Given as goal
+use Rattle.hx_share.proofs.shared.Shared.take_book.Given as goal
 
 abbrev pub invariant-loop : goal.invariant-loop
 invariant-loop g l = record {

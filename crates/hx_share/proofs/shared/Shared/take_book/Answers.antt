@@ -1,7 +1,7 @@
 use Rattle.std.proofs.Common.{◌+◌, refl, sym, ap, ◌∙◌, arith}
 use Rattle.hx_share.specs.OneList.{IsTaken, first_part}
 use Rattle.hx_share.proofs.ReaderLaws.{may-take, taken-told, has-slot}
-use Rattle.hx_share.proofs.shared.Shared.take_turn.Goals as goal
+use Rattle.hx_share.proofs.shared.Shared.take_book.Goals as goal
 
 pub compare_exchange-requires : goal.compare_exchange-requires
 compare_exchange-requires g c =
