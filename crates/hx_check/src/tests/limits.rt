@@ -32,9 +32,7 @@ struct Chains {
 }
 
 impl Source for Chains {
-    ghost left = { λ _. None };
-
-    ghost faults = { λ _. 0 };
+    ghost reading = { λ _. record { left = None; faults = 0 } };
 
     fn read(&mut self, buffer: &mut [u8]) -> Result<usize, Failed> {
         let count = self.piece.len().min(buffer.len());
