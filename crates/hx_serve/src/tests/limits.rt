@@ -40,9 +40,7 @@ struct Names {
 }
 
 impl Source for Names {
-    ghost left = { λ _. None };
-
-    ghost faults = { λ _. 0 };
+    ghost reading = { λ _. record { left = None; faults = 0 } };
 
     fn read(&mut self, buffer: &mut [u8]) -> Result<usize, Failed> {
         let count = buffer.len().min(self.bytes_left);

@@ -25,9 +25,7 @@ struct WatchingSource<'a> {
 }
 
 impl Source for WatchingSource<'_> {
-    ghost left = { λ _. None };
-
-    ghost faults = { λ _. 0 };
+    ghost reading = { λ _. record { left = None; faults = 0 } };
 
     fn read(&mut self, buffer: &mut [u8]) -> Result<usize, Failed> {
         let (text, written) = READS[self.reads % READS.len()];
@@ -46,9 +44,7 @@ struct WatchedSink<'a> {
 }
 
 impl Sink for WatchedSink<'_> {
-    ghost taken = { λ _. None };
-
-    ghost faults = { λ _. 0 };
+    ghost writing = { λ _. record { taken = None; faults = 0 } };
 
     fn write(&mut self, piece: &[u8]) -> Result<usize, Failed> {
         self.written
