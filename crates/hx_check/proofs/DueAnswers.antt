@@ -41,7 +41,8 @@ use Rattle.hx_check.proofs.Standings.{ended_in, few_nodes, not_whole}
 -- ---- the input, where it is told
 
 -- what is said of an input whose first lines were read
-pub says_of : (before : Option (List ℕ)) (front held : List ℕ) (left : Option (List ℕ)) (Says : List ℕ → Type 0) → before ≡ prepend (front ++ held) left
+pub says_of : (before : Option (List ℕ)) (front held : List ℕ) (left : Option (List ℕ)) (Says : List ℕ → Type 0)
+    → before ≡ prepend (front ++ held) left
     → ((input rest : List ℕ) → left ≡ Some rest → input ≡ front ++ (held ++ rest) → Says input) → IfSome before Says
 says_of None front held left Says parts says = tt
 says_of (Some input) front held None Says parts says = absurd (some_not_none input parts)
@@ -53,28 +54,33 @@ stream_of : (old new : Cutter) (rest : List ℕ) (then_left : Option (List ℕ))
     → old.held ++ rest ≡ new.line ++ 10 ∷ (new.held ++ told.later)
 stream_of old new rest then_left told = stream-loses _ _ _ _ _ told.is.loses ∙ append_assoc new.line (10 ∷ []) (new.held ++ told.later)
 
-last_of : (old new : Cutter) (rest : List ℕ) (then_left : Option (List ℕ)) (told : TellsStream old new rest then_left (Line false)) → old.held ++ rest ≡ new.line
+last_of : (old new : Cutter) (rest : List ℕ) (then_left : Option (List ℕ)) (told : TellsStream old new rest then_left (Line false))
+    → old.held ++ rest ≡ new.line
 last_of old new rest then_left told =
     let last = told.is.last refl in
     let none : new.held ++ told.later ≡ [] = ap (λ held. held ++ told.later) last.1 ∙ last.2 in
     stream-loses _ _ _ _ _ told.is.loses ∙ ap (λ bytes. new.line ++ bytes) none ∙ append-nil new.line
 
-pub none_of : (old new : Cutter) (rest : List ℕ) (then_left : Option (List ℕ)) (told : TellsStream old new rest then_left Over) → old.held ++ rest ≡ []
-none_of old new rest then_left told = stream-loses _ _ _ _ _ told.is.0.same ∙ ap (λ held. held ++ told.later) told.is.1 ∙ told.is.2
+pub none_of : (old new : Cutter) (rest : List ℕ) (then_left : Option (List ℕ)) (told : TellsStream old new rest then_left Over)
+    → old.held ++ rest ≡ []
+none_of old new rest then_left told = stream-loses _ _ _ _ _ told.is.0.same ∙ ap (λ held. held ++ told.later) told.is.1.none ∙ told.is.2
 
-pub cut_not_long : (ended : Bool) (old new : Cutter) (rest : List ℕ) (then_left : Option (List ℕ)) → TellsStream old new rest then_left (Line ended) → ¬ BeginsLong (old.held ++ rest)
+pub cut_not_long : (ended : Bool) (old new : Cutter) (rest : List ℕ) (then_left : Option (List ℕ))
+    → TellsStream old new rest then_left (Line ended) → ¬ BeginsLong (old.held ++ rest)
 cut_not_long ended old new rest then_left told long =
     let first : BeginLong (new.line ∷ lines_of (new.held ++ told.later)) = subst BeginLong told.tells long in
     omega (arith, told.is.short, first)
 
-pub cut_some : (ended : Bool) (old new : Cutter) (rest : List ℕ) (then_left : Option (List ℕ)) → TellsStream old new rest then_left (Line ended) → old.held ++ rest ≢ []
+pub cut_some : (ended : Bool) (old new : Cutter) (rest : List ℕ) (then_left : Option (List ℕ))
+    → TellsStream old new rest then_left (Line ended) → old.held ++ rest ≢ []
 cut_some ended old new rest then_left told none =
     let lines : [] ≡ new.line ∷ lines_of (new.held ++ told.later) = sym lines_of-nil ∙ ap lines_of (sym none) ∙ told.tells in cc
 
 lacks_same : (bytes other : List ℕ) → bytes ≡ other → Lacks 10 other → Lacks 10 bytes
 lacks_same bytes other is lacks = subst (Lacks 10) (sym is) lacks
 
-pub told_of : (old new : Cutter) (left then_left : Option (List ℕ)) (cut : Cut) (rest : List ℕ) → left ≡ Some rest → IsCut old new left then_left cut → TellsStream old new rest then_left cut
+pub told_of : (old new : Cutter) (left then_left : Option (List ℕ)) (cut : Cut) (rest : List ℕ) → left ≡ Some rest
+    → IsCut old new left then_left cut → TellsStream old new rest then_left cut
 told_of old new left then_left cut rest is cuts =
     tells_stream old new rest then_left cut (subst (λ (l : Option (List ℕ)). IsCut old new l then_left cut) is cuts)
 
@@ -126,7 +132,8 @@ module _ (before : Option (List ℕ)) (reader : TreeReader) (headings : List Hea
       (lacks_same (old.held ++ rest) [] none tt) (none_not_long (old.held ++ rest) none))
 
   -- the next line is not of the grammar in its place, or has no LF
-  wrong_by : (ended : Bool) (number : ℕ) → CutsLine old new left then_left ended → ¬ HasReadAll reader → number ≡ length upto.judged.lines + 1
+  wrong_by : (ended : Bool) (number : ℕ) → CutsLine old new left then_left ended → ¬ HasReadAll reader
+      → number ≡ length upto.judged.lines + 1
       → (IsTrue ended → Begins AreTreeLines (upto.judged.lines ++ new.line ∷ []) → ⊥) → IfSome before (λ input. IsNoText input number)
   wrong_by true number cut unended place wrong =
       says_of before (text_of upto.judged.lines) old.held left (λ input. IsNoText input number) upto.parts
@@ -151,18 +158,22 @@ module _ (before : Option (List ℕ)) (reader : TreeReader) (headings : List Hea
       (lacks_same (old.held ++ rest) new.line (last_of old new rest then_left told) (lacks_of new.line cut.plain))
       (cut_not_long false old new rest then_left told))
 
-  pub wrong_answer : (ended : Bool) (fed number : ℕ) → CutsLine old new left then_left ended → ¬ HasReadAll reader → fed ≡ next_count (lines_fed reader)
-      → (number ≡ fed) × (IsTrue ended → Begins AreTreeLines (upto.judged.lines ++ new.line ∷ []) → ⊥) → IfSome before (λ input. IsNoText input number)
+  pub wrong_answer : (ended : Bool) (fed number : ℕ) → CutsLine old new left then_left ended → ¬ HasReadAll reader
+      → fed ≡ next_count (lines_fed reader)
+      → (number ≡ fed) × (IsTrue ended → Begins AreTreeLines (upto.judged.lines ++ new.line ∷ []) → ⊥)
+      → IfSome before (λ input. IsNoText input number)
   wrong_answer ended fed number cut unended counts told =
       wrong_by ended number cut unended (told.0 ∙ count_more reader headings fed upto.judged counts) told.1
 
   -- the first line of one node too many
-  pub many_answer : CutsLine old new left then_left true → (length upto.judged.nodes ≡ most_nodes) × IsNextNode reader.place new.line → IfSome before IsLong
+  pub many_answer : CutsLine old new left then_left true → (length upto.judged.nodes ≡ most_nodes) × IsNextNode reader.place new.line
+      → IfSome before IsLong
   many_answer cut many =
       says_of before (text_of upto.judged.lines) old.held left IsLong upto.parts
       (λ input rest is parts.
       let told : TellsStream old new rest then_left (Line true) = told_of old new left then_left (Line true) rest is cut in
-      inr (too_many input (new.held ++ told.later) (parts ∙ ap (λ bytes. text_of upto.judged.lines ++ bytes) (stream_of old new rest then_left told)) many))
+      inr (too_many input (new.held ++ told.later) (parts
+      ∙ ap (λ bytes. text_of upto.judged.lines ++ bytes) (stream_of old new rest then_left told)) many))
     where
       too_many : (input later : List ℕ) → input ≡ text_of upto.judged.lines ++ (new.line ++ 10 ∷ later)
           → (length upto.judged.nodes ≡ most_nodes) × IsNextNode reader.place new.line → IsTooManyNodes input
@@ -189,10 +200,12 @@ module _ (before : Option (List ℕ)) (reader : TreeReader) (headings : List Hea
 
   -- a node that is not right
   wrong_node : (new_reader : TreeReader) (node : Node) (k : ℕ) → CutsLine old new left then_left true → ¬ HasReadAll new_reader
-      → HasRead new_reader (upto.judged.nodes ++ node ∷ []) (upto.judged.lines ++ new.line ∷ []) → ¬ IsRightNode headings node → k ≡ length headings
+      → HasRead new_reader (upto.judged.nodes ++ node ∷ []) (upto.judged.lines ++ new.line ∷ []) → ¬ IsRightNode headings node
+      → k ≡ length headings
       → IfSome before (λ input. IsNoNode input k)
   wrong_node new_reader node k cut unended reads wrong place =
-      let count : k ≡ length upto.judged.nodes = place ∙ ap length upto.judged.same ∙ length-map upto.judged.nodes (λ (n : Node). n.heading) in
+      let count : k ≡ length upto.judged.nodes = place ∙ ap length upto.judged.same
+      ∙ length-map upto.judged.nodes (λ (n : Node). n.heading) in
       says_of before (text_of upto.judged.lines) old.held left (λ input. IsNoNode input k) upto.parts
       (λ input rest is parts.
       let told : TellsStream old new rest then_left (Line true) = told_of old new left then_left (Line true) rest is cut in
@@ -238,13 +251,16 @@ none_says None P p = p
 none_says (Some x) P p = tt
 
 -- a cut of a line that is ended
-pub ended_cut : (ended : Bool) (old new : Cutter) (left then_left : Option (List ℕ)) → IsTrue ended → CutsLine old new left then_left ended → CutsLine old new left then_left true
+pub ended_cut : (ended : Bool) (old new : Cutter) (left then_left : Option (List ℕ)) → IsTrue ended → CutsLine old new left then_left ended
+    → CutsLine old new left then_left true
 ended_cut true old new left then_left is cut = cut
 ended_cut false old new left then_left is cut = absurd (false≢true is)
 
 -- the answer that names the next line
-pub due_next : (before after : Option (List ℕ)) (rose : Type 0) (reader : TreeReader) (headings : List Heading) (answer : Judgement) → HasJudged reader headings
-    → (lines_fed reader < 2 ^ 64 - 1 → answer ≡ NoText (lines_fed reader + 1)) → IfSome before (λ input. IsNoText input (lines_fed reader + 1))
+pub due_next : (before after : Option (List ℕ)) (rose : Type 0) (reader : TreeReader) (headings : List Heading) (answer : Judgement)
+    → HasJudged reader headings
+    → (lines_fed reader < 2 ^ 64 - 1 → answer ≡ NoText (lines_fed reader + 1))
+    → IfSome before (λ input. IsNoText input (lines_fed reader + 1))
     → IsDue before after rose answer
 due_next before after rose reader headings answer judged says found =
     subst (IsDue before after rose) (sym (says (omega (arith, few_fed reader headings judged)))) found

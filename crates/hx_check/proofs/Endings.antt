@@ -62,13 +62,14 @@ module _ (before : Option (List ℕ)) (reader : TreeReader) (headings : List Hea
 
   -- nothing follows
   pub yes_answer : (root : Heading) → Some root ≡ slice_get headings (length headings - 1) → IsCut old new left then_left Over
-      → IfSome before (λ input. IsYes input root)
+      → IfSome before (λ input. IsYes input root × (then_left ≡ Some []))
   unfolding are
   yes_answer root is cut =
-      says_of before (text_of upto.judged.lines) old.held left (λ input. IsYes input root) upto.parts
+      says_of before (text_of upto.judged.lines) old.held left (λ input. IsYes input root × (then_left ≡ Some [])) upto.parts
       (λ input rest told parts.
-      let none : old.held ++ rest ≡ [] = none_of old new rest then_left (told_of old new left then_left Over rest told cut) in
-      record {
+      let stream : TellsStream old new rest then_left Over = told_of old new left then_left Over rest told cut in
+      let none : old.held ++ rest ≡ [] = none_of old new rest then_left stream in
+      let yes : IsYes input root = record {
         nodes = upto.judged.nodes;
         root = are.1.root.root;
         text = record {
@@ -82,7 +83,8 @@ module _ (before : Option (List ℕ)) (reader : TreeReader) (headings : List Hea
         valid = valid_tree upto.judged.nodes (some_nodes upto.judged.nodes are.1.root.root are.1.root.last) upto.judged.right;
         last = are.1.root.last;
         same = root_heading headings upto.judged.nodes are.1.root.root root upto.judged.same are.1.root.last is;
-      })
+      } in
+      (yes, stream.left ∙ ap Some stream.is.2))
 
   -- a line follows, which no text has
   pub surplus_answer : (ended : Bool) (number : ℕ) → CutsLine old new left then_left ended → number ≡ lines_fed reader + 1

@@ -1,5 +1,5 @@
 -- Judging a text line by line: what is known of the lines and nodes before a line holds again after it.
-use Rattle.std.proofs.Common.{◌≡◌, ℕ, ◌+◌, ◌<◌, ◌^◌, List, [], ◌∷◌, ◌++◌, length, sym, ap, ◌∙◌, arith, length-append, Option}
+use Rattle.std.proofs.Common.{◌≡◌, ℕ, ◌+◌, ◌<◌, ◌^◌, List, [], ◌∷◌, ◌++◌, length, refl, sym, ap, ◌∙◌, arith, length-append, Option}
 use Rattle.std.proofs.lemmas.List.{length-map}
 use Rattle.hx_io.specs.Sources.{prepend}
 use Rattle.hx_io.proofs.SourceLaws.{prepend-nil}
@@ -21,6 +21,11 @@ use Rattle.hx_check.specs.Judging.{AreFaultless}
 use Rattle.hx_check.specs.Standings.{HasJudged, JudgedUpTo, HasReadAll}
 use Rattle.hx_check.proofs.LineCounts.{ended_few}
 use Rattle.hx_check.proofs.Standings.{ended_in, few_nodes}
+
+-- what was judged came first in some input
+abbrev pub judged_in : (reader : TreeReader) (headings : List Heading) (held : List ℕ) (left : Option (List ℕ))
+    → (judged : HasJudged reader headings) → JudgedUpTo (prepend (text_of judged.lines ++ held) left) reader headings held left
+judged_in reader headings held left judged = record { judged = judged; parts = refl }
 
 -- before the first line
 pub judged_nothing : (before : Option (List ℕ)) (reader : TreeReader) (headings : List Heading) (held : List ℕ) → HasRead reader [] []
@@ -52,14 +57,17 @@ pub few_fed : (reader : TreeReader) (headings : List Heading) → HasJudged read
 few_fed reader headings judged =
     omega (arith, judged.counted, ended_few judged.lines judged.nodes (ended_in reader.place judged.nodes judged.lines judged.read judged.few))
 
-pub count_more : (reader : TreeReader) (headings : List Heading) (now : ℕ) (judged : HasJudged reader headings) → now ≡ next_count (lines_fed reader) → now ≡ length judged.lines + 1
+pub count_more : (reader : TreeReader) (headings : List Heading) (now : ℕ) (judged : HasJudged reader headings)
+    → now ≡ next_count (lines_fed reader) → now ≡ length judged.lines + 1
 count_more reader headings now judged is = omega (arith, is, few_fed reader headings judged, judged.counted)
 
-count_with : (reader : TreeReader) (headings : List Heading) (now : ℕ) (line : List ℕ) (judged : HasJudged reader headings) → now ≡ next_count (lines_fed reader)
+count_with : (reader : TreeReader) (headings : List Heading) (now : ℕ) (line : List ℕ) (judged : HasJudged reader headings)
+    → now ≡ next_count (lines_fed reader)
     → now ≡ length (judged.lines ++ line ∷ [])
 count_with reader headings now line judged is = count_more reader headings now judged is ∙ sym (length-append judged.lines (line ∷ []))
 
-module _ (before : Option (List ℕ)) (reader new_reader : TreeReader) (headings : List Heading) (old new : Cutter) (left then_left : Option (List ℕ))
+module _ (before : Option (List ℕ)) (reader new_reader : TreeReader) (headings : List Heading) (old new : Cutter)
+    (left then_left : Option (List ℕ))
     (upto : JudgedUpTo before reader headings old.held left) (cut : CutsLine old new left then_left true)
     (counts : lines_fed new_reader ≡ next_count (lines_fed reader)) where
   with_line : before ≡ prepend (text_of (upto.judged.lines ++ new.line ∷ []) ++ new.held) then_left
@@ -69,7 +77,8 @@ module _ (before : Option (List ℕ)) (reader new_reader : TreeReader) (headings
       ∙ ap (λ bytes. prepend (bytes ++ new.held) then_left) (sym (text_of-append upto.judged.lines (new.line ∷ [])))
 
   -- one more line that is no node's last
-  pub judged_more : HasRead new_reader upto.judged.nodes (upto.judged.lines ++ new.line ∷ []) → JudgedUpTo before new_reader headings new.held then_left
+  pub judged_more : HasRead new_reader upto.judged.nodes (upto.judged.lines ++ new.line ∷ [])
+      → JudgedUpTo before new_reader headings new.held then_left
   judged_more reads = record {
     judged = record {
       nodes = upto.judged.nodes;
@@ -102,7 +111,8 @@ module _ (before : Option (List ℕ)) (reader new_reader : TreeReader) (headings
   }
 
 -- a further node may be judged
-pub room_for_one : (reader new_reader : TreeReader) (headings : List Heading) (node : Node) (lines : List (List ℕ)) (judged : HasJudged reader headings) → ¬ HasReadAll new_reader
+pub room_for_one : (reader new_reader : TreeReader) (headings : List Heading) (node : Node) (lines : List (List ℕ))
+    (judged : HasJudged reader headings) → ¬ HasReadAll new_reader
     → HasRead new_reader (judged.nodes ++ node ∷ []) lines → length headings < most_nodes
 room_for_one reader new_reader headings node lines judged unended reads =
     omega (

@@ -1,12 +1,14 @@
 -- What a run says with each status: each judgement fits its cause alone, since an input that one judgement is true of is not an
 -- input that another is true of.
 use Rattle.std.proofs.Common.{◌≡◌, ℕ, inl, inr, ⊎_elim, List, refl, sym, ap, ◌∙◌, subst, arith}
+use Rattle.std.proofs.lemmas.Option.{IfSome_then}
 use Rattle.std.specs.Prelude.{Option, None, Some, IfSome}
-use Rattle.hx_io.specs.Sinks.{append}
+use Rattle.hx_io.specs.Sources.{Reading, SomeReadFailed}
+use Rattle.hx_io.specs.Sinks.{Writing, SomeWriteFailed, append}
 use Rattle.hx_tree.specs.declared.nodes.Heading.{Heading}
 use Rattle.hx_proof.proofs.TreeSoundness.{root_wins}
 use Rattle.hx_text.proofs.OneFault.{one_tree_fault}
-use Rattle.hx_answers.specs.Endings.{IsUnlessStopped, AnswersUnlessStopped}
+use Rattle.hx_answers.specs.Endings.{IsUnlessStopped, AnswersUnlessStopped, IsReadToEnd}
 use Rattle.hx_check.specs.declared.judgements.Judgement.{Judgement}
 use Rattle.hx_check.specs.declared.judgements.Judgement.TheVariants.{Yes, NoText, NoNode, ReadFault, OutOfMemory, TooLong}
 use Rattle.hx_check.specs.Judging.{IsYes, IsNoText, IsNoNode, IsLongLine, IsTooManyNodes, ReadsNoFault}
@@ -31,9 +33,10 @@ says_yes input root taken_before taken_now is output = record {
 -- ---- what a judgement says of an input that the source tells
 
 module _ (input : List ℕ) (after : Option (List ℕ)) (rose : Type 0) where
-  yes_of : (judgement : Judgement) (taken_before taken_now : Option (List ℕ)) → status_of judgement ≡ 0 → IsDue (Some input) after rose judgement
+  yes_of : (judgement : Judgement) (taken_before taken_now : Option (List ℕ)) → status_of judgement ≡ 0
+      → IsDue (Some input) after rose judgement
       → taken_now ≡ append taken_before (judgement_text judgement) → SaysYes input taken_before taken_now
-  yes_of (Yes root) before now zero due written = says_yes input root before now due written
+  yes_of (Yes root) before now zero due written = says_yes input root before now due.0 written
   yes_of (NoText line) before now zero due written = absurd (omega arith)
   yes_of (NoNode node) before now zero due written = absurd (omega arith)
   yes_of ReadFault before now zero due written = absurd (omega arith)
@@ -47,26 +50,30 @@ module _ (input : List ℕ) (after : Option (List ℕ)) (rose : Type 0) where
   proof_of ReadFault proof due = inr (inl refl)
   proof_of OutOfMemory proof due = inr (inr (inr refl))
   proof_of TooLong proof due =
-      absurd (⊎_elim (λ long. long_not_text input proof.nodes long proof.text) (λ many. text_not_many input proof.nodes proof.text proof.few many) due)
+      absurd (⊎_elim (λ long. long_not_text input proof.nodes long proof.text)
+      (λ many. text_not_many input proof.nodes proof.text proof.few many) due)
 
-  no_proof_of : (judgement : Judgement) → ¬ IsLong input → IsNoProof input → IsDue (Some input) after rose judgement → IsUnlessStopped (status_of judgement) 1
-  no_proof_of (Yes root) within none due = let yes : IsYes input root = due in absurd (none yes.nodes yes.text yes.valid)
+  no_proof_of : (judgement : Judgement) → ¬ IsLong input → IsNoProof input → IsDue (Some input) after rose judgement
+      → IsUnlessStopped (status_of judgement) 1
+  no_proof_of (Yes root) within none due = let yes : IsYes input root = due.0 in absurd (none yes.nodes yes.text yes.valid)
   no_proof_of (NoText line) within none due = inl refl
   no_proof_of (NoNode node) within none due = inl refl
   no_proof_of ReadFault within none due = inr (inl refl)
   no_proof_of OutOfMemory within none due = inr (inr (inr refl))
   no_proof_of TooLong within none due = absurd (within due)
 
-  many_of : (judgement : Judgement) → IsTooManyNodes input → IsDue (Some input) after rose judgement → IsUnlessStopped (status_of judgement) 8
-  many_of (Yes root) many due = let yes : IsYes input root = due in absurd (text_not_many input yes.nodes yes.text yes.few many)
+  many_of : (judgement : Judgement) → IsTooManyNodes input → IsDue (Some input) after rose judgement
+      → IsUnlessStopped (status_of judgement) 8
+  many_of (Yes root) many due = let yes : IsYes input root = due.0 in absurd (text_not_many input yes.nodes yes.text yes.few many)
   many_of (NoText line) many due = absurd (many_not_fault input line many due)
   many_of (NoNode node) many due = absurd (many_not_wrong input node many due)
   many_of ReadFault many due = inr (inl refl)
   many_of OutOfMemory many due = inr (inr (inr refl))
   many_of TooLong many due = inl refl
 
-  line_too_long : (judgement : Judgement) → IsLongLine input → IsDue (Some input) after rose judgement → IsUnlessStopped (status_of judgement) 8
-  line_too_long (Yes root) long due = let yes : IsYes input root = due in absurd (long_not_text input yes.nodes long yes.text)
+  line_too_long : (judgement : Judgement) → IsLongLine input → IsDue (Some input) after rose judgement
+      → IsUnlessStopped (status_of judgement) 8
+  line_too_long (Yes root) long due = let yes : IsYes input root = due.0 in absurd (long_not_text input yes.nodes long yes.text)
   line_too_long (NoText line) long due = absurd (long_not_fault input line long due)
   line_too_long (NoNode node) long due = absurd (long_not_node input node long due)
   line_too_long ReadFault long due = inr (inl refl)
@@ -88,9 +95,10 @@ module _ (input : List ℕ) (after : Option (List ℕ)) (rose : Type 0) where
 
   module _ (before now : Option (List ℕ)) where
     line_of : (judgement : Judgement) (line : ℕ) → now ≡ append before (judgement_text judgement)
-        → IsNoText input line → IsDue (Some input) after rose judgement → AnswersUnlessStopped (no_text_line line) 1 before now (status_of judgement)
+        → IsNoText input line → IsDue (Some input) after rose judgement
+        → AnswersUnlessStopped (no_text_line line) 1 before now (status_of judgement)
     line_of (Yes root) line written text due =
-        let yes : IsYes input root = due in absurd (text_not_fault input yes.nodes line yes.text text)
+        let yes : IsYes input root = due.0 in absurd (text_not_fault input yes.nodes line yes.text text)
     line_of (NoText other) line written text due =
         let found : IsNoText input other = due in
         inl (refl, written ∙ ap (λ (n : ℕ). append before (no_text_line n)) (one_tree_fault input other line found.fault text.fault))
@@ -100,9 +108,10 @@ module _ (input : List ℕ) (after : Option (List ℕ)) (rose : Type 0) where
     line_of TooLong line written text due = absurd (long_not_line line due text)
 
     node_of : (judgement : Judgement) (k : ℕ) → now ≡ append before (judgement_text judgement)
-        → IsNoNode input k → IsDue (Some input) after rose judgement → AnswersUnlessStopped (no_node_line k) 1 before now (status_of judgement)
+        → IsNoNode input k → IsDue (Some input) after rose judgement
+        → AnswersUnlessStopped (no_node_line k) 1 before now (status_of judgement)
     node_of (Yes root) k written node due =
-        let yes : IsYes input root = due in absurd (valid_not_wrong input yes.nodes k yes.text yes.valid node)
+        let yes : IsYes input root = due.0 in absurd (valid_not_wrong input yes.nodes k yes.text yes.valid node)
     node_of (NoText line) k written node due = absurd (text_not_node input line k due node)
     node_of (NoNode other) k written node due =
         inl (refl, written ∙ ap (λ (n : ℕ). append before (no_node_line n)) (one_node input other k due node))
@@ -113,7 +122,8 @@ module _ (input : List ℕ) (after : Option (List ℕ)) (rose : Type 0) where
 -- ---- what a status says of what was left, whatever the judgement
 
 module _ (after : Option (List ℕ)) (rose : Type 0) where
-  wrong_of : (before : Option (List ℕ)) (judgement : Judgement) → status_of judgement ≡ 1 → IsDue before after rose judgement → IfSome before IsNoProof
+  wrong_of : (before : Option (List ℕ)) (judgement : Judgement) → status_of judgement ≡ 1 → IsDue before after rose judgement
+      → IfSome before IsNoProof
   wrong_of None judgement one due = tt
   wrong_of (Some input) (Yes root) one due = absurd (omega arith)
   wrong_of (Some input) (NoText line) one due = λ nodes text valid. text_not_fault input nodes line text due
@@ -122,7 +132,8 @@ module _ (after : Option (List ℕ)) (rose : Type 0) where
   wrong_of (Some input) OutOfMemory one due = absurd (omega arith)
   wrong_of (Some input) TooLong one due = absurd (omega arith)
 
-  too_long_of : (before : Option (List ℕ)) (judgement : Judgement) → status_of judgement ≡ 8 → IsDue before after rose judgement → IfSome before IsLong
+  too_long_of : (before : Option (List ℕ)) (judgement : Judgement) → status_of judgement ≡ 8 → IsDue before after rose judgement
+      → IfSome before IsLong
   too_long_of before (Yes root) eight due = absurd (omega arith)
   too_long_of before (NoText line) eight due = absurd (omega arith)
   too_long_of before (NoNode node) eight due = absurd (omega arith)
@@ -130,7 +141,17 @@ module _ (after : Option (List ℕ)) (rose : Type 0) where
   too_long_of before OutOfMemory eight due = absurd (omega arith)
   too_long_of before TooLong eight due = due
 
-  read_fault_of : (before : Option (List ℕ)) (judgement : Judgement) → status_of judgement ≡ 5 → IsDue before after rose judgement → rose × ReadsNoFault before after
+  read_to_end_of : (before : Option (List ℕ)) (judgement : Judgement) → status_of judgement ≡ 0 → IsDue before after rose judgement
+      → IsReadToEnd before after
+  read_to_end_of before (Yes root) zero due = IfSome_then before due (λ input is. is.1)
+  read_to_end_of before (NoText line) zero due = absurd (omega arith)
+  read_to_end_of before (NoNode node) zero due = absurd (omega arith)
+  read_to_end_of before ReadFault zero due = absurd (omega arith)
+  read_to_end_of before OutOfMemory zero due = absurd (omega arith)
+  read_to_end_of before TooLong zero due = absurd (omega arith)
+
+  read_fault_of : (before : Option (List ℕ)) (judgement : Judgement) → status_of judgement ≡ 5 → IsDue before after rose judgement
+      → rose × ReadsNoFault before after
   read_fault_of before (Yes root) five due = absurd (omega arith)
   read_fault_of before (NoText line) five due = absurd (omega arith)
   read_fault_of before (NoNode node) five due = absurd (omega arith)
@@ -147,7 +168,8 @@ status_of_check OutOfMemory = inr (omega arith, omega arith)
 status_of_check TooLong = inr (omega arith, omega arith)
 
 -- each clause of an input that the source tells
-of_input : (before after : Option (List ℕ)) (rose : Type 0) (judgement : Judgement) (Says : List ℕ → Type 0) → IsDue before after rose judgement
+of_input : (before after : Option (List ℕ)) (rose : Type 0) (judgement : Judgement) (Says : List ℕ → Type 0)
+    → IsDue before after rose judgement
     → ((input : List ℕ) → IsDue (Some input) after rose judgement → Says input) → IfSome before Says
 of_input None after rose judgement Says due says = tt
 of_input (Some input) after rose judgement Says due says = says input due
@@ -165,43 +187,60 @@ status_not_6 ReadFault six = omega arith
 status_not_6 OutOfMemory six = omega arith
 status_not_6 TooLong six = omega arith
 
-kept_of : (left after : Option (List ℕ)) (rose sink_rose : Type 0) (judgement : Judgement) (before now : Option (List ℕ))
-    → IsDue left after rose judgement → now ≡ append before (judgement_text judgement)
-    → KeepsPromises left after rose before now sink_rose (status_of judgement)
-kept_of left after rose sink_rose judgement before now due written = record {
-  yes = λ zero. of_input left after rose judgement _ due (λ input is. yes_of input after rose judgement before now zero is written);
-  proof = of_input left after rose judgement _ due (λ input is proof. proof_of input after rose judgement proof is);
-  no_proof = of_input left after rose judgement _ due (λ input is within none. no_proof_of input after rose judgement within none is);
-  wrong = λ one. wrong_of after rose left judgement one due;
-  no_text = of_input left after rose judgement _ due (λ input is line text. line_of input after rose before now judgement line written text is);
-  no_node = of_input left after rose judgement _ due (λ input is node wrong. node_of input after rose before now judgement node written wrong is);
-  long = of_input left after rose judgement _ due (λ input is long. long_of input after rose judgement long is);
-  too_long = λ eight. too_long_of after rose left judgement eight due;
-  read_fault = λ five. read_fault_of after rose left judgement five due;
-  write_fault = λ six. absurd (status_not_6 judgement six);
-  none_else = status_of_check judgement;
-}
+-- ---- the promises, by how a judgement was written
 
--- the judgement was written whole
-pub kept_whole : (left after : Option (List ℕ)) (rose sink_rose : Type 0) (judgement : Judgement) (before now : Option (List ℕ)) (status : ℕ)
-    → status ≡ status_of judgement → IsDue left after rose judgement → now ≡ append before (judgement_text judgement)
-    → KeepsPromises left after rose before now sink_rose status
-kept_whole left after rose sink_rose judgement before now status same due written =
-    subst (KeepsPromises left after rose before now sink_rose) (sym same) (kept_of left after rose sink_rose judgement before now due written)
+module _ (source source_now : Reading) (sink sink_now : Writing) where
+  abbrev FailedHere : Type 0
+  FailedHere = SomeReadFailed source source_now
 
--- the sink failed before it took all of a judgement
-pub kept_cut : (left after : Option (List ℕ)) (rose sink_rose : Type 0) (before now : Option (List ℕ)) → sink_rose
-    → KeepsPromises left after rose before now sink_rose 6
-kept_cut left after rose sink_rose before now failed = record {
-  yes = λ zero. absurd (omega (arith, zero));
-  proof = of_any left _ (λ input proof. inr (inr (inl refl)));
-  no_proof = of_any left _ (λ input within none. inr (inr (inl refl)));
-  wrong = λ one. absurd (omega (arith, one));
-  no_text = of_any left _ (λ input line text. inr (inr (inl refl)));
-  no_node = of_any left _ (λ input node wrong. inr (inr (inl refl)));
-  long = of_any left _ (λ input long. inr (inr (inl refl)));
-  too_long = λ eight. absurd (omega (arith, eight));
-  read_fault = λ five. absurd (omega (arith, five));
-  write_fault = λ is. failed;
-  none_else = inr (omega arith, omega arith);
-}
+  abbrev IsDueHere : Judgement → Type 0
+  IsDueHere judgement = IsDue source.left source_now.left FailedHere judgement
+
+  -- each clause of an input that the source tells
+  told : (judgement : Judgement) (Says : List ℕ → Type 0) → IsDueHere judgement
+      → ((input : List ℕ) → IsDue (Some input) source_now.left FailedHere judgement → Says input)
+      → IfSome source.left Says
+  told judgement Says due says =
+      of_input source.left source_now.left FailedHere judgement Says due says
+
+  -- the judgement was written whole
+  kept_of : (judgement : Judgement) → IsDueHere judgement → sink_now.taken ≡ append sink.taken (judgement_text judgement)
+      → KeepsPromises source source_now sink sink_now (status_of judgement)
+  kept_of judgement due written = record {
+    yes = λ zero. told judgement _ due (λ input is. yes_of input source_now.left FailedHere judgement sink.taken sink_now.taken zero is written);
+    read_to_end = λ zero. read_to_end_of source_now.left FailedHere source.left judgement zero due;
+    proof = told judgement _ due (λ input is proof. proof_of input source_now.left FailedHere judgement proof is);
+    no_proof = told judgement _ due (λ input is within none. no_proof_of input source_now.left FailedHere judgement within none is);
+    wrong = λ one. wrong_of source_now.left FailedHere source.left judgement one due;
+    no_text = told judgement _ due
+        (λ input is line text. line_of input source_now.left FailedHere sink.taken sink_now.taken judgement line written text is);
+    no_node = told judgement _ due
+        (λ input is node wrong. node_of input source_now.left FailedHere sink.taken sink_now.taken judgement node written wrong is);
+    long = told judgement _ due (λ input is long. long_of input source_now.left FailedHere judgement long is);
+    too_long = λ eight. too_long_of source_now.left FailedHere source.left judgement eight due;
+    read_fault = λ five. read_fault_of source_now.left FailedHere source.left judgement five due;
+    write_fault = λ six. absurd (status_not_6 judgement six);
+    none_else = status_of_check judgement;
+  }
+
+  pub kept_whole : (judgement : Judgement) (status : ℕ) → status ≡ status_of judgement → IsDueHere judgement
+      → sink_now.taken ≡ append sink.taken (judgement_text judgement) → KeepsPromises source source_now sink sink_now status
+  kept_whole judgement status same due written =
+      subst (KeepsPromises source source_now sink sink_now) (sym same) (kept_of judgement due written)
+
+  -- the sink failed before it took all of a judgement
+  pub kept_cut : SomeWriteFailed sink sink_now → KeepsPromises source source_now sink sink_now 6
+  kept_cut failed = record {
+    yes = λ zero. absurd (omega (arith, zero));
+    read_to_end = λ zero. absurd (omega (arith, zero));
+    proof = of_any source.left _ (λ input proof. inr (inr (inl refl)));
+    no_proof = of_any source.left _ (λ input within none. inr (inr (inl refl)));
+    wrong = λ one. absurd (omega (arith, one));
+    no_text = of_any source.left _ (λ input line text. inr (inr (inl refl)));
+    no_node = of_any source.left _ (λ input node wrong. inr (inr (inl refl)));
+    long = of_any source.left _ (λ input long. inr (inr (inl refl)));
+    too_long = λ eight. absurd (omega (arith, eight));
+    read_fault = λ five. absurd (omega (arith, five));
+    write_fault = λ is. failed;
+    none_else = inr (omega arith, omega arith);
+  }

@@ -1,13 +1,16 @@
 -- What is said of an input, and when.
-use Rattle.std.specs.Prelude.{◌⊎◌, ℕ, ◌≤◌, List, [], ◌∷◌, ◌++◌, codes, Option, IfSome}
+use Rattle.std.specs.Prelude.{◌≡◌, ◌⊎◌, ℕ, ◌≤◌, List, [], ◌∷◌, ◌++◌, codes, Option, Some, IfSome}
+use Rattle.hx_io.specs.Sources.{Reading, SomeReadFailed}
+use Rattle.hx_io.specs.Sinks.{Writing}
 use Rattle.hx_board.specs.declared.colours.Colour.{Colour}
 use Rattle.hx_tree.specs.declared.nodes.Heading.{Heading}
 use Rattle.hx_text.specs.Words.{colour_word}
 use Rattle.hx_text.specs.PositionTexts.{position_text}
-use Rattle.hx_answers.specs.Texts.{counted_text}
+use Rattle.hx_answers.specs.Texts.{counted_text, read_fault_line, out_of_memory_line, too_long_line}
 use Rattle.hx_answers.specs.Endings.{IsWritten}
 use Rattle.hx_check.specs.declared.judgements.Judgement.{Judgement}
-use Rattle.hx_check.specs.declared.judgements.Judgement.TheVariants.{Yes, NoText, NoNode, ReadFault, OutOfMemory, TooLong}
+use Rattle.hx_check.specs.declared.judgements.Judgement.TheVariants.{Yes, NoText, NoNode, ReadFault, OutOfMemory}
+use Rattle.hx_check.specs.declared.judgements.Judgement.TheVariants.{TooLong}
 use Rattle.hx_check.specs.Judging.{IsYes, IsNoText, IsNoNode, IsLongLine, IsTooManyNodes, ReadsNoFault}
 
 -- the line that names a winner
@@ -31,9 +34,9 @@ abbrev pub judgement_text : Judgement → List ℕ
 judgement_text (Yes root) = yes_text root
 judgement_text (NoText line) = no_text_line line
 judgement_text (NoNode node) = no_node_line node
-judgement_text ReadFault = codes "read fault\n"
-judgement_text OutOfMemory = codes "out of memory\n"
-judgement_text TooLong = codes "too long\n"
+judgement_text ReadFault = read_fault_line
+judgement_text OutOfMemory = out_of_memory_line
+judgement_text TooLong = too_long_line
 
 -- the exit status that tells each judgement, where it was written whole
 abbrev pub status_of : Judgement → ℕ
@@ -44,14 +47,14 @@ status_of ReadFault = 5
 status_of OutOfMemory = 7
 status_of TooLong = 8
 
--- the input is above a limit before its first fault: a line has more bytes than a line may have, or there are more nodes than a
--- text may have
+-- the input is above a limit before its first fault: a line has more bytes than a line may have, or there are more
+-- nodes than a text may have
 abbrev pub IsLong : List ℕ → Type 0
 IsLong input = IsLongLine input ⊎ IsTooManyNodes input
 
 -- When each judgement comes: what the source had left before and has left, and whether its faults rose.
 abbrev pub IsDue : Option (List ℕ) → Option (List ℕ) → Type 0 → Judgement → Type 0
-IsDue before after rose (Yes root) = IfSome before (λ input. IsYes input root)
+IsDue before after rose (Yes root) = IfSome before (λ input. IsYes input root × (after ≡ Some []))
 IsDue before after rose (NoText line) = IfSome before (λ input. IsNoText input line)
 IsDue before after rose (NoNode node) = IfSome before (λ input. IsNoNode input node)
 IsDue before after rose ReadFault = rose × ReadsNoFault before after
@@ -63,8 +66,7 @@ abbrev pub IsCheckStatus : ℕ → Type 0
 IsCheckStatus status = (status ≤ 1) ⊎ ((5 ≤ status) × (status ≤ 8))
 
 -- A run of the command: some judgement is due, and it was written.
-pub record IsCheckRun (left_before left_now : Option (List ℕ)) (source_rose : Type 0)
-    (taken_before taken_now : Option (List ℕ)) (sink_rose : Type 0) (status : ℕ) : Type 0 where
+pub record IsCheckRun (source source_now : Reading) (sink sink_now : Writing) (status : ℕ) : Type 0 where
   pub judgement : Judgement
-  pub due : IsDue left_before left_now source_rose judgement
-  pub written : IsWritten taken_before taken_now sink_rose (judgement_text judgement) (status_of judgement) status
+  pub due : IsDue source.left source_now.left (SomeReadFailed source source_now) judgement
+  pub written : IsWritten sink sink_now (judgement_text judgement) (status_of judgement) status

@@ -9,7 +9,8 @@ use Rattle.hx_tree.specs.declared.nodes.Node.{Node}
 use Rattle.hx_tree.specs.Trees.{AreRight, IsValidTree, IsRoot, IsLeastWrong}
 use Rattle.hx_text.specs.declared.versions.Preamble.{Preamble}
 use Rattle.hx_text.specs.Grammars.{text_of, Begins, IsFaultyLine}
-use Rattle.hx_text.specs.TreeTexts.{AreTreeLines, AreTreeLinesOf, IsTreeText, NodeFits, EachNodeFits, head_of, head_line, node_lines, front_lines}
+use Rattle.hx_text.specs.TreeTexts.{AreTreeLines, AreTreeLinesOf, IsTreeText, NodeFits, EachNodeFits, head_of}
+use Rattle.hx_text.specs.TreeTexts.{head_line, node_lines, front_lines}
 use Rattle.hx_text.specs.Places.{most_nodes}
 use Rattle.hx_check.specs.Limits.{BeginsLong}
 
@@ -20,9 +21,11 @@ pub data EndedIn (lines : List (List ℕ)) (nodes : List Node) : Type 0 where
       → length nodes ≤ most_nodes → lines ≡ front_lines preamble ++ flat_map node_lines nodes → EndedIn lines nodes
   -- a further node has begun and has not all of its lines
   Inside_node : (preamble : Preamble) → IsExtent preamble.size.rows preamble.size.cols → EachNodeFits preamble nodes
-      → length nodes < most_nodes → (node : Node) → NodeFits preamble node → (part rest : List (List ℕ)) → node_lines node ≡ part ++ rest → rest ≢ []
+      → length nodes < most_nodes → (node : Node) → NodeFits preamble node → (part rest : List (List ℕ))
+      → node_lines node ≡ part ++ rest → rest ≢ []
       → lines ≡ (front_lines preamble ++ flat_map node_lines nodes) ++ part → EndedIn lines nodes
-  After_end : (preamble : Preamble) (winner : Colour) → AreTreeLinesOf preamble nodes winner lines → length nodes ≤ most_nodes
+  After_end : (preamble : Preamble) (winner : Colour) → AreTreeLinesOf preamble nodes winner lines
+      → length nodes ≤ most_nodes
       → EndedIn lines nodes
 
 -- the input is the text of a valid tree with this root
@@ -35,8 +38,8 @@ pub record IsYes (input : List ℕ) (heading : Heading) : Type 0 where
   pub last : IsRoot nodes root
   pub same : heading ≡ root.heading
 
--- this line is the first that is not of the grammar in its place, it is no longer than a line may be, and each node that ended
--- before it is right
+-- this line is the first that is not of the grammar in its place, it is no longer than a line may be, and each node
+-- that ended before it is right
 pub record IsNoText (input : List ℕ) (line : ℕ) : Type 0 where
   pub fault : IsFaultyLine AreTreeLines input line
   pub nodes : List Node
@@ -66,7 +69,8 @@ pub record IsTooManyNodes (input : List ℕ) : Type 0 where
   pub next : Node
   pub next_fits : NodeFits preamble next
   pub rest : List ℕ
-  pub parts : input ≡ text_of (front_lines preamble ++ flat_map node_lines nodes ++ head_line (head_of next) ∷ []) ++ rest
+  pub parts : input
+      ≡ text_of (front_lines preamble ++ flat_map node_lines nodes ++ head_line (head_of next) ∷ []) ++ rest
 
 -- these lines have no fault: they begin the text of a tree, and the nodes that ended in them are right
 pub record AreFaultless (lines : List (List ℕ)) : Type 0 where

@@ -12,7 +12,8 @@ use Rattle.hx_text.specs.Grammars.{text_of}
 use Rattle.hx_text.specs.Places.{most_nodes, IsAfter}
 use Rattle.hx_text.specs.Reader.{HasRead, lines_fed}
 use Rattle.hx_check.specs.declared.judgements.Judgement.{Judgement}
-use Rattle.hx_check.specs.declared.judgements.Judgement.TheVariants.{Yes, NoText, NoNode, ReadFault, OutOfMemory, TooLong}
+use Rattle.hx_check.specs.declared.judgements.Judgement.TheVariants.{Yes, NoText, NoNode, ReadFault, OutOfMemory}
+use Rattle.hx_check.specs.declared.judgements.Judgement.TheVariants.{TooLong}
 
 -- The reader was fed with some lines, the nodes that ended in them are right, and these are their headings.
 pub record HasJudged (reader : TreeReader) (headings : List Heading) : Type 0 where
@@ -25,7 +26,8 @@ pub record HasJudged (reader : TreeReader) (headings : List Heading) : Type 0 wh
   pub same : headings ≡ headings_of nodes
 
 -- These lines came first in the input; behind them some bytes are held, and then the source has the others.
-pub record JudgedUpTo (before : Option (List ℕ)) (reader : TreeReader) (headings : List Heading) (held : List ℕ) (left : Option (List ℕ)) : Type 0 where
+pub record JudgedUpTo (before : Option (List ℕ)) (reader : TreeReader) (headings : List Heading) (held : List ℕ)
+    (left : Option (List ℕ)) : Type 0 where
   pub judged : HasJudged reader headings
   pub parts : before ≡ prepend (text_of judged.lines ++ held) left
 

@@ -1,6 +1,5 @@
 //! The whole command, from the bytes that come in to the exit status.
 
-ghost use Rattle.hx_io.specs.Causes.{Rose};
 ghost use Rattle.hx_check.specs.Judgements.{IsCheckRun};
 ghost use Rattle.hx_check.specs.Promises.{KeepsPromises};
 
@@ -18,15 +17,13 @@ use std::alloc::Global;
 pub fn run_check<S: Source, K: Sink>(alloc: Global, source: &mut S, sink: &mut K) -> u8
     // Some judgement is due, and it was written whole, or the sink failed before it took all of it.
     ensures run { IsCheckRun
-        (S.left source.old) (S.left source.new) (Rose (S.faults source.old) (S.faults source.new))
-        (K.taken sink.old) (K.taken sink.new) (Rose (K.faults sink.old) (K.faults sink.new))
-        result }
+        (S.reading source.old) (S.reading source.new)
+        (K.writing sink.old) (K.writing sink.new) result }
 
     // With status 0 the player that is named wins and the other does not; each input gets its answer; each fault has its cause.
     ensures promises { KeepsPromises
-        (S.left source.old) (S.left source.new) (Rose (S.faults source.old) (S.faults source.new))
-        (K.taken sink.old) (K.taken sink.new) (Rose (K.faults sink.old) (K.faults sink.new))
-        result }
+        (S.reading source.old) (S.reading source.new)
+        (K.writing sink.old) (K.writing sink.new) result }
 {
     let judgement = judge(alloc, source);
     match write_judgement(sink, &judgement) {

@@ -3,8 +3,8 @@
 
 ghost use Rattle.std.specs.Prelude.{◌≡◌, ◌+◌, ◌-◌, ◌^◌, ◌<◌, ◌≤◌, ℕ, true, List, Option, length, MatchOption};
 ghost use Rattle.std.specs.Option.{IfNone};
-ghost use Rattle.hx_io.specs.Causes.{Rose, next_count};
-ghost use Rattle.hx_io.specs.Sources.{IsAtEnd};
+ghost use Rattle.hx_io.specs.Causes.{next_count};
+ghost use Rattle.hx_io.specs.Sources.{IsAtEnd, SomeReadFailed};
 ghost use Rattle.hx_text.specs.Places.{most_nodes};
 ghost use Rattle.hx_text.specs.Reader.{lines_fed};
 ghost use Rattle.hx_check.specs.Judgements.{IsDue};
@@ -20,8 +20,8 @@ use std::alloc::Global;
 
 /// What is to be said of the input that a source gives.
 pub(crate) fn judge<S: Source>(alloc: Global, source: &mut S) -> Judgement
-    ensures { IsDue (S.left source.old) (S.left source.new)
-        (Rose (S.faults source.old) (S.faults source.new)) result }
+    ensures { IsDue (S.reading source.old).left (S.reading source.new).left
+        (SomeReadFailed (S.reading source.old) (S.reading source.new)) result }
 {
     let mut cutter = LineCutter::new();
     let mut reader = TreeReader::new(alloc);
@@ -42,18 +42,19 @@ fn judge_line<S: Source>(
     reader: &mut TreeReader,
     checker: &mut Checker,
 ) -> Option<Judgement>
-    requires met_end { cutter.old.met_end ≡ true → IsAtEnd (S.left source.old) }
+    requires met_end { cutter.old.met_end ≡ true → IsAtEnd (S.reading source.old).left }
     requires judged { HasJudged reader.old checker.old }
     requires unended { ¬ HasReadAll reader.old }
-    ensures met_end { cutter.new.met_end ≡ true → IsAtEnd (S.left source.new) }
+    ensures met_end { cutter.new.met_end ≡ true → IsAtEnd (S.reading source.new).left }
     ensures step { (before : Option (List ℕ))
-        → JudgedUpTo before reader.old checker.old cutter.old.held (S.left source.old)
+        → JudgedUpTo before reader.old checker.old cutter.old.held (S.reading source.old).left
         → MatchOption result
-        (JudgedUpTo before reader.new checker.new cutter.new.held (S.left source.new))
-        (IsDue before (S.left source.new) (Rose (S.faults source.old) (S.faults source.new))) }
+        (JudgedUpTo before reader.new checker.new cutter.new.held (S.reading source.new).left)
+        (IsDue before (S.reading source.new).left
+        (SomeReadFailed (S.reading source.old) (S.reading source.new))) }
     ensures unended { IfNone result (¬ HasReadAll reader.new) }
     ensures counted { IfNone result (lines_fed reader.new ≡ next_count (lines_fed reader.old)) }
-    ensures later { S.faults source.old ≤ S.faults source.new }
+    ensures later { (S.reading source.old).faults ≤ (S.reading source.new).faults }
 {
     match cutter.next(source) {
         Ok(Cut::Line { ended }) => match reader.feed(cutter.line(), ended) {
@@ -91,20 +92,21 @@ fn at_end<S: Source>(
     reader: &TreeReader,
     checker: &Checker,
 ) -> Judgement
-    requires met_end { cutter.old.met_end ≡ true → IsAtEnd (S.left source.old) }
-    ensures met_end { cutter.new.met_end ≡ true → IsAtEnd (S.left source.new) }
+    requires met_end { cutter.old.met_end ≡ true → IsAtEnd (S.reading source.old).left }
+    requires judged { HasJudged reader.now checker.now }
+    requires whole { HasReadAll reader.now }
+    ensures met_end { cutter.new.met_end ≡ true → IsAtEnd (S.reading source.new).left }
     ensures due { (before : Option (List ℕ))
-        → JudgedUpTo before reader.now checker.now cutter.old.held (S.left source.old)
-        → HasReadAll reader.now
-        → IsDue before (S.left source.new)
-        (Rose (S.faults source.old) (S.faults source.new)) result }
-    ensures later { S.faults source.old ≤ S.faults source.new }
+        → JudgedUpTo before reader.now checker.now cutter.old.held (S.reading source.old).left
+        → IsDue before (S.reading source.new).left
+        (SomeReadFailed (S.reading source.old) (S.reading source.new)) result }
+    ensures later { (S.reading source.old).faults ≤ (S.reading source.new).faults }
 {
     match cutter.next(source) {
         Ok(Cut::Over) => match checker.root() {
             Some(root) => Judgement::Yes { root },
             // A whole text has a node.
-            None => next_line_is_wrong(reader),
+            None => unreachable!(),
         },
         Ok(Cut::Line { .. }) => next_line_is_wrong(reader),
         Ok(Cut::TooLong) => Judgement::TooLong,

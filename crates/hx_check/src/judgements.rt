@@ -1,11 +1,13 @@
 //! What is said of an input: the text that is written for it, and the exit status that tells it.
 
 ghost use Rattle.std.specs.Prelude.{◌≡◌};
-ghost use Rattle.hx_io.specs.Causes.{HasCause};
-ghost use Rattle.hx_io.specs.Sinks.{TakesAll};
+ghost use Rattle.hx_io.specs.Sinks.{WritesAll};
 ghost use Rattle.hx_check.specs.Judgements.{status_of, judgement_text, yes_line, yes_text};
 
-use hx_answers::{OUT_OF_MEMORY, READ_FAULT, write_counted};
+use hx_answers::{
+    OUT_OF_MEMORY, READ_FAULT, TOO_LONG, write_counted, write_out_of_memory, write_read_fault,
+    write_too_long,
+};
 use hx_board::Colour;
 use hx_io::{Failed, Sink, write_all};
 use hx_text::write_position;
@@ -38,31 +40,29 @@ impl Judgement {
             Judgement::NoText { .. } | Judgement::NoNode { .. } => 1,
             Judgement::ReadFault => READ_FAULT,
             Judgement::OutOfMemory => OUT_OF_MEMORY,
-            Judgement::TooLong => 8,
+            Judgement::TooLong => TOO_LONG,
         }
     }
 }
 
 /// Writes a judgement.
 pub(crate) fn write_judgement<K: Sink>(sink: &mut K, judgement: &Judgement) -> Result<(), Failed>
-    ensures bytes { TakesAll (K.taken sink.old) (K.taken sink.new) result
+    ensures { WritesAll (K.writing sink.old) (K.writing sink.new) result
         (judgement_text judgement.now) }
-    ensures cause { HasCause (K.faults sink.old) (K.faults sink.new) result }
 {
     match judgement {
         Judgement::Yes { root } => write_yes(sink, root),
         Judgement::NoText { line } => write_counted(sink, b"no text ", *line),
         Judgement::NoNode { node } => write_counted(sink, b"no node ", *node),
-        Judgement::ReadFault => write_all(sink, b"read fault\n"),
-        Judgement::OutOfMemory => write_all(sink, b"out of memory\n"),
-        Judgement::TooLong => write_all(sink, b"too long\n"),
+        Judgement::ReadFault => write_read_fault(sink),
+        Judgement::OutOfMemory => write_out_of_memory(sink),
+        Judgement::TooLong => write_too_long(sink),
     }
 }
 
 /// Writes the winner of a root, and its position and mover.
 fn write_yes<K: Sink>(sink: &mut K, root: &Heading) -> Result<(), Failed>
-    ensures bytes { TakesAll (K.taken sink.old) (K.taken sink.new) result (yes_text root.now) }
-    ensures cause { HasCause (K.faults sink.old) (K.faults sink.new) result }
+    ensures { WritesAll (K.writing sink.old) (K.writing sink.new) result (yes_text root.now) }
 {
     match write_all(sink, yes_line(root.winner)) {
         Ok(()) => write_position(sink, &root.position, root.to_move),

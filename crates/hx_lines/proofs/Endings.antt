@@ -1,7 +1,7 @@
 -- How a service ends, from how it stands before a line: one lemma an end.
 -- What the next cut tells of a told input (`tells_next`) gives the lines up to the one that asks to quit, or those before a limit; what
 -- ran is then an answer to the input.
-use Rattle.std.proofs.Common.{◌≤◌, ◌≡◌, ℕ, ◌+◌, ◌<◌, suc, Bool, true, false, cond, ◌||◌, not, List, [], ◌∷◌, ◌++◌, length, Option, Some}
+use Rattle.std.proofs.Common.{◌≤◌, ◌≡◌, ◌≢◌, ℕ, ◌+◌, ◌<◌, suc, Bool, true, false, cond, ◌||◌, not, List, [], ◌∷◌, ◌++◌, length, Option, Some}
 use Rattle.std.proofs.Common.{None, refl, sym, ap, ◌∙◌, subst, append_assoc, append-nil, length-append, arith}
 use Rattle.std.proofs.lemmas.Option.{IfSome_then}
 use Rattle.std.proofs.lemmas.List.Elements.{All-push, All-tail}
@@ -11,6 +11,7 @@ use Rattle.hx_io.specs.Sinks.{append, TakesFront}
 use Rattle.hx_io.proofs.SourceLaws.{prepend-nil}
 use Rattle.hx_io.proofs.SinkLaws.{append-nil as append-none, append-then, TakesFront-then}
 use Rattle.hx_lines.specs.Lines.{HasLf, longest, ended_lines, lines_of}
+use Rattle.hx_lines.specs.declared.cutters.Cut.{Cut}
 use Rattle.hx_lines.specs.declared.cutters.Cut.TheVariants.{Line, TooLong as Is_too_long, Over}
 use Rattle.hx_lines.specs.declared.ended.Ended.{Ended}
 use Rattle.hx_lines.specs.declared.ended.Ended.TheVariants.{Done, ReadFault, TooLong}
@@ -324,7 +325,7 @@ ends_too_long service runs answers before taken count old new left then_left now
     }))
     says
 
-pub ends_too_many : (service : Service) (runs answers : Answers) (before taken : Option (List ℕ)) (ended : Bool) (old new : Cutter)
+ends_too_many : (service : Service) (runs answers : Answers) (before taken : Option (List ℕ)) (ended : Bool) (old new : Cutter)
     (left then_left now then_now : Option (List ℕ)) (result : Ended) → Stands service runs before taken most_lines old.held left now
     → Completes service runs answers → CutsLine old new left then_left ended
     → SaysLast now then_now service.too_long_words TooLong result → Ends service answers before then_left taken then_now result
@@ -339,6 +340,19 @@ ends_too_many service runs answers before taken ended old new left then_left now
       above = Many stands.counted;
     }))
     says
+
+-- behind the most lines there is a line more, short or too long
+pub ends_above : (service : Service) (runs answers : Answers) (before taken : Option (List ℕ)) (old new : Cutter)
+    (left then_left now then_now : Option (List ℕ)) (cut : Cut) (result : Ended)
+    → Stands service runs before taken most_lines old.held left now → Completes service runs answers → cut ≢ Over
+    → IsCut old new left then_left cut → SaysLast now then_now service.too_long_words TooLong result
+    → Ends service answers before then_left taken then_now result
+ends_above service runs answers before taken old new left then_left now then_now (Line ended) result stands completes some cut says =
+    ends_too_many service runs answers before taken ended old new left then_left now then_now result stands completes cut says
+ends_above service runs answers before taken old new left then_left now then_now Is_too_long result stands completes some cut says =
+    ends_too_long service runs answers before taken most_lines old new left then_left now then_now result stands completes cut says
+ends_above service runs answers before taken old new left then_left now then_now Over result stands completes some cut says =
+    absurd (some refl)
 
 -- ---- a limit is passed only by an input that is not within the limits
 

@@ -4,5 +4,6 @@
 mod laws;
 mod serving;
 
+pub use hx_lines::Ended;
 pub use laws::only_lines_above_a_limit_are_too_long;
-pub use serving::{Ended, serve};
+pub use serving::serve;

@@ -3,36 +3,21 @@
 //! What stands behind the line of `quit` is not looked at, and a last piece without LF is a line. Behind the most lines one
 //! more is cut and not answered: it tells whether the input was over.
 
-ghost use Rattle.std.specs.Prelude.{◌≡◌, ◌≢◌, ◌+◌, ◌<◌, ◌≤◌, ℕ, true, List, Option, Some, None, MatchOption, if◌then◌else◌, ◌||◌, not};
-ghost use Rattle.hx_io.specs.Causes.{Rose};
-ghost use Rattle.hx_io.specs.Sources.{IsAtEnd};
+ghost use Rattle.std.specs.Prelude.{◌≡◌, ◌+◌, ◌<◌, ◌≤◌, ℕ, true, List, Option, Some, None, MatchOption, if◌then◌else◌, ◌||◌, not};
+ghost use Rattle.hx_io.specs.Sinks.{SomeWriteFailed};
+ghost use Rattle.hx_io.specs.Sources.{IsAtEnd, SomeReadFailed};
 ghost use Rattle.hx_htp.specs.Accounts.{Account};
 ghost use Rattle.hx_htp.specs.States.{State};
-ghost use Rattle.hx_serve.specs.declared.serving.Ended.TheVariants.{Done, ReadFault, WriteFault};
-ghost use Rattle.hx_serve.specs.Serving.{Ends, most_lines};
-ghost use Rattle.hx_serve.specs.Standings.{Stands, SaysLast};
+ghost use Rattle.hx_lines.specs.declared.ended.Ended.TheVariants.{Done, ReadFault, WriteFault};
+ghost use Rattle.hx_lines.specs.Services.{most_lines};
+ghost use Rattle.hx_serve.specs.Serving.{Ends};
+ghost use Rattle.hx_serve.specs.Standings.{Stands};
 
 use hx_htp::{Answerer, Session};
 use hx_io::{Failed, Sink, Source, write_all};
-use hx_lines::{Cut, LineCutter};
+use hx_lines::{Cut, Ended, LineCutter, MOST_LINES, say_last};
 use std::sync::Wait;
 use std::thread::Threads;
-
-/// How a session ended.
-#[derive(Clone, Copy, Debug, PartialEq, Eq)]
-pub enum Ended {
-    /// By `quit`, or by the end of the input.
-    Done,
-    /// By a read that failed.
-    ReadFault,
-    /// By a write that failed.
-    WriteFault,
-    /// By a line that is too long, or by one line too many.
-    TooLong,
-}
-
-/// The most lines of a session.
-const MOST_LINES: u64 = 1_048_576;
 
 /// Answers the lines of a source in a new session, and says how it ended.
 ///
@@ -45,11 +30,14 @@ pub fn serve<R: Threads + Wait + Sync, S: Source, K: Sink, A: Answerer>(
 ) -> Ended
     // Which lines were answered, and what was written: all replies, or a front of them where a write failed.
     ensures ends { Ends (A.account answerer.old) (A.account answerer.new)
-        (S.left source.old) (S.left source.new) (K.taken sink.old) (K.taken sink.new) result }
+        (S.reading source.old).left (S.reading source.new).left
+        (K.writing sink.old).taken (K.writing sink.new).taken result }
 
     // A fault is the end only where a call of this run failed.
-    ensures read_fault { result ≡ ReadFault → Rose (S.faults source.old) (S.faults source.new) }
-    ensures write_fault { result ≡ WriteFault → Rose (K.faults sink.old) (K.faults sink.new) }
+    ensures read_fault { result ≡ ReadFault
+        → SomeReadFailed (S.reading source.old) (S.reading source.new) }
+    ensures write_fault { result ≡ WriteFault
+        → SomeWriteFailed (K.writing sink.old) (K.writing sink.new) }
 {
     let mut cutter = LineCutter::new();
     let mut session = Session::new();
@@ -70,21 +58,23 @@ fn serve_line<R: Threads + Wait + Sync, S: Source, K: Sink, A: Answerer>(
     sink: &mut K,
     answerer: &mut A,
 ) -> Option<Ended>
-    requires { cutter.old.met_end ≡ true → IsAtEnd (S.left source.old) }
-    ensures met_end { cutter.new.met_end ≡ true → IsAtEnd (S.left source.new) }
+    requires { cutter.old.met_end ≡ true → IsAtEnd (S.reading source.old).left }
+    ensures met_end { cutter.new.met_end ≡ true → IsAtEnd (S.reading source.new).left }
     ensures step { (start : Account) (before taken : Option (List ℕ)) (count : ℕ)
         → count < most_lines
         → Stands start before taken count cutter.old.held
-        (S.left source.old) (K.taken sink.old) session.old (A.account answerer.old)
+        (S.reading source.old).left (K.writing sink.old).taken session.old (A.account answerer.old)
         → MatchOption result
         (Stands start before taken (count + 1) cutter.new.held
-        (S.left source.new) (K.taken sink.new) session.new (A.account answerer.new))
-        (Ends start (A.account answerer.new) before (S.left source.new) taken (K.taken sink.new)) }
+        (S.reading source.new).left (K.writing sink.new).taken session.new (A.account answerer.new))
+        (Ends start (A.account answerer.new) before (S.reading source.new).left taken
+        (K.writing sink.new).taken) }
     ensures read_fault { result ≡ Some ReadFault
-        → Rose (S.faults source.old) (S.faults source.new) }
-    ensures write_fault { result ≡ Some WriteFault → Rose (K.faults sink.old) (K.faults sink.new) }
-    ensures later { (S.faults source.old ≤ S.faults source.new)
-        × (K.faults sink.old ≤ K.faults sink.new) }
+        → SomeReadFailed (S.reading source.old) (S.reading source.new) }
+    ensures write_fault { result ≡ Some WriteFault
+        → SomeWriteFailed (K.writing sink.old) (K.writing sink.new) }
+    ensures later { ((S.reading source.old).faults ≤ (S.reading source.new).faults)
+        × ((K.writing sink.old).faults ≤ (K.writing sink.new).faults) }
 {
     match cutter.next(source) {
         Ok(Cut::Line { ended }) => {
@@ -94,9 +84,9 @@ fn serve_line<R: Threads + Wait + Sync, S: Source, K: Sink, A: Answerer>(
                 Err(Failed) => Some(Ended::WriteFault),
             }
         }
-        Ok(Cut::TooLong) => Some(last_words(sink, b"? line too long\n\n", Ended::TooLong)),
+        Ok(Cut::TooLong) => Some(say_last(sink, b"? line too long\n\n", Ended::TooLong)),
         Ok(Cut::Over) => Some(Ended::Done),
-        Err(Failed) => Some(last_words(sink, b"? read fault\n\n", Ended::ReadFault)),
+        Err(Failed) => Some(say_last(sink, b"? read fault\n\n", Ended::ReadFault)),
     }
 }
 
@@ -111,37 +101,28 @@ fn end_after(quit: bool, ended: bool) -> Option<Ended>
     }
 }
 
-/// Writes the last words, and says how the session ended.
-fn last_words<K: Sink>(sink: &mut K, words: &[u8], ended: Ended) -> Ended
-    requires { ended ≢ WriteFault }
-    ensures written { SaysLast (K.taken sink.old) (K.taken sink.new) words.now ended result }
-    ensures write_fault { result ≡ WriteFault → Rose (K.faults sink.old) (K.faults sink.new) }
-    ensures later { K.faults sink.old ≤ K.faults sink.new }
-{
-    match write_all(sink, words) {
-        Ok(()) => ended,
-        Err(Failed) => Ended::WriteFault,
-    }
-}
-
 /// How a session ends behind the most lines.
 fn after_most_lines<S: Source, K: Sink>(
     cutter: &mut LineCutter,
     source: &mut S,
     sink: &mut K,
 ) -> Ended
-    requires { cutter.old.met_end ≡ true → IsAtEnd (S.left source.old) }
+    requires { cutter.old.met_end ≡ true → IsAtEnd (S.reading source.old).left }
     ensures ends { (start account : Account) (state : State) (before taken : Option (List ℕ))
         → Stands start before taken most_lines cutter.old.held
-        (S.left source.old) (K.taken sink.old) state account
-        → Ends start account before (S.left source.new) taken (K.taken sink.new) result }
-    ensures read_fault { result ≡ ReadFault → Rose (S.faults source.old) (S.faults source.new) }
-    ensures write_fault { result ≡ WriteFault → Rose (K.faults sink.old) (K.faults sink.new) }
+        (S.reading source.old).left (K.writing sink.old).taken state account
+        → Ends start account before (S.reading source.new).left taken
+        (K.writing sink.new).taken result }
+    ensures read_fault { result ≡ ReadFault
+        → SomeReadFailed (S.reading source.old) (S.reading source.new) }
+    ensures write_fault { result ≡ WriteFault
+        → SomeWriteFailed (K.writing sink.old) (K.writing sink.new) }
 {
     match cutter.next(source) {
-        Ok(Cut::Over) => Ended::Done,
-        Ok(Cut::TooLong) => last_words(sink, b"? line too long\n\n", Ended::TooLong),
-        Ok(Cut::Line { ended: _ }) => last_words(sink, b"? line too long\n\n", Ended::TooLong),
-        Err(Failed) => last_words(sink, b"? read fault\n\n", Ended::ReadFault),
+        Ok(cut) => match cut {
+            Cut::Over => Ended::Done,
+            _ => say_last(sink, b"? line too long\n\n", Ended::TooLong),
+        },
+        Err(Failed) => say_last(sink, b"? read fault\n\n", Ended::ReadFault),
     }
 }

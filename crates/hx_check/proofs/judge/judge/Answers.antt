@@ -8,8 +8,8 @@ use Rattle.hx_check.proofs.judge.judge.Goals as goal
 
 pub loop-init : goal.loop-init
 loop-init g c = record {
-  upto = judged_nothing (g.S.Source.left c.args.source.now) _ _ _ c.new-reader.ensures.nothing c.new-reader.ensures.none c.new-checker.ensures
-      (ap (λ (s : Cutter). s.held) c.new-cutter.ensures);
+  upto = judged_nothing (g.S.Source.reading c.args.source.now).left _ _ _ c.new-reader.ensures.nothing c.new-reader.ensures.none
+      c.new-checker.ensures (ap (λ (s : Cutter). s.held) c.new-cutter.ensures);
   unended = nothing_whole c.new-reader.result c.new-reader.ensures.nothing;
   counted = c.new-reader.ensures.none;
   met_end = λ met. absurd (search rules);

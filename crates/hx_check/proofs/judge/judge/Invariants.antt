@@ -6,9 +6,9 @@ use Rattle.hx_check.proofs.judge.judge.Given as goal
 
 abbrev pub invariant-loop : goal.invariant-loop
 invariant-loop g l = record {
-  upto : JudgedUpTo (g.S.Source.left l.fn.source) l.reader l.checker l.cutter.held (g.S.Source.left l.source);
+  upto : JudgedUpTo (g.S.Source.reading l.fn.source).left l.reader l.checker l.cutter.held (g.S.Source.reading l.source).left;
   unended : ¬ HasReadAll l.reader;
   counted : lines_fed l.reader ≡ l.counter;
-  met_end : l.cutter.met_end ≡ true → IsAtEnd (g.S.Source.left l.source);
-  reads : g.S.Source.faults l.fn.source ≤ g.S.Source.faults l.source;
+  met_end : l.cutter.met_end ≡ true → IsAtEnd (g.S.Source.reading l.source).left;
+  reads : (g.S.Source.reading l.fn.source).faults ≤ (g.S.Source.reading l.source).faults;
 }

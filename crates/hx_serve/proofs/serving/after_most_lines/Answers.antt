@@ -1,36 +1,31 @@
 use Rattle.std.proofs.Common.{subst}
 use Rattle.hx_lines.specs.declared.cutters.Cut.{Cut}
-use Rattle.hx_lines.specs.declared.cutters.Cut.TheVariants.{Line, TooLong, Over}
+use Rattle.hx_lines.specs.declared.cutters.Cut.TheVariants.{Over}
 use Rattle.hx_lines.specs.Cutters.{IsCut}
-use Rattle.hx_serve.specs.Serving.{most_lines}
-use Rattle.hx_serve.proofs.Endings.{ends_by_end, ends_by_fault, ends_too_long, ends_too_many}
+use Rattle.hx_lines.specs.Services.{most_lines}
+use Rattle.hx_lines.proofs.Endings.{ends_by_end, ends_by_fault, ends_above}
+use Rattle.hx_serve.specs.Serving.{session_service, session_answers}
+use Rattle.hx_serve.specs.Standings.{runs_to}
+use Rattle.hx_serve.proofs.Steps.{completes}
 use Rattle.hx_serve.proofs.serving.after_most_lines.Goals as goal
 
-pub returns-in-Ok-Over-clause-ends : goal.returns-in-Ok-Over-clause-ends
-returns-in-Ok-Over-clause-ends g c = λ start account state before taken stands.
-    let left = g.S.Source.left c.args.source.now in
-    let now = g.S.Source.left c.next.new.source in
+pub returns-in-Over-clause-ends : goal.returns-in-Over-clause-ends
+returns-in-Over-clause-ends g c = λ start account state before taken stands.
+    let left = (g.S.Source.reading c.args.source.now).left in
+    let now = (g.S.Source.reading c.next.new.source).left in
     let P : Cut → Type 0 = IsCut c.args.cutter.now c.next.new.self left now in
-    let cut : P Over = subst P c.in-Ok-Over.field-0-is c.in-Ok-Over.ensures.cut in
-    ends_by_end start before taken most_lines c.args.cutter.now c.next.new.self left now _ state account stands cut
+    let cut : P Over = subst P c.in-Over.is c.in-Ok.ensures.cut in
+    ends_by_end session_service (runs_to start state account) (session_answers start account) before taken most_lines c.args.cutter.now
+    c.next.new.self left now _ stands (completes start state account) cut
 
-pub returns-in-Ok-TooLong-clause-ends : goal.returns-in-Ok-TooLong-clause-ends
-returns-in-Ok-TooLong-clause-ends g c = λ start account state before taken stands.
-    let left = g.S.Source.left c.args.source.now in
-    let now = g.S.Source.left c.next.new.source in
-    let P : Cut → Type 0 = IsCut c.args.cutter.now c.next.new.self left now in
-    let cut : P TooLong = subst P c.in-Ok-TooLong.field-0-is c.in-Ok-TooLong.ensures.cut in
-    ends_too_long start before taken most_lines c.args.cutter.now c.next.new.self left now _ _ state account _ stands cut c.last_words.ensures.written
-
-pub returns-in-Ok-Line-clause-ends : goal.returns-in-Ok-Line-clause-ends
-returns-in-Ok-Line-clause-ends g c = λ start account state before taken stands.
-    let left = g.S.Source.left c.args.source.now in
-    let now = g.S.Source.left c.next.new.source in
-    let P : Cut → Type 0 = IsCut c.args.cutter.now c.next.new.self left now in
-    let cut : P (Line c.in-Ok-Line.field-0-0) = subst P c.in-Ok-Line.field-0-is c.in-Ok-Line.ensures.cut in
-    ends_too_many start before taken c.in-Ok-Line.field-0-0 c.args.cutter.now c.next.new.self left now _ _ state account _ stands cut c.last_words-in-Ok-Line.ensures.written
+pub returns-in_default-clause-ends : goal.returns-in_default-clause-ends
+returns-in_default-clause-ends g c = λ start account state before taken stands.
+    ends_above session_service (runs_to start state account) (session_answers start account) before taken c.args.cutter.now
+    c.next.new.self (g.S.Source.reading c.args.source.now).left (g.S.Source.reading c.next.new.source).left _ _ c.in-Ok.cut _ stands
+    (completes start state account) c.in_default.not-Over c.in-Ok.ensures.cut c.say_last.ensures.written
 
 pub returns-in-Err-clause-ends : goal.returns-in-Err-clause-ends
 returns-in-Err-clause-ends g c = λ start account state before taken stands.
-    ends_by_fault start before taken most_lines c.args.cutter.now c.next.new.self _ _ _ _ state account _ stands c.in-Err.ensures.failed c.in-Err.ensures.plain c.in-Err.ensures.short
-    c.last_words-in-Err.ensures.written
+    ends_by_fault session_service (runs_to start state account) (session_answers start account) before taken most_lines
+    c.args.cutter.now c.next.new.self _ _ _ _ _ stands (completes start state account) c.in-Err.ensures.failed c.in-Err.ensures.plain
+    c.in-Err.ensures.short c.say_last-in-Err.ensures.written

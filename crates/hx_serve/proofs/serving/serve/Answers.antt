@@ -1,17 +1,22 @@
 use Rattle.std.proofs.Common.{◌≡◌, ℕ, ap, subst, arith, rules}
 use Rattle.hx_lines.specs.Cutters.{Cutter}
-use Rattle.hx_serve.specs.Serving.{most_lines}
-use Rattle.hx_serve.specs.Standings.{Stands}
-use Rattle.hx_serve.proofs.Endings.{stands_first}
+use Rattle.hx_lines.specs.Services.{most_lines}
+use Rattle.hx_lines.proofs.Endings.{stands_first}
+use Rattle.hx_serve.specs.Serving.{session_service}
+use Rattle.hx_serve.specs.Standings.{Stands, runs_to}
+use Rattle.hx_serve.proofs.Steps.{begun}
 use Rattle.hx_serve.proofs.serving.serve.Goals as goal
 
 pub loop-init : goal.loop-init
-loop-init g c = record {
-  stands = stands_first _ _ _ _ _ (ap (λ (s : Cutter). s.held) c.new-cutter.ensures) c.new-session.ensures;
-  met_end = λ met. absurd (search rules);
-  reads = omega arith;
-  writes = omega arith;
-}
+loop-init g c =
+    let account = g.A.Answerer.account c.args.answerer.now in
+    record {
+      stands = stands_first session_service (runs_to account c.new-session.result account) _ _ _
+          (ap (λ (s : Cutter). s.held) c.new-cutter.ensures) (begun account c.new-session.result c.new-session.ensures);
+      met_end = λ met. absurd (search rules);
+      reads = omega arith;
+      writes = omega arith;
+    }
 
 pub returns-in-Some-clause-ends : goal.returns-in-Some-clause-ends
 returns-in-Some-clause-ends g c = c.in-Some.ensures.step _ _ _ _ (omega arith) c.loop.invariant.stands
@@ -19,6 +24,7 @@ returns-in-Some-clause-ends g c = c.in-Some.ensures.step _ _ _ _ (omega arith) c
 pub returns-clause-ends : goal.returns-clause-ends
 returns-clause-ends g c =
     let count : c.loop.counter ≡ most_lines = omega arith in
-    let P : ℕ → Type 0 = λ n. Stands (g.A.Answerer.account c.args.answerer.now) (g.S.Source.left c.args.source.now) (g.K.Sink.taken c.args.sink.now) n c.loop.cutter.held
-    (g.S.Source.left c.loop.source) (g.K.Sink.taken c.loop.sink) c.loop.session (g.A.Answerer.account c.loop.answerer) in
+    let P : ℕ → Type 0 = λ n. Stands (g.A.Answerer.account c.args.answerer.now) (g.S.Source.reading c.args.source.now).left
+    (g.K.Sink.writing c.args.sink.now).taken n c.loop.cutter.held (g.S.Source.reading c.loop.source).left
+    (g.K.Sink.writing c.loop.sink).taken c.loop.session (g.A.Answerer.account c.loop.answerer) in
     c.after_most_lines.ensures.ends _ _ c.loop.session _ _ (subst P count c.loop.invariant.stands)

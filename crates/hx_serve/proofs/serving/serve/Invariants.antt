@@ -5,9 +5,10 @@ use Rattle.hx_serve.proofs.serving.serve.Given as goal
 
 abbrev pub invariant-loop : goal.invariant-loop
 invariant-loop g l = record {
-  stands : Stands (g.A.Answerer.account l.fn.answerer) (g.S.Source.left l.fn.source) (g.K.Sink.taken l.fn.sink) l.counter l.cutter.held
-      (g.S.Source.left l.source) (g.K.Sink.taken l.sink) l.session (g.A.Answerer.account l.answerer);
-  met_end : l.cutter.met_end ≡ true → IsAtEnd (g.S.Source.left l.source);
-  reads : g.S.Source.faults l.fn.source ≤ g.S.Source.faults l.source;
-  writes : g.K.Sink.faults l.fn.sink ≤ g.K.Sink.faults l.sink;
+  stands : Stands (g.A.Answerer.account l.fn.answerer) (g.S.Source.reading l.fn.source).left (g.K.Sink.writing l.fn.sink).taken
+      l.counter l.cutter.held (g.S.Source.reading l.source).left (g.K.Sink.writing l.sink).taken l.session
+      (g.A.Answerer.account l.answerer);
+  met_end : l.cutter.met_end ≡ true → IsAtEnd (g.S.Source.reading l.source).left;
+  reads : (g.S.Source.reading l.fn.source).faults ≤ (g.S.Source.reading l.source).faults;
+  writes : (g.K.Sink.writing l.fn.sink).faults ≤ (g.K.Sink.writing l.sink).faults;
 }
