@@ -6,6 +6,3 @@ mod laws;
 
 pub use draws::Draw;
 pub use laws::one_count;
-
-#[cfg(test)]
-mod tests;

@@ -6,6 +6,3 @@ mod proof_numbers;
 
 pub use descents::thresholds;
 pub use proof_numbers::{INF, Numbers, UNSEEN, combine, focus, worse};
-
-#[cfg(test)]
-mod tests;

@@ -11,6 +11,3 @@ pub use dominations::under_sound;
 pub use fills::fill_sound;
 pub use links::link_sound;
 pub use trees::{node_sound, tree_sound};
-
-#[cfg(test)]
-mod tests;

@@ -6,6 +6,3 @@ mod sweeps;
 mod winners;
 
 pub use sweeps::sweep;
-
-#[cfg(test)]
-mod tests;

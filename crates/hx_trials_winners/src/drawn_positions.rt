@@ -1,7 +1,7 @@
 //! Drawn positions beside a plain program of their definition, and beside numbers from outside.
 
-use super::*;
 use hx_board::{Cell, Colour, Mask, Position, Size};
+use hx_demo::{Draw, one_count};
 use rand_core::utils::NextWord;
 use rand_pcg::Pcg32;
 use std::alloc::Global;

@@ -10,7 +10,7 @@ use Rattle.hx_link.specs.Steps.{StepGives, IsChainLink}
 use Rattle.hx_board.specs.Colours.{other_of}
 use Rattle.hx_proof.specs.Local.{mover_for}
 use Rattle.hx_proof.specs.Links.{EndInChainLink}
-use Rattle.hx_proof.proofs.tests.shown_by.Goals as goal
+use Rattle.hx_trials_winners.proofs.soundness.shown_by.Goals as goal
 
 three_end_in_chain_link : (board : Board) (player : Colour) (first second third : Step) (one two last : Link) → StepGives board player [] first one → StepGives board player (one ∷ []) second two
     → StepGives board player (one ∷ two ∷ []) third last → IsChainLink last → EndInChainLink board player last.kind (first ∷ second ∷ third ∷ [])

@@ -1,6 +1,6 @@
-//! Each call once, with numbers that were worked out by hand.
+//! Each call of hx_pn once, with numbers that were worked out by hand.
 
-use super::*;
+use hx_pn::{INF, Numbers, UNSEEN, combine, focus, thresholds, worse};
 use std::test::Fail;
 
 const CHILDREN: [Numbers; 3] = [

@@ -9,11 +9,11 @@ ghost use Rattle.hx_board.specs.Game.{Wins};
 ghost use Rattle.hx_proof.specs.Local.{mover_for};
 ghost use Rattle.hx_proof.specs.Winners.{HeadingWins, AllWin};
 
-use super::*;
 use hx_board::Colour::{Black, White};
 use hx_board::{Cell, Colour, Groups, Mask, Memory, Position, Size, Vertex};
 use hx_inferior::{FillStep, Kill, dominates, fill_one};
 use hx_link::{Kind, Step, result_of};
+use hx_proof::{fill_sound, link_sound, node_sound, tree_sound, under_sound};
 use hx_tree::{Heading, Node, Rule, Verdict, check_node, check_tree};
 use std::alloc::Global;
 use std::test::Fail;

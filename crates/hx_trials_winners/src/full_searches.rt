@@ -1,9 +1,9 @@
 //! The trees of full searches: one whole, and of others who wins, held against the plain game tree.
 
-use super::sweep;
 use hx_board::Colour::{Black, White};
 use hx_board::{Colour, Mask, Position, Size};
 use hx_samples::{Draws, SMALL_BOARDS, numbered, wins};
+use hx_sweep::sweep;
 use hx_tree::{Heading, Node, Rule};
 use std::alloc::Global;
 use std::process::Abort;
