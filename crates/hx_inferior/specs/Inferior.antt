@@ -19,7 +19,8 @@ pub record IsOpenNeighbour (board : Board) (player : Colour) (cell : ℕ) (verte
 -- an empty cell of which any two different open neighbours are joined without it
 pub record IsDead (board : Board) (player : Colour) (cell : ℕ) : Type 0 where
   pub empty : IsEmpty board cell
-  pub joined : (one other : Vertex) → one ≢ other → IsOpenNeighbour board player cell one → IsOpenNeighbour board player cell other
+  pub joined : (one other : Vertex) → one ≢ other
+      → IsOpenNeighbour board player cell one → IsOpenNeighbour board player cell other
       → Joined board player one other
 
 -- two different empty cells, each of which is dead once the player has the other

@@ -16,4 +16,5 @@ pub data Plays (player : Colour) (region : ℕ → Bool) (Goal : Board → Type 
   By_move : (board : Board) (mover : Colour) (cell : ℕ) → mover ≡ player → IsFree region board cell
       → Plays player region Goal (put board player cell) (other_of player) → Plays player region Goal board mover
   By_answers : (board : Board) (mover : Colour) (some : ℕ) → mover ≡ other_of player → IsFree region board some
-      → ((cell : ℕ) → IsFree region board cell → Plays player region Goal (put board (other_of player) cell) player) → Plays player region Goal board mover
+      → ((cell : ℕ) → IsFree region board cell → Plays player region Goal (put board (other_of player) cell) player)
+      → Plays player region Goal board mover

@@ -1,5 +1,5 @@
--- How the links that a step names meet, and what is known of them while they are read. These words are for the functions
--- inside the crate alone.
+-- How the links that a step names meet, and what is known of them while they are read. These words are for the
+-- functions inside the crate alone.
 use Rattle.std.specs.Prelude.{◌≡◌, ◌≢◌, ℕ, List, map, slice_get, true, false}
 use Rattle.std.specs.declared.option.Option.TheVariants.{Some}
 use Rattle.hx_board.specs.declared.colours.Colour.{Colour}
@@ -15,7 +15,8 @@ use Rattle.hx_link.specs.declared.meetings.Met.{Met}
 use Rattle.hx_link.specs.Steps.{IsLink, HasEnds, IsOneOf, links_at, carriers_of}
 
 -- the link of this kind, these ends and this carrier, the lower end first
-pub record IsMade (board : Board) (player : Colour) (kind : Kind) (x y : Vertex) (carrier : ℕ) (link : Link) : Type 0 where
+pub record IsMade (board : Board) (player : Colour)
+    (kind : Kind) (x y : Vertex) (carrier : ℕ) (link : Link) : Type 0 where
   pub kind_is : link.kind ≡ kind
   pub carrier_is : link.carrier ≡ carrier
   pub ends : HasEnds link x y

@@ -28,7 +28,8 @@ IsOutside board carrier (Of cell) = IsEmpty board cell → has carrier cell ≡ 
 IsOutside board carrier First = Unit {0}
 IsOutside board carrier Last = Unit {0}
 
--- there can be this link: its ends differ, the lower in vertex order first, and none of them is an empty cell of the carrier
+-- there can be this link: its ends differ, the lower in vertex order first, and none of them is an empty cell of the
+-- carrier
 pub record IsLink (board : Board) (player : Colour) (link : Link) : Type 0 where
   pub lower_first : code_of link.a < code_of link.b
   pub a_end : IsEnd board player link.a
@@ -64,7 +65,8 @@ pub record GivesBase (board : Board) (player : Colour) (a b : Vertex) (link : Li
   pub ends : HasEnds link a b
 
 -- of two links that meet at a stone or a side of the player, a Full link between their other ends on both carriers
-pub record GivesAndStone (board : Board) (player : Colour) (before : List Link) (left right : ℕ) (link : Link) : Type 0 where
+pub record GivesAndStone (board : Board) (player : Colour) (before : List Link)
+    (left right : ℕ) (link : Link) : Type 0 where
   pub from : Vertex
   pub middle : Vertex
   pub to : Vertex
@@ -77,7 +79,8 @@ pub record GivesAndStone (board : Board) (player : Colour) (before : List Link) 
   pub ends : HasEnds link from to
 
 -- of two links that meet at an empty cell in neither carrier, a Semi link between their other ends on both and the cell
-pub record GivesAndCell (board : Board) (player : Colour) (before : List Link) (left right : ℕ) (link : Link) : Type 0 where
+pub record GivesAndCell (board : Board) (player : Colour) (before : List Link)
+    (left right : ℕ) (link : Link) : Type 0 where
   pub from : Vertex
   pub cell : ℕ
   pub to : Vertex
@@ -104,8 +107,8 @@ carriers_of (link ∷ links) = union link.carrier (carriers_of links)
 abbrev pub IsOneOf : Link → List Link → Type 0
 IsOneOf link links = (k : ℕ) × (slice_get links k ≡ Some link)
 
--- of 2 to `MOST_PARTS` Semi links of the same ends, of which each cell is outside some carrier, a Full link of these ends on all
--- their carriers
+-- of 2 to `MOST_PARTS` Semi links of the same ends, of which each cell is outside some carrier, a Full link of these
+-- ends on all their carriers
 pub record GivesOr (before : List Link) (places : List ℕ) (link : Link) : Type 0 where
   pub links : List Link
   pub there : links_at before places ≡ map (λ (part : Link). Some part) links
@@ -129,7 +132,10 @@ pub record StepGives (board : Board) (player : Colour) (before : List Link) (ste
   pub rule : GivesByRule board player before step link
   pub link_ok : IsLink board player link
 
--- after the links that are there already, the steps give links one after the other, and with these they are all the links
+-- after the links that are there already, the steps give links one after the other, and with these they are all the
+-- links
 abbrev pub AreRightSteps : Board → Colour → List Link → List Step → List Link → Type 0
 AreRightSteps board player before [] links = links ≡ before
-AreRightSteps board player before (step ∷ steps) links = (link : Link) × StepGives board player before step link × AreRightSteps board player (before ++ link ∷ []) steps links
+AreRightSteps board player before (step ∷ steps) links =
+    (link : Link) × StepGives board player before step link
+    × AreRightSteps board player (before ++ link ∷ []) steps links

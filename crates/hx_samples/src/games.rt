@@ -26,12 +26,12 @@ pub fn wins_by<F: Fn(&Position, Colour) -> bool>(
         return false;
     }
     let size = position.size();
-    let is_own_turn = mover == player;
-    let mut is_won = !is_own_turn && !position.empties().is_empty();
+    let is_own_move = mover == player;
+    let mut is_won = !is_own_move && !position.empties().is_empty();
     for row in 0..size.rows() {
         for col in 0..size.cols() {
             // One move that wins is enough for the player, one that does not for the opponent.
-            if is_won == is_own_turn {
+            if is_won == is_own_move {
                 return is_won;
             }
             if let Some(cell) = size.cell(row, col)

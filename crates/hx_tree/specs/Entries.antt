@@ -1,5 +1,5 @@
--- A list of nodes as a book of proofs: each node is the entry of its position and the player to move. What a look finds in it,
--- and what a store does to it.
+-- A list of nodes as a book of proofs: each node is the entry of its position and the player to move. What a look finds
+-- in it, and what a store does to it.
 use Rattle.std.specs.Prelude.{◌≡◌, ◌<◌, ◌⊎◌, ℕ, List, [], ◌∷◌, ◌++◌, length, slice_get, Option, MatchOption}
 use Rattle.std.specs.declared.option.Option.TheVariants.{Some}
 use Rattle.hx_board.specs.declared.colours.Colour.{Colour}

@@ -22,9 +22,10 @@ pub record LeadTo (board : Board) (winner : Colour) (steps : List FillStep) (fin
   pub right : MayFillAll board winner steps
   pub same : filled_all board winner steps ≡ final
 
--- there is some step, each may be done where it stands, and an earlier heading says that the winner wins the board after them
--- all, with the same player to move
+-- there is some step, each may be done where it stands, and an earlier heading says that the winner wins the board
+-- after them all, with the same player to move
 pub record IsRightFill (before : List Heading) (heading : Heading) (steps : List FillStep) (child : ℕ) : Type 0 where
   pub some : steps ≢ []
   pub right : MayFillAll heading.position heading.winner steps
-  pub leads : IsSomeAnd (slice_get before child) (IsHeading (filled_all heading.position heading.winner steps) heading.to_move heading.winner)
+  pub leads : IsSomeAnd (slice_get before child)
+      (IsHeading (filled_all heading.position heading.winner steps) heading.to_move heading.winner)

@@ -18,7 +18,8 @@ use Rattle.hx_tree.specs.Turns.{IsRightTurn}
 pub record IsRightMove (before : List Heading) (heading : Heading) (cell child : ℕ) : Type 0 where
   pub mover : heading.to_move ≡ heading.winner
   pub empty : IsEmpty heading.position cell
-  pub leads : IsSomeAnd (slice_get before child) (IsHeading (put heading.position heading.winner cell) (other_of heading.winner) heading.winner)
+  pub leads : IsSomeAnd (slice_get before child)
+      (IsHeading (put heading.position heading.winner cell) (other_of heading.winner) heading.winner)
 
 -- the rule shows that the heading's winner wins, where the winners of the headings before it do
 abbrev pub IsRightRule : List Heading → Heading → Rule → Type 0

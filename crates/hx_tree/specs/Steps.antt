@@ -1,5 +1,6 @@
 -- The links of a node's steps, and the threats among them.
-use Rattle.std.specs.Prelude.{◌≡◌, ◌-◌, ◌≤◌, ◌⊎◌, true, false, ℕ, List, [], length, Contains, slice_get, IfSome, IsSomeAnd}
+use Rattle.std.specs.Prelude.{◌≡◌, ◌-◌, ◌≤◌, ◌⊎◌, true, false, ℕ}
+use Rattle.std.specs.Prelude.{List, [], length, Contains, slice_get, IfSome, IsSomeAnd}
 use Rattle.std.specs.declared.option.Option.TheVariants.{Some}
 use Rattle.hx_board.specs.declared.colours.Colour.{Colour}
 use Rattle.hx_board.specs.Sets.{has}
@@ -41,7 +42,8 @@ pub record AreThreats (links : List Link) (threats : List ℕ) : Type 0 where
 -- the cell is in the carriers of all threats
 abbrev pub IsInEachThreat : List Link → List ℕ → ℕ → Type 0
 IsInEachThreat links threats cell =
-    (k : ℕ) → IfSome (slice_get threats k) (λ place. IsSomeAnd (slice_get links place) (λ link. has link.carrier cell ≡ true))
+    (k : ℕ) → IfSome (slice_get threats k)
+    (λ place. IsSomeAnd (slice_get links place) (λ link. has link.carrier cell ≡ true))
 
 -- the carrier of some threat does not have the cell
 pub record IsOutsideThreat (links : List Link) (threats : List ℕ) (cell : ℕ) : Type 0 where

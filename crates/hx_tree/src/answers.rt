@@ -8,8 +8,8 @@ ghost use Rattle.hx_tree.specs.Answers.{AreInOrder, AreAnswered, HasChild, IsRig
 ghost use Rattle.hx_tree.specs.Named.{IsRightGiven};
 
 use crate::headings::leads;
-use crate::lists::{Lines, Threats};
-use crate::nodes::{Heading, Line};
+use crate::lists::Threats;
+use crate::nodes::{Heading, Line, Lines};
 use crate::steps::{cells_to_answer, links_of};
 use hx_board::{Mask, Memory, Position};
 use hx_inferior::dominates;

@@ -1,13 +1,18 @@
 //! The nodes of a strategy tree. Each says who wins a position, and by which rule. A tree is a list of nodes, in which
-//! a node names its children by their places before it.
+//! a node names its children by their places before it. The lines that answer the opponent's moves are part of a node, and
+//! so is their list.
 
 ghost use Rattle.std.specs.Prelude.{◌≡◌};
+ghost use Rattle.std.specs.Cmp.Lexicographic.{pointwise, lists_per, lists_equiv};
 ghost use Rattle.hx_tree.specs.Answers.{cell_of};
+ghost use Rattle.hx_tree.specs.contracts.nodes.LinePartialEq.TheImpl.Laws.{laws-law as line_per};
+ghost use Rattle.hx_tree.specs.contracts.nodes.LineEq.TheImpl.Laws.{laws-law as line_equiv};
 
-use crate::lists::{FillSteps, Lines, Threats};
+use crate::lists::{FillSteps, Threats};
 use hx_board::{Cell, Colour, Position};
 use hx_inferior::Kill;
 use hx_link::Steps;
+use std::marker::Model;
 
 /// What a node says: in this position, with this player to move, this player wins.
 #[derive(Clone, Copy, PartialEq, Eq, Debug)]
@@ -88,6 +93,58 @@ impl Line {
             Line::Child { cell, .. } | Line::Under { cell, .. } => *cell,
         }
     }
+}
+
+/// The lines of a node, in the order in which they are given.
+#[derive(Debug, Drop)]
+pub struct Lines {
+    items: Vec<Line>,
+}
+
+impl Model for Lines {
+    ghost use Rattle.std.specs.Prelude.{List};
+    ghost use Rattle.hx_tree.specs.declared.nodes.Line.{Line};
+
+    ghost Value = { List Line };
+
+    ghost view = { λ l. l.items.items };
+}
+
+impl Lines {
+    /// The list of these lines.
+    pub fn new(items: Vec<Line>) -> Lines
+        ensures { result ≡ items.items }
+    {
+        Lines { items }
+    }
+
+    /// The lines, in their order.
+    pub fn items(&self) -> &[Line]
+        ensures { result.now ≡ self.now }
+    {
+        self.items.as_slice()
+    }
+
+    /// The vector of the lines.
+    pub fn into_inner(self) -> Vec<Line>
+        ensures { result.items ≡ self }
+    {
+        self.items
+    }
+}
+
+impl PartialEq for Lines {
+    ghost eq = { pointwise ⟦<Line as PartialEq>⟧.eq };
+
+    ghost laws = { lists_per line_per };
+
+    fn eq(&self, other: &Lines) -> bool {
+        self.items() == other.items()
+    }
+}
+
+impl Eq for Lines {
+    ghost laws = { lists_equiv line_equiv };
 }
 
 /// A node of a strategy tree.

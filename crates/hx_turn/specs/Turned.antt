@@ -17,7 +17,8 @@ turned_cell size cell = index_of (size.rows - 1 - row_of cell) (size.cols - 1 - 
 pub record IsTurned (board turned : Board) : Type 0 where
   pub same_size : turned.size ≡ board.size
   pub stones : (player : Colour) (cell : ℕ)
-      → (has (stones_of turned player) cell ≡ true) ↔ (OnBoard board.size cell × (has (stones_of board player) (turned_cell board.size cell) ≡ true))
+      → (has (stones_of turned player) cell ≡ true)
+      ↔ (OnBoard board.size cell × (has (stones_of board player) (turned_cell board.size cell) ≡ true))
 
 -- a cell goes to its turned cell, and each side of a player to the other side
 abbrev pub turned_vertex : Extent → Vertex → Vertex
