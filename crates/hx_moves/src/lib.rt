@@ -5,23 +5,28 @@
 #![tactic(auto)]
 
 mod children;
+mod choices;
 mod focus;
+mod given;
 mod losses;
 mod marks;
 mod moves;
 mod orders;
 mod replies;
 mod rest;
+mod situations;
 mod starts;
 mod stones;
 mod unseen_moves;
 
 pub use children::Child;
-pub use focus::{Choice, Down, choose, in_focus};
+pub use choices::{Choice, Down, choose};
+pub use focus::in_focus;
 pub use losses::{LOSS_WORDS, loss_word};
 pub use marks::{is_marked, leave_mark, leave_open, open};
 pub use moves::Moves;
 pub use replies::Replies;
-pub use starts::{Start, Turn};
+pub use situations::Situation;
+pub use starts::Start;
 pub use stones::{Stone, after};
 pub use unseen_moves::first_numbers;

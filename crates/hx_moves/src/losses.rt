@@ -3,8 +3,8 @@
 //! Without them four workers take two to three times the units of one worker on 7 by 7, and no less time; with them a third more, and
 //! 0.43 of the time.
 
-ghost use Rattle.std.specs.Prelude.{◌≡◌, ◌<◌};
-ghost use Rattle.hx_pn.specs.Numbers.{IsNumbers};
+ghost use Rattle.std.specs.Prelude.{◌≡◌, ℕ, ◌<◌};
+ghost use Rattle.hx_pn.specs.Numbers.{IsNumbers, worse_of};
 ghost use Rattle.hx_moves.specs.Keeps.{KeepsSeat};
 
 use hx_count::{CountSeat, Counts};
@@ -31,6 +31,7 @@ pub(crate) fn with_losses(
     requires words { counts.now.limits.words ≡ LOSS_WORDS }
     requires numbers { IsNumbers numbers }
     ensures seat { KeepsSeat seat.old seat.new }
+    ensures value { (workers : ℕ) × (result ≡ worse_of numbers workers) }
     ensures numbers { IsNumbers result }
 {
     let holders = counts.losses(seat, loss_word(number));

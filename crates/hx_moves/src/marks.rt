@@ -7,8 +7,9 @@
 //!
 //! A hint may be of another position. So a mark is no proof, and one that proves to be wrong is written anew.
 
-ghost use Rattle.std.specs.Prelude.{◌≡◌};
+ghost use Rattle.std.specs.Prelude.{◌≡◌, ◌⊎◌};
 ghost use Rattle.hx_pn.specs.Numbers.{IsNumbers};
+ghost use Rattle.hx_moves.specs.Given.{IsHint};
 ghost use Rattle.hx_moves.specs.Marks.{open_of};
 
 use hx_count::Hints;
@@ -47,7 +48,8 @@ pub fn is_marked(hints: &Hints, number: u64) -> bool {
 /// The numbers that the hint of a position and mover tells, or these, where it tells none.
 pub(crate) fn hinted_or(hints: &Hints, number: u64, others: Numbers) -> Numbers
     requires { IsNumbers others }
-    ensures { IsNumbers result }
+    ensures told { (result ≡ others) ⊎ IsHint result }
+    ensures numbers { IsNumbers result }
 {
     let hint = hints.get(hint_word(number));
     if hint.is_unseen() || hint == PROVED {

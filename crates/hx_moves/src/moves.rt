@@ -10,7 +10,7 @@ use crate::children::Child;
 use crate::marks::hinted_or;
 use crate::orders::in_order;
 use crate::replies::Replies;
-use crate::starts::Turn;
+use crate::situations::Situation;
 use crate::stones::after;
 use crate::unseen_moves::first_numbers;
 use hx_board::{Cell, Mask, Memory};
@@ -37,11 +37,11 @@ impl Moves {
         replies: &Replies,
         own: &LinkSet,
         others: &LinkSet,
-        turn: &Turn,
+        situation: &Situation,
     ) -> Result<Moves, Memory>
-        ensures { IfOk result (λ moves. All (IsChildOf turn.now) moves.children.items) }
+        ensures { IfOk result (λ moves. All (IsChildOf situation.now) moves.children.items) }
     {
-        let earlier = replies.earlier(turn, own.position().empties());
+        let earlier = replies.earlier(situation, own.position().empties());
         let order = in_order(own, others, &earlier)?;
         let must = must(others, order.as_slice())?;
         let mut tried = must.cells;
@@ -53,7 +53,7 @@ impl Moves {
             if !tried.has(*cell) {
                 continue;
             }
-            let Some(child) = child_of(hints, turn, *cell) else {
+            let Some(child) = child_of(hints, situation, *cell) else {
                 continue;
             };
             children.push(child).map_err(|_| Memory)?;
@@ -104,14 +104,14 @@ impl Moves {
 }
 
 /// A move, with the numbers of its hint or the first ones. None where the cell holds a stone.
-fn child_of(hints: &Hints, turn: &Turn, cell: Cell) -> Option<Child>
-    ensures { IfSome result (IsChildOf turn.now) }
+fn child_of(hints: &Hints, situation: &Situation, cell: Cell) -> Option<Child>
+    ensures { IfSome result (IsChildOf situation.now) }
 {
-    let Some(there) = after(&turn.filled, turn.to_move, cell) else {
+    let Some(there) = after(&situation.filled, situation.to_move, cell) else {
         return None;
     };
-    let number = there.number(turn.to_move.other());
-    let first = first_numbers(turn.filled.position());
+    let number = there.number(situation.to_move.other());
+    let first = first_numbers(situation.filled.position());
     Some(Child {
         cell,
         number,

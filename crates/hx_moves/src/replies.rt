@@ -10,7 +10,7 @@
 
 ghost use Rattle.std.specs.Prelude.{◌<◌};
 
-use crate::starts::Turn;
+use crate::situations::Situation;
 use hx_board::{CELLS, Cell, Colour, Mask, Memory};
 use hx_count::Hints;
 use hx_pn::Numbers;
@@ -68,25 +68,26 @@ impl Replies {
     }
 
     /// The mover of a turn has won by a move to the cell.
-    pub fn note(&self, turn: &Turn, cell: Cell) {
-        let Some(last) = turn.moved else {
+    pub fn note(&self, situation: &Situation, cell: Cell) {
+        let Some(last) = situation.moved else {
             return;
         };
-        let more = self.count(turn.to_move, last, cell).saturating_add(1);
+        let more = self.count(situation.to_move, last, cell).saturating_add(1);
         let numbers = Numbers {
             phi: more,
             delta: 1,
         };
-        self.counts.set(word(turn.to_move, last, cell), numbers);
+        self.counts
+            .set(word(situation.to_move, last, cell), numbers);
     }
 
     /// How much earlier each of these cells is tried, in thousandths of a distance.
-    pub(crate) fn earlier(&self, turn: &Turn, cells: Mask) -> [u32; CELLS] {
+    pub(crate) fn earlier(&self, situation: &Situation, cells: Mask) -> [u32; CELLS] {
         let mut earlier = [0u32; CELLS];
-        let Some(last) = turn.moved else {
+        let Some(last) = situation.moved else {
             return earlier;
         };
-        let size = turn.filled.position().size();
+        let size = situation.filled.position().size();
         let mut largest = 1;
         let mut left = cells;
         for _ in 0..CELLS {
@@ -94,18 +95,18 @@ impl Replies {
                 break;
             };
             left = left.without(cell);
-            let count = self.count(turn.to_move, last, cell);
+            let count = self.count(situation.to_move, last, cell);
             earlier[cell.index() as usize] = count;
             largest = largest.max(count);
         }
-        for place in 0..CELLS {
-            earlier[place] = shared_out(earlier[place], largest);
-        }
+        share_out(&mut earlier, largest);
         earlier
     }
 }
 
-/// A count's share of the most, by the largest count.
-fn shared_out(count: u32, largest: u32) -> u32 {
-    count.wrapping_mul(MOST) / largest.max(1)
+/// Each count becomes its share of the most, by the largest count.
+fn share_out(counts: &mut [u32; CELLS], largest: u32) {
+    for place in 0..CELLS {
+        counts[place] = counts[place].wrapping_mul(MOST) / largest.max(1);
+    }
 }

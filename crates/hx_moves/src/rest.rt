@@ -6,8 +6,9 @@
 //! of 6 by 6 take a twenty-fifth more, and 8 by 8 after d5 a third more. Five or six as one do about as well; two, four and seven as one
 //! take a quarter to a half more after g4.
 
-ghost use Rattle.std.specs.Prelude.{◌<◌, IfSome, IsSome};
+ghost use Rattle.std.specs.Prelude.{◌≡◌, ◌<◌, IfSome, IsSome};
 ghost use Rattle.hx_pn.specs.Numbers.{IsNumbers};
+ghost use Rattle.hx_moves.specs.Given.{rest_of};
 
 use hx_board::CELLS;
 use hx_pn::{INF, Numbers};
@@ -17,6 +18,7 @@ const AS_TWO: usize = 11;
 
 /// The numbers of one move that counts as much as so many moves out of focus. No delta is higher, so no turn goes down to it.
 pub(crate) fn rest(out_of_focus: usize) -> Option<Numbers>
+    ensures value { result ≡ rest_of out_of_focus }
     ensures numbers { IfSome result IsNumbers }
     ensures some { IsSome result → 0 < out_of_focus }
 {

@@ -10,7 +10,7 @@ use crate::outcomes::{Outcome, outcome_of};
 use hx_board::{Colour, Memory, Position, chain};
 use hx_book::Proofs;
 use hx_linkset::LinkSet;
-use hx_moves::Turn;
+use hx_moves::Situation;
 use hx_search::{Reached, Workspace, reach_with};
 use hx_wide::{widen_chain, widen_links, widen_turned};
 use std::sync::Wait;
@@ -45,7 +45,7 @@ pub(crate) fn look_up<P: Proofs, R: Wait>(
 pub(crate) fn look_up_filled<P: Proofs, R: Wait>(
     rt: &R,
     proofs: &mut P,
-    turn: &Turn,
+    turn: &Situation,
 ) -> Option<Outcome>
     ensures slots { P.slots proofs.new ≡ P.slots proofs.old }
     ensures over { P.over proofs.new ≡ P.over proofs.old }

@@ -12,7 +12,8 @@ use hx_book::Proofs;
 use hx_count::Hints;
 use hx_linkset::LinkSet;
 use hx_moves::{
-    Child, Down, Moves, Replies, Turn, after, first_numbers, in_focus, is_marked, leave_open, open,
+    Child, Down, Moves, Replies, Situation, after, first_numbers, in_focus, is_marked, leave_open,
+    open,
 };
 use hx_nodes::Stored;
 use hx_pn::{INF, Numbers};
@@ -30,7 +31,7 @@ pub(crate) fn look_again<P: Proofs, R: Wait>(
     alloc: Global,
     proofs: &mut P,
     hints: &Hints,
-    turn: &Turn,
+    turn: &Situation,
     moves: &mut Moves,
 ) -> Option<Outcome>
     ensures slots { P.slots proofs.new ≡ P.slots proofs.old }
@@ -52,7 +53,7 @@ fn look_at_own<P: Proofs, R: Wait>(
     rt: &R,
     proofs: &mut P,
     hints: &Hints,
-    turn: &Turn,
+    turn: &Situation,
 ) -> Option<Outcome>
     ensures slots { P.slots proofs.new ≡ P.slots proofs.old }
     ensures over { P.over proofs.new ≡ P.over proofs.old }
@@ -78,7 +79,7 @@ pub(crate) fn look_at_marked<P: Proofs, R: Wait>(
     alloc: Global,
     proofs: &mut P,
     hints: &Hints,
-    turn: &Turn,
+    turn: &Situation,
     moves: &mut Moves,
     count: usize,
 ) -> Option<Outcome>
@@ -105,7 +106,7 @@ fn look_at<P: Proofs, R: Wait>(
     alloc: Global,
     proofs: &mut P,
     hints: &Hints,
-    turn: &Turn,
+    turn: &Situation,
     moves: &mut Moves,
     place: usize,
 ) -> Option<Outcome>
@@ -140,7 +141,7 @@ pub(crate) fn by_move<P: Proofs, R: Wait>(
     rt: &R,
     alloc: Global,
     proofs: &mut P,
-    turn: &Turn,
+    turn: &Situation,
     moves: &mut Moves,
     place: usize,
     child: &Child,
@@ -170,7 +171,7 @@ pub(crate) fn take_in<P: Proofs, R: Wait>(
     alloc: Global,
     replies: &Replies,
     proofs: &mut P,
-    turn: &Turn,
+    turn: &Situation,
     moves: &mut Moves,
     down: &Down,
     outcome: Outcome,
@@ -197,7 +198,7 @@ pub(crate) fn take_in<P: Proofs, R: Wait>(
 }
 
 /// Counts a move that a search found to win.
-fn note_reply(replies: &Replies, turn: &Turn, cell: Cell, known: &Option<Outcome>) {
+fn note_reply(replies: &Replies, turn: &Situation, cell: Cell, known: &Option<Outcome>) {
     if let Some(Outcome::Proved) = known {
         replies.note(turn, cell);
     }

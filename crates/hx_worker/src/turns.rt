@@ -26,7 +26,7 @@ use hx_count::{CountSeat, Hints};
 use hx_fill::{Filled, fill_in};
 use hx_io::Gate;
 use hx_linkset::LinkSet;
-use hx_moves::{Choice, Down, LOSS_WORDS, Moves, Start, Turn, choose, loss_word};
+use hx_moves::{Choice, Down, LOSS_WORDS, Moves, Situation, Start, choose, loss_word};
 use hx_search::Workspace;
 use hx_wide::widen_fill;
 use std::alloc::Global;
@@ -97,7 +97,7 @@ pub(crate) fn visit<P: Proofs, G: Gate, R: Wait>(
     let Ok(filled) = fill_in(alloc, position) else {
         return Outcome::Memory;
     };
-    let Ok(turn) = Turn::of(alloc, start, &filled) else {
+    let Ok(turn) = Situation::of(alloc, start, &filled) else {
         return Outcome::Memory;
     };
     let outcome = with_own(
@@ -117,7 +117,7 @@ fn with_own<P: Proofs, G: Gate, R: Wait>(
     workspace: &mut Workspace,
     own: &mut LinkSet,
     others: &mut LinkSet,
-    turn: &Turn,
+    turn: &Situation,
     depth: u32,
 ) -> Outcome
     requires seat { seat.old.made ≡ worker.now.counts.now }
@@ -162,7 +162,7 @@ fn with_others<P: Proofs, G: Gate, R: Wait>(
     workspace: &mut Workspace,
     own: &mut LinkSet,
     others: &mut LinkSet,
-    turn: &Turn,
+    turn: &Situation,
     depth: u32,
 ) -> Outcome
     requires seat { seat.old.made ≡ worker.now.counts.now }
@@ -207,7 +207,7 @@ fn expand<P: Proofs, G: Gate, R: Wait>(
     workspace: &mut Workspace,
     own: &mut LinkSet,
     others: &mut LinkSet,
-    turn: &Turn,
+    turn: &Situation,
     depth: u32,
 ) -> Outcome
     requires seat { seat.old.made ≡ worker.now.counts.now }

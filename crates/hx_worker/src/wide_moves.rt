@@ -12,13 +12,13 @@ ghost use Rattle.hx_worker.specs.Outcomes.{IsOutcome};
 use crate::outcomes::{Outcome, outcome_of};
 use hx_board::{Cell, Mask};
 use hx_book::Proofs;
-use hx_moves::{Moves, Turn};
+use hx_moves::{Moves, Situation};
 use hx_wide::widen_move;
 use std::alloc::Global;
 use std::sync::Wait;
 
 /// The cells that the entry against a move does not need, and the move itself. No cell where there is no such entry.
-fn refuted_with<P: Proofs, R: Wait>(rt: &R, proofs: &mut P, turn: &Turn, cell: Cell) -> Mask
+fn refuted_with<P: Proofs, R: Wait>(rt: &R, proofs: &mut P, turn: &Situation, cell: Cell) -> Mask
     ensures slots { P.slots proofs.new ≡ P.slots proofs.old }
     ensures over { P.over proofs.new ≡ P.over proofs.old }
     ensures seen { Extends (P.list proofs.new) (P.list proofs.old) }
@@ -41,7 +41,7 @@ fn won_by<P: Proofs, R: Wait>(
     rt: &R,
     alloc: Global,
     proofs: &mut P,
-    turn: &Turn,
+    turn: &Situation,
     cell: Cell,
 ) -> Option<Outcome>
     ensures slots { P.slots proofs.new ≡ P.slots proofs.old }
@@ -67,7 +67,7 @@ pub(crate) fn look_at_all<P: Proofs, R: Wait>(
     rt: &R,
     alloc: Global,
     proofs: &mut P,
-    turn: &Turn,
+    turn: &Situation,
     moves: &mut Moves,
 ) -> Option<Outcome>
     ensures slots { P.slots proofs.new ≡ P.slots proofs.old }
@@ -100,7 +100,7 @@ pub(crate) fn look_at_all<P: Proofs, R: Wait>(
 pub(crate) fn leave_out_siblings<P: Proofs, R: Wait>(
     rt: &R,
     proofs: &mut P,
-    turn: &Turn,
+    turn: &Situation,
     moves: &mut Moves,
     cell: Cell,
 )

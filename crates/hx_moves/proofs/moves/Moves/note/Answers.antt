@@ -9,7 +9,8 @@ get-set_same [] place x inside = absurd (omega arith)
 get-set_same (y ∷ ys) zero x inside = refl
 get-set_same (y ∷ ys) (suc place) x inside = get-set_same ys place x (omega arith)
 
-get-set_other : {A : Type 0} → (xs : List A) (place : ℕ) (x : A) (other : ℕ) → other ≢ place → slice_get (set xs place x) other ≡ slice_get xs other
+get-set_other : {A : Type 0} → (xs : List A) (place : ℕ) (x : A) (other : ℕ) → other ≢ place
+    → slice_get (set xs place x) other ≡ slice_get xs other
 get-set_other [] place x other differ = refl
 get-set_other (y ∷ ys) zero x zero differ = absurd (differ refl)
 get-set_other (y ∷ ys) zero x (suc other) differ = refl
