@@ -7,6 +7,3 @@ mod winners;
 
 pub use chains::{always_one, never_both, winner_of_full};
 pub use winners::{extra_move, extra_stone, one_winner};
-
-#[cfg(test)]
-mod tests;

@@ -19,8 +19,3 @@ pub use parts::{MOST_PARTS, Parts};
 pub use results::result_of;
 pub use step_lists::Steps;
 pub use steps::Step;
-
-#[cfg(test)]
-mod plain;
-#[cfg(test)]
-mod tests;

@@ -14,6 +14,3 @@ pub use laws::{one_number, turned_joins, turned_keeps};
 pub use numbers::folded_number;
 pub use orientations::{Orientations, number};
 pub use turns::{is_turned, turned};
-
-#[cfg(test)]
-mod tests;

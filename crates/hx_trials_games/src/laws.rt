@@ -4,9 +4,9 @@ ghost use Rattle.std.specs.Prelude.{◌↔◌, IsTrue};
 ghost use Rattle.hx_board.specs.Positions.{IsEmpty, IsFull, put};
 ghost use Rattle.hx_board.specs.Game.{Wins};
 
-use super::*;
 use hx_board::Colour::{Black, White};
 use hx_board::{Cell, Colour, Position, Size};
+use hx_law::{extra_move, extra_stone, one_winner, winner_of_full};
 use hx_samples::{SMALL_BOARDS, has_chain, numbered};
 use std::process::Abort;
 use std::test::Fail;

@@ -1,10 +1,8 @@
 //! The table of steps once more, said as plainly as it can be, for the tests to compare `result_of` with: joining by walks
 //! from vertex to vertex and not by groups, carriers cell by cell and not by whole sets.
 
-use crate::links::{Kind, Link};
-use crate::parts::MOST_PARTS;
-use crate::steps::Step;
 use hx_board::{CELLS, Cell, Colour, Mask, Position, Size, Vertex};
+use hx_link::{Kind, Link, MOST_PARTS, Step};
 use hx_samples::{is_own, is_vertex, joined_to};
 
 /// The link that a step gives after these.

@@ -1,8 +1,10 @@
-//! Turned positions by hand and by rows and columns, and callers of the laws.
+//! Turned positions that were worked out by hand, their numbers, and callers of the laws.
 
-use super::*;
 use hx_board::{Colour, Mask, Position, Size};
 use hx_samples::Draws;
+use hx_turn::{
+    Orientations, folded_number, is_turned, number, one_number, turned, turned_joins, turned_keeps,
+};
 use std::test::Fail;
 
 /// A position by the cells of its stones, each told by its row and column.
@@ -31,24 +33,6 @@ fn three_rows_and_two_columns(rt: HostRuntime) -> Result<(), Fail> {
     assert!(rt; is_turned(&position, &expected) && !is_turned(&position, &position));
     turned_joins(&position, Colour::Black);
     turned_keeps(&position, Colour::Black, Colour::White);
-    Ok(())
-}
-
-/// Each cell of each board comes to the cell as far from the last row and column as it is from the first.
-#[test]
-fn each_cell_of_each_board(rt: HostRuntime) -> Result<(), Fail> {
-    for rows in 1..=11u8 {
-        for cols in 1..=11u8 {
-            let size = Size::new(rows, cols).ok_or("size")?;
-            for row in 0..rows {
-                for col in 0..cols {
-                    let position = with_stones(size, &[], &[(row, col)])?;
-                    let expected = with_stones(size, &[], &[(rows - 1 - row, cols - 1 - col)])?;
-                    assert_eq!(rt; turned(&position), expected, "{row}, {col}: {size:?}");
-                }
-            }
-        }
-    }
     Ok(())
 }
 
