@@ -10,5 +10,6 @@ pub mod ViewLaws
 pub mod ReachLaws
 pub mod KillerLaws
 pub mod CandidateLaws
-pub mod TurnLaws
+pub mod ComingLaws
 pub mod UnderLaws
+pub mod LineLaws

@@ -21,7 +21,8 @@ AreDeadOrPairs fills = All (λ fill. IsDeadOrPair fill.step) fills
 -- each step is right for its own player on the board where it is done, and together they lead from one board to another
 abbrev pub FillsTo : Board → List Fill → Board → Type 0
 FillsTo board [] final = board ≡ final
-FillsTo board (fill ∷ rest) final = MayFill board fill.colour fill.step × FillsTo (filled board fill.colour fill.step) rest final
+FillsTo board (fill ∷ rest) final =
+    MayFill board fill.colour fill.step × FillsTo (filled board fill.colour fill.step) rest final
 
 -- no cell is dead for the player, and no two are a pair
 pub record HasNone (board : Board) (player : Colour) : Type 0 where

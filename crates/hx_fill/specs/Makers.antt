@@ -20,7 +20,8 @@ pub record IsMaker (board : Board) (player : Colour) (cell other : ℕ) : Type 0
 -- whether a cell is dead, and its makers among some cells
 pub record AreMakers (board : Board) (player : Colour) (cell among : ℕ) (makers : Makers) : Type 0 where
   pub dead : IsTrue makers.is_dead ↔ IsDead board player cell
-  pub cells : (other : ℕ) → (has makers.cells other ≡ true) ↔ ((has among other ≡ true) × IsMaker board player cell other)
+  pub cells : (other : ℕ)
+      → (has makers.cells other ≡ true) ↔ ((has among other ≡ true) × IsMaker board player cell other)
 
 -- some makers of a cell
 abbrev pub AreMakersAmong : Board → Colour → ℕ → ℕ → Type 0
@@ -36,7 +37,8 @@ IsAmong size around vertex = IsVertex size vertex × (has around (code_of vertex
 
 -- a vertex that is joined with each one of the set
 abbrev pub JoinsEach : Board → Colour → ℕ → Vertex → Type 0
-JoinsEach board player around vertex = (other : Vertex) → IsAmong board.size around other → Joined board player vertex other
+JoinsEach board player around vertex = (other : Vertex) → IsAmong board.size around other
+    → Joined board player vertex other
 
 -- a vertex that is joined with each one of the set, or else with a further cell
 abbrev pub JoinsEachOr : Board → Colour → ℕ → ℕ → Vertex → Type 0
@@ -44,13 +46,18 @@ JoinsEachOr board player around other vertex = (neighbour : Vertex) → IsAmong 
     → Joined board player vertex neighbour ⊎ Joined board player vertex (Of other)
 
 -- what one of the open neighbours leaves of the makers
-pub record IsNarrowed (board : Board) (player : Colour) (around : ℕ) (vertex : Vertex) (before after : Makers) : Type 0 where
+pub record IsNarrowed (board : Board) (player : Colour) (around : ℕ) (vertex : Vertex)
+    (before after : Makers) : Type 0 where
   pub dead : IsTrue after.is_dead ↔ (IsTrue before.is_dead × JoinsEach board player around vertex)
-  pub cells : (other : ℕ) → (has after.cells other ≡ true) ↔ ((has before.cells other ≡ true) × JoinsEachOr board player around other vertex)
+  pub cells : (other : ℕ)
+      → (has after.cells other ≡ true)
+      ↔ ((has before.cells other ≡ true) × JoinsEachOr board player around other vertex)
 
 -- what the open neighbours leave of the makers, but for those in a set
 pub record AreNarrowed (board : Board) (player : Colour) (around left : ℕ) (before after : Makers) : Type 0 where
   pub dead : IsTrue after.is_dead ↔ (IsTrue before.is_dead
-      × ((vertex : Vertex) → IsAmong board.size around vertex → has left (code_of vertex) ≡ false → JoinsEach board player around vertex))
+      × ((vertex : Vertex) → IsAmong board.size around vertex → has left (code_of vertex) ≡ false
+      → JoinsEach board player around vertex))
   pub cells : (other : ℕ) → (has after.cells other ≡ true) ↔ ((has before.cells other ≡ true)
-      × ((vertex : Vertex) → IsAmong board.size around vertex → has left (code_of vertex) ≡ false → JoinsEachOr board player around other vertex))
+      × ((vertex : Vertex) → IsAmong board.size around vertex → has left (code_of vertex) ≡ false
+      → JoinsEachOr board player around other vertex))

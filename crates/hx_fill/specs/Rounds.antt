@@ -15,10 +15,12 @@ AreAllEmpties board cells = (cell : ℕ) → (has cells cell ≡ true) ↔ IsEmp
 -- a board with no stone less
 pub record HasNoStoneLess (before after : Board) : Type 0 where
   pub same_size : after.size ≡ before.size
-  pub stones : (player : Colour) (cell : ℕ) → has (stones_of before player) cell ≡ true → has (stones_of after player) cell ≡ true
+  pub stones : (player : Colour) (cell : ℕ) → has (stones_of before player) cell ≡ true
+      → has (stones_of after player) cell ≡ true
 
 -- one step more was done
-pub record DoesStep (player : Colour) (step : FillStep) (board : Board) (fills : List Fill) (next : Board) (more : List Fill) : Type 0 where
+pub record DoesStep (player : Colour) (step : FillStep) (board : Board) (fills : List Fill) (next : Board)
+    (more : List Fill) : Type 0 where
   pub position : next ≡ filled board player step
   pub steps : more ≡ fills ++ record { colour = player; step = step } ∷ []
 
@@ -28,14 +30,19 @@ pub record HasNoFill (start : Board) (player : Colour) (board : Board) (cell : �
   pub no_pair : (other : ℕ) → IsEmpty board other → IsPair start player cell other → ⊥
 
 -- what became of a board and its fills when a cell was looked at, with what was joined on an earlier board
-pub data LooksAt (start : Board) (player : Colour) (cell : ℕ) (board : Board) (fills : List Fill) (next : Board) (more : List Fill) : Type 0 where
-  Leaves : next ≡ board → more ≡ fills → HasNoFill start player board cell → LooksAt start player cell board fills next more
+pub data LooksAt (start : Board) (player : Colour) (cell : ℕ) (board : Board) (fills : List Fill) (next : Board)
+    (more : List Fill) : Type 0 where
+  Leaves : next ≡ board → more ≡ fills → HasNoFill start player board cell
+      → LooksAt start player cell board fills next more
   Fills : (step : FillStep) → IsDeadOrPair step → MayFill board player step → DoesStep player step board fills next more
       → LooksAt start player cell board fills next more
 
 -- what became of a board and its fills when all empty cells but those in a set were looked at
-pub data IsRound (player : Colour) (left : ℕ) (board : Board) (fills : List Fill) (next : Board) (more : List Fill) : Type 0 where
-  Still : next ≡ board → more ≡ fills → ((cell : ℕ) → IsEmpty board cell → has left cell ≡ false → HasNoFill board player board cell)
+pub data IsRound (player : Colour) (left : ℕ) (board : Board) (fills : List Fill) (next : Board)
+    (more : List Fill) : Type 0 where
+  Still : next ≡ board → more ≡ fills
+      → ((cell : ℕ) → IsEmpty board cell → has left cell ≡ false → HasNoFill board player board cell)
       → IsRound player left board fills next more
-  Further : (added : List Fill) → 0 < length added → more ≡ fills ++ added → AreDeadOrPairs added → FillsTo board added next
+  Further : (added : List Fill) → 0 < length added → more ≡ fills ++ added → AreDeadOrPairs added
+      → FillsTo board added next
       → IsRound player left board fills next more

@@ -8,20 +8,20 @@ ghost use Rattle.hx_board.specs.Sets.{has};
 ghost use Rattle.hx_board.specs.Cells.{OnBoard};
 ghost use Rattle.hx_fill.specs.Unders.{AreEmpties, HoldDominated};
 
-use crate::turns::Turn;
+use crate::dominations::BothGroups;
 use hx_board::{CELLS, Cell, Mask, Size};
 
 /// For each of some empty cells, at its index, those of them that it can be better than.
-pub(crate) fn candidates_of(turn: &Turn, size: Size, cells: Mask) -> [Mask; CELLS]
-    requires size { turn.now.position.size ≡ size }
-    requires cells { AreEmpties turn.now.position cells }
-    ensures { HoldDominated turn.now.position turn.now.mover cells 0 result }
+pub(crate) fn candidates_of(both: &BothGroups, size: Size, cells: Mask) -> [Mask; CELLS]
+    requires size { both.now.position.size ≡ size }
+    requires cells { AreEmpties both.now.position cells }
+    ensures { HoldDominated both.now.position both.now.mover cells 0 result }
 {
     let mut found = [Mask::empty(); CELLS];
     let mut left = cells;
     while let Some(worse) = left.least(size) {
         left = left.without(worse);
-        let killers = turn.killers(worse).meet(cells);
+        let killers = both.killers(worse).meet(cells);
         add_to_each(&mut found, size, killers, worse);
     }
     found

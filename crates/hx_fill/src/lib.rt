@@ -4,6 +4,7 @@
 
 mod candidates;
 mod choices;
+mod dominations;
 mod fills;
 mod makers;
 mod mustplay;
@@ -11,7 +12,7 @@ mod musts;
 mod reaches;
 mod rounds;
 mod threats;
-mod turns;
+mod tried_cells;
 mod unders;
 mod views;
 mod winners_steps;
@@ -20,4 +21,5 @@ pub use fills::{Fill, Filled};
 pub use mustplay::must;
 pub use musts::Must;
 pub use rounds::fill_in;
+pub use tried_cells::without_lines;
 pub use winners_steps::steps_for;

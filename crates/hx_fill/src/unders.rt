@@ -1,7 +1,7 @@
 //! Lines for moves that need no answer of their own, since another move is better.
 //!
-//! The cells have their turns in a given order, which is that in which a search tries them: so it keeps the moves that it
-//! likes best. At its turn a cell that has no line gives one to each cell that it dominates, unless that cell has one or is the
+//! The cells come one by one in a given order, which is that in which a search tries them: so it keeps the moves that it
+//! likes best. A cell that has no line when it comes gives one to each cell that it dominates, unless that cell has one or is the
 //! better one of a line. So no better cell ever gets a line itself.
 
 ghost use Rattle.std.specs.Prelude.{◌≡◌, ◌≢◌, ℕ, ◌+◌, ◌++◌, ◌∷◌, [], List, length, slice_get, true, false, IfOk, OnOk};
@@ -12,16 +12,16 @@ ghost use Rattle.hx_board.specs.Cells.{OnBoard};
 ghost use Rattle.hx_board.specs.Positions.{IsEmpty};
 ghost use Rattle.hx_tree.specs.declared.nodes.Line.TheVariants.{Under};
 ghost use Rattle.hx_fill.specs.declared.choices.Better.{Better as Given};
-ghost use Rattle.hx_fill.specs.Unders.{AreEmpties, AreUnder, AreByOrder, AreSetsOf, HoldDominated, AreKilled, AreWithKiller, IsSifted, NoneWaits, TakesTurn, AreGiven, AddsLine, AreLinesFor};
+ghost use Rattle.hx_fill.specs.Unders.{AreEmpties, AreUnder, AreByOrder, AreSetsOf, HoldDominated, AreKilled, AreWithKiller, IsSifted, NoneWaits, Comes, AreGiven, AddsLine, AreLinesFor};
 
 use crate::candidates::candidates_of;
 use crate::choices::{Better, Choices};
-use crate::turns::Turn;
+use crate::dominations::BothGroups;
 use hx_board::{CELLS, Cell, Colour, Mask, Memory, Position, Size};
 use hx_tree::{Line, Lines};
 use std::alloc::Global;
 
-/// Which cells get a line, as the turns go on.
+/// Which cells get a line, as one cell after the other comes.
 #[derive(Drop)]
 struct Sieve {
     /// The cells that it is about.
@@ -33,14 +33,14 @@ struct Sieve {
     /// The cells without a line.
     without_line: Mask,
 
-    /// Those of them that had no turn yet.
+    /// Those of them that did not come yet.
     waiting: Mask,
 
     /// The better cells of the lines.
     betters: Mask,
 }
 
-/// Lines for the cells, among some empty ones, than which another one of these is better for the mover. They have their turns
+/// Lines for the cells, among some empty ones, than which another one of these is better for the mover. They come
 /// in the order, and then, in cell order, those that the order leaves out.
 pub(crate) fn under_lines(
     alloc: Global,
@@ -53,17 +53,17 @@ pub(crate) fn under_lines(
     ensures under { IfOk result (λ lines. AreUnder position.now mover cells lines) }
     ensures order { IfOk result (λ lines. AreByOrder position.now mover cells order.now lines) }
 {
-    let turn = Turn::of(position, mover);
+    let both = BothGroups::of(position, mover);
     let size = position.size();
-    let candidates = candidates_of(&turn, size, cells);
+    let candidates = candidates_of(&both, size, cells);
     let mut sieve = Sieve::of(cells);
-    sieve.go_by_order(&turn, size, &candidates, order);
-    sieve.go_on(&turn, size, &candidates);
+    sieve.go_by_order(&both, size, &candidates, order);
+    sieve.go_on(&both, size, &candidates);
     sieve.lines(alloc, size)
 }
 
 impl Sieve {
-    /// Before the first turn.
+    /// Before the first cell comes.
     fn of(cells: Mask) -> Sieve
         ensures cells { result.cells ≡ cells }
         ensures without_line { result.without_line ≡ cells }
@@ -79,88 +79,94 @@ impl Sieve {
         }
     }
 
-    /// The turns of the cells of the order.
-    fn go_by_order(&mut self, turn: &Turn, size: Size, candidates: &[Mask; CELLS], order: &[Cell])
-        requires size { turn.now.position.size ≡ size }
-        requires cells { AreEmpties turn.now.position self.old.cells }
-        requires candidates { HoldDominated turn.now.position turn.now.mover self.old.cells 0
+    /// The cells of the order come.
+    fn go_by_order(
+        &mut self,
+        both: &BothGroups,
+        size: Size,
+        candidates: &[Mask; CELLS],
+        order: &[Cell],
+    )
+        requires size { both.now.position.size ≡ size }
+        requires cells { AreEmpties both.now.position self.old.cells }
+        requires candidates { HoldDominated both.now.position both.now.mover self.old.cells 0
             candidates.now }
-        requires sifted { IsSifted turn.now.position turn.now.mover self.old.cells order.now
+        requires sifted { IsSifted both.now.position both.now.mover self.old.cells order.now
             self.old.choices self.old.without_line self.old.waiting self.old.betters }
         ensures cells { self.new.cells ≡ self.old.cells }
-        ensures sifted { IsSifted turn.now.position turn.now.mover self.new.cells order.now
+        ensures sifted { IsSifted both.now.position both.now.mover self.new.cells order.now
             self.new.choices self.new.without_line self.new.waiting self.new.betters }
         ensures none_waits { NoneWaits order.now (length order.now) self.new.waiting }
     {
         for cell in order {
-            self.take_turn_if_waiting(turn, size, candidates, *cell);
+            self.come_if_waiting(both, size, candidates, *cell);
         }
     }
 
-    /// The turns of the other cells, in cell order.
-    fn go_on(&mut self, turn: &Turn, size: Size, candidates: &[Mask; CELLS])
-        requires size { turn.now.position.size ≡ size }
-        requires cells { AreEmpties turn.now.position self.old.cells }
-        requires candidates { HoldDominated turn.now.position turn.now.mover self.old.cells 0
+    /// The other cells come, in cell order.
+    fn go_on(&mut self, both: &BothGroups, size: Size, candidates: &[Mask; CELLS])
+        requires size { both.now.position.size ≡ size }
+        requires cells { AreEmpties both.now.position self.old.cells }
+        requires candidates { HoldDominated both.now.position both.now.mover self.old.cells 0
             candidates.now }
         requires inside { AreSetsOf self.old.cells self.old.without_line self.old.waiting }
         ensures cells { self.new.cells ≡ self.old.cells }
         ensures sifted { (order : List ℕ) → NoneWaits order (length order) self.old.waiting
-            → IsSifted turn.now.position turn.now.mover self.old.cells order
+            → IsSifted both.now.position both.now.mover self.old.cells order
             self.old.choices self.old.without_line self.old.waiting self.old.betters
-            → IsSifted turn.now.position turn.now.mover self.new.cells order
+            → IsSifted both.now.position both.now.mover self.new.cells order
             self.new.choices self.new.without_line self.new.waiting self.new.betters }
         ensures none_waits { (n : ℕ) → has self.new.waiting n ≡ false }
     {
         while let Some(cell) = self.waiting.least(size) {
-            self.take_turn(turn, size, candidates, cell);
+            self.come(both, size, candidates, cell);
         }
     }
 
-    /// The turn of a cell at its place in the order, where it has a turn.
-    fn take_turn_if_waiting(
+    /// A cell comes at its place in the order, where it still waits.
+    fn come_if_waiting(
         &mut self,
-        turn: &Turn,
+        both: &BothGroups,
         size: Size,
         candidates: &[Mask; CELLS],
         cell: Cell,
     )
-        requires size { turn.now.position.size ≡ size }
-        requires cells { AreEmpties turn.now.position self.old.without_line }
-        requires candidates { HoldDominated turn.now.position turn.now.mover
+        requires size { both.now.position.size ≡ size }
+        requires cells { AreEmpties both.now.position self.old.without_line }
+        requires candidates { HoldDominated both.now.position both.now.mover
             self.old.without_line 0 candidates.now }
         requires inside { IsSubset self.old.waiting self.old.without_line }
         ensures cells { self.new.cells ≡ self.old.cells }
         ensures goes_on { (order : List ℕ) (place : ℕ) → slice_get order place ≡ Some cell
             → NoneWaits order place self.old.waiting
-            → IsSifted turn.now.position turn.now.mover self.old.cells order
+            → IsSifted both.now.position both.now.mover self.old.cells order
             self.old.choices self.old.without_line self.old.waiting self.old.betters
-            → IsSifted turn.now.position turn.now.mover self.old.cells order
+            → IsSifted both.now.position both.now.mover self.old.cells order
             self.new.choices self.new.without_line self.new.waiting self.new.betters
             × NoneWaits order (place + 1) self.new.waiting }
     {
         if !self.waiting.has(cell) {
             return;
         }
-        self.take_turn(turn, size, candidates, cell);
+        self.come(both, size, candidates, cell);
     }
 
-    /// The turn of a cell.
-    fn take_turn(&mut self, turn: &Turn, size: Size, candidates: &[Mask; CELLS], better: Cell)
-        requires size { turn.now.position.size ≡ size }
-        requires cells { AreEmpties turn.now.position self.old.without_line }
-        requires candidates { HoldDominated turn.now.position turn.now.mover
+    /// A cell comes.
+    fn come(&mut self, both: &BothGroups, size: Size, candidates: &[Mask; CELLS], better: Cell)
+        requires size { both.now.position.size ≡ size }
+        requires cells { AreEmpties both.now.position self.old.without_line }
+        requires candidates { HoldDominated both.now.position both.now.mover
             self.old.without_line 0 candidates.now }
         requires better { has self.old.without_line better ≡ true }
         ensures cells { self.new.cells ≡ self.old.cells }
-        ensures takes { TakesTurn turn.now.position turn.now.mover better
+        ensures comes { Comes both.now.position both.now.mover better
             self.old.choices self.old.without_line self.old.waiting self.old.betters
             self.new.choices self.new.without_line self.new.waiting self.new.betters }
     {
         let index = better.index() as usize;
         let free = self.without_line.minus(self.betters).without(better);
         let possible = free.meet(candidates[index]);
-        let killed = kill_all(&mut self.choices, turn, size, better, possible);
+        let killed = kill_all(&mut self.choices, both, size, better, possible);
         self.without_line = self.without_line.minus(killed);
         self.waiting = self.waiting.minus(killed).without(better);
         self.betters = with_killer(self.betters, better, killed);
@@ -195,34 +201,40 @@ impl Sieve {
 }
 
 /// Gives each of some cells that the better one dominates that one, and tells which cells these are.
-fn kill_all(choices: &mut Choices, turn: &Turn, size: Size, better: Cell, cells: Mask) -> Mask
-    requires size { turn.now.position.size ≡ size }
-    requires cells { AreEmpties turn.now.position cells }
-    requires better { IsEmpty turn.now.position better }
+fn kill_all(choices: &mut Choices, both: &BothGroups, size: Size, better: Cell, cells: Mask) -> Mask
+    requires size { both.now.position.size ≡ size }
+    requires cells { AreEmpties both.now.position cells }
+    requires better { IsEmpty both.now.position better }
     requires differ { has cells better ≡ false }
-    ensures { AreKilled turn.now.position turn.now.mover better cells 0
+    ensures { AreKilled both.now.position both.now.mover better cells 0
         choices.old choices.new result }
 {
     let mut killed = Mask::empty();
     let mut left = cells;
     while let Some(worse) = left.least(size) {
         left = left.without(worse);
-        killed = kill_one(choices, turn, better, worse, killed);
+        killed = kill_one(choices, both, better, worse, killed);
     }
     killed
 }
 
 /// Gives a cell the better one where that dominates it. The cell is added to those that were killed before.
-fn kill_one(choices: &mut Choices, turn: &Turn, better: Cell, worse: Cell, killed: Mask) -> Mask
-    requires better { IsEmpty turn.now.position better }
-    requires worse { IsEmpty turn.now.position worse }
+fn kill_one(
+    choices: &mut Choices,
+    both: &BothGroups,
+    better: Cell,
+    worse: Cell,
+    killed: Mask,
+) -> Mask
+    requires better { IsEmpty both.now.position better }
+    requires worse { IsEmpty both.now.position worse }
     requires differ { better ≢ worse }
     ensures { (cells left : ℕ) (before : List (Option Given)) → has cells worse ≡ true
-        → AreKilled turn.now.position turn.now.mover better cells left before choices.old killed
-        → AreKilled turn.now.position turn.now.mover better cells (remove left worse) before
+        → AreKilled both.now.position both.now.mover better cells left before choices.old killed
+        → AreKilled both.now.position both.now.mover better cells (remove left worse) before
         choices.new result }
 {
-    match turn.kill_by(better, worse) {
+    match both.kill_by(better, worse) {
         None => killed,
         Some(kill) => {
             choices.put(worse, Better { cell: better, kill });

@@ -1,5 +1,6 @@
 -- What the fields of a set keep, they keep from call to call; and what contracts see of them is what the calls promise.
-use Rattle.std.proofs.Common.{◌≡◌, ℕ, get_or, ◌<◌, ◌≤◌, List, [], ◌∷◌, ◌++◌, length, drop, reverse, sym, ap, ◌∙◌, inl, inr, Some, suc, arith}
+use Rattle.std.proofs.Common.{◌≡◌, ℕ, get_or, ◌<◌, ◌≤◌, List, [], ◌∷◌, ◌++◌, length, drop, reverse, sym, ap, ◌∙◌, inl}
+use Rattle.std.proofs.Common.{inr, Some, suc, arith}
 use Rattle.std.specs.Prelude.{slice_get}
 use Rattle.hx_board.specs.declared.colours.Colour.{Colour}
 use Rattle.hx_board.specs.Positions.{Board, IsBoard}
@@ -10,7 +11,7 @@ use Rattle.hx_link.specs.declared.steps.Step.{Step}
 use Rattle.hx_linkset.specs.declared.fulls.FullLink.{FullLink}
 use Rattle.hx_linkset.specs.declared.liveness.Liveness.{Liveness}
 use Rattle.hx_linkset.specs.declared.plays.Stage.{Stage}
-use Rattle.hx_linkset.specs.declared.sets.TheConstants.{MOST_LINKS}
+use Rattle.hx_linkset.specs.declared.limits.TheConstants.{MOST_LINKS}
 use Rattle.hx_linkset.specs.States.{State, IsLive, IsRight, GivesFromLive, added}
 use Rattle.hx_linkset.specs.Plays.{HasMore, past_of, Stands, stage_before, standing}
 use Rattle.hx_linkset.specs.LastStones.{board_before, AreDropped}
@@ -21,7 +22,8 @@ use Rattle.hx_linkset.specs.Telling.{Tells}
 use Rattle.hx_linkset.specs.Fulls.{AreFullLists}
 use Rattle.hx_linkset.proofs.GivenLaws.{from_live-live}
 use Rattle.hx_linkset.proofs.HeadLaws.{live-small}
-use Rattle.hx_linkset.proofs.StandingLaws.{reverse-push, keeps-right, keeps-none, room-play, keeps-played, standing-played, keeps-added, standing-added}
+use Rattle.hx_linkset.proofs.StandingLaws.{reverse-push, keeps-right, keeps-none, room-play, keeps-played}
+use Rattle.hx_linkset.proofs.StandingLaws.{standing-played, keeps-added, standing-added}
 use Rattle.hx_linkset.proofs.StonesLaws.{more-right, more-fewer_live, more-fewer_empty}
 use Rattle.hx_linkset.proofs.LogLaws.{log-none}
 use Rattle.hx_linkset.proofs.PassLaws.{head_at-low}
@@ -66,10 +68,18 @@ module _ (rings : Rings) (heads : AreHeads rings) (Has : ℕ → Link → Type 0
     previous_long = heads.previous.long;
   }
 
-pub fields-none : (player : Colour) (board : Board) (links : List Link) (steps : List Step) (plays : List Stage) (groups : Grouped) (liveness : Liveness) (rings : Rings) (fulls : List (List FullLink)) (log : List ℕ) (plays_capacity log_capacity : ℕ)
-    → links ≡ [] → steps ≡ [] → plays ≡ [] → log ≡ [] → groups ≡ record { board = board; player = player } → Tells liveness board player → IsBoard board → AreHeads rings → AreFullLists [] fulls → 121 ≤ plays_capacity → MOST_LINKS ≤ log_capacity
-    → FieldsKeep player (record { board = board; links = links; steps = steps }) plays groups liveness rings fulls log plays_capacity log_capacity
-fields-none player board links steps plays groups liveness rings fulls log plays_capacity log_capacity no_links no_steps no_plays no_log groups_are tells is_board heads no_fulls room log_room =
+pub fields-none : (player : Colour) (board : Board) (links : List Link) (steps : List Step) (plays : List Stage)
+    (groups : Grouped) (liveness : Liveness) (rings : Rings) (fulls : List (List FullLink)) (log : List ℕ) (plays_capacity log_capacity : ℕ)
+    → links ≡ [] → steps ≡ [] → plays ≡ [] → log ≡ [] → groups ≡ record { board = board; player = player }
+    → Tells liveness board player → IsBoard board → AreHeads rings → AreFullLists [] fulls → 121 ≤ plays_capacity
+    → MOST_LINKS ≤ log_capacity
+    → FieldsKeep player (record {
+      board = board;
+      links = links;
+      steps = steps;
+    }) plays groups liveness rings fulls log plays_capacity log_capacity
+fields-none player board links steps plays groups liveness rings fulls log plays_capacity log_capacity no_links no_steps no_plays
+    no_log groups_are tells is_board heads no_fulls room log_room =
     rw (no_links, no_steps, no_plays, no_log) record {
       keeps = keeps-none player board is_board;
       history = record { hold = rings-none rings heads (IsLiveThere board player); log_ok = log-none [] (IsLiveThere board player) };
@@ -80,8 +90,13 @@ fields-none player board links steps plays groups liveness rings fulls log plays
       log_room = log_room;
     }
 
-module _ (player : Colour) (board : Board) (links : List Link) (steps : List Step) (plays : List Stage) (groups : Grouped) (liveness : Liveness) (rings : Rings) (fulls : List (List FullLink)) (log : List ℕ) (plays_capacity log_capacity : ℕ)
-    (k : FieldsKeep player (record { board = board; links = links; steps = steps }) plays groups liveness rings fulls log plays_capacity log_capacity) where
+module _ (player : Colour) (board : Board) (links : List Link) (steps : List Step) (plays : List Stage) (groups : Grouped)
+    (liveness : Liveness) (rings : Rings) (fulls : List (List FullLink)) (log : List ℕ) (plays_capacity log_capacity : ℕ)
+    (k : FieldsKeep player (record {
+      board = board;
+      links = links;
+      steps = steps;
+    }) plays groups liveness rings fulls log plays_capacity log_capacity) where
   abbrev old : State
   old = record { board = board; links = links; steps = steps }
 
@@ -121,10 +136,15 @@ module _ (player : Colour) (board : Board) (links : List Link) (steps : List Ste
     fields-room = omega (arith, room-play player old plays after 0 right_after filled k.keeps, k.plays_room)
 
     module _ (rings' : Rings) (log' : List ℕ) (passed : IsPassed links board after player (length links) rings rings' log log')
-        (groups' : Grouped) (liveness' : Liveness) (plays' : List Stage) (plays_capacity' log_capacity' : ℕ) (is_groups : groups' ≡ record { board = after; player = player }) (tells : Tells liveness' after player)
-        (is_plays : plays' ≡ plays ++ record { position = board; count = length links; logged = length log } ∷ []) (is_capacity : plays_capacity' ≡ plays_capacity) (is_log_capacity : log_capacity' ≡ log_capacity) where
-      history_is : HasHistory player after links rings' log' (reverse (plays ++ record { position = board; count = length links; logged = length log } ∷ []))
-      history_is = rw reverse-push (history-played links board after player rings rings' log log' passed (more-fewer_live board after more player) (reverse plays) k.history)
+        (groups' : Grouped) (liveness' : Liveness) (plays' : List Stage) (plays_capacity' log_capacity' : ℕ)
+        (is_groups : groups' ≡ record { board = after; player = player }) (tells : Tells liveness' after player)
+        (is_plays : plays' ≡ plays ++ record { position = board; count = length links; logged = length log } ∷ [])
+        (is_capacity : plays_capacity' ≡ plays_capacity) (is_log_capacity : log_capacity' ≡ log_capacity) where
+      history_is : HasHistory player after links rings' log'
+          (reverse (plays ++ record { position = board; count = length links; logged = length log } ∷ []))
+      history_is = rw reverse-push
+          (history-played links board after player rings rings' log log' passed (more-fewer_live board after more player)
+          (reverse plays) k.history)
 
       pub fields-played : FieldsKeep player new plays' groups' liveness' rings' fulls log' plays_capacity' log_capacity'
       fields-played = record {
@@ -142,8 +162,13 @@ module _ (player : Colour) (board : Board) (links : List Link) (steps : List Ste
 
   -- ---- the lists of Full links alone made anew
 
-  pub fields-same : (links' : List Link) (steps' : List Step) (rings' : Rings) (fulls' : List (List FullLink)) → links' ≡ links → steps' ≡ steps → rings' ≡ rings → AreFullLists links fulls'
-      → FieldsKeep player (record { board = board; links = links'; steps = steps' }) plays groups liveness rings' fulls' log plays_capacity log_capacity
+  pub fields-same : (links' : List Link) (steps' : List Step) (rings' : Rings) (fulls' : List (List FullLink)) → links' ≡ links
+      → steps' ≡ steps → rings' ≡ rings → AreFullLists links fulls'
+      → FieldsKeep player (record {
+        board = board;
+        links = links';
+        steps = steps';
+      }) plays groups liveness rings' fulls' log plays_capacity log_capacity
   fields-same links' steps' rings' fulls' same_links same_steps same_rings are_fulls = record {
     keeps = rw (same_links, same_steps) k.keeps;
     history = rw (same_links, same_rings) k.history;
@@ -167,12 +192,20 @@ module _ (player : Colour) (board : Board) (links : List Link) (steps : List Ste
     pub added-small : head_of link < 30258
     added-small = live-small board right.is_board player link live
 
-    module _ (links' : List Link) (steps' : List Step) (rings' : Rings) (is_links : links' ≡ links ++ link ∷ []) (is_steps : steps' ≡ steps ++ step ∷ []) where
-      pub fields-added : length links < MOST_LINKS → rings' ≡ grown rings (head_of link) → (fulls' : List (List FullLink)) → AreFullLists (links ++ link ∷ []) fulls'
-          → FieldsKeep player (record { board = board; links = links'; steps = steps' }) plays groups liveness rings' fulls' log plays_capacity log_capacity
+    module _ (links' : List Link) (steps' : List Step) (rings' : Rings) (is_links : links' ≡ links ++ link ∷ [])
+        (is_steps : steps' ≡ steps ++ step ∷ []) where
+      pub fields-added : length links < MOST_LINKS → rings' ≡ grown rings (head_of link) → (fulls' : List (List FullLink))
+          → AreFullLists (links ++ link ∷ []) fulls'
+          → FieldsKeep player (record {
+            board = board;
+            links = links';
+            steps = steps';
+          }) plays groups liveness rings' fulls' log plays_capacity log_capacity
       fields-added less is_rings fulls' are_fulls = record {
         keeps = rw (is_links, is_steps) (keeps-added player old plays link step g k.keeps less);
-        history = rw (is_links, is_rings) (history-added links board player rings log now link live added-small (reverse plays) (last_fits (reverse plays) k.keeps.stands) k.history);
+        history = rw (is_links, is_rings)
+            (history-added links board player rings log now link live added-small (reverse plays)
+            (last_fits (reverse plays) k.keeps.stands) k.history);
         groups_are = k.groups_are;
         tells = k.tells;
         fulls_are = rw is_links are_fulls;
@@ -180,5 +213,6 @@ module _ (player : Colour) (board : Board) (links : List Link) (steps : List Ste
         log_room = k.log_room;
       }
 
-      pub seen-added : standing player (record { board = board; links = links'; steps = steps' }) plays ≡ record { player = player; present = added old link step; past = past_of old (reverse plays) }
+      pub seen-added : standing player (record { board = board; links = links'; steps = steps' }) plays
+          ≡ record { player = player; present = added old link step; past = past_of old (reverse plays) }
       seen-added = rw (is_links, is_steps) (standing-added player old plays link step g k.keeps)

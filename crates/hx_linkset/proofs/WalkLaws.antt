@@ -3,10 +3,11 @@
 use Rattle.std.proofs.lemmas.Bool.{false≢true, cases_lt, cases_eq}
 use Rattle.std.proofs.lemmas.Bool.Decides.{nat_tests}
 use Rattle.std.proofs.lemmas.Option.{same_Some}
-use Rattle.std.proofs.Common.{◌≡◌, ℕ, ◌+◌, ◌-◌, ◌<◌, ◌≤◌, Bool, true, false, List, length, get_or, refl, sym, ap, ◌∙◌, subst, inl, inr, Some, ◌⊎◌, ⊎_elim, arith, if◌then◌else◌}
+use Rattle.std.proofs.Common.{◌≡◌, ℕ, ◌+◌, ◌-◌, ◌<◌, ◌≤◌, Bool, true, false, List, length, get_or, refl, sym, ap, ◌∙◌}
+use Rattle.std.proofs.Common.{subst, inl, inr, Some, ◌⊎◌, ⊎_elim, arith, if◌then◌else◌}
 use Rattle.std.specs.Prelude.{slice_get, nat_lt}
 use Rattle.hx_link.specs.declared.links.Link.{Link}
-use Rattle.hx_linkset.specs.declared.sets.TheConstants.{MOST_LINKS}
+use Rattle.hx_linkset.specs.declared.limits.TheConstants.{MOST_LINKS}
 use Rattle.hx_linkset.specs.Rings.{Rings, IsNotBetween}
 use Rattle.hx_linkset.specs.Held.{head_of, head_at, IsLinked, RingsHold}
 use Rattle.hx_linkset.proofs.PassLaws.{head_at-link, head_at-low, linked-small}
@@ -41,7 +42,8 @@ left_from-falls node after low high (inr more) =
 pub record WalkedTo (links : List Link) (Has : ℕ → Link → Type 0) (Wanted : Link → Type 0) (head node : ℕ) : Type 0 where
   pub linked : IsLinked links Has node
   pub in_ring : head_at links node ≡ head
-  pub passed : (place : ℕ) (link : Link) → slice_get links place ≡ Some link → Has place link → head_of link ≡ head → (node < 30258) ⊎ (30258 + place < node) → Wanted link → ⊥
+  pub passed : (place : ℕ) (link : Link) → slice_get links place ≡ Some link → Has place link → head_of link ≡ head
+      → (node < 30258) ⊎ (30258 + place < node) → Wanted link → ⊥
 
 -- the link of a node that is no head
 pub record LinkAt (links : List Link) (Has : ℕ → Link → Type 0) (head node : ℕ) : Type 0 where
@@ -52,7 +54,8 @@ pub record LinkAt (links : List Link) (Has : ℕ → Link → Type 0) (head node
   pub has : Has place link
   pub in_ring : head_of link ≡ head
 
-module _ (links : List Link) (Has : ℕ → Link → Type 0) (rings : Rings) (hold : RingsHold links Has rings) (head : ℕ) (head_low : head < 30258) where
+module _ (links : List Link) (Has : ℕ → Link → Type 0) (rings : Rings) (hold : RingsHold links Has rings) (head : ℕ)
+    (head_low : head < 30258) where
   abbrev after : ℕ → ℕ
   after node = get_or rings.next node 0
 
@@ -60,7 +63,8 @@ module _ (links : List Link) (Has : ℕ → Link → Type 0) (rings : Rings) (ho
   place_linked place link there has = inr (place, (link, (refl, (there, has))))
 
   -- what is above a node of the ring is not before the next one
-  pub none_past : (node other : ℕ) → IsLinked links Has node → head_at links node ≡ head → IsLinked links Has other → head_at links other ≡ head → node < other → (after node < 30258) ⊎ (other < after node) → ⊥
+  pub none_past : (node other : ℕ) → IsLinked links Has node → head_at links node ≡ head → IsLinked links Has other
+      → head_at links other ≡ head → node < other → (after node < 30258) ⊎ (other < after node) → ⊥
   none_past node other linked in_ring linked' in_ring' less before =
       let clear : IsNotBetween node other (after node) = hold.rings_ok.clear node other linked linked' (in_ring' ∙ sym in_ring) in
       ⊎_elim
@@ -123,7 +127,8 @@ module _ (links : List Link) (Has : ℕ → Link → Type 0) (rings : Rings) (ho
         passed = λ place link there has e before wanted. ⊎_elim
             (λ less. walked.passed place link there has e (inr less) wanted)
             (λ le. ⊎_elim (λ same. here place link there same wanted) (λ other. none_past node (30258 + place) walked.linked walked.in_ring
-            (place_linked place link there has) (head_at-link links place link there ∙ e) (omega (arith, le, other)) before) (cases_eq (30258 + place) node))
+            (place_linked place link there has) (head_at-link links place link there ∙ e) (omega (arith, le, other)) before)
+            (cases_eq (30258 + place) node))
             (cases_lt (30258 + place) node);
       }
         where
@@ -136,4 +141,5 @@ module _ (links : List Link) (Has : ℕ → Link → Type 0) (rings : Rings) (ho
               unwanted (subst P one wanted)
 
       pub walk-falls : 30258 ≤ node → length links ≤ MOST_LINKS → left_from (after node) < left_from node
-      walk-falls low few = left_from-falls node (after node) low (omega (arith, walk-in_list, few)) (goes_up node walked.linked walked.in_ring)
+      walk-falls low few = left_from-falls node (after node) low (omega (arith, walk-in_list, few))
+          (goes_up node walked.linked walked.in_ring)

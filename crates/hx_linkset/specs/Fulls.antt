@@ -1,5 +1,6 @@
 -- The live Full links at a vertex, and the lists in which the Full links of a set stand, one for each vertex.
-use Rattle.std.specs.Prelude.{◌≡◌, ℕ, ◌+◌, ◌-◌, ◌<◌, Bool, true, false, ◌&&◌, nat_eq, if◌then◌else◌, List, [], ◌∷◌, ◌++◌, length, map, filter, take, All, Contains, slice_get, slice_index_or, Vec}
+use Rattle.std.specs.Prelude.{◌≡◌, ℕ, ◌+◌, ◌-◌, ◌<◌, Bool, true, false, ◌&&◌, nat_eq, if◌then◌else◌, List, [], ◌∷◌}
+use Rattle.std.specs.Prelude.{◌++◌, length, map, filter, take, All, Contains, slice_get, slice_index_or, Vec}
 use Rattle.std.specs.List.Sorted.{IsStrictlyIncreasing}
 use Rattle.std.specs.declared.alloc.Global.{Global}
 use Rattle.std.specs.declared.option.Option.TheVariants.{Some}
@@ -35,8 +36,8 @@ pub record IsFullWithin (set : Standing) (vertex : Vertex) (cells to : ℕ) (ful
   pub inside : IsSubset full.carrier cells
   pub leads_to : has to (code_of full.to) ≡ true
 
--- the live Full links that end at the vertex, have carriers inside these cells and lead to one of these vertices, each once, in
--- rising order of their indices
+-- the live Full links that end at the vertex, have carriers inside these cells and lead to one of these vertices, each
+-- once, in rising order of their indices
 pub record AreFullWithin (set : Standing) (vertex : Vertex) (cells to : ℕ) (fulls : List FullLink) : Type 0 where
   pub rising : IsStrictlyIncreasing (map (λ (full : FullLink). full.index) fulls)
   pub each : All (IsFullWithin set vertex cells to) fulls
@@ -44,8 +45,8 @@ pub record AreFullWithin (set : Standing) (vertex : Vertex) (cells to : ℕ) (fu
 
 -- ---- words for the functions inside the crate alone
 
--- a Full link as it is seen from an end, and nothing of any other link; the tests say whether the vertex is its first end, and
--- whether it is its second
+-- a Full link as it is seen from an end, and nothing of any other link; the tests say whether the vertex is its first
+-- end, and whether it is its second
 abbrev pub seen_by : Kind → Bool → Bool → ℕ → Link → List FullLink
 seen_by Semi at_a at_b place link = []
 seen_by Full true at_b place link = record { index = place; to = link.b; carrier = link.carrier } ∷ []
@@ -68,8 +69,10 @@ fulls_of links vertex = fulls_from (code_of vertex) 0 links
 -- there is a list for each vertex, at its code, and in it stand the Full links that end there
 pub record AreFullLists (links : List Link) (lists : List (List FullLink)) : Type 0 where
   pub long : length lists ≡ VERTICES
-  pub some : (place : ℕ) (link : Link) → slice_get links place ≡ Some link → link.kind ≡ Full → IsSomeVertex link.a × IsSomeVertex link.b
-  pub each : (vertex : Vertex) → code_of vertex < VERTICES → slice_index_or lists (code_of vertex) [] ≡ fulls_of links vertex
+  pub some : (place : ℕ) (link : Link) → slice_get links place ≡ Some link → link.kind ≡ Full
+      → IsSomeVertex link.a × IsSomeVertex link.b
+  pub each : (vertex : Vertex) → code_of vertex < VERTICES
+      → slice_index_or lists (code_of vertex) [] ≡ fulls_of links vertex
 
 -- what is in each of some lists
 abbrev pub contents_of : List (Vec FullLink Global) → List (List FullLink)

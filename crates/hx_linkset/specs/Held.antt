@@ -1,7 +1,8 @@
--- The rings of the links that a set holds, and the log of those that are out of their rings. The first nodes are the heads,
--- one for each kind and pair of ends; then comes a node for each link, in the order of the links. These words are for the
--- functions inside the crate alone.
-use Rattle.std.specs.Prelude.{◌≡◌, ℕ, ◌+◌, ◌-◌, ◌*◌, ◌<◌, ◌≤◌, List, [], ◌∷◌, ◌++◌, length, reverse, slice_get, slice_index, nat_lt, nat_eq, if◌then◌else◌, true, ◌⊎◌}
+-- The rings of the links that a set holds, and the log of those that are out of their rings. The first nodes are the
+-- heads, one for each kind and pair of ends; then comes a node for each link, in the order of the links. These words
+-- are for the functions inside the crate alone.
+use Rattle.std.specs.Prelude.{◌≡◌, ℕ, ◌+◌, ◌-◌, ◌*◌, ◌<◌, ◌≤◌, List, [], ◌∷◌, ◌++◌, length, reverse, slice_get}
+use Rattle.std.specs.Prelude.{slice_index, nat_lt, nat_eq, if◌then◌else◌, true, ◌⊎◌}
 use Rattle.std.specs.List.{list_any, IsDistinct}
 use Rattle.std.specs.declared.option.Option.{Option}
 use Rattle.std.specs.declared.option.Option.TheVariants.{None, Some}
@@ -64,11 +65,15 @@ head_at links node = if nat_lt node FIRST_NODE then node else head_or (slice_get
 
 -- a head, or the node of a link that has this property at its place
 abbrev pub IsLinked : List Link → (ℕ → Link → Type 0) → ℕ → Type 0
-IsLinked links Has node = (node < FIRST_NODE) ⊎ ((place : ℕ) × ((link : Link) × ((node ≡ FIRST_NODE + place) × ((slice_get links place ≡ Some link) × Has place link))))
+IsLinked links Has node =
+    (node < FIRST_NODE)
+    ⊎ ((place : ℕ) × ((link : Link)
+    × ((node ≡ FIRST_NODE + place) × ((slice_get links place ≡ Some link) × Has place link))))
 
 -- the rings hold exactly the links that have the property
 pub record RingsHold (links : List Link) (Has : ℕ → Link → Type 0) (rings : Rings) : Type 0 where
-  pub rings_ok : AreRings (head_at links) (λ node. slice_index rings.next node) (λ node. slice_index rings.previous node) (IsLinked links Has)
+  pub rings_ok : AreRings (head_at links) (λ node. slice_index rings.next node)
+      (λ node. slice_index rings.previous node) (IsLinked links Has)
   pub next_long : length rings.next ≡ FIRST_NODE + length links
   pub previous_long : length rings.previous ≡ FIRST_NODE + length links
 
@@ -87,10 +92,11 @@ abbrev pub relinked_all : Rings → List ℕ → Rings
 relinked_all rings [] = rings
 relinked_all rings (place ∷ places) = relinked_all (relinked rings (FIRST_NODE + place)) places
 
--- and each of them can be put back as its turn comes
+-- and each of them can be put back once those before it are back
 abbrev pub CanRelink : Rings → List ℕ → Type 0
 CanRelink rings [] = Unit {0}
-CanRelink rings (place ∷ places) = IsInside rings (FIRST_NODE + place) × CanRelink (relinked rings (FIRST_NODE + place)) places
+CanRelink rings (place ∷ places) =
+    IsInside rings (FIRST_NODE + place) × CanRelink (relinked rings (FIRST_NODE + place)) places
 
 -- a link that is live, wherever it stands
 abbrev pub IsLiveThere : Board → Colour → ℕ → Link → Type 0

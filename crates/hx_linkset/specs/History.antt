@@ -8,7 +8,7 @@ use Rattle.hx_link.specs.declared.links.Link.{Link}
 use Rattle.hx_linkset.specs.declared.fulls.FullLink.{FullLink}
 use Rattle.hx_linkset.specs.declared.liveness.Liveness.{Liveness}
 use Rattle.hx_linkset.specs.declared.plays.Stage.{Stage}
-use Rattle.hx_linkset.specs.declared.sets.TheConstants.{MOST_LINKS}
+use Rattle.hx_linkset.specs.declared.limits.TheConstants.{MOST_LINKS}
 use Rattle.hx_linkset.specs.States.{State, IsLive}
 use Rattle.hx_linkset.specs.Plays.{Keeps}
 use Rattle.hx_linkset.specs.Rings.{Rings, cut, IsInside}
@@ -23,7 +23,8 @@ cut_times (suc n) rings = cut_times n (cut rings)
 
 -- the rings before a play: the links that came since are cut off, and then those that it dropped are put back
 abbrev pub rings_before : Rings → List Link → List ℕ → Stage → Rings
-rings_before rings links log play = relinked_all (cut_times (length links - play.count) rings) (reverse (drop play.logged log))
+rings_before rings links log play =
+    relinked_all (cut_times (length links - play.count) rings) (reverse (drop play.logged log))
 
 -- the rings hold the live links, and the log names links that are not live
 pub record HoldsLive (player : Colour) (board : Board) (links : List Link) (rings : Rings) (log : List ℕ) : Type 0 where

@@ -25,7 +25,8 @@ pub record IsFirstFrom (set : Standing) (kind : Kind) (a b : Vertex) (bound plac
 -- the places of a chain from a bound on: each time the first one, and then the first one after it, until there is none
 abbrev pub IsChainFrom : Standing → Kind → Vertex → Vertex → ℕ → List ℕ → Type 0
 IsChainFrom set kind a b bound [] = (place : ℕ) → bound ≤ place → IsLiveOf set kind a b place → ⊥
-IsChainFrom set kind a b bound (place ∷ places) = IsFirstFrom set kind a b bound place × IsChainFrom set kind a b (place + 1) places
+IsChainFrom set kind a b bound (place ∷ places) =
+    IsFirstFrom set kind a b bound place × IsChainFrom set kind a b (place + 1) places
 
 -- the places of the live links of this kind and these ends, each once, in rising order
 pub record AreLiveOf (set : Standing) (kind : Kind) (a b : Vertex) (places : List ℕ) : Type 0 where

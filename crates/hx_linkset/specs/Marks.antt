@@ -1,4 +1,5 @@
--- Marks on places: a number for each place, 1 where it is marked. These words are for the functions inside the crate alone.
+-- Marks on places: a number for each place, 1 where it is marked. These words are for the functions inside the crate
+-- alone.
 use Rattle.std.specs.Prelude.{◌≡◌, ℕ, ◌<◌, ◌≤◌, List, length, slice_index, ◌⊎◌}
 
 -- the place is marked

@@ -6,7 +6,7 @@ use Rattle.hx_board.specs.declared.colours.Colour.{Colour}
 use Rattle.hx_board.specs.Positions.{Board}
 use Rattle.hx_board.specs.Counts.{empty_count}
 use Rattle.hx_linkset.specs.declared.plays.Stage.{Stage}
-use Rattle.hx_linkset.specs.declared.sets.TheConstants.{MOST_LINKS}
+use Rattle.hx_linkset.specs.declared.limits.TheConstants.{MOST_LINKS}
 use Rattle.hx_linkset.specs.States.{State, Standing, IsRight, CanPut, put_all}
 
 -- the second board is the first one with some stones more

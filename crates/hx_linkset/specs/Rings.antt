@@ -1,6 +1,6 @@
--- Rings of nodes, linked in both directions in two lists. A node is a number. Some nodes are heads, each of a ring of its
--- own, and the linked nodes stand in the ring of their head, in rising order from it. These words are for the functions
--- inside the crate alone.
+-- Rings of nodes, linked in both directions in two lists. A node is a number. Some nodes are heads, each of a ring of
+-- its own, and the linked nodes stand in the ring of their head, in rising order from it. These words are for the
+-- functions inside the crate alone.
 use Rattle.std.specs.Prelude.{◌≡◌, ℕ, ◌-◌, ◌<◌, ◌≤◌, List, [], ◌∷◌, ◌++◌, length, take, slice_set, slice_index, ◌⊎◌}
 
 -- on the way up from one node to another, and at the end back to the lowest, this node does not lie between the two
@@ -17,7 +17,8 @@ pub record AreRings (head_of next previous : ℕ → ℕ) (Linked : ℕ → Type
   pub same_head : (node : ℕ) → Linked node → head_of (next node) ≡ head_of node
   pub back : (node : ℕ) → Linked node → previous (next node) ≡ node
   pub forth : (node : ℕ) → Linked node → next (previous node) ≡ node
-  pub clear : (node other : ℕ) → Linked node → Linked other → head_of other ≡ head_of node → IsNotBetween node other (next node)
+  pub clear : (node other : ℕ) → Linked node → Linked other → head_of other ≡ head_of node
+      → IsNotBetween node other (next node)
 
 -- the two lists: at each node's place the node after it, and the node before it
 pub record Rings : Type 0 where
@@ -43,7 +44,10 @@ abbrev pub grown : Rings → ℕ → Rings
 grown rings head =
     let before = slice_index rings.previous head in
     let node = length rings.next in
-    record { next = slice_set rings.next before node ++ head ∷ []; previous = slice_set rings.previous head node ++ before ∷ [] }
+    record {
+      next = slice_set rings.next before node ++ head ∷ [];
+      previous = slice_set rings.previous head node ++ before ∷ [];
+    }
 
 -- the last node taken away
 abbrev pub cut : Rings → Rings

@@ -40,7 +40,8 @@ Names (AndCell left right) place = (place ≡ left) ⊎ (place ≡ right)
 Names (Or parts) place = (k : ℕ) × (slice_get parts k ≡ Some place)
 
 -- the step gives the link, and from live links alone
-pub record GivesFromLive (board : Board) (player : Colour) (links : List Link) (step : Step) (link : Link) : Type 0 where
+pub record GivesFromLive (board : Board) (player : Colour) (links : List Link) (step : Step)
+    (link : Link) : Type 0 where
   pub gives : StepGives board player links step link
   pub from_live : (place : ℕ) → Names step place → IsLiveAt board player links place
 
@@ -48,12 +49,14 @@ pub record GivesFromLive (board : Board) (player : Colour) (links : List Link) (
 pub record IsRight (player : Colour) (state : State) : Type 0 where
   pub is_board : IsBoard state.board
   pub steps_of : length state.steps ≡ length state.links
-  pub given : (place : ℕ) (link : Link) (step : Step) → slice_get state.links place ≡ Some link → slice_get state.steps place ≡ Some step
+  pub given : (place : ℕ) (link : Link) (step : Step) → slice_get state.links place ≡ Some link
+      → slice_get state.steps place ≡ Some step
       → IsLive state.board player link → GivesFromLive state.board player (take place state.links) step link
 
 -- the state with one link more
 abbrev pub added : State → Link → Step → State
-added state link step = record { board = state.board; links = state.links ++ link ∷ []; steps = state.steps ++ step ∷ [] }
+added state link step =
+    record { board = state.board; links = state.links ++ link ∷ []; steps = state.steps ++ step ∷ [] }
 
 -- the state with one stone more
 abbrev pub played : State → Colour → ℕ → State

@@ -8,9 +8,9 @@ ghost use Rattle.hx_board.specs.Lists.{StandsIn};
 ghost use Rattle.hx_linkset.specs.States.{IsLiveAt, IsRight};
 ghost use Rattle.hx_linkset.specs.Derivations.{IsDerived, AreClosedFrom, AreMarkedUnder, AreKeptBelow};
 
+use crate::limits::MOST_LINKS;
 use crate::marks::{first_from, last_below, mark_all, mark_parts, no_marks};
 use crate::renaming::{names_of, renamed_step};
-use crate::sets::MOST_LINKS;
 use hx_board::{Colour, Memory, Position};
 use hx_link::{Link, Step, Steps};
 use std::alloc::Global;

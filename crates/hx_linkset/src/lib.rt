@@ -7,6 +7,7 @@
 mod chains;
 mod derivations;
 mod fulls;
+mod limits;
 mod liveness;
 mod marks;
 mod pairs;
@@ -17,5 +18,6 @@ mod sets;
 
 pub use derivations::Derived;
 pub use fulls::{FullIter, FullLink};
+pub use limits::MOST_LINKS;
 pub use pairs::PairIter;
-pub use sets::{Added, LinkSet, MOST_LINKS};
+pub use sets::{Added, LinkSet};

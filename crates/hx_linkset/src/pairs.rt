@@ -7,7 +7,7 @@ ghost use Rattle.std.specs.Prelude.{◌≡◌, ◌≤◌, length, slice_index};
 ghost use Rattle.hx_board.specs.VertexSets.{IsSomeVertex};
 ghost use Rattle.hx_link.specs.declared.links.Kind.TheVariants.{Full, Semi};
 ghost use Rattle.hx_linkset.specs.Held.{AreLowAndHigh, head_for};
-ghost use Rattle.hx_linkset.specs.LivePairs.{turn_of, pairs_from};
+ghost use Rattle.hx_linkset.specs.LivePairs.{lower_of, pairs_from};
 
 use crate::chains::{Chains, FIRST_NODE, head_for};
 use hx_board::Vertex;
@@ -66,7 +66,7 @@ impl<'a> Iterator for PairIter<'a> {
         if self.left == 0 {
             return None;
         }
-        let Some(kind) = turn_of(self.full, self.semi) else {
+        let Some(kind) = lower_of(self.full, self.semi) else {
             return None;
         };
         self.left -= 1;
@@ -86,8 +86,8 @@ impl<'a> Iterator for PairIter<'a> {
 }
 
 /// The kind whose node is next: none where both are heads.
-fn turn_of(full: u16, semi: u16) -> Option<Kind>
-    ensures { result ≡ turn_of full semi }
+fn lower_of(full: u16, semi: u16) -> Option<Kind>
+    ensures { result ≡ lower_of full semi }
 {
     match (full < FIRST_NODE, semi < FIRST_NODE) {
         (true, true) => None,

@@ -7,8 +7,8 @@ ghost use Rattle.hx_linkset.specs.Fulls.{AreFullLists};
 
 use crate::chains::{Chains, FIRST_NODE};
 use crate::fulls::FullLists;
+use crate::limits::MOST_LINKS;
 use crate::liveness::{is_dropped, liveness_of};
-use crate::sets::MOST_LINKS;
 use hx_board::{Colour, Position};
 use hx_link::Link;
 

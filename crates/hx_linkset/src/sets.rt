@@ -2,7 +2,7 @@
 //!
 //! Links and steps stand in the order in which they came, and none is taken away before the play that it came after is
 //! taken back. The live ones of each kind and pair of ends are chained, so `add` looks for a cover in one chain alone.
-//! A play, of one stone or of all stones of a turn, is one pass over all links: it takes those that are
+//! A play, of one stone or of several, is one pass over all links: it takes those that are
 //! live no more out of their chains and writes them on a log. `undo` cuts off what came since, and puts
 //! the logged ones back in opposite order, which makes the chains what they were. The Full links stand
 //! once more in a list for each of their ends.
@@ -32,6 +32,7 @@ ghost use Rattle.hx_linkset.specs.Derivations.{IsDerived};
 use crate::chains::{Chains, FIRST_NODE, head_for};
 use crate::derivations::{Derived, derivation_of};
 use crate::fulls::{FullIter, FullLists};
+use crate::limits::MOST_LINKS;
 use crate::liveness::{Liveness, is_live, liveness_of};
 use crate::pairs::{PairIter, in_order};
 use crate::passes::{cut_down, cut_fulls, drop_dead, put_back};
@@ -40,9 +41,6 @@ use hx_board::{CELLS, Cell, Colour, Groups, Mask, Memory, Position, Vertex, Vert
 use hx_link::{Kind, Link, Step, result_of};
 use std::alloc::Global;
 use std::marker::Model;
-
-/// The most links that a set holds, live or not.
-pub const MOST_LINKS: usize = 8192;
 
 /// What became of a step.
 #[derive(Clone, Copy, PartialEq, Eq, Debug)]
@@ -162,7 +160,7 @@ impl LinkSet {
         &self.groups
     }
 
-    /// How many plays stand. The stones of a turn that were put as one play count as one.
+    /// How many plays stand. Stones that were put together are one play.
     pub fn plays(&self) -> u32
         ensures { result ≡ length self.now.past }
     {

@@ -21,7 +21,7 @@ use Rattle.hx_tree.specs.Answers.{IsToAnswer, IsRightLine, cells_of}
 use Rattle.hx_tree.specs.Rules.{IsRightNode}
 use Rattle.hx_tree.proofs.CellOrder.{same_kind}
 use Rattle.std.specs.List.{All as Each}
-use Rattle.hx_linkset.specs.declared.sets.TheConstants.{MOST_LINKS}
+use Rattle.hx_linkset.specs.declared.limits.TheConstants.{MOST_LINKS}
 use Rattle.hx_linkset.specs.States.{Standing, IsRight, IsLiveAt}
 use Rattle.hx_linkset.specs.LivePairs.{IsLivePair}
 use Rattle.hx_linkset.specs.Derivations.{IsDerived}

@@ -14,7 +14,7 @@ use Rattle.hx_link.proofs.LinkLaws.{steps-length}
 use Rattle.hx_tree.specs.declared.nodes.Heading.{Heading}
 use Rattle.hx_tree.specs.declared.nodes.Rule.TheVariants.{Links}
 use Rattle.hx_tree.specs.Rules.{IsRightNode}
-use Rattle.hx_linkset.specs.declared.sets.TheConstants.{MOST_LINKS}
+use Rattle.hx_linkset.specs.declared.limits.TheConstants.{MOST_LINKS}
 use Rattle.hx_linkset.specs.States.{Standing, IsRight}
 use Rattle.hx_linkset.specs.LiveOf.{IsLiveOf}
 use Rattle.hx_linkset.specs.Derivations.{IsDerived}

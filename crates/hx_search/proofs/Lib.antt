@@ -2,7 +2,7 @@ pub mod GrowthLaws
 pub mod VertexLaws
 pub mod BaseLaws
 pub mod AndLaws
-pub mod TurnedAnds
+pub mod SwappedAnds
 pub mod ForkLaws
 pub mod OrLaws
 pub mod DecidedLaws

@@ -17,14 +17,15 @@ use Rattle.hx_linkset.specs.LiveOf.{IsLiveOf}
 use Rattle.hx_linkset.proofs.NextLaws.{live-is_link}
 use Rattle.hx_search.specs.Closed.{IsForked, HasFull, IsStuck}
 use Rattle.hx_search.specs.Progress.{IsFork, IsJoinedWhereForked, AreForksOf, AreForksBelow}
-use Rattle.hx_search.proofs.VertexLaws.{below-more, below-skip, live_of-turned, live_of-vertex}
+use Rattle.hx_search.proofs.VertexLaws.{below-more, below-skip, live_of-swapped, live_of-vertex}
 
 -- ---- one Or
 
 module _ (old new : Standing) (a b : Vertex) (parts : List ℕ) (fork : IsFork old a b parts) where
   pub or-covered : (place : ℕ) → IsCovered old new (Or parts) place → (new ≡ old) × IsJoinedWhereForked new a b
   or-covered place c =
-      let same : c.link ≡ fork.link = step-unique old.present.board old.player old.present.links c.link fork.link (Or parts) c.gives.gives fork.gives.gives in
+      let same : c.link ≡ fork.link =
+      step-unique old.present.board old.player old.present.links c.link fork.link (Or parts) c.gives.gives fork.gives.gives in
       let P : Standing → Type 0 = λ s. IsJoinedWhereForked s a b in
       let ends : HasEnds c.covers.by a b = ⊎_elim
       (λ e. inl (c.covers.cover.same_a ∙ (ap (λ (l : Link). l.a) same ∙ e.0), c.covers.cover.same_b ∙ (ap (λ (l : Link). l.b) same ∙ e.1)))
@@ -54,36 +55,41 @@ module _ (set : Standing) (size : Extent) (is_size : size ≡ set.present.board.
     pub forks-more : (a : Vertex) (from : ℕ) → AreForksOf set a from code → IsJoinedWhereForked set a v → AreForksOf set a from (code + 1)
     forks-more a from before here =
         let P : Extent → Type 0 = λ s. (w : Vertex) → IsVertex s w → code_of w < code → from ≤ code_of w → IsJoinedWhereForked set a w in
-        let Q : Extent → Type 0 = λ s. (w : Vertex) → IsVertex s w → code_of w < code + 1 → from ≤ code_of w → IsJoinedWhereForked set a w in
-        subst Q is_size (below-more size (λ w. from ≤ code_of w → IsJoinedWhereForked set a w) code (subst P (sym is_size) before) extent v at (λ le. here))
+        let Q : Extent → Type 0 = λ s. (w : Vertex) → IsVertex s w → code_of w < code + 1 → from ≤ code_of w
+        → IsJoinedWhereForked set a w in
+        subst Q is_size (below-more size (λ w. from ≤ code_of w → IsJoinedWhereForked set a w) code
+        (subst P (sym is_size) before) extent v at (λ le. here))
 
     pub forks-next : AreForksBelow set code → AreForksOf set v (code + 1) 123 → AreForksBelow set (code + 1)
     forks-next before here =
         let P : Extent → Type 0 = λ s. (w : Vertex) → IsVertex s w → code_of w < code → AreForksOf set w (code_of w + 1) 123 in
         let Q : Extent → Type 0 = λ s. (w : Vertex) → IsVertex s w → code_of w < code + 1 → AreForksOf set w (code_of w + 1) 123 in
         let R : ℕ → Type 0 = λ n. AreForksOf set v (n + 1) 123 in
-        subst Q is_size (below-more size (λ w. AreForksOf set w (code_of w + 1) 123) code (subst P (sym is_size) before) extent v at (subst R (sym at.is_code) here))
+        subst Q is_size (below-more size (λ w. AreForksOf set w (code_of w + 1) 123) code
+        (subst P (sym is_size) before) extent v at (subst R (sym at.is_code) here))
 
   module _ (none : (v : Vertex) → IsVertexAt size code v → ⊥) where
     none_there : (v : Vertex) → IsVertexAt set.present.board.size code v → ⊥
     none_there = let P : Extent → Type 0 = λ s. (v : Vertex) → IsVertexAt s code v → ⊥ in subst P is_size none
 
     pub forks-skip : (a : Vertex) (from : ℕ) → AreForksOf set a from code → AreForksOf set a from (code + 1)
-    forks-skip a from before = below-skip set.present.board.size (λ w. from ≤ code_of w → IsJoinedWhereForked set a w) code before none_there
+    forks-skip a from before =
+        below-skip set.present.board.size (λ w. from ≤ code_of w → IsJoinedWhereForked set a w) code before none_there
 
     pub forks-none : AreForksBelow set code → AreForksBelow set (code + 1)
     forks-none before = below-skip set.present.board.size (λ w. AreForksOf set w (code_of w + 1) 123) code before none_there
 
 -- ---- any two vertices
 
-forked-turned : (set : Standing) (a b : Vertex) → IsForked set a b → IsForked set b a
-forked-turned set a b f = record {
+forked-swapped : (set : Standing) (a b : Vertex) → IsForked set a b → IsForked set b a
+forked-swapped set a b f = record {
   first = f.first;
   second = f.second;
-  first_semi = live_of-turned set Semi a b f.first f.first_semi;
-  second_semi = live_of-turned set Semi a b f.second f.second_semi;
+  first_semi = live_of-swapped set Semi a b f.first f.first_semi;
+  second_semi = live_of-swapped set Semi a b f.second f.second_semi;
   differ = f.differ;
-  none_in_all = λ cell. let w = f.none_in_all cell in record { place = w.place; semi = live_of-turned set Semi a b w.place w.semi; lacks = w.lacks };
+  none_in_all = λ cell. let w = f.none_in_all cell in
+      record { place = w.place; semi = live_of-swapped set Semi a b w.place w.semi; lacks = w.lacks };
 }
 
 module _ (set : Standing) (right : IsRight set.player set.present) (all : AreForksBelow set 123) where
@@ -93,8 +99,10 @@ module _ (set : Standing) (right : IsRight set.player set.present) (all : AreFor
   above : (a b : Vertex) → code_of a < code_of b → IsForked set a b → HasFull set a b
   above a b less f =
       let va : IsVertex set.present.board.size a = live_of-vertex set Semi a b f.first f.first_semi in
-      let vb : IsVertex set.present.board.size b = live_of-vertex set Semi b a f.first (live_of-turned set Semi a b f.first f.first_semi) in
-      all a va (code-small a (some-vertex set.present.board.size extent a va)) b vb (code-small b (some-vertex set.present.board.size extent b vb)) (omega (arith, less)) f
+      let vb : IsVertex set.present.board.size b =
+      live_of-vertex set Semi b a f.first (live_of-swapped set Semi a b f.first f.first_semi) in
+      all a va (code-small a (some-vertex set.present.board.size extent a va)) b vb
+      (code-small b (some-vertex set.present.board.size extent b vb)) (omega (arith, less)) f
 
   differ : (a b : Vertex) (place : ℕ) (is : IsLiveOf set Semi a b place) → code_of a ≢ code_of b
   differ a b place is e =
@@ -108,6 +116,6 @@ module _ (set : Standing) (right : IsRight set.player set.present) (all : AreFor
   forks-all a b f = ⊎_elim
       (λ less. above a b less f)
       (λ le. let ne = differ a b f.first f.first_semi in
-      let w = above b a (omega (arith, le, ne)) (forked-turned set a b f) in
-      (w.0, live_of-turned set Full b a w.0 w.1))
+      let w = above b a (omega (arith, le, ne)) (forked-swapped set a b f) in
+      (w.0, live_of-swapped set Full b a w.0 w.1))
       (cases_lt (code_of a) (code_of b))

@@ -20,7 +20,8 @@ use Rattle.hx_board.specs.Positions.{IsBoard}
 use Rattle.hx_search.specs.Closed.{IsGrown}
 
 module _ (size : Extent) (P : Vertex → Type 0) (code : ℕ) (below : (w : Vertex) → IsVertex size w → code_of w < code → P w) where
-  pub below-more : IsExtent size.rows size.cols → (v : Vertex) → IsVertexAt size code v → P v → (w : Vertex) → IsVertex size w → code_of w < code + 1 → P w
+  pub below-more : IsExtent size.rows size.cols → (v : Vertex) → IsVertexAt size code v → P v → (w : Vertex) → IsVertex size w
+      → code_of w < code + 1 → P w
   below-more extent v at here w is less = ⊎_elim
       (λ e. subst P (code-same v w (some-vertex size extent v at.is_vertex) (some-vertex size extent w is) (at.is_code ∙ sym e)) here)
       (λ ne. below w is (omega (arith, less, ne)))
@@ -34,15 +35,18 @@ module _ (size : Extent) (P : Vertex → Type 0) (code : ℕ) (below : (w : Vert
 
 -- ---- ends
 
-pub turned : (l : Link) (x y : Vertex) → HasEnds l x y → HasEnds l y x
-turned l x y (inl e) = inr e
-turned l x y (inr e) = inl e
+pub swapped : (l : Link) (x y : Vertex) → HasEnds l x y → HasEnds l y x
+swapped l x y (inl e) = inr e
+swapped l x y (inr e) = inl e
 
-abbrev pub live_of-turned : (set : Standing) (kind : Kind) (a b : Vertex) (place : ℕ) → IsLiveOf set kind a b place → IsLiveOf set kind b a place
-live_of-turned set kind a b place is = record { link = is.link; there = is.there; live = is.live; kind_is = is.kind_is; ends = turned is.link a b is.ends }
+abbrev pub live_of-swapped : (set : Standing) (kind : Kind) (a b : Vertex) (place : ℕ) → IsLiveOf set kind a b place
+    → IsLiveOf set kind b a place
+live_of-swapped set kind a b place is =
+    record { link = is.link; there = is.there; live = is.live; kind_is = is.kind_is; ends = swapped is.link a b is.ends }
 
 -- the ends of a live link are vertices of the board
-pub live_of-vertex : (set : Standing) (kind : Kind) (a b : Vertex) (place : ℕ) → IsLiveOf set kind a b place → IsVertex set.present.board.size a
+pub live_of-vertex : (set : Standing) (kind : Kind) (a b : Vertex) (place : ℕ) → IsLiveOf set kind a b place
+    → IsVertex set.present.board.size a
 live_of-vertex set kind a b place is =
     let P : Vertex → Type 0 = λ v. IsVertex set.present.board.size v in
     ⊎_elim
@@ -60,8 +64,10 @@ empty-not_own board White cell empty own = false≢true (sym empty.no_white ∙ 
 pub size-extent : (size : Extent) (position : Board) → size ≡ position.size → IsBoard position → IsExtent size.rows size.cols
 size-extent size position e valid = let P : Extent → Type 0 = λ s. IsExtent s.rows s.cols in subst P (sym e) valid.0
 
-pub size-on : (was now : Standing) (size : Extent) (position : Board) → IsGrown was now → size ≡ position.size → position ≡ was.present.board → size ≡ now.present.board.size
+pub size-on : (was now : Standing) (size : Extent) (position : Board) → IsGrown was now → size ≡ position.size
+    → position ≡ was.present.board → size ≡ now.present.board.size
 size-on was now size position g e f = e ∙ (ap (λ (b : Board). b.size) f ∙ ap (λ (b : Board). b.size) (sym g.same_board))
 
-pub set-extent : (set : Standing) (size : Extent) → size ≡ set.present.board.size → IsExtent size.rows size.cols → IsExtent set.present.board.size.rows set.present.board.size.cols
+pub set-extent : (set : Standing) (size : Extent) → size ≡ set.present.board.size → IsExtent size.rows size.cols
+    → IsExtent set.present.board.size.rows set.present.board.size.cols
 set-extent set size e extent = let P : Extent → Type 0 = λ s. IsExtent s.rows s.cols in subst P e extent

@@ -7,7 +7,7 @@ use Rattle.hx_link.specs.declared.links.Kind.TheVariants.{Full, Semi}
 use Rattle.hx_link.specs.declared.links.Link.{Link}
 use Rattle.hx_link.specs.declared.steps.Step.{Step}
 use Rattle.hx_link.specs.declared.steps.Step.TheVariants.{Base, AndStone, AndCell}
-use Rattle.hx_linkset.specs.declared.sets.TheConstants.{MOST_LINKS}
+use Rattle.hx_linkset.specs.declared.limits.TheConstants.{MOST_LINKS}
 use Rattle.hx_linkset.specs.States.{Standing}
 use Rattle.hx_linkset.specs.Answers.{Gives, Covers}
 use Rattle.hx_linkset.specs.LiveOf.{IsLiveOf}

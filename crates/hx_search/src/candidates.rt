@@ -3,7 +3,7 @@
 //! What a step gives is never smaller than its parts. So where a link is added only when it is taken out of here, all that
 //! could cover it has been added before, and the set holds no link that a later one makes idle.
 //!
-//! Most candidates are covered when their turn comes. So one is small and copied about, and its
+//! Most candidates are covered when they are taken out. So one is small and copied about, and its
 //! step, which may need memory, is made only for those that are wanted.
 
 use crate::covers::{Caps, is_wanted};

@@ -1,5 +1,5 @@
 //! How a set of links is closed: first with useful links, so that a set which gets full holds these; then with the Bases, and
-//! with Ands and Ors in turn, until a pass over the Ors adds none. That the set is closed rests on the second part alone.
+//! with Ands and then Ors, again and again, until a pass over the Ors adds none. That the set is closed rests on the second part alone.
 
 ghost use Rattle.std.specs.Prelude.{IfOk};
 ghost use Rattle.hx_linkset.specs.States.{IsRight};
@@ -49,7 +49,7 @@ pub fn close(set: &mut LinkSet) -> Result<Closure, Memory>
     }
 }
 
-/// Adds useful links, then the Bases, and then Ands and Ors in turn.
+/// Adds useful links, then the Bases, and then Ands and Ors, again and again.
 fn add_all(set: &mut LinkSet) -> Result<Tried, Memory>
     ensures grown { IsGrown set.old set.new }
     ensures tried { IfOk result (AreTried set.new (IsClosed set.new)) }

@@ -25,7 +25,7 @@ pub fn decided(set: &LinkSet, to_move: Colour) -> Reached
     if let Some(index) = set.first_of(Kind::Full, Vertex::First, Vertex::Last) {
         return Reached::Decided(index);
     }
-    let with_move = is_turn(set, to_move);
+    let with_move = is_to_move(set, to_move);
     if !with_move {
         return Reached::Open;
     }
@@ -35,8 +35,8 @@ pub fn decided(set: &LinkSet, to_move: Colour) -> Reached
     }
 }
 
-/// Whether it is the turn of the set's player.
-fn is_turn(set: &LinkSet, to_move: Colour) -> bool
+/// Whether the set's player is to move.
+fn is_to_move(set: &LinkSet, to_move: Colour) -> bool
     ensures { IsTrue result ↔ (set.now.player ≡ to_move) }
 {
     set.colour() == to_move

@@ -80,14 +80,13 @@ fn push_bases_between(
     Ok(())
 }
 
-/// Adds the useful Bases of these cells with one another and with the sides.
-pub(crate) fn push_bases(
+/// Adds the Bases of the sides, with one another and with these empty cells.
+fn push_bases_of_sides(
     set: &LinkSet,
     ends: &Ends,
     candidates: &mut Candidates,
-    cells: Mask,
+    empties: Mask,
 ) -> Result<(), Memory> {
-    let empties = ends.empties().meet(cells);
     if ends.are_joined(&Vertex::First, &Vertex::Last) {
         push_base(set, candidates, &Vertex::First, &Vertex::Last)?;
     }
@@ -95,7 +94,18 @@ pub(crate) fn push_bases(
         let near = ends.reach(&side).cells().meet(empties);
         push_bases_of(set, candidates, &side, near)?;
     }
-    let mut rest = ends.standing().meet(cells);
+    Ok(())
+}
+
+/// Adds the Bases of these stones with these empty cells.
+fn push_bases_of_stones(
+    set: &LinkSet,
+    ends: &Ends,
+    candidates: &mut Candidates,
+    stones: Mask,
+    empties: Mask,
+) -> Result<(), Memory> {
+    let mut rest = stones;
     for _ in 0..CELLS as u8 {
         let Some(stone) = rest.least(set.position().size()) else {
             break;
@@ -105,5 +115,18 @@ pub(crate) fn push_bases(
         let near = ends.reach(&stone).cells().meet(empties);
         push_bases_of(set, candidates, &stone, near)?;
     }
+    Ok(())
+}
+
+/// Adds the useful Bases of these cells with one another and with the sides.
+pub(crate) fn push_bases(
+    set: &LinkSet,
+    ends: &Ends,
+    candidates: &mut Candidates,
+    cells: Mask,
+) -> Result<(), Memory> {
+    let empties = ends.empties().meet(cells);
+    push_bases_of_sides(set, ends, candidates, empties)?;
+    push_bases_of_stones(set, ends, candidates, ends.standing().meet(cells), empties)?;
     push_bases_between(set, ends, candidates, empties)
 }

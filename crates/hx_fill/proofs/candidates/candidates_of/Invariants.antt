@@ -4,7 +4,7 @@ use Rattle.hx_fill.proofs.candidates.candidates_of.Given as goal
 
 abbrev pub invariant-loop-worse : goal.invariant-loop-worse
 invariant-loop-worse l = record {
-  held : HoldDominated l.turn.position l.turn.mover l.cells l.left l.found;
+  held : HoldDominated l.both.position l.both.mover l.cells l.left l.found;
   inside : IsSubset l.left l.cells;
 }
 

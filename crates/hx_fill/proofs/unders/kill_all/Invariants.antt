@@ -4,7 +4,7 @@ use Rattle.hx_fill.proofs.unders.kill_all.Given as goal
 
 abbrev pub invariant-loop-worse : goal.invariant-loop-worse
 invariant-loop-worse l = record {
-  kills : AreKilled l.turn.position l.turn.mover l.better l.fn.cells l.left l.fn.choices l.choices l.killed;
+  kills : AreKilled l.both.position l.both.mover l.better l.fn.cells l.left l.fn.choices l.choices l.killed;
   inside : IsSubset l.left l.fn.cells;
 }
 

@@ -7,9 +7,10 @@ invariant-loop-cell l = record {
   same : l.self.cells ≡ l.fn.self.cells;
   sets : AreSetsOf l.self.cells l.self.without_line l.self.waiting;
   sifted : (order : List ℕ) → NoneWaits order (length order) l.fn.self.waiting
-      → IsSifted l.turn.position l.turn.mover l.fn.self.cells order l.fn.self.choices l.fn.self.without_line l.fn.self.waiting l.fn.self.betters
+      → IsSifted l.both.position l.both.mover l.fn.self.cells order l.fn.self.choices l.fn.self.without_line l.fn.self.waiting
+      l.fn.self.betters
       → NoneWaits order (length order) l.self.waiting
-      × IsSifted l.turn.position l.turn.mover l.self.cells order l.self.choices l.self.without_line l.self.waiting l.self.betters;
+      × IsSifted l.both.position l.both.mover l.self.cells order l.self.choices l.self.without_line l.self.waiting l.self.betters;
 }
 
 abbrev pub decreases-loop-cell : goal.decreases-loop-cell

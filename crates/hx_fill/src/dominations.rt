@@ -22,7 +22,7 @@ use hx_inferior::{Kill, open_around};
 
 /// A position and the player to move, with what is joined for each player.
 #[derive(Drop)]
-pub(crate) struct Turn {
+pub(crate) struct BothGroups {
     position: Position,
     mover: Colour,
     own: Groups,
@@ -31,12 +31,12 @@ pub(crate) struct Turn {
     ghost others_grouped: { others ≡ record { board = position; player = other_of mover } },
 }
 
-impl Turn {
-    pub(crate) fn of(position: &Position, mover: Colour) -> Turn
+impl BothGroups {
+    pub(crate) fn of(position: &Position, mover: Colour) -> BothGroups
         ensures position { result.position ≡ position.now }
         ensures mover { result.mover ≡ mover }
     {
-        Turn {
+        BothGroups {
             position: *position,
             mover,
             own: Groups::of(position, mover),
