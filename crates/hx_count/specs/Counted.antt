@@ -1,6 +1,7 @@
--- The rule of the table. There is one history, of which each seat has seen a front. Word 0 counts its spends, granted and
--- refused; each other word is a loss word.
-use Rattle.std.specs.Prelude.{◌≡◌, ℕ, zero, suc, ◌+◌, ◌^◌, ◌<◌, ◌≤◌, min, ◌==◌, List, [], ◌∷◌, ◌++◌, length, take, drop, slice_index, sum_by, count_by}
+-- The rule of the table. There is one history, of which each seat has seen a front. Word 0 counts its spends, granted
+-- and refused; each other word is a loss word.
+use Rattle.std.specs.Prelude.{◌≡◌, ℕ, zero, suc, ◌+◌, ◌^◌, ◌<◌, ◌≤◌, min, ◌==◌}
+use Rattle.std.specs.Prelude.{List, [], ◌∷◌, ◌++◌, length, take, drop, slice_index, sum_by, count_by}
 use mathlib.Core.Option.{some}
 use lib.ListN.{get_elem?}
 use Rattle.atomic_table.specs.Table.{State, Me, Step}
@@ -9,7 +10,8 @@ use Rattle.hx_count.specs.declared.events.CountEvent.TheVariants.{Spend, Hold, R
 use Rattle.hx_count.specs.declared.views.Limits.{Limits}
 use Rattle.hx_count.specs.declared.views.Part.{Part}
 use Rattle.hx_count.specs.declared.views.View.{View}
-use Rattle.hx_count.specs.Machine.{CountsState, counts_start, counts_run, granted_to_all, refused_of_all, losses_at, AreAllowed}
+use Rattle.hx_count.specs.Machine.{CountsState, counts_start, counts_run, AreAllowed}
+use Rattle.hx_count.specs.Machine.{granted_to_all, refused_of_all, losses_at}
 use Rattle.hx_count.specs.Histories.{GoesOn}
 
 -- the machine at the start
@@ -52,7 +54,8 @@ AreCurrentParts limits history [] = Unit {0}
 AreCurrentParts limits history (p ∷ parts) = IsCurrent limits history p × AreCurrentParts limits history parts
 
 abbrev pub AreCurrent : Limits → List CountEvent → List View → Type 0
-AreCurrent limits history views = (id : ℕ) (v : View) → get_elem? views id ≡ some v → AreCurrentParts limits history v.parts
+AreCurrent limits history views =
+    (id : ℕ) (v : View) → get_elem? views id ≡ some v → AreCurrentParts limits history v.parts
 
 -- the table between two steps
 pub record Counted (limits : Limits) (s : State (Unit {0}) View) : Type 0 where
@@ -60,11 +63,15 @@ pub record Counted (limits : Limits) (s : State (Unit {0}) View) : Type 0 where
   pub is_history : IsHistory limits history
   pub small : AreSmall limits
   pub wide : length s.words ≡ limits.words + 1
-  pub spent : slice_index s.words 0 ≡ granted_to_all (state_after limits history) + refused_of_all (state_after limits history)
+  pub spent : slice_index s.words 0
+      ≡ granted_to_all (state_after limits history) + refused_of_all (state_after limits history)
   pub granted : granted_to_all (state_after limits history) ≡ min (slice_index s.words 0) limits.budget
-  pub losses : (word : ℕ) → word < limits.words → slice_index s.words (word + 1) ≡ losses_at (state_after limits history) word
-  pub once : (worker : ℕ) → worker < limits.workers → sum_by (λ (v : View). times_in worker v.parts) s.views ≡ 1
-  pub never : (worker : ℕ) → limits.workers ≤ worker → sum_by (λ (v : View). times_in worker v.parts) s.views ≡ 0
+  pub losses : (word : ℕ) → word < limits.words
+      → slice_index s.words (word + 1) ≡ losses_at (state_after limits history) word
+  pub once : (worker : ℕ) → worker < limits.workers
+      → sum_by (λ (v : View). times_in worker v.parts) s.views ≡ 1
+  pub never : (worker : ℕ) → limits.workers ≤ worker
+      → sum_by (λ (v : View). times_in worker v.parts) s.views ≡ 0
   pub current : AreCurrent limits history s.views
 
 -- a part for each worker from the first on, who has seen nothing yet
@@ -99,16 +106,26 @@ pub record IsLook (p : Part) (word found : ℕ) (v : View) : Type 0 where
 
 -- what each step tells the seat that makes it, of itself before, the number found, and itself after
 abbrev pub spends : Step (Unit {0}) → Seated → ℕ → Seated → Type 0
-spends st old found new = (new.1 ≡ old.1) × ((p : Part) → old.0.parts ≡ p ∷ [] → IsSpend p found new.0)
+spends st old found new =
+    (new.1 ≡ old.1) × ((p : Part) → old.0.parts ≡ p ∷ [] → IsSpend p found new.0)
 
 abbrev pub holds : Step (Unit {0}) → Seated → ℕ → Seated → Type 0
-holds st old found new = (new.1 ≡ old.1) × ((p : Part) (word : ℕ) → old.0.parts ≡ p ∷ [] → st.word ≡ word + 1 → IsNext p (Hold p.worker word) new.0)
+holds st old found new =
+    (new.1 ≡ old.1)
+    × ((p : Part) (word : ℕ) → old.0.parts ≡ p ∷ [] → st.word ≡ word + 1
+    → IsNext p (Hold p.worker word) new.0)
 
 abbrev pub releases : Step (Unit {0}) → Seated → ℕ → Seated → Type 0
-releases st old found new = (new.1 ≡ old.1) × ((p : Part) (word : ℕ) → old.0.parts ≡ p ∷ [] → st.word ≡ word + 1 → IsNext p (Release p.worker word) new.0)
+releases st old found new =
+    (new.1 ≡ old.1)
+    × ((p : Part) (word : ℕ) → old.0.parts ≡ p ∷ [] → st.word ≡ word + 1
+    → IsNext p (Release p.worker word) new.0)
 
 abbrev pub looks : Step (Unit {0}) → Seated → ℕ → Seated → Type 0
-looks st old found new = (new.1 ≡ old.1) × ((p : Part) (word : ℕ) → old.0.parts ≡ p ∷ [] → st.word ≡ word + 1 → IsLook p word found new.0)
+looks st old found new =
+    (new.1 ≡ old.1)
+    × ((p : Part) (word : ℕ) → old.0.parts ≡ p ∷ [] → st.word ≡ word + 1
+    → IsLook p word found new.0)
 
 -- a seat is split: the new one has the first part, and the others stay
 abbrev pub all_but_first : View → View

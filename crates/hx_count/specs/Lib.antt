@@ -3,3 +3,4 @@ pub mod Histories
 pub mod Counted
 pub mod Seats
 pub mod Hints
+pub mod HintWords

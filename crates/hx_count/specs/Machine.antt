@@ -1,11 +1,15 @@
--- The counts machine: a budget of units that workers spend, and loss words that they hold, release and look at. Its state is what
--- each worker has. A history is the list of events from the start, the oldest first.
-use Rattle.std.specs.Prelude.{◌≡◌, ℕ, zero, suc, ◌+◌, ◌-◌, ◌<◌, ◌≤◌, Bool, true, false, nat_lt, if◌then◌else◌, List, [], ◌∷◌, length, sum, sum_by, count_by, replicate, slice_index, slice_index_or}
+-- The counts machine: a budget of units that workers spend, and loss words that they hold, release and look at. Its
+-- state is what each worker has. A history is the list of events from the start, the oldest first.
+use Rattle.std.specs.Prelude.{◌≡◌, ℕ, zero, suc, ◌+◌, ◌-◌, ◌<◌, ◌≤◌}
+use Rattle.std.specs.Prelude.{Bool, true, false, nat_lt, if◌then◌else◌}
+use Rattle.std.specs.Prelude.{List, [], ◌∷◌, length, sum, sum_by, count_by, replicate}
+use Rattle.std.specs.Prelude.{slice_index, slice_index_or}
 use Rattle.hx_count.specs.declared.events.CountEvent.{CountEvent}
 use Rattle.hx_count.specs.declared.events.CountEvent.TheVariants.{Spend, Hold, Release, Look}
 use Rattle.hx_count.specs.declared.events.TheConstants.{MOST_HELD}
 
--- what one worker has: the units granted to it, whether a spend of its was refused, and for each loss word how often it holds it
+-- what one worker has: the units granted to it, whether a spend of its was refused, and for each loss word how often it
+-- holds it
 pub record Account : Type 0 where
   pub granted : ℕ
   pub refused : Bool
@@ -25,7 +29,8 @@ no_account = account 0 false []
 
 -- at the start no unit is granted, and nothing is held
 abbrev pub counts_start : ℕ → ℕ → ℕ → CountsState
-counts_start budget words workers = record { budget = budget; accounts = replicate workers (account 0 false (replicate words 0)) }
+counts_start budget words workers =
+    record { budget = budget; accounts = replicate workers (account 0 false (replicate words 0)) }
 
 -- the account of a worker
 abbrev pub account_of : CountsState → ℕ → Account
@@ -86,7 +91,8 @@ releasing word a = record a { held = changed_at (λ (n : ℕ). n - 1) a.held wor
 abbrev pub with_account : (Account → Account) → CountsState → ℕ → CountsState
 with_account change state worker = record state { accounts = changed_at change state.accounts worker }
 
--- a spend is granted while a unit is left, and else refused; a hold and a release change one number by one; a look changes nothing
+-- a spend is granted while a unit is left, and else refused; a hold and a release change one number by one; a look
+-- changes nothing
 abbrev pub counts_step : CountsState → CountEvent → CountsState
 counts_step state (Spend worker) = with_account (if has_units state then with_unit else with_refusal) state worker
 counts_step state (Hold worker word) = with_account (holding word) state worker
@@ -105,8 +111,8 @@ worker_of (Hold worker word) = worker
 worker_of (Release worker word) = worker
 worker_of (Look worker word) = worker
 
--- what a worker with this account may do: hold a word while it holds fewer than `MOST_HELD` in all, release one that it holds, and look
--- at any
+-- what a worker with this account may do: hold a word while it holds fewer than `MOST_HELD` in all, release one that it
+-- holds, and look at any
 abbrev pub MayDo : Account → CountEvent → Type 0
 MayDo a (Spend worker) = Unit {0}
 MayDo a (Hold worker word) = (word < length a.held) × (held_in_all a < MOST_HELD)

@@ -1,6 +1,8 @@
--- Seats as contracts see them: which counts a seat is of, its worker's number, and the history as far as it has seen it. What its
--- worker has is what the counts machine says after that history.
-use Rattle.std.specs.Prelude.{◌≡◌, ℕ, zero, suc, ◌+◌, Bool, true, false, List, [], ◌∷◌, ◌++◌, slice_index_or, Result, Ok, Err, MatchResult}
+-- Seats as contracts see them: which counts a seat is of, its worker's number, and the history as far as it has seen
+-- it. What its worker has is what the counts machine says after that history.
+use Rattle.std.specs.Prelude.{◌≡◌, ℕ, zero, suc, ◌+◌, Bool, true, false}
+use Rattle.std.specs.Prelude.{List, [], ◌∷◌, ◌++◌, slice_index_or}
+use Rattle.std.specs.Prelude.{Result, Ok, Err, MatchResult}
 use Rattle.std.specs.List.{All}
 use Rattle.atomic_table.specs.Seated.{TableId}
 use Rattle.hx_count.specs.declared.events.CountEvent.{CountEvent}
@@ -8,7 +10,8 @@ use Rattle.hx_count.specs.declared.events.CountEvent.TheVariants.{Spend}
 use Rattle.hx_count.specs.declared.views.Limits.{Limits}
 use Rattle.hx_count.specs.declared.views.Part.{Part}
 use Rattle.hx_count.specs.declared.views.View.{View}
-use Rattle.hx_count.specs.Machine.{CountsState, Account, account_of, with_unit, with_refusal, has_units, granted_to_all, held_by_all, held_in_all}
+use Rattle.hx_count.specs.Machine.{CountsState, Account, account_of, with_unit, with_refusal, has_units}
+use Rattle.hx_count.specs.Machine.{granted_to_all, held_by_all, held_in_all}
 use Rattle.hx_count.specs.Histories.{GoesOn}
 use Rattle.hx_count.specs.Counted.{Seated, part, view, state_after, IsHistory}
 
@@ -41,7 +44,8 @@ abbrev pub new_seats : Origin → ℕ → ℕ → List Seat
 new_seats made first zero = []
 new_seats made first (suc count) = seat made first [] ∷ new_seats made (first + 1) count
 
--- the seat's event is the next one of the history, behind all that the seat had seen; between the two stand events of others alone
+-- the seat's event is the next one of the history, behind all that the seat had seen; between the two stand events of
+-- others alone
 pub record Adds (old : Seat) (event : CountEvent) (new : Seat) : Type 0 where
   pub before : List CountEvent
   pub goes_on : GoesOn old.worker old.seen before
@@ -51,7 +55,8 @@ pub record Adds (old : Seat) (event : CountEvent) (new : Seat) : Type 0 where
 -- a spend is the next event, and it is granted exactly where a unit is left after the history before it
 pub record Spends (old : Seat) (result : Result (Unit {0}) ℕ) (new : Seat) : Type 0 where
   pub adds : Adds old (Spend old.worker) new
-  pub exact : MatchResult result (λ _. has_units (state_after old.made.limits adds.before) ≡ true) (λ _. has_units (state_after old.made.limits adds.before) ≡ false)
+  pub exact : MatchResult result (λ _. has_units (state_after old.made.limits adds.before) ≡ true)
+      (λ _. has_units (state_after old.made.limits adds.before) ≡ false)
 
 -- the worker's account after a spend
 abbrev pub after_spend : Result (Unit {0}) ℕ → Account → Account
@@ -86,10 +91,14 @@ part_of s = part s.made.limits s.worker s.seen
 abbrev pub IsNew : Seated → Type 0
 IsNew me = me ≡ (view (part (first_part me.0).limits (first_part me.0).worker [] ∷ []), [])
 
+-- what the worker of a part has
+abbrev pub account_in : Part → Account
+account_in p = account_of (state_after p.limits p.seen) p.worker
+
 -- a seat has one part and no slot, and its numbers are its worker's
 pub record SeatKeeps (me : Seated) (granted held : ℕ) (refused : Bool) : Type 0 where
   pub whole : me ≡ (view (first_part me.0 ∷ []), [])
   pub is_history : IsHistory (first_part me.0).limits (first_part me.0).seen
-  pub same_granted : (account_of (state_after (first_part me.0).limits (first_part me.0).seen) (first_part me.0).worker).granted ≡ granted
-  pub same_refused : (account_of (state_after (first_part me.0).limits (first_part me.0).seen) (first_part me.0).worker).refused ≡ refused
-  pub same_held : held_in_all (account_of (state_after (first_part me.0).limits (first_part me.0).seen) (first_part me.0).worker) ≡ held
+  pub same_granted : (account_in (first_part me.0)).granted ≡ granted
+  pub same_refused : (account_in (first_part me.0)).refused ≡ refused
+  pub same_held : held_in_all (account_in (first_part me.0)) ≡ held

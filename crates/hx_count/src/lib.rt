@@ -1,5 +1,8 @@
-//! Counts that many workers share: units of a budget, and loss words, which workers hold and release. Each call is one step on
-//! one word, and takes no lock.
+//! What many workers share beside their proofs: units of a budget, loss words, which workers hold and release, and hints.
+//!
+//! A call that a worker makes is one step on one word at the most, and takes no lock. One thread alone takes the memory for all
+//! words, before the workers begin (`start`, `with_words`), and adds up what they were granted and hold when they have ended
+//! (`close`).
 #![tactic(auto)]
 
 mod counts;
@@ -13,7 +16,7 @@ mod views;
 
 pub use counts::Counts;
 pub use events::{CountEvent, MOST_HELD};
-pub use hints::{Hints, kept};
+pub use hints::{Hints, Left, kept};
 pub use laws::{hold_adds_one, release_takes_back};
 pub use seats::{CountSeat, Spent};
 pub use totals::Totals;

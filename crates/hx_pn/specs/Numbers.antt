@@ -1,5 +1,6 @@
 -- Proof and disproof numbers, seen from the player who is to move, and what a node takes from its children.
-use Rattle.std.specs.Prelude.{◌≡◌, ℕ, zero, suc, ◌+◌, ◌-◌, ◌/◌, ◌<◌, ◌≤◌, min, List, [], ◌∷◌, sum_by, slice_get, ◌⊎◌}
+use Rattle.std.specs.Prelude.{◌≡◌, ◌⊎◌, ℕ, zero, suc, ◌+◌, ◌-◌, ◌/◌, ◌<◌, ◌≤◌, min}
+use Rattle.std.specs.Prelude.{List, [], ◌∷◌, sum_by, slice_get}
 use Rattle.std.specs.declared.option.Option.TheVariants.{Some}
 use Rattle.hx_pn.specs.declared.proof_numbers.TheConstants.{INF}
 use Rattle.hx_pn.specs.declared.proof_numbers.Numbers.{Numbers}
@@ -27,7 +28,8 @@ delta_of children = min (sum_by (λ (child : Numbers). child.phi) children) INF
 pub record IsChosen (children : List Numbers) (place : ℕ) (child : Numbers) : Type 0 where
   pub there : slice_get children place ≡ Some child
   pub least : child.delta ≡ least_delta children
-  pub first : (other : ℕ) (earlier : Numbers) → other < place → slice_get children other ≡ Some earlier → child.delta < earlier.delta
+  pub first : (other : ℕ) (earlier : Numbers) → other < place → slice_get children other ≡ Some earlier
+      → child.delta < earlier.delta
 
 -- the least delta of the children but for the one at this place
 abbrev pub second_delta : List Numbers → ℕ → ℕ

@@ -1,4 +1,4 @@
--- The ends of the workers whose seats stand in two lists, where both lists get one more seat.
+-- What came of the work at a place, and the ends of the workers whose seats stand in two lists, where both lists get one more seat.
 use Rattle.std.proofs.Common.{◌≡◌, ℕ, ◌<◌, List, [], ◌∷◌, ◌++◌, length, refl, sym, subst, All, Some}
 use Rattle.std.specs.Prelude.{slice_get}
 use Rattle.std.proofs.lemmas.List.Elements.{All-pop, All-push, All-weaker}
@@ -6,12 +6,21 @@ use Rattle.hx_board.specs.declared.colours.Colour.{Colour}
 use Rattle.hx_board.specs.Positions.{Board}
 use Rattle.hx_board.specs.Graph.{HasNoChain}
 use Rattle.hx_board.proofs.ListLaws.{get-push_before, get-push_last}
-use Rattle.hx_count.specs.Seats.{Seat, own}
+use Rattle.hx_count.specs.Seats.{Origin, Seat, own}
 use Rattle.hx_share.specs.Readers.{Reader}
 use Rattle.hx_worker.specs.declared.ended.Ended.{Ended}
 use Rattle.hx_worker.specs.Ends.{IsEnded, EndsSpent}
-use Rattle.hx_solve.specs.Seats.{FoundNoChain}
+use Rattle.hx_share.specs.Readers.{Origin as BookOrigin}
+use Rattle.hx_solve.specs.declared.seats.Done.{Done}
+use Rattle.hx_solve.specs.declared.seats.Place.{Place}
+use Rattle.hx_solve.specs.declared.seats.Place.TheVariants.{After}
+use Rattle.hx_solve.specs.Seats.{FoundNoChain, IsAfter, IsDone}
 use Rattle.hx_solve.specs.Parts.{IsEndOfSome, AllFoundNoChain}
+
+-- what came of the work at a place
+pub after-done : (book : BookOrigin) (counts : Origin) (board : Board) (mover : Colour) (place : Place) (done : Done) → place ≡ After done
+    → IsAfter book counts board mover place → IsDone book counts board mover done
+after-done book counts board mover place done same is = subst (IsAfter book counts board mover) same is
 
 module _ (slots : ℕ) (board : Board) (mover : Colour) (books : List Reader) (counts : List Seat) (book : Reader) (seat : Seat) where
   end-more : (end : Ended) → IsEndOfSome slots board mover books counts end → IsEndOfSome slots board mover (books ++ book ∷ []) (counts ++ seat ∷ []) end

@@ -21,7 +21,8 @@ pub record HasRoom (workers : ℕ) (parts : Parts) : Type 0 where
   pub room_for_ends : workers ≤ vec_capacity parts.ends
 
 -- the end of the worker whose seats stand at some place
-pub record IsEndOfSome (slots : ℕ) (board : Board) (mover : Colour) (books : List Reader) (counts : List Seat) (end : Ended) : Type 0 where
+pub record IsEndOfSome (slots : ℕ) (board : Board) (mover : Colour) (books : List Reader) (counts : List Seat)
+    (end : Ended) : Type 0 where
   pub place : ℕ
   pub book : Reader
   pub seat : Seat

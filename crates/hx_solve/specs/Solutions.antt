@@ -19,4 +19,5 @@ pub record IsSolution (board : Board) (mover : Colour) (nodes : List Node) : Typ
 
 -- the roots of two trees name the same winner
 abbrev pub NameOneWinner : List Node → List Node → Type 0
-NameOneWinner one other = (root last : Node) → IsRoot one root → IsRoot other last → root.heading.winner ≡ last.heading.winner
+NameOneWinner one other =
+    (root last : Node) → IsRoot one root → IsRoot other last → root.heading.winner ≡ last.heading.winner

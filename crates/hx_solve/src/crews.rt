@@ -2,25 +2,26 @@
 //!
 //! All work is one fork and one join. A worker's seats go into its thread and come back with the end of its work, since the
 //! book and the counts are closed with all seats. Its links are made in the thread, so that workers do not wait for one
-//! another's. Where no thread can be made the work is done on the caller's thread, one worker after another.
+//! another's. Where no thread can be made the work is done on the caller's thread, one worker after another. The fork and the
+//! join take no memory that could be wanting: what a worker gives back lies where its seats lay.
 
-ghost use Rattle.std.specs.Prelude.{◌≡◌, IfOk, vec_len};
+ghost use Rattle.std.specs.Prelude.{◌≡◌, ◌<◌, IfOk, length};
 ghost use Rattle.std.specs.List.{All};
 ghost use Rattle.hx_worker.specs.Sets.{AreOn};
-ghost use Rattle.hx_solve.specs.Seats.{AreNewSeats, IsDone};
+ghost use Rattle.hx_solve.specs.Seats.{AreNewSeats, IsDone, IsBefore, IsAfter};
 
-use crate::seats::Seats;
+use crate::seats::{Done, Place, Seats};
 use hx_board::{Colour, Memory, Position};
-use hx_count::{CountSeat, Counts, Hints};
+use hx_count::{Counts, Hints};
 use hx_io::Gate;
 use hx_linkset::LinkSet;
 use hx_moves::{LOSS_WORDS, Replies};
-use hx_share::{BookSeat, Desk, Shared};
+use hx_share::{Desk, Shared};
 use hx_worker::{Ended, Job, work};
 use std::alloc::Global;
 use std::sync::Wait;
-use std::thread;
 use std::thread::Threads;
+use std::{mem, thread};
 
 /// The position that all workers search, and what they share.
 #[derive(Drop)]
@@ -33,37 +34,43 @@ pub(crate) struct Crew<'a> {
     pub(crate) replies: &'a Replies,
 }
 
-/// A worker's seats, and how its work ended.
-#[derive(Drop)]
-pub(crate) struct Done {
-    pub(crate) book: BookSeat,
-    pub(crate) counts: CountSeat,
-    pub(crate) ended: Ended,
-}
-
 impl Crew<'_> {
-    /// The work of all workers.
+    /// The work of all workers, each at its place.
     pub(crate) fn work_all<G: Gate + Sync, R: Threads + Wait + Sync>(
         &self,
         rt: &R,
         alloc: Global,
         gate: &G,
-        seats: Vec<Seats>,
-    ) -> Result<Vec<Done>, Memory>
+        places: &mut [Place],
+    )
         requires words { self.now.counts.now.limits.words ≡ LOSS_WORDS }
-        requires seats { All (AreNewSeats self.now.shared.now.made self.now.counts.now)
-            seats.items }
-        ensures len { IfOk result (λ dones. vec_len dones ≡ vec_len seats) }
-        ensures dones { IfOk result
-            (λ dones. All
-            (IsDone self.now.shared.now.made self.now.counts.now self.now.position self.now.to_move)
-            dones.items) }
+        requires some { 0 < length places.old }
+        requires before { All (IsBefore self.now.shared.now.made self.now.counts.now) places.old }
+        ensures len { length places.new ≡ length places.old }
+        ensures after { All
+            (IsAfter self.now.shared.now.made self.now.counts.now self.now.position self.now.to_move)
+            places.new }
     {
-        let ended = thread::map_vec(rt, seats, &|seats| self.work(rt, alloc, gate, seats));
-        match ended {
-            Ok(dones) => Ok(dones),
-            Err(_) => Err(Memory),
-        }
+        let threads = places.len();
+        thread::for_each_mut(
+            rt,
+            places,
+            threads,
+            &|_, place| { self.work_at(rt, alloc, gate, place) },
+        );
+    }
+
+    /// The work of the worker of this place.
+    fn work_at<G: Gate, R: Wait>(&self, rt: &R, alloc: Global, gate: &G, place: &mut Place)
+        requires words { self.now.counts.now.limits.words ≡ LOSS_WORDS }
+        requires before { IsBefore self.now.shared.now.made self.now.counts.now place.old }
+        ensures { IsAfter self.now.shared.now.made self.now.counts.now self.now.position
+            self.now.to_move place.new }
+    {
+        let Place::Before(seats) = mem::replace(place, Place::Meanwhile) else {
+            unreachable!()
+        };
+        *place = Place::After(self.work(rt, alloc, gate, seats));
     }
 
     /// The work of one worker.

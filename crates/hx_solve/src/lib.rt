@@ -6,6 +6,7 @@
 #![tactic(auto)]
 
 mod crews;
+mod deals;
 mod ends;
 mod hint_words;
 mod laws;

@@ -2,10 +2,11 @@
 
 ghost use Rattle.std.specs.Prelude.{◌≡◌, IfOk, vec_len};
 ghost use Rattle.std.specs.List.{All};
-ghost use Rattle.hx_solve.specs.Seats.{IsDone};
+ghost use Rattle.hx_solve.specs.Seats.{IsAfter};
 ghost use Rattle.hx_solve.specs.Parts.{AllFoundNoChain, HasRoom, IsEndOfSome};
 
-use crate::crews::{Crew, Done};
+use crate::crews::Crew;
+use crate::seats::{Done, Place};
 use hx_board::Memory;
 use hx_count::CountSeat;
 use hx_share::BookSeat;
@@ -44,13 +45,13 @@ impl Parts {
 
 impl Crew<'_> {
     /// The parts of what these workers gave back.
-    pub(crate) fn take_apart(&self, mut dones: Vec<Done>, mut parts: Parts) -> Parts
-        requires dones { All
-            (IsDone self.now.shared.now.made self.now.counts.now self.now.position self.now.to_move)
-            dones.items }
-        requires room { HasRoom (vec_len dones) parts }
-        ensures lens { (vec_len result.books ≡ vec_len dones)
-            × (vec_len result.counts ≡ vec_len dones) × (vec_len result.ends ≡ vec_len dones) }
+    pub(crate) fn take_apart(&self, mut places: Vec<Place>, mut parts: Parts) -> Parts
+        requires after { All
+            (IsAfter self.now.shared.now.made self.now.counts.now self.now.position self.now.to_move)
+            places.items }
+        requires room { HasRoom (vec_len places) parts }
+        ensures lens { (vec_len result.books ≡ vec_len places)
+            × (vec_len result.counts ≡ vec_len places) × (vec_len result.ends ≡ vec_len places) }
         ensures books { All (λ s. s.made ≡ self.now.shared.now.made) result.books.items }
         ensures counts { All (λ s. s.made ≡ self.now.counts.now) result.counts.items }
         ensures ends { All
@@ -59,7 +60,10 @@ impl Crew<'_> {
         ensures no_chain { AllFoundNoChain self.now.position result.counts.items
             result.ends.items }
     {
-        while let Some(done) = dones.pop() {
+        while let Some(place) = places.pop() {
+            let Place::After(done) = place else {
+                unreachable!()
+            };
             let Done {
                 book,
                 counts,

@@ -55,9 +55,9 @@ pub(crate) fn search<G: Gate + Sync, R: Threads + Wait + Sync>(
         hints: &hints,
         replies: &replies,
     };
-    let seats = crew.deal(alloc, books, count_seats)?;
-    let dones = crew.work_all(rt, alloc, gate, seats)?;
-    let parts = crew.take_apart(dones, room);
+    let mut places = crew.deal(alloc, books, count_seats)?;
+    crew.work_all(rt, alloc, gate, &mut places);
+    let parts = crew.take_apart(places, room);
     let ended = foremost(parts.ends);
     let book = shared.close(parts.books);
     let totals = counts.close(parts.counts);

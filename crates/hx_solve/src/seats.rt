@@ -1,18 +1,13 @@
-//! The seats of the workers: each has one at the shared book and one at the counts.
+//! What a worker steps with, and what it gives back.
+//!
+//! Each worker has a place of its own, in which its seats wait for it and to which they come back with the end of its work. So
+//! all room for what comes back is there before the work begins.
 
-ghost use Rattle.std.specs.Prelude.{◌≡◌, ◌≤◌, IfOk, vec_len};
-ghost use Rattle.std.specs.List.{All};
-ghost use Rattle.hx_count.specs.Machine.{HasNothing};
-ghost use Rattle.hx_count.specs.Seats.{own};
-ghost use Rattle.hx_solve.specs.Seats.{AreNewSeats};
-
-use crate::crews::Crew;
-use hx_board::Memory;
 use hx_count::CountSeat;
 use hx_share::BookSeat;
-use std::alloc::Global;
+use hx_worker::Ended;
 
-/// A worker's number and its seats.
+/// A worker's number and its seats: one at the shared book and one at the counts.
 #[derive(Drop)]
 pub(crate) struct Seats {
     pub(crate) worker: u32,
@@ -20,36 +15,23 @@ pub(crate) struct Seats {
     pub(crate) counts: CountSeat,
 }
 
-impl Crew<'_> {
-    /// Two seats for each worker.
-    pub(crate) fn deal(
-        &self,
-        alloc: Global,
-        mut books: Vec<BookSeat>,
-        mut counts: Vec<CountSeat>,
-    ) -> Result<Vec<Seats>, Memory>
-        requires len { vec_len books ≡ vec_len counts }
-        requires few { vec_len books ≤ 64 }
-        requires books { All (λ s. s.made ≡ self.now.shared.now.made) books.items }
-        requires counts { All (λ s. s.made ≡ self.now.counts.now) counts.items }
-        requires nothing { All (λ s. HasNothing (own s)) counts.items }
-        ensures len { IfOk result (λ dealt. vec_len dealt ≡ vec_len books) }
-        ensures seats { IfOk result
-            (λ dealt. All (AreNewSeats self.now.shared.now.made self.now.counts.now) dealt.items) }
-    {
-        let Ok(mut dealt) = Vec::with_capacity(alloc, books.len()) else {
-            return Err(Memory);
-        };
-        while let Some(book) = books.pop() {
-            let Some(seat) = counts.pop() else {
-                unreachable!()
-            };
-            dealt.push_reserved(Seats {
-                worker: books.len() as u32,
-                book,
-                counts: seat,
-            });
-        }
-        Ok(dealt)
-    }
+/// A worker's seats, and how its work ended.
+#[derive(Drop)]
+pub(crate) struct Done {
+    pub(crate) book: BookSeat,
+    pub(crate) counts: CountSeat,
+    pub(crate) ended: Ended,
+}
+
+/// What lies at a worker's place.
+#[derive(Drop)]
+pub(crate) enum Place {
+    /// Its seats, before its work.
+    Before(Seats),
+
+    /// Nothing, while it works.
+    Meanwhile,
+
+    /// What came of its work.
+    After(Done),
 }

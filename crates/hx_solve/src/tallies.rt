@@ -48,7 +48,7 @@ impl Tally {
         match refusal {
             Unsolved::Budget(_) => self.budgets = self.budgets.saturating_add(1),
             Unsolved::Slots(_) => self.proofs = self.proofs.saturating_add(1),
-            Unsolved::Memory => {}
+            Unsolved::Memory => unreachable!(),
         }
     }
 

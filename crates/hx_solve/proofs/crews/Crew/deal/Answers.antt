@@ -3,7 +3,7 @@ use Rattle.std.proofs.lemmas.List.Elements.{All-pop, All-push}
 use Rattle.hx_count.specs.Machine.{HasNothing}
 use Rattle.hx_count.specs.Seats.{Seat, own}
 use Rattle.hx_share.specs.Readers.{Reader}
-use Rattle.hx_solve.specs.Seats.{AreNewSeats}
+use Rattle.hx_solve.specs.Seats.{IsBefore}
 use Rattle.hx_solve.proofs.crews.Crew.deal.Goals as goal
 
 pub loop-book-preserved : goal.loop-book-preserved
@@ -18,6 +18,6 @@ loop-book-preserved c =
       books = (All-pop (λ (s : Reader). s.made ≡ c.args.self.now.shared.now.made) _ _ (Some c.in-Some.book) b.items i.books).0;
       counts = (All-pop (λ (s : Seat). s.made ≡ c.args.self.now.counts.now) _ _ (Some c.in-Some-pop.seat) s.items i.counts).0;
       nothing = (All-pop (λ (s : Seat). HasNothing (own s)) _ _ (Some c.in-Some-pop.seat) s.items i.nothing).0;
-      seats = rw p.items (All-push (AreNewSeats c.args.self.now.shared.now.made c.args.self.now.counts.now) _ _ i.seats
+      seats = rw p.items (All-push (IsBefore c.args.self.now.shared.now.made c.args.self.now.counts.now) _ _ i.seats
           (record { same_book = same_book; same_counts = same_counts; nothing = nothing }));
     }

@@ -1,7 +1,7 @@
 use Rattle.std.proofs.Common.{◌≡◌, ◌+◌, ◌≤◌, All, vec_len, vec_capacity}
 use Rattle.hx_count.specs.Machine.{HasNothing}
 use Rattle.hx_count.specs.Seats.{own}
-use Rattle.hx_solve.specs.Seats.{AreNewSeats}
+use Rattle.hx_solve.specs.Seats.{IsBefore}
 use Rattle.hx_solve.proofs.crews.Crew.deal.Given as goal
 
 abbrev pub invariant-loop-book : goal.invariant-loop-book
@@ -12,7 +12,7 @@ invariant-loop-book l = record {
   books : All (λ s. s.made ≡ l.self.shared.now.made) l.books.items;
   counts : All (λ s. s.made ≡ l.self.counts.now) l.counts.items;
   nothing : All (λ s. HasNothing (own s)) l.counts.items;
-  seats : All (AreNewSeats l.self.shared.now.made l.self.counts.now) l.dealt.items;
+  seats : All (IsBefore l.self.shared.now.made l.self.counts.now) l.dealt.items;
 }
 
 abbrev pub decreases-loop-book : goal.decreases-loop-book

@@ -2,16 +2,17 @@ use Rattle.std.proofs.Common.{arith, ◌≡◌, length, Some}
 use Rattle.std.proofs.lemmas.List.Elements.{All-pop, All-push}
 use Rattle.hx_count.specs.Seats.{Seat}
 use Rattle.hx_share.specs.Readers.{Reader}
-use Rattle.hx_solve.specs.Seats.{IsDone}
-use Rattle.hx_solve.proofs.PartedEnds.{ends-more, no_chain-more}
+use Rattle.hx_solve.specs.Seats.{IsAfter}
+use Rattle.hx_solve.proofs.PartedEnds.{after-done, ends-more, no_chain-more}
 use Rattle.hx_solve.proofs.crews.Crew.take_apart.Goals as goal
 
-pub loop-done-preserved : goal.loop-done-preserved
-loop-done-preserved c =
-    let i = c.loop-done.invariant in let d = c.in-Some.ensures in
+pub loop-place-preserved : goal.loop-place-preserved
+loop-place-preserved c =
+    let i = c.loop-place.invariant in let d = c.in-Some.ensures in
     let b = c.push_reserved.ensures in let s = c.push_reserved-in-Some.ensures in let e = c.push_reserved-in-Some-2.ensures in
-    let crew = c.args.self.now in let parts = c.loop-done.parts in let done = c.in-Some.done in
-    let last = (All-pop (IsDone crew.shared.now.made crew.counts.now crew.position crew.to_move) _ _ (Some done) d.items i.left).1 in
+    let crew = c.args.self.now in let parts = c.loop-place.parts in let done = c.in-After.done in
+    let last = after-done crew.shared.now.made crew.counts.now crew.position crew.to_move c.in-Some.place done c.in-After.is
+    (All-pop (IsAfter crew.shared.now.made crew.counts.now crew.position crew.to_move) _ _ (Some c.in-Some.place) d.items i.left).1 in
     let as_many : length parts.books.items ≡ length parts.counts.items = omega (arith, i.books, i.counts, parts.books.ok, parts.counts.ok) in record {
       books = omega (arith, i.books, d.cases, b.len);
       counts = omega (arith, i.counts, d.cases, s.len);
@@ -19,7 +20,7 @@ loop-done-preserved c =
       room_for_books = omega (arith, i.room_for_books, b.capacity);
       room_for_counts = omega (arith, i.room_for_counts, s.capacity);
       room_for_ends = omega (arith, i.room_for_ends, e.capacity);
-      left = (All-pop (IsDone crew.shared.now.made crew.counts.now crew.position crew.to_move) _ _ (Some done) d.items i.left).0;
+      left = (All-pop (IsAfter crew.shared.now.made crew.counts.now crew.position crew.to_move) _ _ (Some c.in-Some.place) d.items i.left).0;
       same_book = rw b.items (All-push (λ (s : Reader). s.made ≡ crew.shared.now.made) parts.books.items done.book i.same_book last.same_book);
       same_counts = rw s.items (All-push (λ (s : Seat). s.made ≡ crew.counts.now) parts.counts.items done.counts i.same_counts last.same_counts);
       some_ends = rw (b.items, s.items, e.items)
