@@ -2,7 +2,7 @@
 use Rattle.std.specs.Prelude.{◌⊎◌, ℕ, ◌≤◌, List, [], ◌∷◌, ◌++◌, codes, Option, IfSome}
 use Rattle.hx_board.specs.declared.colours.Colour.{Colour}
 use Rattle.hx_tree.specs.declared.nodes.Heading.{Heading}
-use Rattle.hx_text.specs.Words.{colour_word}
+use Rattle.hx_letters.specs.Words.{colour_word}
 use Rattle.hx_text.specs.PositionTexts.{position_text}
 use Rattle.hx_answers.specs.Texts.{counted_text}
 use Rattle.hx_answers.specs.Endings.{IsWritten}

@@ -3,7 +3,9 @@
 
 use super::trees_written::written;
 use hx_board::Colour::Black;
-use hx_text::{Fed, TreeFault, TreeReader, Version, cut};
+use hx_letters::cut;
+use hx_reader::{Fed, TreeFault, TreeReader};
+use hx_text::Version;
 use hx_tree::Node;
 use std::alloc::{AllocError, Global};
 use std::test::Fail;

@@ -2,7 +2,7 @@
 
 use hx_board::Colour::White;
 use hx_board::{Cell, Size};
-use hx_text::{Text, read_digits, read_number};
+use hx_letters::{Text, read_digits, read_number};
 use std::test::Fail;
 
 /// The cell in this row and column, both counted from 0.
