@@ -9,13 +9,13 @@ use Rattle.hx_board.specs.declared.colours.Colour.TheVariants.{Black, White}
 use Rattle.hx_board.specs.Cells.{Extent, IsExtent}
 use Rattle.hx_board.specs.Positions.{Board, IsBoard}
 use Rattle.hx_board.specs.Counts.{IsSmall}
-use Rattle.hx_text.specs.declared.positions.TextFault.{TextFault}
-use Rattle.hx_text.specs.Words.{spaced, mask_word, colour_word}
+use Rattle.hx_reader.specs.declared.positions.TextFault.{TextFault}
+use Rattle.hx_letters.specs.Words.{spaced, mask_word, colour_word}
 use Rattle.hx_text.specs.Grammars.{text_of}
 use Rattle.hx_text.specs.PositionTexts.{position_text, position_title, size_line, stones_line, move_line}
-use Rattle.hx_text.proofs.Masks.{length-hex}
-use Rattle.hx_text.proofs.Spelled.{length-colour_word, length-small}
-use Rattle.hx_text.proofs.WholePositions.{spelled_is_read}
+use Rattle.hx_letters.proofs.Masks.{length-hex}
+use Rattle.hx_letters.proofs.WordLengths.{length-colour_word, length-small}
+use Rattle.hx_reader.proofs.WholeReads.{spelled_is_read}
 use Rattle.hx_app.specs.Limits.{most_bytes}
 use Rattle.hx_app.specs.Positions.{IsPositionText, IsSmallPosition, IsOpenPosition, IsBadPosition}
 

@@ -7,7 +7,7 @@ use Rattle.hx_tree.specs.declared.nodes.Node.{Node}
 use Rattle.hx_tree.specs.Trees.{IsRoot}
 use Rattle.hx_text.specs.declared.versions.Version.{Version}
 use Rattle.hx_text.specs.TreeTexts.{EachNodeFits, ListsFit}
-use Rattle.hx_text.specs.Places.{most_nodes}
+use Rattle.hx_text.specs.Lengths.{most_nodes}
 use Rattle.hx_text.proofs.ValidTrees.{right_nodes_fit, each_lists_fit}
 use Rattle.hx_solve.specs.Solutions.{IsSolution}
 use Rattle.hx_app.specs.declared.solutions.Solution.{Solution}

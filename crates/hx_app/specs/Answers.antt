@@ -10,7 +10,7 @@ use Rattle.hx_text.specs.declared.versions.Preamble.{Preamble}
 use Rattle.hx_text.specs.Versions.{HasTurned}
 use Rattle.hx_text.specs.Grammars.{text_of}
 use Rattle.hx_text.specs.TreeTexts.{EachNodeFits, ListsFit, node_lines, written_tree}
-use Rattle.hx_text.specs.Places.{most_nodes}
+use Rattle.hx_text.specs.Lengths.{most_nodes}
 use Rattle.hx_settings.specs.declared.settings.Settings.{Settings}
 use Rattle.hx_solve.specs.declared.unsolved.Unsolved.{Unsolved}
 use Rattle.hx_solve.specs.declared.unsolved.Unsolved.TheVariants.{Budget, Slots, Memory}

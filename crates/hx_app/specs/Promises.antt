@@ -8,7 +8,7 @@ use Rattle.hx_tree.specs.Trees.{IsValidTree, IsRoot}
 use Rattle.hx_text.specs.declared.versions.Version.TheVariants.{Two}
 use Rattle.hx_text.specs.Versions.{HasTurned}
 use Rattle.hx_text.specs.TreeTexts.{IsTreeText}
-use Rattle.hx_text.specs.Places.{most_nodes}
+use Rattle.hx_text.specs.Lengths.{most_nodes}
 use Rattle.hx_proof.specs.Winners.{OnlyWinner}
 use Rattle.hx_settings.specs.declared.settings.Settings.{Settings}
 use Rattle.hx_solve.specs.Tallies.{Tallied}

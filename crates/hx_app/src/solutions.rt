@@ -5,7 +5,7 @@ ghost use Rattle.std.specs.List.{All};
 ghost use Rattle.hx_io.specs.Causes.{HasCause};
 ghost use Rattle.hx_io.specs.Sinks.{TakesAll};
 ghost use Rattle.hx_text.specs.TreeTexts.{ListsFit};
-ghost use Rattle.hx_text.specs.Places.{most_nodes};
+ghost use Rattle.hx_text.specs.Lengths.{most_nodes};
 ghost use Rattle.hx_app.specs.Answers.{nodes_text, solution_text};
 
 use hx_board::{Colour, Size};

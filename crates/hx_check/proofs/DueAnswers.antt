@@ -17,17 +17,18 @@ use Rattle.hx_tree.specs.declared.nodes.Heading.{Heading}
 use Rattle.hx_tree.specs.declared.nodes.Node.{Node}
 use Rattle.hx_tree.specs.Rules.{IsRightNode}
 use Rattle.hx_tree.proofs.TreeGrowth.{least_wrong-last}
-use Rattle.hx_text.specs.declared.places.Place.{Place}
-use Rattle.hx_text.specs.declared.reader.TreeReader.{TreeReader}
-use Rattle.hx_text.specs.Marks.{Lacks}
+use Rattle.hx_reader.specs.declared.places.Place.{Place}
+use Rattle.hx_reader.specs.declared.reader.TreeReader.{TreeReader}
+use Rattle.hx_letters.specs.Marks.{Lacks}
 use Rattle.hx_text.specs.Grammars.{text_of, Begins}
 use Rattle.hx_text.specs.TreeTexts.{AreTreeLines, front_lines, node_lines, head_line}
-use Rattle.hx_text.specs.Places.{Stands, StandsSoFar, most_nodes, IsNextNode}
-use Rattle.hx_text.specs.Reader.{HasRead, lines_fed}
-use Rattle.hx_text.proofs.BegunNodes.{node_of_head}
-use Rattle.hx_text.proofs.Completions.{Begins-stands}
+use Rattle.hx_reader.specs.Places.{Stands, StandsSoFar, IsNextNode}
+use Rattle.hx_text.specs.Lengths.{most_nodes}
+use Rattle.hx_reader.specs.Reader.{HasRead, lines_fed}
+use Rattle.hx_reader.proofs.BegunNodes.{node_of_head}
+use Rattle.hx_reader.proofs.Completions.{Begins-stands}
 use Rattle.hx_text.proofs.Cuts.{text_of-push}
-use Rattle.hx_text.proofs.Faults.{missing, wrong_line}
+use Rattle.hx_reader.proofs.Faults.{missing, wrong_line}
 use Rattle.hx_check.specs.declared.judgements.Judgement.{Judgement}
 use Rattle.hx_check.specs.declared.judgements.Judgement.TheVariants.{Yes, NoText, NoNode, ReadFault, OutOfMemory, TooLong}
 use Rattle.hx_check.specs.Limits.{BeginsLong}

@@ -13,20 +13,20 @@ use Rattle.hx_tree.specs.declared.nodes.Heading.{Heading}
 use Rattle.hx_tree.specs.declared.nodes.Node.{Node}
 use Rattle.hx_tree.specs.Trees.{headings_of, IsRoot}
 use Rattle.hx_tree.proofs.TreeGrowth.{valid_tree}
-use Rattle.hx_text.specs.declared.places.Place.{Place}
-use Rattle.hx_text.specs.declared.places.Place.TheVariants.{After}
-use Rattle.hx_text.specs.declared.reader.TreeReader.{TreeReader}
+use Rattle.hx_reader.specs.declared.places.Place.{Place}
+use Rattle.hx_reader.specs.declared.places.Place.TheVariants.{After}
+use Rattle.hx_reader.specs.declared.reader.TreeReader.{TreeReader}
 use Rattle.hx_text.specs.Grammars.{text_of}
-use Rattle.hx_text.specs.Places.{Stands}
-use Rattle.hx_text.specs.Reader.{HasRead, lines_fed}
+use Rattle.hx_reader.specs.Places.{Stands}
+use Rattle.hx_reader.specs.Reader.{HasRead, lines_fed}
 use Rattle.hx_check.specs.Judging.{IsYes, IsNoText}
 use Rattle.hx_check.specs.Standings.{JudgedUpTo, HasReadAll}
-use Rattle.hx_text.proofs.Ends.{push-some}
-use Rattle.hx_text.proofs.Steps.{end_wrong}
+use Rattle.hx_letters.proofs.Ends.{push-some}
+use Rattle.hx_reader.proofs.Steps.{end_wrong}
 use Rattle.hx_check.proofs.Standings.{ended_in}
 use Rattle.hx_check.proofs.DueAnswers.{says_of, none_of, told_of, cut_some, cut_not_long}
-use Rattle.hx_text.proofs.Completions.{Begins-stands}
-use Rattle.hx_text.proofs.Faults.{surplus}
+use Rattle.hx_reader.proofs.Completions.{Begins-stands}
+use Rattle.hx_reader.proofs.Faults.{surplus}
 
 heading_after : (front : List Node) (node : Node)
     → slice_get (headings_of (front ++ node ∷ [])) (length front) ≡ Some node.heading

@@ -10,12 +10,12 @@ use Rattle.hx_tree.specs.declared.nodes.Heading.{Heading}
 use Rattle.hx_tree.specs.declared.nodes.Node.{Node}
 use Rattle.hx_tree.specs.Rules.{IsRightNode}
 use Rattle.hx_tree.proofs.TreeGrowth.{one_more_right, headings_of-append}
-use Rattle.hx_text.specs.declared.reader.TreeReader.{TreeReader}
+use Rattle.hx_reader.specs.declared.reader.TreeReader.{TreeReader}
 use Rattle.hx_text.specs.Grammars.{text_of}
-use Rattle.hx_text.specs.Places.{most_nodes}
+use Rattle.hx_text.specs.Lengths.{most_nodes}
 use Rattle.hx_io.specs.Causes.{next_count}
-use Rattle.hx_text.specs.Reader.{HasRead, lines_fed}
-use Rattle.hx_text.proofs.Completions.{Begins-stands}
+use Rattle.hx_reader.specs.Reader.{HasRead, lines_fed}
+use Rattle.hx_reader.proofs.Completions.{Begins-stands}
 use Rattle.hx_text.proofs.Cuts.{text_of-append}
 use Rattle.hx_check.specs.Judging.{AreFaultless}
 use Rattle.hx_check.specs.Standings.{HasJudged, JudgedUpTo, HasReadAll}

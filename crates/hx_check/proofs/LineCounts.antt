@@ -4,8 +4,8 @@ use Rattle.std.proofs.Common.{ℕ, ◌*◌, ◌<◌, ◌≤◌, ◌^◌, List, [
 use Rattle.std.proofs.lemmas.List.{length-map}
 use Rattle.std.specs.Prelude.{flat_map}
 use Rattle.hx_tree.specs.declared.nodes.Node.{Node}
-use Rattle.hx_text.specs.declared.node_lines.Opening.{Opening}
-use Rattle.hx_text.specs.declared.node_lines.Opening.TheVariants.{Chain, Links, Move, All, Fill, Turned}
+use Rattle.hx_text.specs.declared.heads.Opening.{Opening}
+use Rattle.hx_text.specs.declared.heads.Opening.TheVariants.{Chain, Links, Move, All, Fill, Turned}
 use Rattle.hx_text.specs.declared.versions.Preamble.{Preamble}
 use Rattle.hx_text.specs.Entries.{entry_line, entries_of, entries_told, opening_of}
 use Rattle.hx_text.specs.TreeTexts.{EachNodeFits, NodeFits, OpeningFits, node_lines, front_lines, end_line}

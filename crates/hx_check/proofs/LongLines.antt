@@ -8,7 +8,7 @@ use Rattle.hx_lines.proofs.LineLaws.{lines_of-nil, lines_of-line}
 use Rattle.hx_tree.specs.declared.nodes.Node.{Node}
 use Rattle.hx_tree.specs.Trees.{IsLeastWrong}
 use Rattle.hx_tree.proofs.TreeGrowth.{least_wrong-append}
-use Rattle.hx_text.specs.Marks.{Lacks}
+use Rattle.hx_letters.specs.Marks.{Lacks}
 use Rattle.hx_text.specs.Grammars.{text_of, Begins}
 use Rattle.hx_text.specs.TreeTexts.{AreTreeLines, IsTreeText}
 use Rattle.hx_text.specs.Lengths.{longest_line}

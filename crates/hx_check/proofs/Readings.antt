@@ -8,17 +8,17 @@ use Rattle.hx_board.specs.Cells.{IsExtent}
 use Rattle.hx_tree.specs.declared.nodes.Node.{Node}
 use Rattle.hx_tree.specs.Trees.{IsValidTree, IsLeastWrong}
 use Rattle.hx_tree.proofs.TreeGrowth.{least_wrong-append, right_at-append}
-use Rattle.hx_text.specs.Words.{IsNumber}
+use Rattle.hx_letters.specs.Words.{IsNumber}
 use Rattle.hx_text.specs.declared.versions.Preamble.{Preamble}
 use Rattle.hx_text.specs.Grammars.{text_of, IsFaultyLine}
 use Rattle.hx_text.specs.Entries.{entry_line, entries_of}
 use Rattle.hx_text.specs.TreeTexts.{AreTreeLines, AreTreeLinesOf, IsTreeText, EachNodeFits, NodeFits, front_lines, head_of, head_line, node_lines, end_line, tree_lines}
-use Rattle.hx_text.specs.Places.{most_nodes}
+use Rattle.hx_text.specs.Lengths.{most_nodes}
 use Rattle.hx_check.specs.Judging.{EndedIn, Before_size, Among_nodes, Inside_node, After_end, IsNoText, IsNoNode, IsTooManyNodes}
 use Rattle.hx_text.proofs.Alignment.{aligned}
 use Rattle.hx_text.proofs.NodeInjective.{head_not_end}
-use Rattle.hx_text.proofs.Steps.{flat_map-push, EachNodeFits-push}
-use Rattle.hx_text.proofs.Completions.{whole_are_of}
+use Rattle.hx_reader.proofs.Steps.{flat_map-push, EachNodeFits-push}
+use Rattle.hx_reader.proofs.Completions.{whole_are_of}
 use Rattle.hx_text.proofs.Cuts.{Agree, Second_goes_on, First_goes_on, agree, AllLack, ended-some, AllLack-front}
 use Rattle.hx_text.proofs.ShortLines.{AllShort, AllShort-front, AllShort-tree_lines}
 use Rattle.hx_text.proofs.TreeLacks.{AllLack-tree_lines, AllLack-begun}

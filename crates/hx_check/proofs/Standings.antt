@@ -4,13 +4,14 @@ use Rattle.std.proofs.Common.{◌≡◌, ℕ, ◌≤◌, List, [], ◌∷◌, �
 use Rattle.std.proofs.lemmas.List.{append-nil}
 use Rattle.std.specs.Prelude.{flat_map}
 use Rattle.hx_tree.specs.declared.nodes.Node.{Node}
-use Rattle.hx_text.specs.declared.places.Place.{Place}
-use Rattle.hx_text.specs.declared.places.Place.TheVariants.{Title, Size, Between, Inside, After, Failed}
+use Rattle.hx_reader.specs.declared.places.Place.{Place}
+use Rattle.hx_reader.specs.declared.places.Place.TheVariants.{Title, Size, Between, Inside, After, Failed}
 use Rattle.hx_text.specs.TreeTexts.{AreTreeLines, AreTreeLinesOf, front_lines, node_lines, end_line}
-use Rattle.hx_text.specs.Places.{Stands, IsAfter, most_nodes}
+use Rattle.hx_reader.specs.Places.{Stands, IsAfter}
+use Rattle.hx_text.specs.Lengths.{most_nodes}
 use Rattle.hx_check.specs.Judging.{EndedIn, Before_size, Among_nodes, Inside_node, After_end}
 use Rattle.hx_text.proofs.Alignment.{aligned}
-use Rattle.hx_text.proofs.BegunNodes.{EndsInNode, inside_begins_node, in_node_not_whole}
+use Rattle.hx_reader.proofs.BegunNodes.{EndsInNode, inside_begins_node, in_node_not_whole}
 
 pub ended_in : (place : Place) (nodes : List Node) (lines : List (List ℕ)) → Stands place nodes lines → length nodes ≤ most_nodes
     → EndedIn lines nodes

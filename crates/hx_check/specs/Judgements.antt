@@ -4,7 +4,7 @@ use Rattle.hx_io.specs.Sources.{Reading, SomeReadFailed}
 use Rattle.hx_io.specs.Sinks.{Writing}
 use Rattle.hx_board.specs.declared.colours.Colour.{Colour}
 use Rattle.hx_tree.specs.declared.nodes.Heading.{Heading}
-use Rattle.hx_text.specs.Words.{colour_word}
+use Rattle.hx_letters.specs.Words.{colour_word}
 use Rattle.hx_text.specs.PositionTexts.{position_text}
 use Rattle.hx_answers.specs.Texts.{counted_text, read_fault_line, out_of_memory_line, too_long_line}
 use Rattle.hx_answers.specs.Endings.{IsWritten}

@@ -11,7 +11,7 @@ use Rattle.hx_text.specs.declared.versions.Preamble.{Preamble}
 use Rattle.hx_text.specs.Grammars.{text_of, Begins, IsFaultyLine}
 use Rattle.hx_text.specs.TreeTexts.{AreTreeLines, AreTreeLinesOf, IsTreeText, NodeFits, EachNodeFits, head_of}
 use Rattle.hx_text.specs.TreeTexts.{head_line, node_lines, front_lines}
-use Rattle.hx_text.specs.Places.{most_nodes}
+use Rattle.hx_text.specs.Lengths.{most_nodes}
 use Rattle.hx_check.specs.Limits.{BeginsLong}
 
 -- the nodes that ended in these lines, with which the text of a tree begins that has no more nodes than a text may have

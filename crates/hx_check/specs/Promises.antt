@@ -5,7 +5,7 @@ use Rattle.hx_io.specs.Sinks.{Writing, SomeWriteFailed, append}
 use Rattle.hx_tree.specs.declared.nodes.Node.{Node}
 use Rattle.hx_tree.specs.Trees.{IsValidTree, IsRoot}
 use Rattle.hx_text.specs.TreeTexts.{IsTreeText}
-use Rattle.hx_text.specs.Places.{most_nodes}
+use Rattle.hx_text.specs.Lengths.{most_nodes}
 use Rattle.hx_proof.specs.Winners.{OnlyWinner}
 use Rattle.hx_answers.specs.Endings.{IsUnlessStopped, AnswersUnlessStopped, IsReadToEnd}
 use Rattle.hx_check.specs.Judging.{IsNoText, IsNoNode, ReadsNoFault}

@@ -7,10 +7,11 @@ use Rattle.hx_tree.specs.declared.nodes.Heading.{Heading}
 use Rattle.hx_tree.specs.declared.nodes.Node.{Node}
 use Rattle.hx_tree.specs.Rules.{IsRightNode}
 use Rattle.hx_tree.specs.Trees.{AreRight, headings_of}
-use Rattle.hx_text.specs.declared.reader.TreeReader.{TreeReader}
+use Rattle.hx_reader.specs.declared.reader.TreeReader.{TreeReader}
 use Rattle.hx_text.specs.Grammars.{text_of}
-use Rattle.hx_text.specs.Places.{most_nodes, IsAfter}
-use Rattle.hx_text.specs.Reader.{HasRead, lines_fed}
+use Rattle.hx_text.specs.Lengths.{most_nodes}
+use Rattle.hx_reader.specs.Places.{IsAfter}
+use Rattle.hx_reader.specs.Reader.{HasRead, lines_fed}
 use Rattle.hx_check.specs.declared.judgements.Judgement.{Judgement}
 use Rattle.hx_check.specs.declared.judgements.Judgement.TheVariants.{Yes, NoText, NoNode, ReadFault, OutOfMemory}
 use Rattle.hx_check.specs.declared.judgements.Judgement.TheVariants.{TooLong}

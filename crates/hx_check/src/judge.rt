@@ -5,8 +5,8 @@ ghost use Rattle.std.specs.Prelude.{◌≡◌, ◌+◌, ◌-◌, ◌^◌, ◌<�
 ghost use Rattle.std.specs.Option.{IfNone};
 ghost use Rattle.hx_io.specs.Causes.{next_count};
 ghost use Rattle.hx_io.specs.Sources.{IsAtEnd, SomeReadFailed};
-ghost use Rattle.hx_text.specs.Places.{most_nodes};
-ghost use Rattle.hx_text.specs.Reader.{lines_fed};
+ghost use Rattle.hx_text.specs.Lengths.{most_nodes};
+ghost use Rattle.hx_reader.specs.Reader.{lines_fed};
 ghost use Rattle.hx_check.specs.Judgements.{IsDue};
 ghost use Rattle.hx_check.specs.Standings.{HasJudged, JudgedUpTo, HasReadAll, AnswersNode};
 
@@ -14,7 +14,7 @@ use crate::judgements::Judgement;
 use hx_board::Memory;
 use hx_io::{Failed, Source};
 use hx_lines::{Cut, LineCutter};
-use hx_text::{Fed, TreeFault, TreeReader};
+use hx_reader::{Fed, TreeFault, TreeReader};
 use hx_tree::{Checker, Node};
 use std::alloc::Global;
 

@@ -34,5 +34,7 @@ pub record LeavesOpen (before after : Account) (board : Board) : Type 0 where
 -- what may be told of a position and its mover
 abbrev pub MayTell : Account → Account → Board → Colour → Told → Type 0
 MayTell before after board mover (Winner player) = Wins player board mover
-MayTell before after board mover (Budget n) = (n ≡ before.budget) × Rose before.budgets after.budgets × ¬ IsSmall board before.budget
-MayTell before after board mover (Slots n) = (n ≡ before.slots) × Rose before.proofs after.proofs × ¬ IsSmall board before.budget
+MayTell before after board mover (Budget n) =
+    (n ≡ before.budget) × Rose before.budgets after.budgets × ¬ IsSmall board before.budget
+MayTell before after board mover (Slots n) =
+    (n ≡ before.slots) × Rose before.proofs after.proofs × ¬ IsSmall board before.budget

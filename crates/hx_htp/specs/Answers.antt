@@ -1,4 +1,5 @@
--- How a request may be answered, and what becomes of the session. For all requests but `genmove` and `solve` there is one answer.
+-- How a request may be answered, and what becomes of the session. For all requests but `genmove` and `solve` there is
+-- one answer.
 use Rattle.std.specs.Prelude.{◌≡◌, ◌⊎◌, ℕ, ◌<◌, List, [], ◌∷◌, ◌++◌}
 use Rattle.std.specs.declared.option.Option.{Option}
 use Rattle.std.specs.declared.option.Option.TheVariants.{None, Some}
@@ -49,12 +50,14 @@ pub record IsFirstEmpty (board : Board) (cell : ℕ) : Type 0 where
   pub empty : IsEmpty board cell
   pub first : (other : ℕ) → other < cell → ¬ IsEmpty board other
 
--- A cell that may be played: it keeps a win of the player; or it is the first empty one, and the player does not win the
--- position, or a question was left open and the position after the move is not small.
+-- A cell that may be played: it keeps a win of the player; or it is the first empty one, and the player does not win
+-- the position, or a question was left open and the position after the move is not small.
 pub data MayPlay (before after : Account) (board : Board) (player : Colour) (cell : ℕ) : Type 0 where
-  Keeps_win : IsEmpty board cell → Wins player (put board player cell) (other_of player) → MayPlay before after board player cell
+  Keeps_win : IsEmpty board cell → Wins player (put board player cell) (other_of player)
+      → MayPlay before after board player cell
   Of_no_win : IsFirstEmpty board cell → ¬ Wins player board player → MayPlay before after board player cell
-  Left_open : IsFirstEmpty board cell → LeavesOpen before after (put board player cell) → MayPlay before after board player cell
+  Left_open : IsFirstEmpty board cell → LeavesOpen before after (put board player cell)
+      → MayPlay before after board player cell
 
 -- memory was wanting for an answer, and the state is as before
 abbrev pub LacksMemory : Moment → Moment → Type 0
@@ -88,11 +91,11 @@ abbrev pub Solves : Moment → Colour → Given → Moment → Type 0
 Solves old mover (Ok (answer.Winner winner)) new =
     Wins winner (board_of old.state) mover × (new.state ≡ old.state) × Continues old.account new.account
 Solves old mover (Ok (answer.UnknownBudget n)) new =
-    (n ≡ old.account.budget) × Rose old.account.budgets new.account.budgets × (¬ IsSmall (board_of old.state) old.account.budget)
-    × (new.state ≡ old.state) × Continues old.account new.account
+    (n ≡ old.account.budget) × Rose old.account.budgets new.account.budgets
+    × (¬ IsSmall (board_of old.state) old.account.budget) × (new.state ≡ old.state) × Continues old.account new.account
 Solves old mover (Ok (answer.UnknownProofs n)) new =
-    (n ≡ old.account.slots) × Rose old.account.proofs new.account.proofs × (¬ IsSmall (board_of old.state) old.account.budget)
-    × (new.state ≡ old.state) × Continues old.account new.account
+    (n ≡ old.account.slots) × Rose old.account.proofs new.account.proofs
+    × (¬ IsSmall (board_of old.state) old.account.budget) × (new.state ≡ old.state) × Continues old.account new.account
 Solves old mover (Err refusal.OutOfMemory) new = LacksMemory old new
 Solves old mover (Ok answer.Empty) new = ⊥
 Solves old mover (Ok answer.Protocol) new = ⊥
@@ -127,7 +130,8 @@ Does old (request.BoardSize cols rows) given new =
     ⊎ ((¬ IsExtent rows cols) × Refuses old refusal.UnacceptableSize given new)
 Does old request.ClearBoard given new = Becomes old (no_moves old.state.size) given new
 Does old (request.Play player cell) given new =
-    (IsEmpty (board_of old.state) cell × Becomes old (with_move old.state (record { colour = player; cell = cell })) given new)
+    (IsEmpty (board_of old.state) cell
+    × Becomes old (with_move old.state (record { colour = player; cell = cell })) given new)
     ⊎ ((¬ IsEmpty (board_of old.state) cell) × Refuses old refusal.IllegalMove given new)
 Does old request.Undo given new = Undoes old given new
 Does old (request.GenMove player) given new = GeneratesMove old player given new

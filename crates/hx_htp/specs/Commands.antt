@@ -58,7 +58,8 @@ request_of name.BoardSize (cols ∷ rows ∷ rest) = sized (number_of cols) (num
 request_of name.ClearBoard arguments = Some request.ClearBoard
 request_of name.Play [] = None
 request_of name.Play (colour ∷ []) = None
-request_of name.Play (colour ∷ vertex ∷ rest) = option_and_then (λ c. option_map (λ v. request.Play c v) (vertex_of vertex)) (colour_of colour)
+request_of name.Play (colour ∷ vertex ∷ rest) =
+    option_and_then (λ c. option_map (λ v. request.Play c v) (vertex_of vertex)) (colour_of colour)
 request_of name.Undo arguments = Some request.Undo
 request_of name.GenMove [] = None
 request_of name.GenMove (colour ∷ rest) = option_map (λ c. request.GenMove c) (colour_of colour)

@@ -17,7 +17,8 @@ use Rattle.hx_htp.specs.Runs.{AnswersWords, asked_on, Run, SessionRun}
 use Rattle.hx_htp.specs.Runs.Run.{Begun, Then}
 
 -- what was given to words, if there were any
-abbrev pub given_to : (old : Moment) (words : List (List ℕ)) (reply : List ℕ) (new : Moment) → AnswersWords old words reply new → Option Given
+abbrev pub given_to : (old : Moment) (words : List (List ℕ)) (reply : List ℕ) (new : Moment)
+    → AnswersWords old words reply new → Option Given
 given_to old [] reply new answers = None
 given_to old (word ∷ words) reply new answers = Some answers.given
 
@@ -46,14 +47,15 @@ open_proofs (Then lines replies new earlier line front reply mid last more run a
     open_proofs run + share_of_proofs (given_to mid (words_of line) reply new answers)
 
 -- there are no more of either than the counts tell in the end
-pub record IsCounted {before : Account} {lines : List (List ℕ)} {replies : List ℕ} {after : Account} (run : SessionRun before lines replies after) : Type 0 where
+pub record IsCounted {before : Account} {lines : List (List ℕ)} {replies : List ℕ} {after : Account}
+    (run : SessionRun before lines replies after) : Type 0 where
   pub budgets : open_budgets run.run ≤ after.budgets
   pub proofs : open_proofs run.run ≤ after.proofs
 
 -- ---- who is named
 
--- A line asked who wins, and the player who is named wins the board as it stood then, with the mover who was asked for. The
--- other player does not.
+-- A line asked who wins, and the player who is named wins the board as it stood then, with the mover who was asked for.
+-- The other player does not.
 pub record NamesWinner (before : Moment) (line : List ℕ) (winner : Colour) : Type 0 where
   pub mover : Option Colour
   pub solves : asked_on line ≡ Ok (Solve mover)
@@ -66,7 +68,8 @@ NamesRightly before line (Some (Ok (Winner winner))) = NamesWinner before line w
 NamesRightly before line _ = Unit {0}
 
 -- each player whom a run names is a winner
-abbrev pub NamesWinners : {old new : Moment} {lines : List (List ℕ)} {replies : List ℕ} → Run old lines replies new → Type 0
+abbrev pub NamesWinners : {old new : Moment} {lines : List (List ℕ)} {replies : List ℕ} → Run old lines replies new
+    → Type 0
 NamesWinners (Begun lines replies new none silent same) = Unit {0}
 NamesWinners (Then lines replies new earlier line front reply mid last more run answers) =
     NamesWinners run × NamesRightly mid line (given_to mid (words_of line) reply new answers)

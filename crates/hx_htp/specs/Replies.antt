@@ -9,11 +9,13 @@ use Rattle.hx_board.specs.declared.colours.Colour.{Colour}
 use Rattle.hx_board.specs.declared.colours.Colour.TheVariants.{Black, White}
 use Rattle.hx_board.specs.Cells.{index_of}
 use Rattle.hx_board.specs.Positions.{Board, stone_at}
-use Rattle.hx_text.specs.Words.{colour_word, cell_word}
+use Rattle.hx_letters.specs.Words.{colour_word, cell_word}
 use Rattle.hx_htp.specs.declared.answers.Refusal.{Refusal}
-use Rattle.hx_htp.specs.declared.answers.Refusal.TheVariants.{UnknownCommand, SyntaxError, UnacceptableSize, IllegalMove, CannotUndo, NoEmptyCell, OutOfMemory}
+use Rattle.hx_htp.specs.declared.answers.Refusal.TheVariants.{UnknownCommand, SyntaxError, UnacceptableSize}
+use Rattle.hx_htp.specs.declared.answers.Refusal.TheVariants.{IllegalMove, CannotUndo, NoEmptyCell, OutOfMemory}
 use Rattle.hx_htp.specs.declared.answers.Answer.{Answer}
-use Rattle.hx_htp.specs.declared.answers.Answer.TheVariants.{Empty, Protocol, Program, Release, Known, Names, Cell, Shown, Winner, UnknownBudget, UnknownProofs}
+use Rattle.hx_htp.specs.declared.answers.Answer.TheVariants.{Empty, Protocol, Program, Release, Known, Names, Cell}
+use Rattle.hx_htp.specs.declared.answers.Answer.TheVariants.{Shown, Winner, UnknownBudget, UnknownProofs}
 use Rattle.hx_htp.specs.Commands.{name_word, names}
 use Rattle.hx_htp.specs.Answers.{Given}
 
@@ -39,7 +41,8 @@ columns_line cols = 32 ∷ each_below cols (λ col. 32 ∷ (97 + col) ∷ [])
 -- as many spaces as there are rows above, the row's number counted from 1, and each cell after a space
 abbrev pub row_line : Board → ℕ → List ℕ
 row_line board row =
-    (replicate row 32 ++ decimal (row + 1)) ++ each_below board.size.cols (λ col. 32 ∷ stone_byte (stone_at board (index_of row col)) ∷ [])
+    (replicate row 32 ++ decimal (row + 1))
+    ++ each_below board.size.cols (λ col. 32 ∷ stone_byte (stone_at board (index_of row col)) ∷ [])
 
 -- the text of a board
 abbrev pub board_text : Board → List ℕ

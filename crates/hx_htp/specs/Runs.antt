@@ -66,9 +66,10 @@ until_quit (line ∷ lines) = if asks_quit line then line ∷ [] else line ∷ u
 
 -- Lines are answered one after the other, and these are the replies.
 pub data Run (old : Moment) : List (List ℕ) → List ℕ → Moment → Type 0 where
-  Begun : (lines : List (List ℕ)) (replies : List ℕ) (new : Moment) → lines ≡ [] → replies ≡ [] → new ≡ old → Run old lines replies new
-  Then : (lines : List (List ℕ)) (replies : List ℕ) (new : Moment) (earlier : List (List ℕ)) (line front reply : List ℕ) (mid : Moment)
-      → lines ≡ earlier ++ line ∷ [] → replies ≡ front ++ reply
+  Begun : (lines : List (List ℕ)) (replies : List ℕ) (new : Moment) → lines ≡ [] → replies ≡ [] → new ≡ old
+      → Run old lines replies new
+  Then : (lines : List (List ℕ)) (replies : List ℕ) (new : Moment) (earlier : List (List ℕ))
+      (line front reply : List ℕ) (mid : Moment) → lines ≡ earlier ++ line ∷ [] → replies ≡ front ++ reply
       → Run old earlier front mid → AnswersLine mid line reply new → Run old lines replies new
 
 -- A session answers these lines: from the first one on, up to the one that asks to quit.

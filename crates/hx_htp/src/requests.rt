@@ -28,7 +28,7 @@ pub enum Request {
     /// A move that the program chooses for this player.
     GenMove { colour: Colour },
     ShowBoard,
-    /// Who wins with this player to move, or else with the player whose turn it is.
+    /// Who wins with this player to move, or else with the one who moves next.
     Solve { mover: Option<Colour> },
 }
 

@@ -2,7 +2,8 @@
 -- into such lines and a rest one goes on where the other ends.
 use Rattle.std.proofs.Common.{◌≡◌, ℕ, ◌≤◌, List, [], ◌∷◌, ◌++◌, length, refl, sym, ap, ◌∙◌, subst, arith, append_assoc, length-append}
 use Rattle.std.proofs.lemmas.List.{append-nil}
-use Rattle.hx_text.specs.Marks.{Lacks}
+use Rattle.hx_letters.specs.Marks.{Lacks}
+use Rattle.hx_letters.proofs.Cuts.{cut_same, cut_rest}
 use Rattle.hx_text.specs.Grammars.{text_of}
 
 pub text_of-push : (before : List (List ℕ)) (line rest : List ℕ)
@@ -19,27 +20,6 @@ pub length-text_of : (lines : List (List ℕ)) → length lines ≤ length (text
 unfolding text_of
 length-text_of [] = omega arith
 length-text_of (line ∷ lines) = omega (arith, length-append line (10 ∷ text_of lines), length-text_of lines)
-
--- a cut is the only one
-pub cut_same : (mark : ℕ) (a b x y : List ℕ) → Lacks mark a → Lacks mark b → a ++ mark ∷ x ≡ b ++ mark ∷ y → a ≡ b
-cut_same mark [] [] x y la lb e = refl
-cut_same mark [] (b ∷ bs) x y la lb e = let first : b ≡ mark = cc in absurd (lb.0 first)
-cut_same mark (a ∷ more) [] x y la lb e = let first : a ≡ mark = cc in absurd (la.0 first)
-cut_same mark (a ∷ more) (b ∷ bs) x y la lb e =
-    let first : a ≡ b = cc in
-    let tails : more ++ mark ∷ x ≡ bs ++ mark ∷ y = cc in
-    let rest : more ≡ bs = cut_same mark more bs x y la.1 lb.1 tails in
-    ap (λ (h : ℕ). h ∷ more) first ∙ ap (λ (t : List ℕ). b ∷ t) rest
-
-pub cut_rest : (mark : ℕ) (a b x y : List ℕ) → Lacks mark a → Lacks mark b → a ++ mark ∷ x ≡ b ++ mark ∷ y → x ≡ y
-cut_rest mark [] [] x y la lb e = cc
-cut_rest mark [] (b ∷ bs) x y la lb e = let first : b ≡ mark = cc in absurd (lb.0 first)
-cut_rest mark (a ∷ more) [] x y la lb e = let first : a ≡ mark = cc in absurd (la.0 first)
-cut_rest mark (a ∷ more) (b ∷ bs) x y la lb e = let tails : more ++ mark ∷ x ≡ bs ++ mark ∷ y = cc in cut_rest mark more bs x y la.1 lb.1 tails
-
-pub Lacks-append_mark : (mark : ℕ) (a b : List ℕ) → Lacks mark (a ++ mark ∷ b) → ⊥
-Lacks-append_mark mark [] b lacks = lacks.0 refl
-Lacks-append_mark mark (x ∷ a) b lacks = Lacks-append_mark mark a b lacks.1
 
 pub ended-some : (line later : List ℕ) → line ++ 10 ∷ later ≡ [] → ⊥
 ended-some [] later e = cc

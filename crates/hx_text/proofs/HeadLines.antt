@@ -1,21 +1,17 @@
--- The first line of a node. Its words are of high bytes, so it gives back the words that it was spelled from; and what the
--- words spell is read from them, since the two masks of a first line are those of its position.
+-- The first line of a node. Its words are of high bytes, so it gives back the words that it was spelled from.
 use Rattle.std.proofs.Common.{◌≡◌, ℕ, ◌≤◌, List, ◌∷◌, refl, ap, ◌∙◌, arith}
 use Rattle.std.specs.Prelude.{codes}
-use Rattle.hx_board.specs.declared.colours.Colour.{Colour}
 use Rattle.hx_board.specs.Cells.{IsExtent, OnBoard}
-use Rattle.hx_board.specs.Positions.{Board, IsPosition}
 use Rattle.hx_board.proofs.PositionLaws.{board-small}
 use Rattle.hx_tree.specs.declared.nodes.Heading.{Heading}
-use Rattle.hx_text.specs.declared.node_lines.Opening.{Opening}
-use Rattle.hx_text.specs.declared.node_lines.Opening.TheVariants.{Chain, Links, Move, All, Fill, Turned}
-use Rattle.hx_text.specs.declared.node_lines.Head.{Head}
+use Rattle.hx_text.specs.declared.heads.Opening.{Opening}
+use Rattle.hx_text.specs.declared.heads.Opening.TheVariants.{Chain, Links, Move, All, Fill, Turned}
+use Rattle.hx_text.specs.declared.heads.Head.{Head}
 use Rattle.hx_text.specs.declared.versions.Preamble.{Preamble}
-use Rattle.hx_text.specs.Words.{mask_word, colour_word, words_in, spaced, IsSet}
+use Rattle.hx_letters.specs.Words.{mask_word, colour_word, words_in, IsSet}
 use Rattle.hx_text.specs.TreeTexts.{opening_words, OpeningFits, head_words, head_line, HeadingFits, HeadFits}
-use Rattle.hx_text.proofs.Spacing.{IsLine, words_in-spaced}
-use Rattle.hx_text.proofs.Masks.{mask_injective}
-use Rattle.hx_text.proofs.HighBytes.{AllHigh, is_high, IsHigh-test, IsHigh-decimal, IsHigh-hex, IsHigh-colour_word, IsHigh-cell_word, IsLine-high}
+use Rattle.hx_letters.proofs.Spacing.{IsLine, words_in-spaced}
+use Rattle.hx_letters.proofs.HighBytes.{AllHigh, is_high, IsHigh-test, IsHigh-decimal, IsHigh-hex, IsHigh-colour_word, IsHigh-cell_word, IsLine-high}
 
 AllHigh-opening_words : (preamble : Preamble) (opening : Opening) → preamble.size.rows ≤ 11 → OpeningFits preamble opening
     → AllHigh (opening_words opening)
@@ -70,27 +66,3 @@ black_small heading fits = (board-small heading.position fits.board).0
 
 pub white_small : {preamble : Preamble} (heading : Heading) → HeadingFits preamble heading → IsSet heading.position.white
 white_small heading fits = (board-small heading.position fits.board).1
-
--- the masks in a node's first line are a position
-pub IsPosition-masks : {preamble : Preamble} {black white : ℕ} (heading : Heading) → HeadingFits preamble heading → IsSet black → IsSet white
-    → mask_word black ≡ mask_word heading.position.black → mask_word white ≡ mask_word heading.position.white
-    → IsPosition preamble.size black white
-IsPosition-masks {preamble} {black} {white} heading fits small_black small_white words_black words_white =
-    let same_black : black ≡ heading.position.black =
-    mask_injective black heading.position.black small_black (black_small heading fits) words_black in
-    let same_white : white ≡ heading.position.white =
-    mask_injective white heading.position.white small_white (white_small heading fits) words_white in
-    let same_size : heading.position.size ≡ preamble.size = fits.size_is in
-    rw (same_black, same_white, ← same_size) fits.board.1
-
-abbrev head_from : Board → Colour → Colour → Opening → Head
-head_from position to_move winner opening =
-    record { heading = record { position = position; to_move = to_move; winner = winner }; opening = opening }
-
-pub head_reads : (preamble : Preamble) (line : List ℕ) (black white : ℕ) (to_move winner : Colour) (opening : Opening) (position : Board)
-    → IsExtent preamble.size.rows preamble.size.cols → OpeningFits preamble opening
-    → IsPosition preamble.size black white × (position ≡ record { size = preamble.size; black = black; white = white })
-    → line ≡ spaced (codes "node" ∷ mask_word black ∷ mask_word white ∷ colour_word to_move ∷ colour_word winner ∷ opening_words opening)
-    → HeadFits preamble (head_from position to_move winner opening) × (line ≡ head_line (head_from position to_move winner opening))
-head_reads preamble line black white to_move winner opening position extent fits made e =
-    rw made.1 (record { heading = record { size_is = refl; board = (extent, made.0) }; opening = fits }, e)

@@ -20,20 +20,20 @@ use Rattle.hx_tree.specs.declared.nodes.Node.{Node}
 use Rattle.hx_tree.specs.Answers.{cell_of}
 use Rattle.hx_text.specs.declared.entries.Entry.{Entry}
 use Rattle.hx_text.specs.declared.entries.Entry.TheVariants.{Step as Step_entry, Threat as Threat_entry, Answer as Answer_entry, Fill as Fill_entry}
-use Rattle.hx_text.specs.declared.node_lines.Opening.{Opening}
-use Rattle.hx_text.specs.declared.node_lines.Opening.TheVariants.{Chain, Links, Move, All as All_opening, Fill, Turned}
-use Rattle.hx_text.specs.declared.node_lines.Head.{Head}
+use Rattle.hx_text.specs.declared.heads.Opening.{Opening}
+use Rattle.hx_text.specs.declared.heads.Opening.TheVariants.{Chain, Links, Move, All as All_opening, Fill, Turned}
+use Rattle.hx_text.specs.declared.heads.Head.{Head}
 use Rattle.hx_text.specs.declared.versions.Version.{Version}
 use Rattle.hx_text.specs.declared.versions.Version.TheVariants.{One, Two}
 use Rattle.hx_text.specs.declared.versions.Preamble.{Preamble}
-use Rattle.hx_text.specs.Words.{spaced, cell_word, IsNumber}
-use Rattle.hx_text.specs.StepTexts.{vertex_word, step_words, AreNumbers, StepFits}
+use Rattle.hx_letters.specs.Words.{spaced, cell_word, IsNumber, vertex_word}
+use Rattle.hx_text.specs.StepTexts.{step_words, AreNumbers, StepFits}
 use Rattle.hx_text.specs.FillTexts.{fill_words, FillFits}
 use Rattle.hx_text.specs.Entries.{reason_words, answer_words, ReasonFits, AnswerFits, entry_line, EntryFits, EachEntryFits, entries_of}
 use Rattle.hx_text.specs.TreeTexts.{AreTreeLines, EachNodeFits, NodeFits, OpeningFits, head_of, head_words, opening_words, node_lines, front_lines, tree_lines, title_line, end_line}
 use Rattle.hx_text.specs.Lengths.{longest_line, AreShortLines}
-use Rattle.hx_text.proofs.Masks.{length-hex}
-use Rattle.hx_text.proofs.Spelled.{length-colour_word, length-small}
+use Rattle.hx_letters.proofs.Masks.{length-hex}
+use Rattle.hx_letters.proofs.WordLengths.{length-colour_word, length-small}
 
 -- the bytes of some words, with one more for each
 abbrev total : List (List ℕ) → ℕ

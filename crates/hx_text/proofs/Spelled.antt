@@ -1,14 +1,10 @@
--- Lines in the parts that are put one after the other, and how long these are. The digits of a mask are put from the most
--- significant down, each the remainder of what is above its place.
-use Rattle.std.proofs.Common.{◌≡◌, ℕ, suc, ◌+◌, ◌*◌, ◌-◌, ◌/◌, ◌%◌, ◌<◌, ◌≤◌, ◌^◌, List, [], ◌∷◌, ◌++◌, length, refl, sym, ap, ◌∙◌, map, arith, append_assoc, length-append}
+-- Lines in the parts that are put one after the other.
+use Rattle.std.proofs.Common.{◌≡◌, ℕ, ◌+◌, ◌-◌, List, [], ◌∷◌, ◌++◌, refl, sym, ap, ◌∙◌, map, append_assoc}
 use Rattle.std.specs.Prelude.{codes, flat_map}
 use Rattle.std.specs.Fmt.{decimal}
-use Rattle.std.proofs.lemmas.Fmt.{length-decimal-le}
 use Rattle.std.proofs.lemmas.List.{append-nil}
 use Rattle.std.proofs.lemmas.List.Folds.{flat_map-map}
 use Rattle.std.proofs.lemmas.Grind.{flat_map-append}
-use Rattle.std.proofs.lemmas.Nat.{pow-add}
-use Rattle.std.proofs.Math.Nat.{div-div-eq-div-mul}
 use Rattle.hx_board.specs.declared.colours.Colour.{Colour}
 use Rattle.hx_board.specs.declared.colours.Colour.TheVariants.{Black, White}
 use Rattle.hx_board.specs.declared.vertices.Vertex.{Vertex}
@@ -22,27 +18,19 @@ use Rattle.hx_link.specs.declared.steps.Step.TheVariants.{Base, AndStone, AndCel
 use Rattle.hx_tree.specs.declared.nodes.Line.{Line}
 use Rattle.hx_tree.specs.declared.nodes.Line.TheVariants.{Child, Under}
 use Rattle.hx_tree.specs.declared.nodes.Node.{Node}
-use Rattle.hx_text.specs.declared.node_lines.Opening.{Opening}
-use Rattle.hx_text.specs.declared.node_lines.Opening.TheVariants.{Chain, Links, Move, All, Fill, Turned}
-use Rattle.hx_text.specs.declared.node_lines.Head.{Head}
-use Rattle.hx_text.specs.Words.{hex, hex_digit, spaced, colour_word, mask_word, cell_word}
+use Rattle.hx_text.specs.declared.heads.Opening.{Opening}
+use Rattle.hx_text.specs.declared.heads.Opening.TheVariants.{Chain, Links, Move, All, Fill, Turned}
+use Rattle.hx_text.specs.declared.heads.Head.{Head}
+use Rattle.hx_letters.specs.Words.{spaced, colour_word, mask_word, cell_word, vertex_word}
 use Rattle.hx_text.specs.Grammars.{text_of}
 use Rattle.hx_text.specs.PositionTexts.{size_line, stones_line, move_line, position_text}
-use Rattle.hx_text.specs.StepTexts.{vertex_word, step_line, threat_line}
+use Rattle.hx_text.specs.StepTexts.{step_line, threat_line}
 use Rattle.hx_text.specs.FillTexts.{fill_line}
 use Rattle.hx_text.specs.Entries.{answer_line, entry_line, entries_for, entries_of}
 use Rattle.hx_text.specs.declared.versions.Version.TheVariants.{One, Two}
 use Rattle.hx_text.specs.declared.versions.Preamble.{Preamble}
 use Rattle.hx_text.specs.TreeTexts.{opening_words, head_of, head_line, node_lines, title_line, front_lines, end_line}
 use Rattle.hx_text.specs.Spelling.{each_line, parts_text}
-use Rattle.hx_text.proofs.Masks.{length-hex}
-
-pub length-colour_word : (colour : Colour) → length (colour_word colour) ≡ 5
-length-colour_word Black = refl
-length-colour_word White = refl
-
-pub length-small : (n : ℕ) → n < 100 → length (decimal n) ≤ 2
-length-small n small = length-decimal-le 2 n (omega arith) (omega arith) (omega arith)
 
 pub size_spelled : (old : List ℕ) (size : Extent)
     → ((((old ++ codes "size ") ++ decimal size.rows) ++ codes " ") ++ decimal size.cols) ++ codes "\n" ≡ old ++ (size_line size ++ 10 ∷ [])
@@ -258,29 +246,3 @@ node_spelled empty text node none is =
     let lines = text_of (map entry_line (entries_of node.rule)) in
     ap (λ (t : List ℕ). t ++ lines) (is ∙ ap (λ (t : List ℕ). t ++ (head_line (head_of node) ++ 10 ∷ [])) none)
     ∙ append_assoc (head_line (head_of node)) (10 ∷ []) lines
-
--- the digits of a mask down to a place
-pub hex_none : (old : List ℕ) (bits : ℕ) → old ≡ old ++ hex 0 bits
-unfolding hex
-hex_none old bits = sym (append-nil old)
-
-pub hex_next : (old now : List ℕ) (bits place digit : ℕ) → 0 < place → place ≤ 32
-    → now ≡ (old ++ hex (32 - place) (bits / 2 ^ (4 * place))) ++ digit ∷ []
-    → digit ≡ hex_digit (bits / 2 ^ (4 * (place - 1)) % 16)
-    → now ≡ old ++ hex (32 - (place - 1)) (bits / 2 ^ (4 * (place - 1)))
-unfolding hex
-hex_next old now bits place digit some few is same =
-    let count : 32 - (place - 1) ≡ suc (32 - place) = omega arith in
-    let shift : 4 * place ≡ 4 * (place - 1) + 4 = omega arith in
-    let high : bits / 2 ^ (4 * (place - 1)) / 16 ≡ bits / 2 ^ (4 * place) = div-div-eq-div-mul bits (2 ^ (4 * (place - 1))) 16
-    ∙ ap (λ (n : ℕ). bits / n) (sym (ap (λ (n : ℕ). 2 ^ n) shift ∙ pow-add 2 (4 * (place - 1)) 4)) in
-    is ∙ append_assoc old (hex (32 - place) (bits / 2 ^ (4 * place))) (digit ∷ [])
-    ∙ ap (λ (xs : List ℕ). old ++ xs)
-    (ap (λ (n : ℕ). hex (32 - place) n ++ digit ∷ []) (sym high) ∙ ap
-    (λ (d : ℕ). hex (32 - place) (bits / 2 ^ (4 * (place - 1)) / 16) ++ d ∷ []) same ∙ ap
-    (λ (k : ℕ). hex k (bits / 2 ^ (4 * (place - 1)))) (sym count))
-
-pub length-digits : (old now : List ℕ) (bits place : ℕ) → now ≡ old ++ hex (32 - place) bits
-    → length now ≡ length old + (32 - place)
-length-digits old now bits place is = ap length is ∙ length-append old (hex (32 - place) bits)
-    ∙ ap (λ (n : ℕ). length old + n) (length-hex (32 - place) bits)

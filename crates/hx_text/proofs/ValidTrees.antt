@@ -43,7 +43,7 @@ use Rattle.hx_text.specs.StepTexts.{StepFits, AreNumbers}
 use Rattle.hx_text.specs.Entries.{ReasonFits, AnswerFits, EachEntryFits, entries_of, opening_of}
 use Rattle.hx_text.specs.Versions.{IsTurnedNode, HasTurned}
 use Rattle.hx_text.specs.TreeTexts.{OpeningFits, NodeFits, EachNodeFits, ListsFit}
-use Rattle.hx_text.specs.Places.{most_nodes}
+use Rattle.hx_text.specs.Lengths.{most_nodes}
 use Rattle.hx_text.proofs.EntryLists.{step_entry, threat_entry, answer_entry, EachEntryFits-entries_for}
 use Rattle.hx_text.proofs.FillCounts.{few_fill_steps, fill_steps_fit}
 

@@ -1,5 +1,6 @@
--- The entries of a node, which are its lines after the first: its steps, then its threats, then its answers; or its fill steps.
-use Rattle.std.specs.Prelude.{◌≡◌, ℕ, ◌+◌, nat_lt, if◌then◌else◌, List, [], ◌∷◌, ◌++◌, length, map, codes}
+-- The entries of a node, which are its lines after the first: its steps, then its threats, then its answers; or its
+-- fill steps.
+use Rattle.std.specs.Prelude.{ℕ, ◌+◌, List, [], ◌∷◌, ◌++◌, length, map, codes}
 use Rattle.std.specs.Fmt.{decimal}
 use Rattle.hx_board.specs.Cells.{Extent, OnBoard}
 use Rattle.hx_inferior.specs.declared.fills.FillStep.{FillStep}
@@ -11,12 +12,16 @@ use Rattle.hx_tree.specs.declared.nodes.Line.{Line}
 use Rattle.hx_tree.specs.declared.nodes.Line.TheVariants.{Child, Under}
 use Rattle.hx_tree.specs.Answers.{cell_of}
 use Rattle.hx_text.specs.declared.entries.Entry.{Entry}
-use Rattle.hx_text.specs.declared.entries.Entry.TheVariants.{Step as Step_entry, Threat as Threat_entry, Answer as Answer_entry, Fill as Fill_entry}
+use Rattle.hx_text.specs.declared.entries.Entry.TheVariants.{Step as Step_entry, Threat as Threat_entry}
+use Rattle.hx_text.specs.declared.entries.Entry.TheVariants.{Answer as Answer_entry, Fill as Fill_entry}
 use Rattle.hx_text.specs.declared.entries.EntryKind.{EntryKind}
-use Rattle.hx_text.specs.declared.entries.EntryKind.TheVariants.{Step as Step_kind, Threat as Threat_kind, Answer as Answer_kind, Fill as Fill_kind}
-use Rattle.hx_text.specs.declared.node_lines.Opening.{Opening}
-use Rattle.hx_text.specs.declared.node_lines.Opening.TheVariants.{Chain as Chain_opening, Links as Links_opening, Move as Move_opening, All as All_opening, Fill as Fill_opening, Turned as Turned_opening}
-use Rattle.hx_text.specs.Words.{spaced, cell_word, IsNumber}
+use Rattle.hx_text.specs.declared.entries.EntryKind.TheVariants.{Step as Step_kind, Threat as Threat_kind}
+use Rattle.hx_text.specs.declared.entries.EntryKind.TheVariants.{Answer as Answer_kind, Fill as Fill_kind}
+use Rattle.hx_text.specs.declared.heads.Opening.{Opening}
+use Rattle.hx_text.specs.declared.heads.Opening.TheVariants.{Chain as Chain_opening, Links as Links_opening}
+use Rattle.hx_text.specs.declared.heads.Opening.TheVariants.{Move as Move_opening, All as All_opening}
+use Rattle.hx_text.specs.declared.heads.Opening.TheVariants.{Fill as Fill_opening, Turned as Turned_opening}
+use Rattle.hx_letters.specs.Words.{spaced, cell_word, IsNumber}
 use Rattle.hx_text.specs.StepTexts.{step_line, threat_line, StepFits}
 use Rattle.hx_text.specs.FillTexts.{fill_line, FillFits}
 
@@ -119,34 +124,8 @@ fills_told (Turned_opening child) = 0
 abbrev pub entries_told : Opening → ℕ
 entries_told opening = steps_told opening + threats_told opening + answers_told opening + fills_told opening
 
--- ---- words for the functions inside the crate alone
-
--- an answer at this cell, with a reason that fits
-abbrev pub AnswersAt : Extent → ℕ → Line → Type 0
-AnswersAt size cell line = (cell_of line ≡ cell) × ReasonFits size line
-
 abbrev pub kind_of : Entry → EntryKind
 kind_of (Step_entry step) = Step_kind
 kind_of (Threat_entry place) = Threat_kind
 kind_of (Answer_entry line) = Answer_kind
 kind_of (Fill_entry fill) = Fill_kind
-
--- an entry of this kind on a board of this size
-abbrev pub IsEntryLine : Extent → EntryKind → Entry → Type 0
-IsEntryLine size kind entry = EntryFits size entry × (kind_of entry ≡ kind)
-
--- the kind of the entry at a place, counted from 0, where so many steps come first, then so many threats, then so many answers
-abbrev pub kind_at : Opening → ℕ → EntryKind
-kind_at opening place =
-    if nat_lt place (steps_told opening) then Step_kind else
-    if nat_lt place (steps_told opening + threats_told opening) then Threat_kind else
-    if nat_lt place (steps_told opening + threats_told opening + answers_told opening) then Answer_kind else Fill_kind
-
--- a rule with such an opening and these lists
-abbrev pub rule_for : Opening → List Step → List ℕ → List Line → List FillStep → Rule
-rule_for Chain_opening steps threats lines fills = Chain
-rule_for (Links_opening told) steps threats lines fills = Links steps
-rule_for (Move_opening cell child) steps threats lines fills = Move cell child
-rule_for (All_opening told told_threats told_lines) steps threats lines fills = All steps threats lines
-rule_for (Fill_opening told child) steps threats lines fills = Fill fills child
-rule_for (Turned_opening child) steps threats lines fills = Turned child

@@ -1,5 +1,10 @@
--- How long the lines of a tree's text are.
-use Rattle.std.specs.Prelude.{ℕ, ◌≤◌, List, length, All}
+-- How long a tree's text is: its lines, and how many nodes it has.
+use Rattle.std.specs.Prelude.{ℕ, ◌≤◌, List, length, All, ◌-◌}
+use Rattle.hx_tree.specs.declared.checkers.TheConstants.{MOST_NODES}
+
+-- the most nodes of a text
+abbrev pub most_nodes : ℕ
+most_nodes = MOST_NODES
 
 -- no line is longer: this is the line of an Or with the most parts, each of ten digits
 abbrev pub longest_line : ℕ

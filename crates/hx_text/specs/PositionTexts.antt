@@ -5,7 +5,7 @@ use Rattle.hx_board.specs.declared.colours.Colour.{Colour}
 use Rattle.hx_board.specs.declared.colours.Colour.TheVariants.{Black, White}
 use Rattle.hx_board.specs.Cells.{Extent}
 use Rattle.hx_board.specs.Positions.{Board, IsBoard}
-use Rattle.hx_text.specs.Words.{spaced, mask_word, colour_word}
+use Rattle.hx_letters.specs.Words.{spaced, mask_word, colour_word}
 use Rattle.hx_text.specs.Grammars.{text_of}
 
 abbrev pub position_title : List ℕ
@@ -23,7 +23,8 @@ move_line mover = spaced (codes "move" ∷ colour_word mover ∷ [])
 
 abbrev pub position_lines : Board → Colour → List (List ℕ)
 position_lines board mover =
-    position_title ∷ size_line board.size ∷ stones_line Black board.black ∷ stones_line White board.white ∷ move_line mover ∷ []
+    position_title ∷ size_line board.size ∷ stones_line Black board.black ∷ stones_line White board.white
+    ∷ move_line mover ∷ []
 
 abbrev pub position_text : Board → Colour → List ℕ
 position_text board mover = text_of (position_lines board mover)

@@ -9,10 +9,11 @@ pub record IsOut (old new : Option (List ℕ)) (held text : List ℕ) : Type 0 w
   pub taken : new ≡ append old gone
   pub same : gone ++ held ≡ text
 
--- What the sink took and what is held, before and after: at `Ok` what was held and these bytes have gone or are held; at
--- `Err` they have gone up to some place before their end.
+-- What the sink took and what is held, before and after: at `Ok` what was held and these bytes have gone or are held;
+-- at `Err` they have gone up to some place before their end.
 abbrev pub Spells : {T E : Type 0} → Option (List ℕ) → List ℕ → Option (List ℕ) → List ℕ → Result T E → List ℕ → Type 0
-Spells old held new holds result bytes = MatchResult result (λ _. IsOut old new holds (held ++ bytes)) (λ _. TakesFront old new (held ++ bytes))
+Spells old held new holds result bytes =
+    MatchResult result (λ _. IsOut old new holds (held ++ bytes)) (λ _. TakesFront old new (held ++ bytes))
 
 -- the line of each item, with its LF
 abbrev pub each_line : {X : Type 0} → (X → List ℕ) → List X → List ℕ

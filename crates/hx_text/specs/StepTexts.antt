@@ -1,19 +1,12 @@
 -- The lines of a node's steps and of its threats.
-use Rattle.std.specs.Prelude.{◌≡◌, ℕ, ◌<◌, ◌≤◌, List, [], ◌∷◌, ◌++◌, length, map, codes}
+use Rattle.std.specs.Prelude.{ℕ, ◌≤◌, List, [], ◌∷◌, length, map, codes}
 use Rattle.std.specs.Fmt.{decimal}
-use Rattle.hx_board.specs.declared.vertices.Vertex.{Vertex}
-use Rattle.hx_board.specs.declared.vertices.Vertex.TheVariants.{Of, First, Last}
 use Rattle.hx_board.specs.Cells.{Extent}
 use Rattle.hx_board.specs.Graph.{IsVertex}
 use Rattle.hx_link.specs.declared.steps.Step.{Step}
 use Rattle.hx_link.specs.declared.steps.Step.TheVariants.{Base, AndStone, AndCell, Or}
 use Rattle.hx_link.specs.declared.parts.TheConstants.{MOST_PARTS}
-use Rattle.hx_text.specs.Words.{spaced, cell_word, IsNumber}
-
-abbrev pub vertex_word : Vertex → List ℕ
-vertex_word (Of cell) = cell_word cell
-vertex_word First = codes "first"
-vertex_word Last = codes "last"
+use Rattle.hx_letters.specs.Words.{spaced, vertex_word, IsNumber}
 
 abbrev pub step_words : Step → List (List ℕ)
 step_words (Base a b) = codes "base" ∷ vertex_word a ∷ vertex_word b ∷ []
@@ -33,31 +26,13 @@ abbrev pub AreNumbers : List ℕ → Type 0
 AreNumbers [] = Unit {0}
 AreNumbers (n ∷ numbers) = IsNumber n × AreNumbers numbers
 
--- a step whose vertices are on a board of this size, with no more parts than a text may have; the links that it names need
--- not be there
+-- a step whose vertices are on a board of this size, with no more parts than a text may have; the links that it names
+-- need not be there
 abbrev pub StepFits : Extent → Step → Type 0
 StepFits size (Base a b) = IsVertex size a × IsVertex size b
 StepFits size (AndStone left right) = IsNumber left × IsNumber right
 StepFits size (AndCell left right) = IsNumber left × IsNumber right
 StepFits size (Or parts) = (length parts ≤ MOST_PARTS) × AreNumbers parts
-
--- how many parts of an Or are kept without a list of their own
-abbrev pub parts_in_place : ℕ
-parts_in_place = 8
-
--- the words begin with those of more parts than that; what follows them may be no part
-pub record BeginWithManyParts (words : List (List ℕ)) : Type 0 where
-  pub parts : List ℕ
-  pub rest : List (List ℕ)
-  pub many : parts_in_place < length parts
-  pub numbers : AreNumbers parts
-  pub same : words ≡ map decimal parts ++ rest
-
--- the line begins as that of an Or of so many parts
-pub record BeginsLongOr (line : List ℕ) : Type 0 where
-  pub words : List (List ℕ)
-  pub many : BeginWithManyParts words
-  pub same : line ≡ spaced (codes "or" ∷ words)
 
 -- ---- words for the functions inside the crate alone
 

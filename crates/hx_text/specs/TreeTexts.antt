@@ -11,13 +11,15 @@ use Rattle.hx_tree.specs.declared.nodes.Node.{Node}
 use Rattle.hx_tree.specs.Trees.{IsRoot}
 use Rattle.hx_board.specs.declared.cells.TheConstants.{CELLS}
 use Rattle.hx_tree.specs.declared.steps.TheConstants.{MOST_STEPS, MOST_THREATS}
-use Rattle.hx_text.specs.declared.node_lines.Opening.{Opening}
-use Rattle.hx_text.specs.declared.node_lines.Opening.TheVariants.{Chain as Chain_opening, Links as Links_opening, Move as Move_opening, All as All_opening, Fill as Fill_opening, Turned as Turned_opening}
-use Rattle.hx_text.specs.declared.node_lines.Head.{Head}
+use Rattle.hx_text.specs.declared.heads.Opening.{Opening}
+use Rattle.hx_text.specs.declared.heads.Opening.TheVariants.{Chain as Chain_opening, Links as Links_opening}
+use Rattle.hx_text.specs.declared.heads.Opening.TheVariants.{Move as Move_opening, All as All_opening}
+use Rattle.hx_text.specs.declared.heads.Opening.TheVariants.{Fill as Fill_opening, Turned as Turned_opening}
+use Rattle.hx_text.specs.declared.heads.Head.{Head}
 use Rattle.hx_text.specs.declared.versions.Version.{Version}
 use Rattle.hx_text.specs.declared.versions.Version.TheVariants.{Two}
 use Rattle.hx_text.specs.declared.versions.Preamble.{Preamble}
-use Rattle.hx_text.specs.Words.{spaced, mask_word, colour_word, cell_word, IsNumber}
+use Rattle.hx_letters.specs.Words.{spaced, mask_word, colour_word, cell_word, IsNumber}
 use Rattle.hx_text.specs.Grammars.{text_of}
 use Rattle.hx_text.specs.Versions.{version_word}
 use Rattle.hx_text.specs.PositionTexts.{size_line}
@@ -58,7 +60,8 @@ abbrev pub end_line : ℕ → Colour → List ℕ
 end_line count winner = spaced (codes "end" ∷ decimal count ∷ colour_word winner ∷ [])
 
 abbrev pub tree_lines : Preamble → List Node → Colour → List (List ℕ)
-tree_lines preamble nodes winner = front_lines preamble ++ flat_map node_lines nodes ++ end_line (length nodes) winner ∷ []
+tree_lines preamble nodes winner =
+    front_lines preamble ++ flat_map node_lines nodes ++ end_line (length nodes) winner ∷ []
 
 -- a position of the size that the text tells
 pub record HeadingFits (preamble : Preamble) (heading : Heading) : Type 0 where
@@ -70,7 +73,8 @@ abbrev pub OpeningFits : Preamble → Opening → Type 0
 OpeningFits preamble Chain_opening = Unit {0}
 OpeningFits preamble (Links_opening steps) = steps ≤ MOST_STEPS
 OpeningFits preamble (Move_opening cell child) = OnBoard preamble.size cell × IsNumber child
-OpeningFits preamble (All_opening steps threats lines) = (steps ≤ MOST_STEPS) × (threats ≤ MOST_THREATS) × (lines ≤ CELLS)
+OpeningFits preamble (All_opening steps threats lines) =
+    (steps ≤ MOST_STEPS) × (threats ≤ MOST_THREATS) × (lines ≤ CELLS)
 OpeningFits preamble (Fill_opening fills child) = (fills ≤ CELLS) × IsNumber child
 OpeningFits preamble (Turned_opening child) = (preamble.version ≡ Two) × IsNumber child
 
@@ -89,7 +93,8 @@ abbrev pub ListsFit : Rule → Type 0
 ListsFit Chain = Unit {0}
 ListsFit (Links steps) = length steps ≤ MOST_STEPS
 ListsFit (Move cell child) = Unit {0}
-ListsFit (All steps threats lines) = (length steps ≤ MOST_STEPS) × (length threats ≤ MOST_THREATS) × (length lines ≤ CELLS)
+ListsFit (All steps threats lines) =
+    (length steps ≤ MOST_STEPS) × (length threats ≤ MOST_THREATS) × (length lines ≤ CELLS)
 ListsFit (Fill fills child) = length fills ≤ CELLS
 ListsFit (Turned child) = Unit {0}
 
@@ -104,7 +109,8 @@ pub record IsRootWinner (nodes : List Node) (winner : Colour) : Type 0 where
   pub same : root.heading.winner ≡ winner
 
 -- these lines are those of the nodes, of which there is one at least
-pub record AreTreeLinesOf (preamble : Preamble) (nodes : List Node) (winner : Colour) (lines : List (List ℕ)) : Type 0 where
+pub record AreTreeLinesOf (preamble : Preamble) (nodes : List Node) (winner : Colour) (lines : List (List ℕ))
+    : Type 0 where
   pub is_size : IsExtent preamble.size.rows preamble.size.cols
   pub each : EachNodeFits preamble nodes
   pub root : IsRootWinner nodes winner
@@ -129,18 +135,5 @@ pub record IsTreeText (bytes : List ℕ) (nodes : List Node) : Type 0 where
 -- the bytes of a tree that is written piece by piece: the lines before the nodes, each node, the last line
 abbrev pub written_tree : Preamble → List Node → Colour → List ℕ
 written_tree preamble nodes winner =
-    (text_of (front_lines preamble) ++ flat_map (λ node. text_of (node_lines node)) nodes) ++ text_of (end_line (length nodes) winner ∷ [])
-
--- ---- words for the functions inside the crate alone
-
--- the opening of a rule that each version has
-abbrev pub IsUnturned : Opening → Type 0
-IsUnturned Chain_opening = Unit {0}
-IsUnturned (Links_opening steps) = Unit {0}
-IsUnturned (Move_opening cell child) = Unit {0}
-IsUnturned (All_opening steps threats lines) = Unit {0}
-IsUnturned (Fill_opening fills child) = Unit {0}
-IsUnturned (Turned_opening child) = ⊥
-
-abbrev pub UnturnedFits : Preamble → Opening → Type 0
-UnturnedFits preamble opening = OpeningFits preamble opening × IsUnturned opening
+    (text_of (front_lines preamble) ++ flat_map (λ node. text_of (node_lines node)) nodes)
+    ++ text_of (end_line (length nodes) winner ∷ [])

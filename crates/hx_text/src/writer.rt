@@ -13,11 +13,15 @@ ghost use Rattle.hx_text.specs.Entries.{answer_line, entry_line, entries_for, en
 ghost use Rattle.hx_text.specs.Spelling.{Spells, each_line, part_text, parts_text};
 ghost use Rattle.hx_text.specs.TreeTexts.{ListsFit, front_lines, node_lines, end_line};
 
-use crate::texts::{TEXT_ROOM, Text};
+use crate::spelling::{
+    put_answer, put_end, put_fill, put_head, put_heading, put_part, put_position, put_step,
+    put_threat,
+};
 use crate::versions::Version;
 use hx_board::{Colour, Position, Size};
 use hx_inferior::FillStep;
 use hx_io::{Failed, Sink, write_all};
+use hx_letters::{TEXT_ROOM, Text};
 use hx_link::Step;
 use hx_tree::{Line, Node, Rule};
 
@@ -48,7 +52,7 @@ pub fn write_position<K: Sink>(
     ensures cause { HasCause (K.writing sink.old).faults (K.writing sink.new).faults result }
 {
     let mut text = Text::new();
-    text.put_position(position, to_move);
+    put_position(&mut text, position, to_move);
     write_all(sink, text.bytes())
 }
 
@@ -60,7 +64,7 @@ pub fn write_heading<K: Sink>(sink: &mut K, version: Version, size: Size) -> Res
     ensures cause { HasCause (K.writing sink.old).faults (K.writing sink.new).faults result }
 {
     let mut text = Text::new();
-    text.put_heading(version, size);
+    put_heading(&mut text, version, size);
     write_all(sink, text.bytes())
 }
 
@@ -74,7 +78,7 @@ pub fn write_node<K: Sink>(sink: &mut K, node: &Node) -> Result<(), Failed>
     ensures cause { HasCause (K.writing sink.old).faults (K.writing sink.new).faults result }
 {
     let mut text = Text::new();
-    text.put_head(node);
+    put_head(&mut text, node);
     write_rule(sink, &mut text, &node.rule)?;
     write_all(sink, text.bytes())
 }
@@ -139,7 +143,7 @@ fn write_step<K: Sink>(sink: &mut K, text: &mut Text, step: &Step) -> Result<(),
         Step::Or { parts } => write_or(sink, text, parts.items()),
         _ => {
             make_room(sink, text, STEP_BYTES)?;
-            text.put_step(step);
+            put_step(text, step);
             Ok(())
         }
     }
@@ -175,7 +179,7 @@ fn write_part<K: Sink>(sink: &mut K, text: &mut Text, part: u32) -> Result<(), F
     ensures cause { HasCause (K.writing sink.old).faults (K.writing sink.new).faults result }
 {
     make_room(sink, text, PART_BYTES)?;
-    text.put_part(part);
+    put_part(text, part);
     Ok(())
 }
 
@@ -198,7 +202,7 @@ fn write_threat<K: Sink>(sink: &mut K, text: &mut Text, place: u32) -> Result<()
     ensures cause { HasCause (K.writing sink.old).faults (K.writing sink.new).faults result }
 {
     make_room(sink, text, THREAT_BYTES)?;
-    text.put_threat(place);
+    put_threat(text, place);
     Ok(())
 }
 
@@ -221,7 +225,7 @@ fn write_answer<K: Sink>(sink: &mut K, text: &mut Text, line: &Line) -> Result<(
     ensures cause { HasCause (K.writing sink.old).faults (K.writing sink.new).faults result }
 {
     make_room(sink, text, ANSWER_BYTES)?;
-    text.put_answer(line);
+    put_answer(text, line);
     Ok(())
 }
 
@@ -244,7 +248,7 @@ fn write_fill<K: Sink>(sink: &mut K, text: &mut Text, fill: &FillStep) -> Result
     ensures cause { HasCause (K.writing sink.old).faults (K.writing sink.new).faults result }
 {
     make_room(sink, text, FILL_BYTES)?;
-    text.put_fill(fill);
+    put_fill(text, fill);
     Ok(())
 }
 
@@ -284,6 +288,6 @@ pub fn write_end<K: Sink>(sink: &mut K, nodes: u32, winner: Colour) -> Result<()
     ensures cause { HasCause (K.writing sink.old).faults (K.writing sink.new).faults result }
 {
     let mut text = Text::new();
-    text.put_end(nodes, winner);
+    put_end(&mut text, nodes, winner);
     write_all(sink, text.bytes())
 }

@@ -1,8 +1,8 @@
 -- Each setting has a name of its own, and no name has an equals sign. So a word that begins with a name and an equals
 -- sign is no name, and tells both the setting and the value.
 use Rattle.std.proofs.Common.{◌≡◌, ◌≢◌, ℕ, List, ◌∷◌, ◌++◌, get_or, refl, ap, subst, arith, rules}
-use Rattle.hx_text.specs.Marks.{Lacks}
-use Rattle.hx_text.proofs.Cuts.{cut_same, cut_rest, Lacks-append_mark}
+use Rattle.hx_letters.specs.Marks.{Lacks}
+use Rattle.hx_letters.proofs.Cuts.{cut_same, cut_rest, Lacks-append_mark}
 use Rattle.hx_words.specs.declared.settings.Setting.{Setting}
 use Rattle.hx_words.specs.declared.settings.Setting.TheVariants.{Workers, Budget, Proofs}
 use Rattle.hx_words.specs.Settings.{name_of}

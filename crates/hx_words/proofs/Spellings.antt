@@ -1,8 +1,8 @@
 -- Words begin with one option at most. Where the first word is a name, the option is that name and the value after it;
 -- otherwise it is the first word alone.
 use Rattle.std.proofs.Common.{◌≡◌, ℕ, List, [], ◌∷◌, ◌++◌, refl, sym, ap, ◌∙◌, subst}
-use Rattle.hx_text.specs.Marks.{IsCut}
-use Rattle.hx_text.proofs.Cuts.{cut_same}
+use Rattle.hx_letters.specs.Marks.{IsCut}
+use Rattle.hx_letters.proofs.Cuts.{cut_same}
 use Rattle.hx_words.specs.declared.settings.Setting.{Setting}
 use Rattle.hx_words.specs.declared.options.Choice.{Choice}
 use Rattle.hx_words.specs.Settings.{name_of}

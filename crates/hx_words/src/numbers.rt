@@ -3,7 +3,7 @@
 ghost use Rattle.hx_board.specs.Finds.{Finds};
 ghost use Rattle.hx_words.specs.Options.{IsValue};
 
-use hx_text::read_digits;
+use hx_letters::read_digits;
 
 /// The most digits of a value, which are those of the largest number that may be chosen. Leading zeros count too.
 const MOST_DIGITS: usize = 13;

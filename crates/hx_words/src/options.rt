@@ -9,7 +9,7 @@ ghost use Rattle.hx_words.specs.Options.{Spelled, IsJoined};
 
 use crate::numbers::number_of;
 use crate::settings::Setting;
-use hx_text::cut;
+use hx_letters::cut;
 
 /// What an option chooses: a number for a setting.
 #[derive(Clone, Copy, Debug, PartialEq, Eq)]

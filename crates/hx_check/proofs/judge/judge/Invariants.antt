@@ -1,6 +1,6 @@
 use Rattle.std.proofs.Common.{◌≡◌, ◌≤◌, true}
 use Rattle.hx_io.specs.Sources.{IsAtEnd}
-use Rattle.hx_text.specs.Reader.{lines_fed}
+use Rattle.hx_reader.specs.Reader.{lines_fed}
 use Rattle.hx_check.specs.Standings.{JudgedUpTo, HasReadAll}
 use Rattle.hx_check.proofs.judge.judge.Given as goal
 

@@ -1,0 +1,12 @@
+pub mod Numbers
+pub mod Ends
+pub mod Splits
+pub mod Cuts
+pub mod Cursors
+pub mod Keywords
+pub mod Spacing
+pub mod Masks
+pub mod WordLengths
+pub mod CellWords
+pub mod HighBytes
+pub mod Injective

@@ -1,0 +1,17 @@
+pub mod SizeReads
+pub mod HeadReads
+pub mod AnswerReads
+pub mod FillReads
+pub mod OrWords
+pub mod FirstWords
+pub mod EntryKinds
+pub mod Steps
+pub mod BegunSteps
+pub mod BegunFaults
+pub mod BegunNodes
+pub mod Completions
+pub mod ReadVersions
+pub mod Faults
+pub mod PositionFaults
+pub mod WholeNodes
+pub mod WholeReads

@@ -1,0 +1,21 @@
+//! The texts of positions and of trees, read exactly: that of a tree line by line.
+#![tactic(auto)]
+
+mod advances;
+mod answer_lines;
+mod begun_nodes;
+mod entry_lines;
+mod fill_lines;
+mod head_lines;
+mod lines;
+mod node_steps;
+mod places;
+mod positions;
+mod reader;
+mod so_far;
+mod step_lines;
+mod whole_nodes;
+
+pub use places::{Fed, TreeFault};
+pub use positions::{TextFault, read_position};
+pub use reader::TreeReader;

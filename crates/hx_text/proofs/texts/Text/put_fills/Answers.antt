@@ -1,7 +1,0 @@
-use Rattle.hx_text.proofs.Spelled.{fills_spelled}
-use Rattle.hx_text.proofs.texts.Text.put_fills.Goals as goal
-
-pub returns-clause-text : goal.returns-clause-text
-returns-clause-text c =
-    rw (c.put_number-2.ensures.text, c.put-2.ensures, c.put_number.ensures.text, c.put.ensures)
-    (fills_spelled c.args.self.now c.args.fills c.args.child)

@@ -1,8 +1,0 @@
-use Rattle.hx_text.specs.TreeTexts.{head_of}
-use Rattle.hx_text.proofs.Spelled.{head_spelled}
-use Rattle.hx_text.proofs.texts.Text.put_head.Goals as goal
-
-pub returns : goal.returns
-returns c =
-    rw (c.put-2.ensures, c.put_opening.ensures.text, c.put_colours.ensures.text, c.put_masks.ensures.text, c.put.ensures)
-    (head_spelled c.args.self.now (head_of c.args.node.now))

@@ -1,5 +1,0 @@
-use Rattle.hx_text.proofs.Spelled.{threat_spelled}
-use Rattle.hx_text.proofs.texts.Text.put_threat.Goals as goal
-
-pub returns : goal.returns
-returns c = rw (c.put-2.ensures, c.put_number.ensures.text, c.put.ensures) (threat_spelled c.args.self.now c.args.place)

@@ -1,7 +1,0 @@
-use Rattle.hx_text.proofs.Spelled.{under_dead_spelled}
-use Rattle.hx_text.proofs.texts.Text.put_under_dead.Goals as goal
-
-pub returns : goal.returns
-returns c =
-    rw (c.put-3.ensures, c.put_cell-2.ensures.text, c.put-2.ensures, c.put_cell.ensures.text, c.put.ensures)
-    (under_dead_spelled c.args.self.now c.args.cell c.args.better)
