@@ -38,8 +38,8 @@ fn store_move<P: Proofs, R: Wait>(
     position: &Position,
     cell: Cell,
 ) -> Option<u32>
-    ensures slots { P.slots proofs.new ≡ P.slots proofs.old }
-    ensures over { P.over proofs.new ≡ P.over proofs.old }
+    ensures slots { (P.sight proofs.new).slots ≡ (P.sight proofs.old).slots }
+    ensures over { (P.sight proofs.new).over ≡ (P.sight proofs.old).over }
 {
     let _size = position.size();
     if !position.empties().has(cell) {
