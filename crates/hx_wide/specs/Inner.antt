@@ -1,4 +1,5 @@
--- What some headings say, what a try to store an answer leaves, and how it ends. These words are for the functions inside the crate alone.
+-- What some headings say, what a try to store an answer leaves, and how it ends. These words are for the functions
+-- inside the crate alone.
 use Rattle.std.specs.Prelude.{◌≡◌, ◌⊎◌, ℕ, List, [], ◌∷◌, slice_get}
 use Rattle.std.specs.declared.option.Option.TheVariants.{Some}
 use Rattle.hx_board.specs.declared.colours.Colour.{Colour}
@@ -18,7 +19,8 @@ abbrev pub AreKnown : List Node → List Heading → List ℕ → Type 0
 AreKnown list [] [] = Unit {0}
 AreKnown list [] (place ∷ places) = ⊥
 AreKnown list (heading ∷ headings) [] = ⊥
-AreKnown list (heading ∷ headings) (place ∷ places) = (slice_get (headings_of list) place ≡ Some heading) × AreKnown list headings places
+AreKnown list (heading ∷ headings) (place ∷ places) =
+    (slice_get (headings_of list) place ≡ Some heading) × AreKnown list headings places
 
 -- the board with a player's stones on these cells too
 abbrev pub put_set : Board → Colour → ℕ → Board

@@ -15,7 +15,8 @@ use Rattle.hx_fill.specs.Musts.{IsMust}
 use Rattle.hx_fill.specs.Unders.{HasLineFor, AreByOrder}
 use Rattle.hx_nodes.specs.Missing.{NamesOther}
 
--- some front of the new list, with the old one at its own front, has no entry of this winner that serves the position and mover
+-- some front of the new list, with the old one at its own front, has no entry of this winner that serves the position
+-- and mover
 abbrev pub WasUnserved : List Node → List Node → Board → Colour → Colour → Type 0
 WasUnserved old new board mover winner = WasSeen (λ nodes. HasNoWider nodes board mover winner) old new
 
@@ -40,13 +41,14 @@ pub record HasClash (nodes : List Node) (mover : Colour) : Type 0 where
   pub other_entry : IsEntry nodes other mover other_place
   pub differ : one_entry.node.heading.winner ≢ other_entry.node.heading.winner
 
--- nothing was seen that serves the position; and nothing that serves the turned one either, or there are two entries of which one
--- has to be wrong
+-- nothing was seen that serves the position; and nothing that serves the turned one either, or there are two entries
+-- of which one has to be wrong
 abbrev pub LacksTurned : List Node → List Node → Board → Colour → Type 0
-LacksTurned old new board mover = WasUnservedByEach old new board mover × (WasTurnedUnserved old new board mover ⊎ HasClash new mover)
+LacksTurned old new board mover =
+    WasUnservedByEach old new board mover × (WasTurnedUnserved old new board mover ⊎ HasClash new mover)
 
--- in some front of the new list, with the old one at its own front, the first entry of the position and mover names the player's
--- opponent as the winner
+-- in some front of the new list, with the old one at its own front, the first entry of the position and mover names
+-- the player's opponent as the winner
 abbrev pub WasLost : List Node → List Node → Board → Colour → Colour → Type 0
 WasLost old new board mover player = WasSeen (λ nodes. NamesOther nodes board mover player) old new
 
@@ -62,9 +64,10 @@ LacksServedMove old new board player cell = LacksWin old new (put board player c
 abbrev pub LacksServedFill : List Node → List Node → List Fill → Board → Colour → Type 0
 LacksServedFill old new fills filled mover = (fills ≡ []) ⊎ WasUnservedByEach old new filled mover
 
--- one of these cells has no line among these, and nothing was seen that serves the position after the opponent's move to it as a win
--- of the player's, or an entry of that position names the opponent
-pub record HasUnservedOf (old new : List Node) (board : Board) (player : Colour) (cells : ℕ) (under : List Line) : Type 0 where
+-- one of these cells has no line among these, and nothing was seen that serves the position after the opponent's move
+-- to it as a win of the player's, or an entry of that position names the opponent
+pub record HasUnservedOf (old new : List Node) (board : Board) (player : Colour) (cells : ℕ) (under : List Line)
+    : Type 0 where
   pub cell : ℕ
   pub among : has cells cell ≡ true
   pub no_line : ¬ HasLineFor under cell

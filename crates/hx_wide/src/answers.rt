@@ -6,9 +6,9 @@ ghost use Rattle.std.specs.Prelude.{◌≡◌, ℕ, true, IfSome, IfNone};
 ghost use Rattle.hx_board.specs.Colours.{other_of};
 ghost use Rattle.hx_board.specs.Positions.{IsEmpty, put};
 ghost use Rattle.hx_board.specs.Sets.{has, IsSubset};
-ghost use Rattle.hx_tree.specs.Entries.{Extends};
 ghost use Rattle.hx_fill.specs.Musts.{IsMust};
 ghost use Rattle.hx_fill.specs.Unders.{HasLineFor};
+ghost use Rattle.hx_book.specs.Sights.{Grows};
 ghost use Rattle.hx_nodes.specs.Stored.{MissingFor};
 ghost use Rattle.hx_wide.specs.Inner.{IsListedOrUnserved, EndsStores};
 ghost use Rattle.hx_wide.specs.Missing.{LacksServedAnswers};
@@ -36,9 +36,7 @@ fn needed_after<P: Proofs, R: Wait>(
     winner: Colour,
     cells: Mask,
 ) -> Option<Mask>
-    ensures slots { P.slots proofs.new ≡ P.slots proofs.old }
-    ensures over { P.over proofs.new ≡ P.over proofs.old }
-    ensures seen { Extends (P.list proofs.new) (P.list proofs.old) }
+    ensures grew { Grows (P.sight proofs.old) (P.sight proofs.new) }
 {
     let size = position.size();
     let mut needed = Mask::empty();
@@ -64,9 +62,7 @@ fn empties_after<P: Proofs, R: Wait>(
     winner: Colour,
     cell: Cell,
 ) -> Option<Mask>
-    ensures slots { P.slots proofs.new ≡ P.slots proofs.old }
-    ensures over { P.over proofs.new ≡ P.over proofs.old }
-    ensures seen { Extends (P.list proofs.new) (P.list proofs.old) }
+    ensures grew { Grows (P.sight proofs.old) (P.sight proofs.new) }
 {
     let is_empty = position.empties().has(cell);
     if !is_empty {
@@ -111,9 +107,7 @@ fn position_for<P: Proofs, R: Wait>(
     set: &LinkSet,
     found: &Must,
 ) -> Option<Position>
-    ensures slots { P.slots proofs.new ≡ P.slots proofs.old }
-    ensures over { P.over proofs.new ≡ P.over proofs.old }
-    ensures seen { Extends (P.list proofs.new) (P.list proofs.old) }
+    ensures grew { Grows (P.sight proofs.old) (P.sight proofs.new) }
 {
     let winner = set.colour();
     let position = set.position();
@@ -134,10 +128,9 @@ fn all_wide<P: Proofs, R: Wait>(
     found: &Must,
 ) -> Option<Stored>
     requires { IsMust set.now found.now.threats found.now.cells found.now.under }
-    ensures slots { P.slots proofs.new ≡ P.slots proofs.old }
-    ensures over { P.over proofs.new ≡ P.over proofs.old }
-    ensures seen { Extends (P.list proofs.new) (P.list proofs.old) }
-    ensures refusal { IfSome result (IsTrueRefusal (P.list proofs.new) (P.slots proofs.new)) }
+    ensures grew { Grows (P.sight proofs.old) (P.sight proofs.new) }
+    ensures refusal { IfSome result
+        (IsTrueRefusal (P.sight proofs.new).list (P.sight proofs.new).slots) }
 {
     let alloc = set.allocator();
     let winner = set.colour();
@@ -178,12 +171,10 @@ fn store_each<P: Proofs, R: Wait>(
     cells: Mask,
 ) -> Option<Stored>
     requires { (cell : ℕ) → has cells cell ≡ true → IsEmpty position.now cell }
-    ensures slots { P.slots proofs.new ≡ P.slots proofs.old }
-    ensures over { P.over proofs.new ≡ P.over proofs.old }
-    ensures seen { Extends (P.list proofs.new) (P.list proofs.old) }
-    ensures end { IfSome result (EndsStores (P.list proofs.new) (P.slots proofs.new)) }
+    ensures grew { Grows (P.sight proofs.old) (P.sight proofs.new) }
+    ensures end { IfSome result (EndsStores (P.sight proofs.new).list (P.sight proofs.new).slots) }
     ensures tried { IfNone result ((cell : ℕ) → has cells cell ≡ true →
-        IsListedOrUnserved (P.list proofs.old) (P.list proofs.new)
+        IsListedOrUnserved (P.sight proofs.old).list (P.sight proofs.new).list
         (put position.now (other_of winner) cell) winner) }
 {
     let size = position.size();
@@ -207,12 +198,10 @@ fn store_next<P: Proofs, R: Wait>(
     next: &Position,
     winner: Colour,
 ) -> Option<Stored>
-    ensures slots { P.slots proofs.new ≡ P.slots proofs.old }
-    ensures over { P.over proofs.new ≡ P.over proofs.old }
-    ensures seen { Extends (P.list proofs.new) (P.list proofs.old) }
-    ensures end { IfSome result (EndsStores (P.list proofs.new) (P.slots proofs.new)) }
+    ensures grew { Grows (P.sight proofs.old) (P.sight proofs.new) }
+    ensures end { IfSome result (EndsStores (P.sight proofs.new).list (P.sight proofs.new).slots) }
     ensures tried { IfNone result
-        (IsListedOrUnserved (P.list proofs.old) (P.list proofs.new) next.now winner) }
+        (IsListedOrUnserved (P.sight proofs.old).list (P.sight proofs.new).list next.now winner) }
 {
     match store_wider(rt, alloc, proofs, next, winner, winner) {
         Stored::Refused(refusal) => Some(Stored::Refused(refusal)),
@@ -230,12 +219,10 @@ pub fn widen_all<P: Proofs, R: Wait>(
     set: &LinkSet,
     order: &[Cell],
 ) -> Stored
-    ensures slots { P.slots proofs.new ≡ P.slots proofs.old }
-    ensures over { P.over proofs.new ≡ P.over proofs.old }
-    ensures seen { Extends (P.list proofs.new) (P.list proofs.old) }
-    ensures stored { IsStoredWide (P.list proofs.new) (P.slots proofs.new)
+    ensures grew { Grows (P.sight proofs.old) (P.sight proofs.new) }
+    ensures stored { IsStoredWide (P.sight proofs.new).list (P.sight proofs.new).slots
         set.now.present.board (other_of set.now.player) result }
-    ensures missing { MissingFor (LacksServedAnswers (P.list proofs.old) (P.list proofs.new)
+    ensures missing { MissingFor (LacksServedAnswers (P.sight proofs.old).list (P.sight proofs.new).list
         set.now order.now) result }
 {
     let Ok(found) = must(set, order) else {

@@ -1,8 +1,8 @@
 //! Proofs by a chain, which needs no empty cell.
 
-ghost use Rattle.std.specs.Prelude.{◌≡◌, IfSome};
+ghost use Rattle.std.specs.Prelude.{IfSome};
 ghost use Rattle.hx_board.specs.Graph.{HasChain};
-ghost use Rattle.hx_tree.specs.Entries.{Extends};
+ghost use Rattle.hx_book.specs.Sights.{Grows};
 ghost use Rattle.hx_nodes.specs.Stored.{IsAnswered, HadMemory};
 ghost use Rattle.hx_wide.specs.Wide.{IsTrueRefusal, IsStoredWide};
 
@@ -21,10 +21,9 @@ fn chain_wide<P: Proofs, R: Wait>(
     to_move: Colour,
     winner: Colour,
 ) -> Option<Stored>
-    ensures slots { P.slots proofs.new ≡ P.slots proofs.old }
-    ensures over { P.over proofs.new ≡ P.over proofs.old }
-    ensures seen { Extends (P.list proofs.new) (P.list proofs.old) }
-    ensures refusal { IfSome result (IsTrueRefusal (P.list proofs.new) (P.slots proofs.new)) }
+    ensures grew { Grows (P.sight proofs.old) (P.sight proofs.new) }
+    ensures refusal { IfSome result
+        (IsTrueRefusal (P.sight proofs.new).list (P.sight proofs.new).slots) }
 {
     let Some(wide) = widened(position, winner, Mask::empty()) else {
         return None;
@@ -45,10 +44,8 @@ pub fn widen_chain<P: Proofs, R: Wait>(
     winner: Colour,
 ) -> Stored
     requires { HasChain position.now winner }
-    ensures slots { P.slots proofs.new ≡ P.slots proofs.old }
-    ensures over { P.over proofs.new ≡ P.over proofs.old }
-    ensures seen { Extends (P.list proofs.new) (P.list proofs.old) }
-    ensures stored { IsStoredWide (P.list proofs.new) (P.slots proofs.new)
+    ensures grew { Grows (P.sight proofs.old) (P.sight proofs.new) }
+    ensures stored { IsStoredWide (P.sight proofs.new).list (P.sight proofs.new).slots
         position.now to_move result }
     ensures answered { IsAnswered result }
     ensures memory { HadMemory result }

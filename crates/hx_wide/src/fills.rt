@@ -1,10 +1,10 @@
 //! Proofs by what fill-in leaves, which need the cells that were filled for the winner, and what the proof after it needs. The
 //! opponent's stones of fill-in stay.
 
-ghost use Rattle.std.specs.Prelude.{◌≡◌, IfSome};
-ghost use Rattle.hx_tree.specs.Entries.{Extends};
+ghost use Rattle.std.specs.Prelude.{IfSome};
 ghost use Rattle.hx_fill.specs.Fills.{IsFillIn};
 ghost use Rattle.hx_book.specs.WiderEntry.{IsWiderFound};
+ghost use Rattle.hx_book.specs.Sights.{Grows};
 ghost use Rattle.hx_nodes.specs.Stored.{MissingFor};
 ghost use Rattle.hx_wide.specs.Missing.{LacksServedFill};
 ghost use Rattle.hx_wide.specs.Wide.{IsTrueRefusal, IsStoredWide};
@@ -57,12 +57,11 @@ fn fill_wide<P: Proofs, R: Wait>(
     filled: &Filled,
     wider: &Wider,
 ) -> Option<Stored>
-    requires { IsWiderFound (P.list proofs.old) filled.now.position to_move
+    requires { IsWiderFound (P.sight proofs.old).list filled.now.position to_move
         wider.now.found.winner wider.now }
-    ensures slots { P.slots proofs.new ≡ P.slots proofs.old }
-    ensures over { P.over proofs.new ≡ P.over proofs.old }
-    ensures seen { Extends (P.list proofs.new) (P.list proofs.old) }
-    ensures refusal { IfSome result (IsTrueRefusal (P.list proofs.new) (P.slots proofs.new)) }
+    ensures grew { Grows (P.sight proofs.old) (P.sight proofs.new) }
+    ensures refusal { IfSome result
+        (IsTrueRefusal (P.sight proofs.new).list (P.sight proofs.new).slots) }
 {
     let winner = wider.found.winner;
     let Ok(steps) = own_steps(alloc, filled.steps.as_slice(), winner) else {
@@ -90,12 +89,10 @@ pub fn widen_fill<P: Proofs, R: Wait>(
     filled: &Filled,
 ) -> Stored
     requires { IsFillIn position.now filled.now.steps.items filled.now.position }
-    ensures slots { P.slots proofs.new ≡ P.slots proofs.old }
-    ensures over { P.over proofs.new ≡ P.over proofs.old }
-    ensures seen { Extends (P.list proofs.new) (P.list proofs.old) }
-    ensures stored { IsStoredWide (P.list proofs.new) (P.slots proofs.new)
+    ensures grew { Grows (P.sight proofs.old) (P.sight proofs.new) }
+    ensures stored { IsStoredWide (P.sight proofs.new).list (P.sight proofs.new).slots
         position.now to_move result }
-    ensures missing { MissingFor (LacksServedFill (P.list proofs.old) (P.list proofs.new)
+    ensures missing { MissingFor (LacksServedFill (P.sight proofs.old).list (P.sight proofs.new).list
         filled.now.steps.items filled.now.position to_move) result }
 {
     let Some(wider) = look_wider_either(rt, proofs, &filled.position, to_move) else {

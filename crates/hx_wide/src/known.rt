@@ -6,9 +6,9 @@
 ghost use Rattle.std.specs.Prelude.{◌≡◌, List, [], slice_get, OnOk, OnErr, IfOk, IfSome, IfNone};
 ghost use Rattle.std.specs.declared.option.Option.TheVariants.{Some};
 ghost use Rattle.hx_tree.specs.declared.nodes.Node.{Node as Proof};
-ghost use Rattle.hx_tree.specs.Entries.{Extends};
 ghost use Rattle.hx_tree.specs.Rules.{IsRightNode};
 ghost use Rattle.hx_tree.specs.Trees.{headings_of};
+ghost use Rattle.hx_book.specs.Sights.{Grows};
 ghost use Rattle.hx_nodes.specs.Stored.{TellsStored, IsAnswered};
 ghost use Rattle.hx_wide.specs.Inner.{AreKnown};
 
@@ -69,11 +69,9 @@ pub(crate) fn store_known<P: Proofs, R: Wait>(
     known: &Known,
     node: Node,
 ) -> Option<Stored>
-    requires { AreKnown (P.list proofs.old) known.now.headings.items known.now.places.items }
-    ensures slots { P.slots proofs.new ≡ P.slots proofs.old }
-    ensures over { P.over proofs.new ≡ P.over proofs.old }
-    ensures seen { Extends (P.list proofs.new) (P.list proofs.old) }
-    ensures stored { IfSome result (TellsStored (P.list proofs.new) (P.slots proofs.new)
+    requires { AreKnown (P.sight proofs.old).list known.now.headings.items known.now.places.items }
+    ensures grew { Grows (P.sight proofs.old) (P.sight proofs.new) }
+    ensures stored { IfSome result (TellsStored (P.sight proofs.new).list (P.sight proofs.new).slots
         node.heading.position node.heading.to_move) }
     ensures answered { IfSome result IsAnswered }
     ensures wrong { IfNone result (¬ IsRightNode known.now.headings.items node) }

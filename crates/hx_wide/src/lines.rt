@@ -1,7 +1,7 @@
 //! The lines of a node at a widened position, in cell order.
 
-ghost use Rattle.std.specs.Prelude.{◌≡◌, IfSome};
-ghost use Rattle.hx_tree.specs.Entries.{Extends};
+ghost use Rattle.std.specs.Prelude.{IfSome};
+ghost use Rattle.hx_book.specs.Sights.{Grows};
 ghost use Rattle.hx_wide.specs.Inner.{AreKnown};
 
 use crate::known::Known;
@@ -38,12 +38,10 @@ fn know_next<P: Proofs, R: Wait>(
     next: &Position,
     winner: Colour,
 ) -> Option<u32>
-    requires { AreKnown (P.list proofs.old) known.old.headings.items known.old.places.items }
-    ensures slots { P.slots proofs.new ≡ P.slots proofs.old }
-    ensures over { P.over proofs.new ≡ P.over proofs.old }
-    ensures seen { Extends (P.list proofs.new) (P.list proofs.old) }
+    requires { AreKnown (P.sight proofs.old).list known.old.headings.items known.old.places.items }
+    ensures grew { Grows (P.sight proofs.old) (P.sight proofs.new) }
     ensures known { IfSome result (λ _.
-        AreKnown (P.list proofs.new) known.new.headings.items known.new.places.items) }
+        AreKnown (P.sight proofs.new).list known.new.headings.items known.new.places.items) }
 {
     // The proof takes from here that the next position's board is one.
     let _size = next.size();
@@ -73,12 +71,10 @@ pub(crate) fn lines_at<P: Proofs, R: Wait>(
     cells: Mask,
     under: &[Line],
 ) -> Option<Vec<Line>>
-    requires { AreKnown (P.list proofs.old) known.old.headings.items known.old.places.items }
-    ensures slots { P.slots proofs.new ≡ P.slots proofs.old }
-    ensures over { P.over proofs.new ≡ P.over proofs.old }
-    ensures seen { Extends (P.list proofs.new) (P.list proofs.old) }
+    requires { AreKnown (P.sight proofs.old).list known.old.headings.items known.old.places.items }
+    ensures grew { Grows (P.sight proofs.old) (P.sight proofs.new) }
     ensures known { IfSome result (λ _.
-        AreKnown (P.list proofs.new) known.new.headings.items known.new.places.items) }
+        AreKnown (P.sight proofs.new).list known.new.headings.items known.new.places.items) }
 {
     let size = wide.size();
     let mut left = cells.meet(wide.empties());
@@ -111,12 +107,10 @@ fn line_at<P: Proofs, R: Wait>(
     under: &[Line],
     cell: Cell,
 ) -> Option<Line>
-    requires { AreKnown (P.list proofs.old) known.old.headings.items known.old.places.items }
-    ensures slots { P.slots proofs.new ≡ P.slots proofs.old }
-    ensures over { P.over proofs.new ≡ P.over proofs.old }
-    ensures seen { Extends (P.list proofs.new) (P.list proofs.old) }
+    requires { AreKnown (P.sight proofs.old).list known.old.headings.items known.old.places.items }
+    ensures grew { Grows (P.sight proofs.old) (P.sight proofs.new) }
     ensures known { IfSome result (λ _.
-        AreKnown (P.list proofs.new) known.new.headings.items known.new.places.items) }
+        AreKnown (P.sight proofs.new).list known.new.headings.items known.new.places.items) }
 {
     if let Some(line) = line_among(under, cell) {
         return Some(line);

@@ -1,7 +1,7 @@
 //! Proofs by a link between the two sides, which needs the cells of the link's carrier.
 
-ghost use Rattle.std.specs.Prelude.{◌≡◌, IfSome};
-ghost use Rattle.hx_tree.specs.Entries.{Extends};
+ghost use Rattle.std.specs.Prelude.{IfSome};
+ghost use Rattle.hx_book.specs.Sights.{Grows};
 ghost use Rattle.hx_search.specs.Decided.{Decides};
 ghost use Rattle.hx_nodes.specs.Stored.{IsAnswered};
 ghost use Rattle.hx_wide.specs.Wide.{IsTrueRefusal, IsStoredWide};
@@ -25,10 +25,9 @@ fn links_wide<P: Proofs, R: Wait>(
     index: u32,
 ) -> Option<Stored>
     requires { Decides set.now to_move index }
-    ensures slots { P.slots proofs.new ≡ P.slots proofs.old }
-    ensures over { P.over proofs.new ≡ P.over proofs.old }
-    ensures seen { Extends (P.list proofs.new) (P.list proofs.old) }
-    ensures refusal { IfSome result (IsTrueRefusal (P.list proofs.new) (P.slots proofs.new)) }
+    ensures grew { Grows (P.sight proofs.old) (P.sight proofs.new) }
+    ensures refusal { IfSome result
+        (IsTrueRefusal (P.sight proofs.new).list (P.sight proofs.new).slots) }
 {
     let alloc = set.allocator();
     let winner = set.colour();
@@ -58,10 +57,8 @@ pub fn widen_links<P: Proofs, R: Wait>(
     index: u32,
 ) -> Stored
     requires { Decides set.now to_move index }
-    ensures slots { P.slots proofs.new ≡ P.slots proofs.old }
-    ensures over { P.over proofs.new ≡ P.over proofs.old }
-    ensures seen { Extends (P.list proofs.new) (P.list proofs.old) }
-    ensures stored { IsStoredWide (P.list proofs.new) (P.slots proofs.new)
+    ensures grew { Grows (P.sight proofs.old) (P.sight proofs.new) }
+    ensures stored { IsStoredWide (P.sight proofs.new).list (P.sight proofs.new).slots
         set.now.present.board to_move result }
     ensures answered { IsAnswered result }
 {

@@ -1,8 +1,8 @@
 //! Proofs by a move, which need the move's cell and what the proof after it needs.
 
-ghost use Rattle.std.specs.Prelude.{◌≡◌, IfSome};
+ghost use Rattle.std.specs.Prelude.{IfSome};
 ghost use Rattle.hx_board.specs.Positions.{IsEmpty};
-ghost use Rattle.hx_tree.specs.Entries.{Extends};
+ghost use Rattle.hx_book.specs.Sights.{Grows};
 ghost use Rattle.hx_wide.specs.Missing.{LacksServedMove};
 ghost use Rattle.hx_nodes.specs.Stored.{MissingFor};
 ghost use Rattle.hx_wide.specs.Wide.{IsTrueRefusal, IsStoredWide};
@@ -23,10 +23,9 @@ fn move_wide<P: Proofs, R: Wait>(
     to_move: Colour,
     cell: Cell,
 ) -> Option<Stored>
-    ensures slots { P.slots proofs.new ≡ P.slots proofs.old }
-    ensures over { P.over proofs.new ≡ P.over proofs.old }
-    ensures seen { Extends (P.list proofs.new) (P.list proofs.old) }
-    ensures refusal { IfSome result (IsTrueRefusal (P.list proofs.new) (P.slots proofs.new)) }
+    ensures grew { Grows (P.sight proofs.old) (P.sight proofs.new) }
+    ensures refusal { IfSome result
+        (IsTrueRefusal (P.sight proofs.new).list (P.sight proofs.new).slots) }
 {
     let Some(wider) = proofs.look_wider(rt, next, to_move.other(), to_move) else {
         return None;
@@ -54,12 +53,10 @@ pub fn widen_move<P: Proofs, R: Wait>(
     cell: Cell,
 ) -> Stored
     requires { IsEmpty position.now cell }
-    ensures slots { P.slots proofs.new ≡ P.slots proofs.old }
-    ensures over { P.over proofs.new ≡ P.over proofs.old }
-    ensures seen { Extends (P.list proofs.new) (P.list proofs.old) }
-    ensures stored { IsStoredWide (P.list proofs.new) (P.slots proofs.new)
+    ensures grew { Grows (P.sight proofs.old) (P.sight proofs.new) }
+    ensures stored { IsStoredWide (P.sight proofs.new).list (P.sight proofs.new).slots
         position.now to_move result }
-    ensures missing { MissingFor (LacksServedMove (P.list proofs.old) (P.list proofs.new)
+    ensures missing { MissingFor (LacksServedMove (P.sight proofs.old).list (P.sight proofs.new).list
         position.now to_move cell) result }
 {
     let next = position.with(to_move, cell);

@@ -3,9 +3,9 @@
 //! An entry that serves the position proves it by fill steps, and names no move. So where the mover wins by a move, a node by that
 //! move is stored for the position itself: then the last node of a tree names it.
 
-ghost use Rattle.std.specs.Prelude.{◌≡◌, IfSome};
+ghost use Rattle.std.specs.Prelude.{IfSome};
 ghost use Rattle.hx_board.specs.Positions.{IsEmpty};
-ghost use Rattle.hx_tree.specs.Entries.{Extends};
+ghost use Rattle.hx_book.specs.Sights.{Grows};
 ghost use Rattle.hx_nodes.specs.Stored.{TellsStored, MissingFor};
 ghost use Rattle.hx_wide.specs.Missing.{WasUnserved};
 
@@ -26,12 +26,10 @@ pub fn store_root<P: Proofs, R: Wait>(
     to_move: Colour,
     winner: Colour,
 ) -> Stored
-    ensures slots { P.slots proofs.new ≡ P.slots proofs.old }
-    ensures over { P.over proofs.new ≡ P.over proofs.old }
-    ensures seen { Extends (P.list proofs.new) (P.list proofs.old) }
-    ensures stored { TellsStored (P.list proofs.new) (P.slots proofs.new)
+    ensures grew { Grows (P.sight proofs.old) (P.sight proofs.new) }
+    ensures stored { TellsStored (P.sight proofs.new).list (P.sight proofs.new).slots
         position.now to_move result }
-    ensures missing { MissingFor (WasUnserved (P.list proofs.old) (P.list proofs.new)
+    ensures missing { MissingFor (WasUnserved (P.sight proofs.old).list (P.sight proofs.new).list
         position.now to_move winner) result }
 {
     let stored = by_some_move(rt, alloc, proofs, position, to_move, winner);
@@ -51,11 +49,9 @@ fn by_some_move<P: Proofs, R: Wait>(
     to_move: Colour,
     winner: Colour,
 ) -> Option<Stored>
-    ensures slots { P.slots proofs.new ≡ P.slots proofs.old }
-    ensures over { P.over proofs.new ≡ P.over proofs.old }
-    ensures seen { Extends (P.list proofs.new) (P.list proofs.old) }
+    ensures grew { Grows (P.sight proofs.old) (P.sight proofs.new) }
     ensures stored { IfSome result
-        (TellsStored (P.list proofs.new) (P.slots proofs.new) position.now to_move) }
+        (TellsStored (P.sight proofs.new).list (P.sight proofs.new).slots position.now to_move) }
 {
     if winner != to_move {
         return None;
@@ -64,10 +60,11 @@ fn by_some_move<P: Proofs, R: Wait>(
         return None;
     };
     let next = position.with(to_move, cell);
-    match store_wider(rt, alloc, proofs, &next, to_move.other(), to_move) {
-        Stored::Done => Some(store_move(rt, proofs, position, to_move, cell)),
-        _ => None,
+    let stored = store_wider(rt, alloc, proofs, &next, to_move.other(), to_move);
+    if let Stored::Done = stored {
+        return Some(store_move(rt, proofs, position, to_move, cell));
     }
+    None
 }
 
 /// The first cell after a move to which an entry says that the mover wins. None where there is none.
@@ -77,9 +74,7 @@ fn winning_cell<P: Proofs, R: Wait>(
     position: &Position,
     to_move: Colour,
 ) -> Option<Cell>
-    ensures slots { P.slots proofs.new ≡ P.slots proofs.old }
-    ensures over { P.over proofs.new ≡ P.over proofs.old }
-    ensures seen { Extends (P.list proofs.new) (P.list proofs.old) }
+    ensures grew { Grows (P.sight proofs.old) (P.sight proofs.new) }
     ensures empty { IfSome result (IsEmpty position.now) }
 {
     let size = position.size();

@@ -1,7 +1,6 @@
 //! Proofs by the turned position, which need the turned cells.
 
-ghost use Rattle.std.specs.Prelude.{◌≡◌};
-ghost use Rattle.hx_tree.specs.Entries.{Extends};
+ghost use Rattle.hx_book.specs.Sights.{Grows};
 ghost use Rattle.hx_wide.specs.Missing.{LacksTurned};
 ghost use Rattle.hx_nodes.specs.Stored.{MissingFor, HadMemory};
 ghost use Rattle.hx_wide.specs.Wide.{IsStoredWide};
@@ -22,12 +21,10 @@ pub fn widen_turned<P: Proofs, R: Wait>(
     position: &Position,
     to_move: Colour,
 ) -> Stored
-    ensures slots { P.slots proofs.new ≡ P.slots proofs.old }
-    ensures over { P.over proofs.new ≡ P.over proofs.old }
-    ensures seen { Extends (P.list proofs.new) (P.list proofs.old) }
-    ensures stored { IsStoredWide (P.list proofs.new) (P.slots proofs.new)
+    ensures grew { Grows (P.sight proofs.old) (P.sight proofs.new) }
+    ensures stored { IsStoredWide (P.sight proofs.new).list (P.sight proofs.new).slots
         position.now to_move result }
-    ensures missing { MissingFor (LacksTurned (P.list proofs.old) (P.list proofs.new)
+    ensures missing { MissingFor (LacksTurned (P.sight proofs.old).list (P.sight proofs.new).list
         position.now to_move) result }
     ensures memory { HadMemory result }
 {

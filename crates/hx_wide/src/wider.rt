@@ -4,9 +4,9 @@ ghost use Rattle.std.specs.Prelude.{◌≡◌, ◌≢◌, ℕ, true, [], IfSome,
 ghost use Rattle.hx_board.specs.Colours.{other_of};
 ghost use Rattle.hx_board.specs.Sets.{has};
 ghost use Rattle.hx_board.specs.Positions.{Board, IsEmpty};
-ghost use Rattle.hx_tree.specs.Entries.{Extends};
 ghost use Rattle.hx_tree.specs.Fills.{LeadTo};
 ghost use Rattle.hx_book.specs.WiderEntry.{IsWiderFound};
+ghost use Rattle.hx_book.specs.Sights.{Grows};
 ghost use Rattle.hx_wide.specs.Missing.{WasUnserved, WasUnservedByEach};
 ghost use Rattle.hx_nodes.specs.Stored.{TellsStored, IsAnswered, MissingFor, HadMemory};
 ghost use Rattle.hx_wide.specs.Inner.{put_set};
@@ -29,13 +29,12 @@ pub fn look_wider_either<P: Proofs, R: Wait>(
     position: &Position,
     to_move: Colour,
 ) -> Option<Wider>
-    ensures slots { P.slots proofs.new ≡ P.slots proofs.old }
-    ensures over { P.over proofs.new ≡ P.over proofs.old }
-    ensures seen { Extends (P.list proofs.new) (P.list proofs.old) }
+    ensures grew { Grows (P.sight proofs.old) (P.sight proofs.new) }
     ensures found { IfSome result (λ wider.
-        IsWiderFound (P.list proofs.new) position.now to_move wider.found.winner wider) }
+        IsWiderFound (P.sight proofs.new).list position.now to_move wider.found.winner wider) }
     ensures none { IfNone result
-        (WasUnservedByEach (P.list proofs.old) (P.list proofs.new) position.now to_move) }
+        (WasUnservedByEach (P.sight proofs.old).list (P.sight proofs.new).list
+        position.now to_move) }
 {
     if let Some(wider) = proofs.look_wider(rt, position, to_move, to_move) {
         return Some(wider);
@@ -56,16 +55,15 @@ pub(crate) fn end_of<P: Proofs, R: Wait>(
     to_move: Colour,
     tried: Option<Stored>,
 ) -> Option<Stored>
-    requires { IfSome tried (IsTrueRefusal (P.list proofs.old) (P.slots proofs.old)) }
-    ensures slots { P.slots proofs.new ≡ P.slots proofs.old }
-    ensures over { P.over proofs.new ≡ P.over proofs.old }
-    ensures seen { Extends (P.list proofs.new) (P.list proofs.old) }
+    requires { IfSome tried (IsTrueRefusal (P.sight proofs.old).list (P.sight proofs.old).slots) }
+    ensures grew { Grows (P.sight proofs.old) (P.sight proofs.new) }
     ensures stored { IfSome result
-        (IsStoredWide (P.list proofs.new) (P.slots proofs.new) position.now to_move) }
+        (IsStoredWide (P.sight proofs.new).list (P.sight proofs.new).slots position.now to_move) }
     ensures answered { IfSome result IsAnswered }
     ensures memory { IfSome result HadMemory }
     ensures none { IfNone result
-        (WasUnservedByEach (P.list proofs.old) (P.list proofs.new) position.now to_move) }
+        (WasUnservedByEach (P.sight proofs.old).list (P.sight proofs.new).list
+        position.now to_move) }
 {
     if let Some(Stored::Refused(refusal)) = tried {
         return Some(Stored::Refused(refusal));
@@ -111,12 +109,10 @@ pub fn store_wider<P: Proofs, R: Wait>(
     to_move: Colour,
     winner: Colour,
 ) -> Stored
-    ensures slots { P.slots proofs.new ≡ P.slots proofs.old }
-    ensures over { P.over proofs.new ≡ P.over proofs.old }
-    ensures seen { Extends (P.list proofs.new) (P.list proofs.old) }
-    ensures stored { TellsStored (P.list proofs.new) (P.slots proofs.new)
+    ensures grew { Grows (P.sight proofs.old) (P.sight proofs.new) }
+    ensures stored { TellsStored (P.sight proofs.new).list (P.sight proofs.new).slots
         position.now to_move result }
-    ensures missing { MissingFor (WasUnserved (P.list proofs.old) (P.list proofs.new)
+    ensures missing { MissingFor (WasUnserved (P.sight proofs.old).list (P.sight proofs.new).list
         position.now to_move winner) result }
 {
     if let Some(_found) = proofs.look(rt, position, to_move) {
@@ -137,12 +133,10 @@ pub(crate) fn fill_missing<P: Proofs, R: Wait>(
     wider: &Wider,
     to_move: Colour,
 ) -> Stored
-    requires { IsWiderFound (P.list proofs.old) position.now to_move
+    requires { IsWiderFound (P.sight proofs.old).list position.now to_move
         wider.now.found.winner wider.now }
-    ensures slots { P.slots proofs.new ≡ P.slots proofs.old }
-    ensures over { P.over proofs.new ≡ P.over proofs.old }
-    ensures seen { Extends (P.list proofs.new) (P.list proofs.old) }
-    ensures stored { TellsStored (P.list proofs.new) (P.slots proofs.new)
+    ensures grew { Grows (P.sight proofs.old) (P.sight proofs.new) }
+    ensures stored { TellsStored (P.sight proofs.new).list (P.sight proofs.new).slots
         position.now to_move result }
     ensures answered { IsAnswered result }
 {
@@ -174,13 +168,11 @@ pub(crate) fn fill_to<P: Proofs, R: Wait>(
     steps: FillSteps,
 ) -> Option<Stored>
     requires found { (board : Board)
-        × IsWiderFound (P.list proofs.old) board to_move wider.now.found.winner wider.now }
+        × IsWiderFound (P.sight proofs.old).list board to_move wider.now.found.winner wider.now }
     requires some { steps ≢ [] }
-    ensures slots { P.slots proofs.new ≡ P.slots proofs.old }
-    ensures over { P.over proofs.new ≡ P.over proofs.old }
-    ensures seen { Extends (P.list proofs.new) (P.list proofs.old) }
+    ensures grew { Grows (P.sight proofs.old) (P.sight proofs.new) }
     ensures stored { IfSome result
-        (TellsStored (P.list proofs.new) (P.slots proofs.new) position.now to_move) }
+        (TellsStored (P.sight proofs.new).list (P.sight proofs.new).slots position.now to_move) }
     ensures answered { IfSome result IsAnswered }
     ensures wrong { IfNone result
         (¬ LeadTo position.now wider.now.found.winner steps wider.now.position) }

@@ -1,10 +1,10 @@
-use Rattle.std.proofs.Common.{ℕ, ◌<◌, ◌∙◌, arith}
+use Rattle.std.proofs.Common.{ℕ, ◌<◌, arith}
 use Rattle.hx_board.specs.Colours.{other_of}
 use Rattle.hx_board.specs.Positions.{Board, put}
 use Rattle.hx_board.proofs.CellLaws.{on_board-small}
 use Rattle.hx_board.proofs.SetLaws.{has-remove_before}
 use Rattle.hx_board.proofs.Tallies.{count_below-remove}
-use Rattle.hx_tree.proofs.EntryLaws.{extends-on}
+use Rattle.hx_book.proofs.SightLaws.{grows-on}
 use Rattle.hx_wide.specs.Inner.{IsListedOrUnserved}
 use Rattle.hx_wide.proofs.CellsTried.{one_tried-more}
 use Rattle.hx_wide.proofs.answers.store_each.Goals as goal
@@ -21,18 +21,16 @@ with-next-requires g c = c.requires c.in-Some.cell (c.loop-cell.invariant.inside
 pub loop-cell-preserved : goal.loop-cell-preserved
 loop-cell-preserved g c =
     let before = c.loop-cell.invariant in
-    let first = g.P.Proofs.list c.args.proofs.now in
-    let old = g.P.Proofs.list c.loop-cell.proofs in
-    let new = g.P.Proofs.list c.store_next.new.proofs in
+    let first = (g.P.Proofs.sight c.args.proofs.now).list in
+    let old = (g.P.Proofs.sight c.loop-cell.proofs).list in
+    let new = (g.P.Proofs.sight c.store_next.new.proofs).list in
     let next : ℕ → Board = λ cell. put c.args.position.now (other_of c.args.winner) cell in
     let tried : IsListedOrUnserved old new c.with-next.result c.args.winner = c.in_default-store_next.ensures.tried in
     record {
-      slots = c.store_next.ensures.slots ∙ before.slots;
-      over = c.store_next.ensures.over ∙ before.over;
-      seen = extends-on first old new before.seen c.store_next.ensures.seen;
+      grew = grows-on _ _ _ before.grew c.store_next.ensures.grew;
       inside = rw c.without-left.ensures.set (λ n member. before.inside n (has-remove_before c.loop-cell.left c.in-Some.cell n member));
       tried = rw c.without-left.ensures.set
-          (one_tried-more first old new next c.args.winner c.args.cells c.loop-cell.left c.in-Some.cell before.seen c.store_next.ensures.seen before.tried
+          (one_tried-more first old new next c.args.winner c.args.cells c.loop-cell.left c.in-Some.cell before.grew.seen c.store_next.ensures.grew.seen before.tried
           (rw (c.with-next.ensures, c.other.ensures) at tried));
     }
 

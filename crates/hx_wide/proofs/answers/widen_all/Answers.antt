@@ -2,6 +2,7 @@ use Rattle.std.proofs.Common.{inl, inr, ⊎_elim}
 use Rattle.hx_tree.specs.Entries.{Extends}
 use Rattle.hx_nodes.specs.Missing.{LacksOneOf}
 use Rattle.hx_tree.proofs.EntryLaws.{extends-on}
+use Rattle.hx_book.proofs.SightLaws.{grows-on}
 use Rattle.hx_nodes.proofs.GrowingLists.{missing-too}
 use Rattle.hx_wide.specs.Missing.{LacksServedAnswers}
 use Rattle.hx_wide.proofs.LackingLaws.{unserved_of}
@@ -23,14 +24,14 @@ returns-clause-stored g c = stored_wide _ _ _ _ _ c.store_answers.ensures.stored
 
 pub returns-clause-missing : goal.returns-clause-missing
 returns-clause-missing g c =
-    let old = g.P.Proofs.list c.args.proofs.now in
-    let wide = g.P.Proofs.list c.all_wide-tried.new.proofs in
-    let ended = g.P.Proofs.list c.end_of.new.proofs in
-    let mid = g.P.Proofs.list c.store_each.new.proofs in
-    let new = g.P.Proofs.list c.store_answers.new.proofs in
+    let old = (g.P.Proofs.sight c.args.proofs.now).list in
+    let wide = (g.P.Proofs.sight c.all_wide-tried.new.proofs).list in
+    let ended = (g.P.Proofs.sight c.end_of.new.proofs).list in
+    let mid = (g.P.Proofs.sight c.store_each.new.proofs).list in
+    let new = (g.P.Proofs.sight c.store_answers.new.proofs).list in
     let set = c.args.set.now in
     let found = c.in-Ok.found in
-    let grown : Extends ended old = extends-on old wide ended c.all_wide-tried.ensures.seen c.end_of.ensures.seen in
+    let grown : Extends ended old = extends-on old wide ended c.all_wide-tried.ensures.grew.seen c.end_of.ensures.grew.seen in
     missing-too (LacksOneOf mid new set found.cells found.under) (LacksServedAnswers old new set c.args.order.now) c.store_answers.result
     (⊎_elim inl (λ lacking. inr (record {
       threats = found.threats;
@@ -38,20 +39,20 @@ returns-clause-missing g c =
       under = found.under;
       must = c.in-Ok.ensures.must;
       by_order = c.in-Ok.ensures.order;
-      unserved = unserved_of old ended mid new set.present.board set.player found.cells c.without_lines-cells.result found.under grown c.store_each.ensures.seen
-          c.store_answers.ensures.seen (rw c.items.ensures at c.without_lines-cells.ensures.kept)
+      unserved = unserved_of old ended mid new set.present.board set.player found.cells c.without_lines-cells.result found.under grown c.store_each.ensures.grew.seen
+          c.store_answers.ensures.grew.seen (rw c.items.ensures at c.without_lines-cells.ensures.kept)
           (rw (c.position-2.ensures, c.colour-2.ensures) at c.in_default-store_each.ensures.tried) lacking;
     })))
     c.store_answers.ensures.missing
 
-pub returns-in-Some-clause-seen : goal.returns-in-Some-clause-seen
-returns-in-Some-clause-seen g c = extends-on _ _ _ c.all_wide-tried.ensures.seen c.end_of.ensures.seen
+pub returns-in-Some-clause-grew : goal.returns-in-Some-clause-grew
+returns-in-Some-clause-grew g c = grows-on _ _ _ c.all_wide-tried.ensures.grew c.end_of.ensures.grew
 
-pub returns-in-Some-store_each-clause-seen : goal.returns-in-Some-store_each-clause-seen
-returns-in-Some-store_each-clause-seen g c =
-    extends-on _ _ _ (extends-on _ _ _ c.all_wide-tried.ensures.seen c.end_of.ensures.seen) c.store_each.ensures.seen
+pub returns-in-Some-store_each-clause-grew : goal.returns-in-Some-store_each-clause-grew
+returns-in-Some-store_each-clause-grew g c =
+    grows-on _ _ _ (grows-on _ _ _ c.all_wide-tried.ensures.grew c.end_of.ensures.grew) c.store_each.ensures.grew
 
-pub returns-clause-seen : goal.returns-clause-seen
-returns-clause-seen g c =
-    extends-on _ _ _ (extends-on _ _ _ (extends-on _ _ _ c.all_wide-tried.ensures.seen c.end_of.ensures.seen) c.store_each.ensures.seen)
-    c.store_answers.ensures.seen
+pub returns-clause-grew : goal.returns-clause-grew
+returns-clause-grew g c =
+    grows-on _ _ _ (grows-on _ _ _ (grows-on _ _ _ c.all_wide-tried.ensures.grew c.end_of.ensures.grew) c.store_each.ensures.grew)
+    c.store_answers.ensures.grew

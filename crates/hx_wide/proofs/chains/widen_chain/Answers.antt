@@ -1,8 +1,8 @@
-use Rattle.hx_tree.proofs.EntryLaws.{extends-on}
+use Rattle.hx_book.proofs.SightLaws.{grows-on}
 use Rattle.hx_wide.proofs.chains.widen_chain.Goals as goal
 
-pub returns-in-Some-clause-seen : goal.returns-in-Some-clause-seen
-returns-in-Some-clause-seen g c = extends-on _ _ _ c.chain_wide-tried.ensures.seen c.end_of.ensures.seen
+pub returns-in-Some-clause-grew : goal.returns-in-Some-clause-grew
+returns-in-Some-clause-grew g c = grows-on _ _ _ c.chain_wide-tried.ensures.grew c.end_of.ensures.grew
 
-pub returns-clause-seen : goal.returns-clause-seen
-returns-clause-seen g c = extends-on _ _ _ (extends-on _ _ _ c.chain_wide-tried.ensures.seen c.end_of.ensures.seen) c.store_chain.ensures.seen
+pub returns-clause-grew : goal.returns-clause-grew
+returns-clause-grew g c = grows-on _ _ _ (grows-on _ _ _ c.chain_wide-tried.ensures.grew c.end_of.ensures.grew) c.store_chain.ensures.grew

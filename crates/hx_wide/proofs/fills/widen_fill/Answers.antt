@@ -2,6 +2,7 @@ use Rattle.std.proofs.Common.{inl}
 use Rattle.hx_tree.specs.Entries.{Extends}
 use Rattle.hx_nodes.specs.Missing.{LacksFill}
 use Rattle.hx_tree.proofs.EntryLaws.{extends-on}
+use Rattle.hx_book.proofs.SightLaws.{grows-on}
 use Rattle.hx_nodes.proofs.GrowingLists.{missing-too}
 use Rattle.hx_wide.specs.Missing.{LacksServedFill}
 use Rattle.hx_wide.proofs.LackingLaws.{fill_lacks-nothing}
@@ -11,10 +12,10 @@ use Rattle.hx_wide.proofs.fills.widen_fill.Goals as goal
 
 pub fill_missing-requires : goal.fill_missing-requires
 fill_missing-requires g c =
-    let found = g.P.Proofs.list c.look_wider_either.new.proofs in
-    let wide = g.P.Proofs.list c.fill_wide-tried.new.proofs in
-    let ended = g.P.Proofs.list c.end_of.new.proofs in
-    let grown : Extends ended found = extends-on found wide ended c.fill_wide-tried.ensures.seen c.end_of.ensures.seen in
+    let found = (g.P.Proofs.sight c.look_wider_either.new.proofs).list in
+    let wide = (g.P.Proofs.sight c.fill_wide-tried.new.proofs).list in
+    let ended = (g.P.Proofs.sight c.end_of.new.proofs).list in
+    let grown : Extends ended found = extends-on found wide ended c.fill_wide-tried.ensures.grew.seen c.end_of.ensures.grew.seen in
     wider_found-later ended found c.args.filled.now.position c.args.to_move c.in-Some.wider grown c.in-Some.ensures.found
 
 pub returns-in-Done-clause-stored : goal.returns-in-Done-clause-stored
@@ -22,32 +23,32 @@ returns-in-Done-clause-stored g c = stored_wide _ _ _ _ _ c.store_fill.ensures.s
 
 pub returns-in-Done-clause-missing : goal.returns-in-Done-clause-missing
 returns-in-Done-clause-missing g c =
-    let old = g.P.Proofs.list c.args.proofs.now in
-    let mid = g.P.Proofs.list c.fill_missing.new.proofs in
-    let new = g.P.Proofs.list c.store_fill.new.proofs in
+    let old = (g.P.Proofs.sight c.args.proofs.now).list in
+    let mid = (g.P.Proofs.sight c.fill_missing.new.proofs).list in
+    let new = (g.P.Proofs.sight c.store_fill.new.proofs).list in
     let fills = c.args.filled.now.steps.items in
     let filled = c.args.filled.now.position in
     missing-too (LacksFill mid new fills filled c.args.to_move) (LacksServedFill old new fills filled c.args.to_move) c.store_fill.result
     (λ lacks. inl (fill_lacks-nothing mid new fills filled c.args.to_move c.in-Done.ensures.stored lacks))
     c.store_fill.ensures.missing
 
-pub returns-in-Some-end_of-clause-seen : goal.returns-in-Some-end_of-clause-seen
-returns-in-Some-end_of-clause-seen g c =
-    extends-on _ _ _ (extends-on _ _ _ c.look_wider_either.ensures.seen c.fill_wide-tried.ensures.seen) c.end_of.ensures.seen
+pub returns-in-Some-end_of-clause-grew : goal.returns-in-Some-end_of-clause-grew
+returns-in-Some-end_of-clause-grew g c =
+    grows-on _ _ _ (grows-on _ _ _ c.look_wider_either.ensures.grew c.fill_wide-tried.ensures.grew) c.end_of.ensures.grew
 
-pub returns-in-Refused-clause-seen : goal.returns-in-Refused-clause-seen
-returns-in-Refused-clause-seen g c =
-    extends-on _ _ _ (extends-on _ _ _ (extends-on _ _ _ c.look_wider_either.ensures.seen c.fill_wide-tried.ensures.seen) c.end_of.ensures.seen)
-    c.fill_missing.ensures.seen
+pub returns-in-Refused-clause-grew : goal.returns-in-Refused-clause-grew
+returns-in-Refused-clause-grew g c =
+    grows-on _ _ _ (grows-on _ _ _ (grows-on _ _ _ c.look_wider_either.ensures.grew c.fill_wide-tried.ensures.grew) c.end_of.ensures.grew)
+    c.fill_missing.ensures.grew
 
-pub returns-in-Memory-clause-seen : goal.returns-in-Memory-clause-seen
-returns-in-Memory-clause-seen g c =
-    extends-on _ _ _ (extends-on _ _ _ (extends-on _ _ _ c.look_wider_either.ensures.seen c.fill_wide-tried.ensures.seen) c.end_of.ensures.seen)
-    c.fill_missing.ensures.seen
+pub returns-in-Memory-clause-grew : goal.returns-in-Memory-clause-grew
+returns-in-Memory-clause-grew g c =
+    grows-on _ _ _ (grows-on _ _ _ (grows-on _ _ _ c.look_wider_either.ensures.grew c.fill_wide-tried.ensures.grew) c.end_of.ensures.grew)
+    c.fill_missing.ensures.grew
 
-pub returns-in-Done-clause-seen : goal.returns-in-Done-clause-seen
-returns-in-Done-clause-seen g c =
-    extends-on _ _ _
-    (extends-on _ _ _ (extends-on _ _ _ (extends-on _ _ _ c.look_wider_either.ensures.seen c.fill_wide-tried.ensures.seen) c.end_of.ensures.seen)
-    c.fill_missing.ensures.seen)
-    c.store_fill.ensures.seen
+pub returns-in-Done-clause-grew : goal.returns-in-Done-clause-grew
+returns-in-Done-clause-grew g c =
+    grows-on _ _ _
+    (grows-on _ _ _ (grows-on _ _ _ (grows-on _ _ _ c.look_wider_either.ensures.grew c.fill_wide-tried.ensures.grew) c.end_of.ensures.grew)
+    c.fill_missing.ensures.grew)
+    c.store_fill.ensures.grew

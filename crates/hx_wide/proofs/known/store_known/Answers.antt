@@ -6,11 +6,11 @@ use Rattle.hx_wide.proofs.known.store_known.Goals as goal
 pub renamed-named-requires : goal.renamed-named-requires
 renamed-named-requires g c = λ child names.
     let right : IsRightNode c.args.known.now.headings.items c.args.node = search rules in
-    rw (c.as_slice-in-Ok-true.ensures.value, known_length (g.P.Proofs.list c.args.proofs.now) _ _ c.requires)
-    (child_known (g.P.Proofs.list c.args.proofs.now) c.args.known.now.headings.items c.args.node child right names)
+    rw (c.as_slice-in-Ok-true.ensures.value, known_length (g.P.Proofs.sight c.args.proofs.now).list _ _ c.requires)
+    (child_known (g.P.Proofs.sight c.args.proofs.now).list c.args.known.now.headings.items c.args.node child right names)
 
 pub store-requires : goal.store-requires
 store-requires g c =
     let right : IsRightNode c.args.known.now.headings.items c.args.node = search rules in
     rw (c.renamed-named.ensures, c.as_slice-in-Ok-true.ensures.value)
-    (known_right (g.P.Proofs.list c.args.proofs.now) c.args.known.now.headings.items c.args.known.now.places.items c.args.node c.requires right)
+    (known_right (g.P.Proofs.sight c.args.proofs.now).list c.args.known.now.headings.items c.args.known.now.places.items c.args.node c.requires right)

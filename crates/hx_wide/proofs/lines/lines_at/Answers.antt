@@ -1,8 +1,8 @@
-use Rattle.hx_tree.proofs.EntryLaws.{extends-on}
+use Rattle.hx_book.proofs.SightLaws.{grows-on}
 use Rattle.hx_wide.proofs.lines.lines_at.Goals as goal
 
-pub returns-in_default-line_at-clause-seen : goal.returns-in_default-line_at-clause-seen
-returns-in_default-line_at-clause-seen g c = extends-on _ _ _ c.loop.invariant.seen c.line_at.ensures.seen
+pub returns-in_default-line_at-clause-grew : goal.returns-in_default-line_at-clause-grew
+returns-in_default-line_at-clause-grew g c = grows-on _ _ _ c.loop.invariant.grew c.line_at.ensures.grew
 
-pub returns-then-is_err-clause-seen : goal.returns-then-is_err-clause-seen
-returns-then-is_err-clause-seen g c = extends-on _ _ _ c.loop.invariant.seen c.line_at.ensures.seen
+pub returns-then-is_err-clause-grew : goal.returns-then-is_err-clause-grew
+returns-then-is_err-clause-grew g c = grows-on _ _ _ c.loop.invariant.grew c.line_at.ensures.grew

@@ -1,12 +1,9 @@
-use Rattle.std.proofs.Common.{◌≡◌}
-use Rattle.hx_tree.specs.Entries.{Extends}
+use Rattle.hx_book.specs.Sights.{Grows}
 use Rattle.hx_wide.specs.Inner.{AreKnown}
 use Rattle.hx_wide.proofs.lines.lines_at.Given as goal
 
 abbrev pub invariant-loop : goal.invariant-loop
 invariant-loop g l = record {
-  slots : g.P.Proofs.slots l.proofs ≡ g.P.Proofs.slots l.fn.proofs;
-  over : g.P.Proofs.over l.proofs ≡ g.P.Proofs.over l.fn.proofs;
-  seen : Extends (g.P.Proofs.list l.proofs) (g.P.Proofs.list l.fn.proofs);
-  known : AreKnown (g.P.Proofs.list l.proofs) l.known.headings.items l.known.places.items;
+  grew : Grows (g.P.Proofs.sight l.fn.proofs) (g.P.Proofs.sight l.proofs);
+  known : AreKnown (g.P.Proofs.sight l.proofs).list l.known.headings.items l.known.places.items;
 }

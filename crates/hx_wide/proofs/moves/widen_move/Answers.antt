@@ -6,6 +6,7 @@ use Rattle.hx_nodes.specs.Missing.{LacksMove}
 use Rattle.hx_nodes.specs.Stored.{HasEntry}
 use Rattle.hx_wide.specs.Missing.{WasUnserved, LacksServedMove}
 use Rattle.hx_tree.proofs.EntryLaws.{extends-itself, extends-on, seen-within}
+use Rattle.hx_book.proofs.SightLaws.{grows-on}
 use Rattle.hx_nodes.proofs.GrowingLists.{missing-too}
 use Rattle.hx_wide.proofs.LackingLaws.{lost-since}
 use Rattle.hx_wide.proofs.WideLaws.{stored_wide}
@@ -16,14 +17,14 @@ returns-in-Done-clause-stored g c = stored_wide _ _ _ _ _ c.store_move.ensures.s
 
 pub returns-in-Done-clause-missing : goal.returns-in-Done-clause-missing
 returns-in-Done-clause-missing g c =
-    let old = g.P.Proofs.list c.args.proofs.now in
-    let wide = g.P.Proofs.list c.move_wide-tried.new.proofs in
-    let ended = g.P.Proofs.list c.end_of.new.proofs in
-    let mid = g.P.Proofs.list c.store_wider.new.proofs in
-    let new = g.P.Proofs.list c.store_move.new.proofs in
+    let old = (g.P.Proofs.sight c.args.proofs.now).list in
+    let wide = (g.P.Proofs.sight c.move_wide-tried.new.proofs).list in
+    let ended = (g.P.Proofs.sight c.end_of.new.proofs).list in
+    let mid = (g.P.Proofs.sight c.store_wider.new.proofs).list in
+    let new = (g.P.Proofs.sight c.store_move.new.proofs).list in
     let player = c.args.to_move in
     let next : Board = put c.args.position.now player c.args.cell in
-    let grown : Extends mid old = extends-on old ended mid (extends-on old wide ended c.move_wide-tried.ensures.seen c.end_of.ensures.seen) c.store_wider.ensures.seen in
+    let grown : Extends mid old = extends-on old ended mid (extends-on old wide ended c.move_wide-tried.ensures.grew.seen c.end_of.ensures.grew.seen) c.store_wider.ensures.grew.seen in
     let has : HasEntry mid c.with-next.result c.other.result = c.in-Done.ensures.stored in
     missing-too (LacksMove mid new c.args.position.now player c.args.cell) (LacksServedMove old new c.args.position.now player c.args.cell) c.store_move.result
     (λ was. inr (lost-since old mid new next (other_of player) player grown (rw (c.with-next.ensures, c.other.ensures) at has) was))
@@ -31,29 +32,29 @@ returns-in-Done-clause-missing g c =
 
 pub returns-in-Missing-clause-missing : goal.returns-in-Missing-clause-missing
 returns-in-Missing-clause-missing g c =
-    let old = g.P.Proofs.list c.args.proofs.now in
-    let wide = g.P.Proofs.list c.move_wide-tried.new.proofs in
-    let ended = g.P.Proofs.list c.end_of.new.proofs in
-    let new = g.P.Proofs.list c.store_wider.new.proofs in
-    let grown : Extends ended old = extends-on old wide ended c.move_wide-tried.ensures.seen c.end_of.ensures.seen in
+    let old = (g.P.Proofs.sight c.args.proofs.now).list in
+    let wide = (g.P.Proofs.sight c.move_wide-tried.new.proofs).list in
+    let ended = (g.P.Proofs.sight c.end_of.new.proofs).list in
+    let new = (g.P.Proofs.sight c.store_wider.new.proofs).list in
+    let grown : Extends ended old = extends-on old wide ended c.move_wide-tried.ensures.grew.seen c.end_of.ensures.grew.seen in
     let was : WasUnserved ended new c.with-next.result c.other.result c.args.to_move = c.in-Missing.ensures.missing in
     inl (seen-within _ old ended new new grown (extends-itself new) (rw (c.with-next.ensures, c.other.ensures) at was))
 
-pub returns-in-Some-clause-seen : goal.returns-in-Some-clause-seen
-returns-in-Some-clause-seen g c = extends-on _ _ _ c.move_wide-tried.ensures.seen c.end_of.ensures.seen
+pub returns-in-Some-clause-grew : goal.returns-in-Some-clause-grew
+returns-in-Some-clause-grew g c = grows-on _ _ _ c.move_wide-tried.ensures.grew c.end_of.ensures.grew
 
-pub returns-in-Refused-clause-seen : goal.returns-in-Refused-clause-seen
-returns-in-Refused-clause-seen g c =
-    extends-on _ _ _ (extends-on _ _ _ c.move_wide-tried.ensures.seen c.end_of.ensures.seen) c.store_wider.ensures.seen
+pub returns-in-Refused-clause-grew : goal.returns-in-Refused-clause-grew
+returns-in-Refused-clause-grew g c =
+    grows-on _ _ _ (grows-on _ _ _ c.move_wide-tried.ensures.grew c.end_of.ensures.grew) c.store_wider.ensures.grew
 
-pub returns-in-Missing-clause-seen : goal.returns-in-Missing-clause-seen
-returns-in-Missing-clause-seen g c =
-    extends-on _ _ _ (extends-on _ _ _ c.move_wide-tried.ensures.seen c.end_of.ensures.seen) c.store_wider.ensures.seen
+pub returns-in-Missing-clause-grew : goal.returns-in-Missing-clause-grew
+returns-in-Missing-clause-grew g c =
+    grows-on _ _ _ (grows-on _ _ _ c.move_wide-tried.ensures.grew c.end_of.ensures.grew) c.store_wider.ensures.grew
 
-pub returns-in-Memory-clause-seen : goal.returns-in-Memory-clause-seen
-returns-in-Memory-clause-seen g c =
-    extends-on _ _ _ (extends-on _ _ _ c.move_wide-tried.ensures.seen c.end_of.ensures.seen) c.store_wider.ensures.seen
+pub returns-in-Memory-clause-grew : goal.returns-in-Memory-clause-grew
+returns-in-Memory-clause-grew g c =
+    grows-on _ _ _ (grows-on _ _ _ c.move_wide-tried.ensures.grew c.end_of.ensures.grew) c.store_wider.ensures.grew
 
-pub returns-in-Done-clause-seen : goal.returns-in-Done-clause-seen
-returns-in-Done-clause-seen g c =
-    extends-on _ _ _ (extends-on _ _ _ (extends-on _ _ _ c.move_wide-tried.ensures.seen c.end_of.ensures.seen) c.store_wider.ensures.seen) c.store_move.ensures.seen
+pub returns-in-Done-clause-grew : goal.returns-in-Done-clause-grew
+returns-in-Done-clause-grew g c =
+    grows-on _ _ _ (grows-on _ _ _ (grows-on _ _ _ c.move_wide-tried.ensures.grew c.end_of.ensures.grew) c.store_wider.ensures.grew) c.store_move.ensures.grew
