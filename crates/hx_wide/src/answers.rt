@@ -222,8 +222,8 @@ pub fn widen_all<P: Proofs, R: Wait>(
     ensures grew { Grows (P.sight proofs.old) (P.sight proofs.new) }
     ensures stored { IsStoredWide (P.sight proofs.new).list (P.sight proofs.new).slots
         set.now.present.board (other_of set.now.player) result }
-    ensures missing { MissingFor (LacksServedAnswers (P.sight proofs.old).list (P.sight proofs.new).list
-        set.now order.now) result }
+    ensures missing { MissingFor (LacksServedAnswers (P.sight proofs.old).list
+        (P.sight proofs.new).list set.now order.now) result }
 {
     let Ok(found) = must(set, order) else {
         return Stored::Memory;

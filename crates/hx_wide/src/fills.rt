@@ -92,8 +92,8 @@ pub fn widen_fill<P: Proofs, R: Wait>(
     ensures grew { Grows (P.sight proofs.old) (P.sight proofs.new) }
     ensures stored { IsStoredWide (P.sight proofs.new).list (P.sight proofs.new).slots
         position.now to_move result }
-    ensures missing { MissingFor (LacksServedFill (P.sight proofs.old).list (P.sight proofs.new).list
-        filled.now.steps.items filled.now.position to_move) result }
+    ensures missing { MissingFor (LacksServedFill (P.sight proofs.old).list
+        (P.sight proofs.new).list filled.now.steps.items filled.now.position to_move) result }
 {
     let Some(wider) = look_wider_either(rt, proofs, &filled.position, to_move) else {
         return Stored::Missing;

@@ -56,8 +56,8 @@ pub fn widen_move<P: Proofs, R: Wait>(
     ensures grew { Grows (P.sight proofs.old) (P.sight proofs.new) }
     ensures stored { IsStoredWide (P.sight proofs.new).list (P.sight proofs.new).slots
         position.now to_move result }
-    ensures missing { MissingFor (LacksServedMove (P.sight proofs.old).list (P.sight proofs.new).list
-        position.now to_move cell) result }
+    ensures missing { MissingFor (LacksServedMove (P.sight proofs.old).list
+        (P.sight proofs.new).list position.now to_move cell) result }
 {
     let next = position.with(to_move, cell);
     let tried = move_wide(rt, proofs, &next, to_move, cell);

@@ -1,8 +1,10 @@
 -- Sets of links at a position, and stones that are put on one and taken back.
-use Rattle.std.specs.Prelude.{◌≡◌, Bool, true, false, ◌∷◌}
+use Rattle.std.specs.Prelude.{◌≡◌, ◌≢◌, [], ◌∷◌}
 use Rattle.hx_board.specs.declared.colours.Colour.TheVariants.{Black, White}
 use Rattle.hx_board.specs.Positions.{Board}
 use Rattle.hx_linkset.specs.States.{Standing}
+use Rattle.hx_worker.specs.declared.sets.Before.{Before}
+use Rattle.hx_worker.specs.declared.sets.Before.TheVariants.{Played, Same, Other}
 
 -- the sets of the two players, both on this board
 pub record AreOn (board : Board) (black white : Standing) : Type 0 where
@@ -23,12 +25,20 @@ pub record IsUndone (old new : Standing) : Type 0 where
   pub same_player : new.player ≡ old.player
   pub back : old.past ≡ new.present ∷ new.past
 
--- stones were put on the set, or it is as it was
-abbrev pub IsPut : Bool → Standing → Standing → Type 0
-IsPut true old new = IsPlayedOn old new
-IsPut false old new = new ≡ old
+-- stones were put on the set, or it is as it was, or another one took its place
+abbrev pub IsPut : Before → Standing → Standing → Type 0
+IsPut Played old new = IsPlayedOn old new
+IsPut Same old new = new ≡ old
+IsPut (Other set) old new = set ≡ old
 
--- the last play is taken back, where one was made
-abbrev pub IsBack : Bool → Standing → Standing → Type 0
-IsBack true old new = IsUndone old new
-IsBack false old new = new ≡ old
+-- where stones were put on the set, it has a play to take back
+abbrev pub HasPlay : Before → Standing → Type 0
+HasPlay Played set = set.past ≢ []
+HasPlay Same set = Unit {0}
+HasPlay (Other kept) set = Unit {0}
+
+-- what was put is taken back
+abbrev pub IsBack : Before → Standing → Standing → Type 0
+IsBack Played old new = IsUndone old new
+IsBack Same old new = new ≡ old
+IsBack (Other set) old new = new ≡ set

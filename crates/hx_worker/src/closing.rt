@@ -5,8 +5,8 @@
 
 ghost use Rattle.std.specs.Prelude.{◌≡◌, ℕ, IfOk, IfSome};
 ghost use Rattle.hx_board.specs.Graph.{HasChain};
+ghost use Rattle.hx_book.specs.Sights.{Grows};
 ghost use Rattle.hx_count.specs.Seats.{Seat};
-ghost use Rattle.hx_tree.specs.Entries.{Extends};
 ghost use Rattle.hx_search.specs.Closed.{IsGrown};
 ghost use Rattle.hx_worker.specs.Sets.{AreOn};
 ghost use Rattle.hx_worker.specs.Keeps.{IsSpent};
@@ -39,15 +39,13 @@ fn by_entry<P: Proofs, R: Wait>(
     position: &Position,
     to_move: Colour,
 ) -> Option<Ended>
-    ensures slots { P.slots proofs.new ≡ P.slots proofs.old }
-    ensures over { P.over proofs.new ≡ P.over proofs.old }
-    ensures seen { Extends (P.list proofs.new) (P.list proofs.old) }
+    ensures grew { Grows (P.sight proofs.old) (P.sight proofs.new) }
     ensures ended { (seat : Seat)
         → IfSome result
-        (IsEnded (P.list proofs.new) (P.slots proofs.new) seat position.now to_move) }
+        (IsEnded (P.sight proofs.new).list (P.sight proofs.new).slots seat position.now to_move) }
     ensures not_spent { IfSome result (λ ended. ¬ EndsSpent ended) }
     ensures unlisted { result ≡ None
-        → WasUnlisted (P.list proofs.old) (P.list proofs.new) position.now to_move }
+        → WasUnlisted (P.sight proofs.old).list (P.sight proofs.new).list position.now to_move }
 {
     match store_turned(rt, proofs, position, to_move) {
         Stored::Done => found_by(rt, proofs, position, to_move),
@@ -65,12 +63,10 @@ fn by_chain<P: Proofs, R: Wait>(
     to_move: Colour,
     player: Colour,
 ) -> Option<Ended>
-    ensures slots { P.slots proofs.new ≡ P.slots proofs.old }
-    ensures over { P.over proofs.new ≡ P.over proofs.old }
-    ensures seen { Extends (P.list proofs.new) (P.list proofs.old) }
+    ensures grew { Grows (P.sight proofs.old) (P.sight proofs.new) }
     ensures ended { (seat : Seat)
         → IfSome result
-        (IsEnded (P.list proofs.new) (P.slots proofs.new) seat position.now to_move) }
+        (IsEnded (P.sight proofs.new).list (P.sight proofs.new).slots seat position.now to_move) }
     ensures not_spent { IfSome result (λ ended. ¬ EndsSpent ended) }
     ensures no_chain { result ≡ None → HasChain position.now player → ⊥ }
 {
@@ -91,13 +87,11 @@ fn by_closed<P: Proofs, R: Wait>(
     set: &mut LinkSet,
 ) -> Option<Ended>
     requires { set.old.present.board ≡ position.now }
-    ensures slots { P.slots proofs.new ≡ P.slots proofs.old }
-    ensures over { P.over proofs.new ≡ P.over proofs.old }
-    ensures seen { Extends (P.list proofs.new) (P.list proofs.old) }
+    ensures grew { Grows (P.sight proofs.old) (P.sight proofs.new) }
     ensures set { IsGrown set.old set.new }
     ensures ended { (seat : Seat)
         → IfSome result
-        (IsEnded (P.list proofs.new) (P.slots proofs.new) seat position.now to_move) }
+        (IsEnded (P.sight proofs.new).list (P.sight proofs.new).slots seat position.now to_move) }
     ensures not_spent { IfSome result (λ ended. ¬ EndsSpent ended) }
     ensures open_set { result ≡ None → IsOpenSet set.new to_move }
 {
@@ -123,18 +117,16 @@ fn decide<P: Proofs, R: Wait>(
     white: &mut LinkSet,
 ) -> Option<Ended>
     requires { AreOn position.now black.old white.old }
-    ensures slots { P.slots proofs.new ≡ P.slots proofs.old }
-    ensures over { P.over proofs.new ≡ P.over proofs.old }
-    ensures seen { Extends (P.list proofs.new) (P.list proofs.old) }
+    ensures grew { Grows (P.sight proofs.old) (P.sight proofs.new) }
     ensures black { IsGrown black.old black.new }
     ensures white { IsGrown white.old white.new }
     ensures ended { (seat : Seat)
         → IfSome result
-        (IsEnded (P.list proofs.new) (P.slots proofs.new) seat position.now to_move) }
+        (IsEnded (P.sight proofs.new).list (P.sight proofs.new).slots seat position.now to_move) }
     ensures not_spent { IfSome result (λ ended. ¬ EndsSpent ended) }
     ensures tried { result ≡ None → IsTried position.now to_move black.new white.new }
     ensures unlisted { result ≡ None
-        → WasUnlisted (P.list proofs.old) (P.list proofs.new) position.now to_move }
+        → WasUnlisted (P.sight proofs.old).list (P.sight proofs.new).list position.now to_move }
 {
     if let Some(ended) = by_entry(rt, proofs, position, to_move) {
         return Some(ended);
@@ -162,16 +154,15 @@ pub(crate) fn close_and_end<P: Proofs, R: Wait>(
     spent: Spent,
 ) -> Ended
     requires { AreOn position.now black.old white.old }
-    ensures slots { P.slots proofs.new ≡ P.slots proofs.old }
-    ensures over { P.over proofs.new ≡ P.over proofs.old }
-    ensures seen { Extends (P.list proofs.new) (P.list proofs.old) }
+    ensures grew { Grows (P.sight proofs.old) (P.sight proofs.new) }
     ensures black { IsGrown black.old black.new }
     ensures white { IsGrown white.old white.new }
     ensures ended { (seat : Seat) → IsSpent seat spent
-        → IsEnded (P.list proofs.new) (P.slots proofs.new) seat position.now to_move result }
+        → IsEnded (P.sight proofs.new).list (P.sight proofs.new).slots seat position.now to_move
+        result }
     ensures tried { EndsSpent result → IsTried position.now to_move black.new white.new }
     ensures unlisted { EndsSpent result
-        → WasUnlisted (P.list proofs.old) (P.list proofs.new) position.now to_move }
+        → WasUnlisted (P.sight proofs.old).list (P.sight proofs.new).list position.now to_move }
 {
     match decide(rt, proofs, position, to_move, black, white) {
         Some(ended) => ended,

@@ -1,8 +1,8 @@
 //! How a worker's work ends.
 
-ghost use Rattle.std.specs.Prelude.{◌≡◌, IfSome, IsSome};
+ghost use Rattle.std.specs.Prelude.{IfSome, IsSome};
+ghost use Rattle.hx_book.specs.Sights.{Grows};
 ghost use Rattle.hx_count.specs.Seats.{Seat};
-ghost use Rattle.hx_tree.specs.Entries.{Extends};
 ghost use Rattle.hx_nodes.specs.Stored.{HasEntry, TellsStored, IsAnswered};
 ghost use Rattle.hx_worker.specs.Ends.{IsEnded, EndsSpent};
 
@@ -35,14 +35,12 @@ pub(crate) fn found_by<P: Proofs, R: Wait>(
     position: &Position,
     to_move: Colour,
 ) -> Option<Ended>
-    ensures slots { P.slots proofs.new ≡ P.slots proofs.old }
-    ensures over { P.over proofs.new ≡ P.over proofs.old }
-    ensures seen { Extends (P.list proofs.new) (P.list proofs.old) }
+    ensures grew { Grows (P.sight proofs.old) (P.sight proofs.new) }
     ensures ended { (seat : Seat)
         → IfSome result
-        (IsEnded (P.list proofs.new) (P.slots proofs.new) seat position.now to_move) }
+        (IsEnded (P.sight proofs.new).list (P.sight proofs.new).slots seat position.now to_move) }
     ensures not_spent { IfSome result (λ ended. ¬ EndsSpent ended) }
-    ensures found { HasEntry (P.list proofs.old) position.now to_move → IsSome result }
+    ensures found { HasEntry (P.sight proofs.old).list position.now to_move → IsSome result }
 {
     match proofs.look(rt, position, to_move) {
         Some(found) => Some(Ended::Proved {
@@ -61,14 +59,13 @@ pub(crate) fn ended_by<P: Proofs, R: Wait>(
     to_move: Colour,
     stored: Stored,
 ) -> Ended
-    requires stored { TellsStored (P.list proofs.old) (P.slots proofs.old) position.now to_move
-        stored }
+    requires stored { TellsStored (P.sight proofs.old).list (P.sight proofs.old).slots position.now
+        to_move stored }
     requires answered { IsAnswered stored }
-    ensures slots { P.slots proofs.new ≡ P.slots proofs.old }
-    ensures over { P.over proofs.new ≡ P.over proofs.old }
-    ensures seen { Extends (P.list proofs.new) (P.list proofs.old) }
+    ensures grew { Grows (P.sight proofs.old) (P.sight proofs.new) }
     ensures ended { (seat : Seat)
-        → IsEnded (P.list proofs.new) (P.slots proofs.new) seat position.now to_move result }
+        → IsEnded (P.sight proofs.new).list (P.sight proofs.new).slots seat position.now to_move
+        result }
     ensures not_spent { ¬ EndsSpent result }
 {
     match stored {

@@ -1,9 +1,9 @@
 //! The work of one worker.
 
 ghost use Rattle.std.specs.Prelude.{◌≡◌, ◌<◌};
+ghost use Rattle.hx_book.specs.Sights.{Grows};
 ghost use Rattle.hx_count.specs.Machine.{held_in_all};
 ghost use Rattle.hx_count.specs.Seats.{own};
-ghost use Rattle.hx_tree.specs.Entries.{Extends};
 ghost use Rattle.hx_search.specs.Closed.{IsGrown};
 ghost use Rattle.hx_moves.specs.Keeps.{KeepsSeat};
 ghost use Rattle.hx_worker.specs.Sets.{AreOn};
@@ -11,7 +11,7 @@ ghost use Rattle.hx_worker.specs.Ends.{IsEnded, IsTried, WasUnlisted, EndsSpent}
 
 use crate::closing::close_and_end;
 use crate::ended::Ended;
-use crate::rounds::search;
+use crate::rounds::search_position;
 use crate::workers::{Worker, ask};
 use hx_board::{Colour, Position};
 use hx_book::Proofs;
@@ -60,23 +60,23 @@ pub fn work<P: Proofs, G: Gate, R: Wait>(rt: &R, job: &mut Job<'_, P>, gate: &G)
     ensures counts { job.new.counts.now ≡ job.old.counts.now }
     ensures hints { job.new.hints.now ≡ job.old.hints.now }
     ensures replies { job.new.replies.now ≡ job.old.replies.now }
-    ensures slots { P.slots job.new.proofs ≡ P.slots job.old.proofs }
-    ensures over { P.over job.new.proofs ≡ P.over job.old.proofs }
-    ensures seen { Extends (P.list job.new.proofs) (P.list job.old.proofs) }
+    ensures grew { Grows (P.sight job.old.proofs) (P.sight job.new.proofs) }
     ensures seat { KeepsSeat job.old.seat job.new.seat }
     ensures black { IsGrown job.old.black job.new.black }
     ensures white { IsGrown job.old.white job.new.white }
-    ensures ended { IsEnded (P.list job.new.proofs) (P.slots job.new.proofs) job.new.seat
-        job.old.position job.old.to_move result }
+    ensures ended { IsEnded (P.sight job.new.proofs).list (P.sight job.new.proofs).slots
+        job.new.seat job.old.position job.old.to_move result }
     // A spent budget ends the work before the first turn, or after all was tried that can be tried at once.
     ensures tried { EndsSpent result → (own job.old.seat).granted < (own job.new.seat).granted
         → IsTried job.old.position job.old.to_move job.new.black job.new.white }
     ensures unlisted { EndsSpent result → (own job.old.seat).granted < (own job.new.seat).granted
-        → WasUnlisted (P.list job.old.proofs) (P.list job.new.proofs)
+        → WasUnlisted (P.sight job.old.proofs).list (P.sight job.new.proofs).list
         job.old.position job.old.to_move }
 {
     let worker = Worker {
         number: job.worker,
+        alloc: job.black.allocator(),
+        rt,
         gate,
         counts: job.counts,
         hints: job.hints,
@@ -85,9 +85,7 @@ pub fn work<P: Proofs, G: Gate, R: Wait>(rt: &R, job: &mut Job<'_, P>, gate: &G)
     if let Err(spent) = ask(&worker, &mut job.seat) {
         return Ended::Spent(spent);
     }
-    let ended = search(
-        rt,
-        job.black.allocator(),
+    let ended = search_position(
         &worker,
         &mut job.proofs,
         &mut job.seat,

@@ -14,6 +14,7 @@ mod looks;
 mod outcomes;
 mod proved_moves;
 mod rounds;
+mod searches;
 mod sets;
 mod turns;
 mod wide_moves;

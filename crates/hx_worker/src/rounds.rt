@@ -2,16 +2,17 @@
 //! wanting.
 
 ghost use Rattle.std.specs.Prelude.{◌≡◌, ◌+◌, ◌<◌, IfSome};
+ghost use Rattle.hx_book.specs.Sights.{Grows};
 ghost use Rattle.hx_count.specs.declared.events.TheConstants.{MOST_HELD};
 ghost use Rattle.hx_count.specs.Machine.{held_in_all};
-ghost use Rattle.hx_count.specs.Seats.{Seat, own as own_account};
-ghost use Rattle.hx_tree.specs.Entries.{Extends};
+ghost use Rattle.hx_count.specs.Seats.{own as own_account};
 ghost use Rattle.hx_moves.specs.Keeps.{KeepsSeat};
 ghost use Rattle.hx_worker.specs.Ends.{IsEnded};
+ghost use Rattle.hx_worker.specs.Searches.{Keeps, MayHold};
 
 use crate::ended::{Ended, found_by};
 use crate::outcomes::Outcome;
-use crate::turns::visit;
+use crate::searches::Search;
 use crate::workers::{Worker, ask};
 use hx_board::{CELLS, Colour, Position};
 use hx_book::Proofs;
@@ -24,7 +25,6 @@ use hx_pn::{INF, Numbers};
 use hx_search::Workspace;
 use hx_turn::Orientations;
 use hx_wide::{look_wider_either, store_root};
-use std::alloc::Global;
 use std::sync::Wait;
 
 /// No limit.
@@ -36,129 +36,98 @@ const NO_LIMIT: Numbers = Numbers {
 /// A board has no more cells, so no more moves are made.
 const DEPTH: u32 = CELLS as u32;
 
-/// The end of the work where an entry serves the position. Then an entry of the position itself is stored, for which a tree asks.
-fn settle<P: Proofs, R: Wait>(
-    rt: &R,
-    alloc: Global,
-    proofs: &mut P,
-    position: &Position,
-    to_move: Colour,
-) -> Option<Ended>
-    ensures slots { P.slots proofs.new ≡ P.slots proofs.old }
-    ensures over { P.over proofs.new ≡ P.over proofs.old }
-    ensures seen { Extends (P.list proofs.new) (P.list proofs.old) }
-    ensures ended { (seat : Seat)
-        → IfSome result
-        (IsEnded (P.list proofs.new) (P.slots proofs.new) seat position.now to_move) }
-{
-    let Some(wider) = look_wider_either(rt, proofs, position, to_move) else {
-        return None;
-    };
-    match store_root(rt, alloc, proofs, position, to_move, wider.found.winner) {
-        Stored::Done => found_by(rt, proofs, position, to_move),
-        Stored::Refused(refusal) => Some(Ended::NoSlots(refusal)),
-        Stored::Missing => None,
-        Stored::Memory => Some(Ended::Memory),
-    }
-}
-
-/// A round with the unit that was granted, and the next unit. None where that was granted too.
-fn round<P: Proofs, G: Gate, R: Wait>(
-    rt: &R,
-    worker: &Worker<'_, G>,
-    proofs: &mut P,
-    seat: &mut CountSeat,
-    workspace: &mut Workspace,
-    own: &mut LinkSet,
-    others: &mut LinkSet,
-    start: &Start,
-) -> Option<Ended>
-    requires seat { seat.old.made ≡ worker.now.counts.now }
-    requires words { worker.now.counts.now.limits.words ≡ LOSS_WORDS }
-    requires room { held_in_all (own_account seat.old) + DEPTH < MOST_HELD }
-    ensures slots { P.slots proofs.new ≡ P.slots proofs.old }
-    ensures over { P.over proofs.new ≡ P.over proofs.old }
-    ensures seen { Extends (P.list proofs.new) (P.list proofs.old) }
-    ensures seat { KeepsSeat seat.old seat.new }
-    ensures ended { IfSome result
-        (IsEnded (P.list proofs.new) (P.slots proofs.new) seat.new start.now.here
-        start.now.to_move) }
-{
-    match visit(
-        rt, worker, proofs, seat, workspace, own, others, start, DEPTH,
-    ) {
-        Outcome::Proved => {}
-        Outcome::Open(_) => {}
-        Outcome::Spent(spent) => return Some(Ended::Spent(spent)),
-        Outcome::NoSlots(refusal) => return Some(Ended::NoSlots(refusal)),
-        Outcome::Memory => return Some(Ended::Memory),
-    }
-    let alloc = own.allocator();
-    if let Some(ended) = settle(rt, alloc, proofs, start.here.position(), start.to_move) {
-        return Some(ended);
-    }
-    if let Err(spent) = ask(worker, seat) {
-        return Some(Ended::Spent(spent));
-    }
-    None
-}
-
-/// Rounds on these sets.
-fn rounds<P: Proofs, G: Gate, R: Wait>(
-    rt: &R,
-    worker: &Worker<'_, G>,
-    proofs: &mut P,
-    seat: &mut CountSeat,
-    workspace: &mut Workspace,
-    own: &mut LinkSet,
-    others: &mut LinkSet,
-    start: &Start,
-) -> Ended
-    requires seat { seat.old.made ≡ worker.now.counts.now }
-    requires words { worker.now.counts.now.limits.words ≡ LOSS_WORDS }
-    requires room { held_in_all (own_account seat.old) + DEPTH < MOST_HELD }
-    ensures slots { P.slots proofs.new ≡ P.slots proofs.old }
-    ensures over { P.over proofs.new ≡ P.over proofs.old }
-    ensures seen { Extends (P.list proofs.new) (P.list proofs.old) }
-    ensures seat { KeepsSeat seat.old seat.new }
-    ensures ended { IsEnded (P.list proofs.new) (P.slots proofs.new) seat.new start.now.here
-        start.now.to_move result }
-{
-    for _ in rt.forever() {
-        if let Some(ended) = round(rt, worker, proofs, seat, workspace, own, others, start) {
-            return ended;
+impl<P: Proofs, G: Gate, R: Wait> Search<'_, P, G, R, Workspace, LinkSet> {
+    /// The end of the work where an entry serves the position. Then an entry of the position itself is stored, for which a tree
+    /// asks.
+    fn settle(&mut self, position: &Position, to_move: Colour) -> Option<Ended>
+        ensures keeps { Keeps P.sight self.old self.new }
+        ensures ended { IfSome result (IsEnded (P.sight self.new.proofs.now).list
+            (P.sight self.new.proofs.now).slots self.new.seat.now position.now to_move) }
+    {
+        let rt = self.worker.rt;
+        let Some(wider) = look_wider_either(rt, self.proofs, position, to_move) else {
+            return None;
+        };
+        let alloc = self.worker.alloc;
+        match store_root(
+            rt,
+            alloc,
+            self.proofs,
+            position,
+            to_move,
+            wider.found.winner,
+        ) {
+            Stored::Done => found_by(rt, self.proofs, position, to_move),
+            Stored::Refused(refusal) => Some(Ended::NoSlots(refusal)),
+            Stored::Missing => None,
+            Stored::Memory => Some(Ended::Memory),
         }
     }
-    unreachable!()
+
+    /// A round with the unit that was granted, and the next unit. None where that was granted too.
+    fn round(&mut self, start: &Start) -> Option<Ended>
+        requires { MayHold self.old DEPTH }
+        ensures keeps { Keeps P.sight self.old self.new }
+        ensures ended { IfSome result (IsEnded (P.sight self.new.proofs.now).list
+            (P.sight self.new.proofs.now).slots self.new.seat.now start.now.here
+            start.now.to_move) }
+    {
+        match self.visit(start, DEPTH) {
+            Outcome::Proved => {}
+            Outcome::Open(_) => {}
+            Outcome::Spent(spent) => return Some(Ended::Spent(spent)),
+            Outcome::NoSlots(refusal) => return Some(Ended::NoSlots(refusal)),
+            Outcome::Memory => return Some(Ended::Memory),
+        }
+        if let Some(ended) = self.settle(start.here.position(), start.to_move) {
+            return Some(ended);
+        }
+        if let Err(spent) = ask(self.worker, self.seat) {
+            return Some(Ended::Spent(spent));
+        }
+        None
+    }
+
+    /// Round after round.
+    fn rounds(&mut self, start: &Start) -> Ended
+        requires { MayHold self.old DEPTH }
+        ensures keeps { Keeps P.sight self.old self.new }
+        ensures ended { IsEnded (P.sight self.new.proofs.now).list
+            (P.sight self.new.proofs.now).slots self.new.seat.now start.now.here start.now.to_move result }
+    {
+        for _ in self.worker.rt.forever() {
+            if let Some(ended) = self.round(start) {
+                return ended;
+            }
+        }
+        unreachable!()
+    }
 }
 
 /// Searches the position until it is proved, or a unit, a slot or memory is wanting. A unit was granted.
-pub(crate) fn search<P: Proofs, G: Gate, R: Wait>(
-    rt: &R,
-    alloc: Global,
-    worker: &Worker<'_, G>,
-    proofs: &mut P,
-    seat: &mut CountSeat,
+pub(crate) fn search_position<'a, P: Proofs, G: Gate, R: Wait>(
+    worker: &'a Worker<'a, G, R>,
+    proofs: &'a mut P,
+    seat: &'a mut CountSeat,
     position: &Position,
     to_move: Colour,
 ) -> Ended
     requires seat { seat.old.made ≡ worker.now.counts.now }
     requires words { worker.now.counts.now.limits.words ≡ LOSS_WORDS }
     requires room { held_in_all (own_account seat.old) + DEPTH < MOST_HELD }
-    ensures slots { P.slots proofs.new ≡ P.slots proofs.old }
-    ensures over { P.over proofs.new ≡ P.over proofs.old }
-    ensures seen { Extends (P.list proofs.new) (P.list proofs.old) }
+    ensures grew { Grows (P.sight proofs.old) (P.sight proofs.new) }
     ensures seat { KeepsSeat seat.old seat.new }
-    ensures ended { IsEnded (P.list proofs.new) (P.slots proofs.new) seat.new position.now to_move
-        result }
+    ensures ended { IsEnded (P.sight proofs.new).list (P.sight proofs.new).slots seat.new
+        position.now to_move result }
 {
-    let Ok(mut workspace) = Workspace::new(alloc) else {
+    let alloc = worker.alloc;
+    let Ok(workspace) = Workspace::new(alloc) else {
         return Ended::Memory;
     };
-    let Ok(mut own) = LinkSet::new(alloc, position, to_move) else {
+    let Ok(own) = LinkSet::new(alloc, position, to_move) else {
         return Ended::Memory;
     };
-    let Ok(mut others) = LinkSet::new(alloc, position, to_move.other()) else {
+    let Ok(others) = LinkSet::new(alloc, position, to_move.other()) else {
         return Ended::Memory;
     };
     let start = Start {
@@ -167,14 +136,22 @@ pub(crate) fn search<P: Proofs, G: Gate, R: Wait>(
         moved: None,
         limit: NO_LIMIT,
     };
-    rounds(
-        rt,
+    let mut search = Search {
         worker,
         proofs,
         seat,
-        &mut workspace,
-        &mut own,
-        &mut others,
-        &start,
-    )
+        workspace,
+        own,
+        others,
+    };
+    let ended = search.rounds(&start);
+    let Search {
+        worker: _,
+        proofs: _,
+        seat: _,
+        workspace: _,
+        own: _,
+        others: _,
+    } = search;
+    ended
 }

@@ -4,40 +4,61 @@
 //! were found higher up stay. But the links of many turns fill a set. So a set with many links is not played on; the turn gets a
 //! new one.
 
-ghost use Rattle.std.specs.Prelude.{◌≡◌, ◌≢◌, [], IsTrue};
-ghost use Rattle.hx_worker.specs.Sets.{IsPut, IsBack};
+ghost use Rattle.std.specs.Prelude.{◌≡◌, IfOk, OnErr};
+ghost use Rattle.hx_worker.specs.Sets.{HasPlay, IsPut, IsBack};
 
+use hx_board::{Colour, Memory};
 use hx_linkset::LinkSet;
-use hx_moves::Stone;
+use hx_moves::Situation;
+use std::mem::replace;
 
 /// A set with more links is not played on.
 const MANY_LINKS: u32 = 6000;
 
-/// Whether a turn goes on with a set, on which it puts these stones.
-pub(crate) fn serves(set: &LinkSet, stones: &[Stone]) -> bool {
-    if set.count() > MANY_LINKS {
-        return false;
-    }
-    stones.is_empty() || set.can_play(stones)
+/// How a set was before a turn put its stones.
+#[derive(Drop)]
+pub(crate) enum Before {
+    /// As it is, but for the last play.
+    Played,
+
+    /// As it is: there were no stones to put.
+    Same,
+
+    /// The set that was there before the new one.
+    Other(LinkSet),
 }
 
-/// Puts stones on a set, as one play, where there are any. Whether it did.
-pub(crate) fn put(set: &mut LinkSet, stones: &[Stone]) -> bool
-    ensures { IsPut result set.old set.new }
+/// Puts the stones of a turn on a player's set, as one play, where there are any; or puts a new set in its place.
+pub(crate) fn put(
+    set: &mut LinkSet,
+    situation: &Situation,
+    player: Colour,
+) -> Result<Before, Memory>
+    ensures put { IfOk result (λ before. IsPut before set.old set.new) }
+    ensures memory { OnErr result (set.new ≡ set.old) }
 {
-    let can = set.can_play(stones);
-    if can {
-        set.play_all(stones);
+    let stones = situation.stones.as_slice();
+    if set.count() <= MANY_LINKS {
+        if set.can_play(stones) {
+            set.play_all(stones);
+            return Ok(Before::Played);
+        }
+        if stones.is_empty() {
+            return Ok(Before::Same);
+        }
     }
-    can
+    let new = LinkSet::new(set.allocator(), situation.filled.position(), player)?;
+    Ok(Before::Other(replace(set, new)))
 }
 
-/// Takes the last play back, where one was made.
-pub(crate) fn take_back(set: &mut LinkSet, was_put: bool)
-    requires { IsTrue was_put → set.old.past ≢ [] }
-    ensures { IsBack was_put set.old set.new }
+/// Takes back what a turn put.
+pub(crate) fn take_back(set: &mut LinkSet, before: Before)
+    requires { HasPlay before set.old }
+    ensures { IsBack before set.old set.new }
 {
-    if was_put {
-        set.undo();
+    match before {
+        Before::Played => set.undo(),
+        Before::Same => {}
+        Before::Other(other) => *set = other,
     }
 }

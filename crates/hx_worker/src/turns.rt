@@ -4,358 +4,216 @@
 //! both sets of links, the mover's first; links and the moves that must be tried tell where to go down. Whatever a turn meets, it
 //! takes back all that it put, and releases all that it held.
 
-ghost use Rattle.std.specs.Prelude.{◌≡◌, ◌+◌, ◌<◌};
-ghost use Rattle.hx_count.specs.declared.events.TheConstants.{MOST_HELD};
-ghost use Rattle.hx_count.specs.Machine.{held_in_all};
-ghost use Rattle.hx_count.specs.Seats.{Seat, own as own_account};
-ghost use Rattle.hx_tree.specs.Entries.{Extends};
+ghost use Rattle.std.specs.Prelude.{◌≡◌, IfSome};
 ghost use Rattle.hx_fill.specs.Fills.{IsFillIn};
-ghost use Rattle.hx_moves.specs.Keeps.{KeepsSeat};
-ghost use Rattle.hx_worker.specs.Keeps.{StandsAgain};
-ghost use Rattle.hx_worker.specs.Outcomes.{IsOutcome};
+ghost use Rattle.hx_worker.specs.Searches.{Keeps, MayHold, Tells};
 
 use crate::left_hints::{leave, leave_proved};
-use crate::looks::{by_links, look_up, look_up_filled};
 use crate::outcomes::{Outcome, outcome_of};
-use crate::proved_moves::{all_lose, look_again, look_at_marked, take_in};
-use crate::sets::{put, serves, take_back};
-use crate::wide_moves::look_at_all;
-use crate::workers::{Worker, ask};
+use crate::searches::Search;
+use crate::sets::{put, take_back};
+use crate::workers::ask;
 use hx_book::Proofs;
-use hx_count::{CountSeat, Hints};
 use hx_fill::{Filled, fill_in};
 use hx_io::Gate;
 use hx_linkset::LinkSet;
-use hx_moves::{Choice, Down, LOSS_WORDS, Moves, Situation, Start, choose, loss_word};
+use hx_moves::{Choice, Down, Moves, Situation, Start, choose, loss_word};
 use hx_search::Workspace;
 use hx_wide::widen_fill;
-use std::alloc::Global;
+use std::mem::swap;
 use std::sync::Wait;
 
-/// A turn, with the sets of links of the player to move and of the other one. No more than `depth` moves are made.
-#[cycle(search)]
-fn turn<P: Proofs, G: Gate, R: Wait>(
-    rt: &R,
-    worker: &Worker<'_, G>,
-    proofs: &mut P,
-    seat: &mut CountSeat,
-    workspace: &mut Workspace,
-    own: &mut LinkSet,
-    others: &mut LinkSet,
-    start: &Start,
-    depth: u32,
-) -> Outcome
-    requires seat { seat.old.made ≡ worker.now.counts.now }
-    requires words { worker.now.counts.now.limits.words ≡ LOSS_WORDS }
-    requires room { held_in_all (own_account seat.old) + depth < MOST_HELD }
-    ensures slots { P.slots proofs.new ≡ P.slots proofs.old }
-    ensures over { P.over proofs.new ≡ P.over proofs.old }
-    ensures seen { Extends (P.list proofs.new) (P.list proofs.old) }
-    ensures seat { KeepsSeat seat.old seat.new }
-    ensures own { StandsAgain own.old own.new }
-    ensures others { StandsAgain others.old others.new }
-    ensures outcome { IsOutcome (P.list proofs.new) (P.slots proofs.new) seat.new result }
-{
-    if let Err(spent) = ask(worker, seat) {
-        return Outcome::Spent(spent);
+impl<P: Proofs, G: Gate, R: Wait> Search<'_, P, G, R, Workspace, LinkSet> {
+    /// A turn. No more than `depth` moves are made.
+    #[cycle(search)]
+    fn turn(&mut self, start: &Start, depth: u32) -> Outcome
+        requires { MayHold self.old depth }
+        ensures keeps { Keeps P.sight self.old self.new }
+        ensures outcome { Tells P.sight self.new result }
+    {
+        if let Err(spent) = ask(self.worker, self.seat) {
+            return Outcome::Spent(spent);
+        }
+        self.visit(start, depth)
     }
-    visit(
-        rt, worker, proofs, seat, workspace, own, others, start, depth,
-    )
-}
 
-/// A turn whose unit was granted.
-#[cycle(search)]
-pub(crate) fn visit<P: Proofs, G: Gate, R: Wait>(
-    rt: &R,
-    worker: &Worker<'_, G>,
-    proofs: &mut P,
-    seat: &mut CountSeat,
-    workspace: &mut Workspace,
-    own: &mut LinkSet,
-    others: &mut LinkSet,
-    start: &Start,
-    depth: u32,
-) -> Outcome
-    requires seat { seat.old.made ≡ worker.now.counts.now }
-    requires words { worker.now.counts.now.limits.words ≡ LOSS_WORDS }
-    requires room { held_in_all (own_account seat.old) + depth < MOST_HELD }
-    ensures slots { P.slots proofs.new ≡ P.slots proofs.old }
-    ensures over { P.over proofs.new ≡ P.over proofs.old }
-    ensures seen { Extends (P.list proofs.new) (P.list proofs.old) }
-    ensures seat { KeepsSeat seat.old seat.new }
-    ensures own { StandsAgain own.old own.new }
-    ensures others { StandsAgain others.old others.new }
-    ensures outcome { IsOutcome (P.list proofs.new) (P.slots proofs.new) seat.new result }
-{
-    let position = start.here.position();
-    if let Some(outcome) = look_up(rt, proofs, position, start.to_move) {
-        leave(worker.hints, &start.here, start.to_move, &outcome);
-        return outcome;
-    }
-    let alloc = own.allocator();
-    let Ok(filled) = fill_in(alloc, position) else {
-        return Outcome::Memory;
-    };
-    let Ok(turn) = Situation::of(alloc, start, &filled) else {
-        return Outcome::Memory;
-    };
-    let outcome = with_own(
-        rt, worker, proofs, seat, workspace, own, others, &turn, depth,
-    );
-    leave_proved(worker.hints, &turn.filled, turn.to_move, &outcome);
-    conclude(rt, alloc, proofs, worker.hints, start, &filled, outcome)
-}
-
-/// Goes on with the turn's stones on the mover's set, or with a new set.
-#[cycle(search)]
-fn with_own<P: Proofs, G: Gate, R: Wait>(
-    rt: &R,
-    worker: &Worker<'_, G>,
-    proofs: &mut P,
-    seat: &mut CountSeat,
-    workspace: &mut Workspace,
-    own: &mut LinkSet,
-    others: &mut LinkSet,
-    turn: &Situation,
-    depth: u32,
-) -> Outcome
-    requires seat { seat.old.made ≡ worker.now.counts.now }
-    requires words { worker.now.counts.now.limits.words ≡ LOSS_WORDS }
-    requires room { held_in_all (own_account seat.old) + depth < MOST_HELD }
-    ensures slots { P.slots proofs.new ≡ P.slots proofs.old }
-    ensures over { P.over proofs.new ≡ P.over proofs.old }
-    ensures seen { Extends (P.list proofs.new) (P.list proofs.old) }
-    ensures seat { KeepsSeat seat.old seat.new }
-    ensures own { StandsAgain own.old own.new }
-    ensures others { StandsAgain others.old others.new }
-    ensures outcome { IsOutcome (P.list proofs.new) (P.slots proofs.new) seat.new result }
-{
-    if let Some(outcome) = look_up_filled(rt, proofs, turn) {
-        return outcome;
-    }
-    let stones = turn.stones.as_slice();
-    if !serves(own, stones) {
-        let alloc = own.allocator();
-        let Ok(mut new) = LinkSet::new(alloc, turn.filled.position(), turn.to_move) else {
-            return Outcome::Memory;
-        };
-        return with_others(
-            rt, worker, proofs, seat, workspace, &mut new, others, turn, depth,
-        );
-    }
-    let was_put = put(own, stones);
-    let outcome = with_others(
-        rt, worker, proofs, seat, workspace, own, others, turn, depth,
-    );
-    take_back(own, was_put);
-    outcome
-}
-
-/// Brings the mover's links up to date, and goes on with the turn's stones on the other player's set, or with a new set.
-#[cycle(search)]
-fn with_others<P: Proofs, G: Gate, R: Wait>(
-    rt: &R,
-    worker: &Worker<'_, G>,
-    proofs: &mut P,
-    seat: &mut CountSeat,
-    workspace: &mut Workspace,
-    own: &mut LinkSet,
-    others: &mut LinkSet,
-    turn: &Situation,
-    depth: u32,
-) -> Outcome
-    requires seat { seat.old.made ≡ worker.now.counts.now }
-    requires words { worker.now.counts.now.limits.words ≡ LOSS_WORDS }
-    requires room { held_in_all (own_account seat.old) + depth < MOST_HELD }
-    ensures slots { P.slots proofs.new ≡ P.slots proofs.old }
-    ensures over { P.over proofs.new ≡ P.over proofs.old }
-    ensures seen { Extends (P.list proofs.new) (P.list proofs.old) }
-    ensures seat { KeepsSeat seat.old seat.new }
-    ensures own { StandsAgain own.old own.new }
-    ensures others { StandsAgain others.old others.new }
-    ensures outcome { IsOutcome (P.list proofs.new) (P.slots proofs.new) seat.new result }
-{
-    if let Some(outcome) = by_links(rt, proofs, workspace, own, turn.to_move) {
-        return outcome;
-    }
-    let stones = turn.stones.as_slice();
-    if !serves(others, stones) {
-        let alloc = others.allocator();
-        let Ok(mut new) = LinkSet::new(alloc, turn.filled.position(), turn.to_move.other()) else {
-            return Outcome::Memory;
-        };
-        return expand(
-            rt, worker, proofs, seat, workspace, own, &mut new, turn, depth,
-        );
-    }
-    let was_put = put(others, stones);
-    let outcome = expand(
-        rt, worker, proofs, seat, workspace, own, others, turn, depth,
-    );
-    take_back(others, was_put);
-    outcome
-}
-
-/// Brings the other player's links up to date, and goes down to one move after the other.
-#[cycle(search)]
-fn expand<P: Proofs, G: Gate, R: Wait>(
-    rt: &R,
-    worker: &Worker<'_, G>,
-    proofs: &mut P,
-    seat: &mut CountSeat,
-    workspace: &mut Workspace,
-    own: &mut LinkSet,
-    others: &mut LinkSet,
-    turn: &Situation,
-    depth: u32,
-) -> Outcome
-    requires seat { seat.old.made ≡ worker.now.counts.now }
-    requires words { worker.now.counts.now.limits.words ≡ LOSS_WORDS }
-    requires room { held_in_all (own_account seat.old) + depth < MOST_HELD }
-    ensures slots { P.slots proofs.new ≡ P.slots proofs.old }
-    ensures over { P.over proofs.new ≡ P.over proofs.old }
-    ensures seen { Extends (P.list proofs.new) (P.list proofs.old) }
-    ensures seat { KeepsSeat seat.old seat.new }
-    ensures own { StandsAgain own.old own.new }
-    ensures others { StandsAgain others.old others.new }
-    ensures outcome { IsOutcome (P.list proofs.new) (P.slots proofs.new) seat.new result }
-{
-    if let Some(outcome) = by_links(rt, proofs, workspace, others, turn.to_move) {
-        return outcome;
-    }
-    let alloc = own.allocator();
-    let Ok(mut moves) = Moves::of(worker.hints, worker.replies, own, others, turn) else {
-        return Outcome::Memory;
-    };
-    if let Some(outcome) = look_at_all(rt, alloc, proofs, turn, &mut moves) {
-        return outcome;
-    }
-    let all = moves.children.len();
-    if let Some(outcome) = look_at_marked(rt, alloc, proofs, worker.hints, turn, &mut moves, all) {
-        return outcome;
-    }
-    // Hints may change at any time, so nothing says how many rounds there are.
-    for _ in 0..u64::MAX {
-        if let Some(outcome) = look_again(rt, alloc, proofs, worker.hints, turn, &mut moves) {
+    /// A turn whose unit was granted.
+    #[cycle(search)]
+    pub(crate) fn visit(&mut self, start: &Start, depth: u32) -> Outcome
+        requires { MayHold self.old depth }
+        ensures keeps { Keeps P.sight self.old self.new }
+        ensures outcome { Tells P.sight self.new result }
+    {
+        let position = start.here.position();
+        if let Some(outcome) = self.look_up(position, start.to_move) {
+            leave(self.worker.hints, &start.here, start.to_move, &outcome);
             return outcome;
         }
-        let down = match choose(worker.counts, worker.hints, seat, turn, &moves) {
-            Choice::Down(down) => down,
-            Choice::Limit(numbers) => return Outcome::Open(numbers),
-            Choice::AllLose => return all_lose(rt, proofs, others, &moves),
+        let Ok(filled) = fill_in(self.worker.alloc, position) else {
+            return Outcome::Memory;
         };
-        let outcome = descend(
-            rt, worker, proofs, seat, workspace, own, others, &down, depth,
+        let Ok(situation) = Situation::of(self.worker.alloc, start, &filled) else {
+            return Outcome::Memory;
+        };
+        let outcome = self.with_own(&situation, depth);
+        leave_proved(
+            self.worker.hints,
+            &situation.filled,
+            situation.to_move,
+            &outcome,
         );
-        if let Some(outcome) = take_in(
-            rt,
-            alloc,
+        self.conclude(start, &filled, outcome)
+    }
+
+    /// Goes on with the turn's stones on the mover's set, or with a new set.
+    #[cycle(search)]
+    fn with_own(&mut self, situation: &Situation, depth: u32) -> Outcome
+        requires { MayHold self.old depth }
+        ensures keeps { Keeps P.sight self.old self.new }
+        ensures outcome { Tells P.sight self.new result }
+    {
+        if let Some(outcome) = self.look_up_filled(situation) {
+            return outcome;
+        }
+        let Ok(before) = put(&mut self.own, situation, situation.to_move) else {
+            return Outcome::Memory;
+        };
+        let outcome = self.with_others(situation, depth);
+        take_back(&mut self.own, before);
+        outcome
+    }
+
+    /// Brings the mover's links up to date, and goes on with the turn's stones on the other player's set, or with a new set.
+    #[cycle(search)]
+    fn with_others(&mut self, situation: &Situation, depth: u32) -> Outcome
+        requires { MayHold self.old depth }
+        ensures keeps { Keeps P.sight self.old self.new }
+        ensures outcome { Tells P.sight self.new result }
+    {
+        if let Some(outcome) = self.by_own_links(situation) {
+            return outcome;
+        }
+        let Ok(before) = put(&mut self.others, situation, situation.to_move.other()) else {
+            return Outcome::Memory;
+        };
+        let outcome = self.expand(situation, depth);
+        take_back(&mut self.others, before);
+        outcome
+    }
+
+    /// Brings the other player's links up to date, and goes down to one move after the other.
+    #[cycle(search)]
+    fn expand(&mut self, situation: &Situation, depth: u32) -> Outcome
+        requires { MayHold self.old depth }
+        ensures keeps { Keeps P.sight self.old self.new }
+        ensures outcome { Tells P.sight self.new result }
+    {
+        if let Some(outcome) = self.by_others_links(situation) {
+            return outcome;
+        }
+        let worker = self.worker;
+        let Ok(mut moves) = Moves::of(
+            worker.hints,
             worker.replies,
-            proofs,
-            turn,
-            &mut moves,
-            &down,
-            outcome,
-        ) {
+            &self.own,
+            &self.others,
+            situation,
+        ) else {
+            return Outcome::Memory;
+        };
+        if let Some(outcome) = self.look_at_all(situation, &mut moves) {
             return outcome;
         }
-    }
-    Outcome::Open(turn.limit)
-}
-
-/// Goes down to the position after a move, whose mover is the other player, and comes back.
-#[cycle(search)]
-fn descend<P: Proofs, G: Gate, R: Wait>(
-    rt: &R,
-    worker: &Worker<'_, G>,
-    proofs: &mut P,
-    seat: &mut CountSeat,
-    workspace: &mut Workspace,
-    own: &mut LinkSet,
-    others: &mut LinkSet,
-    down: &Down,
-    depth: u32,
-) -> Outcome
-    requires seat { seat.old.made ≡ worker.now.counts.now }
-    requires words { worker.now.counts.now.limits.words ≡ LOSS_WORDS }
-    requires room { held_in_all (own_account seat.old) + depth < MOST_HELD }
-    ensures slots { P.slots proofs.new ≡ P.slots proofs.old }
-    ensures over { P.over proofs.new ≡ P.over proofs.old }
-    ensures seen { Extends (P.list proofs.new) (P.list proofs.old) }
-    ensures seat { KeepsSeat seat.old seat.new }
-    ensures own { StandsAgain own.old own.new }
-    ensures others { StandsAgain others.old others.new }
-    ensures outcome { IsOutcome (P.list proofs.new) (P.slots proofs.new) seat.new result }
-{
-    if depth == 0 {
-        return Outcome::Open(down.child.numbers);
-    }
-    let word = loss_word(down.child.number);
-    worker.counts.hold(seat, word);
-    let outcome = turn(
-        rt,
-        worker,
-        proofs,
-        seat,
-        workspace,
-        others,
-        own,
-        &down.start,
-        depth - 1,
-    );
-    worker.counts.release(seat, word);
-    outcome
-}
-
-/// Ends a turn: where the position after fill-in was proved, the proof of the position before it is stored; and a hint is left.
-fn conclude<P: Proofs, R: Wait>(
-    rt: &R,
-    alloc: Global,
-    proofs: &mut P,
-    hints: &Hints,
-    start: &Start,
-    filled: &Filled,
-    outcome: Outcome,
-) -> Outcome
-    requires { IsFillIn start.now.here filled.now.steps.items filled.now.position }
-    ensures slots { P.slots proofs.new ≡ P.slots proofs.old }
-    ensures over { P.over proofs.new ≡ P.over proofs.old }
-    ensures seen { Extends (P.list proofs.new) (P.list proofs.old) }
-    ensures outcome { (seat : Seat)
-        → IsOutcome (P.list proofs.old) (P.slots proofs.old) seat outcome
-        → IsOutcome (P.list proofs.new) (P.slots proofs.new) seat result }
-{
-    let concluded = after_fill(rt, alloc, proofs, start, filled, outcome);
-    leave(hints, &start.here, start.to_move, &concluded);
-    concluded
-}
-
-/// Where the position after fill-in was proved, stores the proof of the position before it.
-fn after_fill<P: Proofs, R: Wait>(
-    rt: &R,
-    alloc: Global,
-    proofs: &mut P,
-    start: &Start,
-    filled: &Filled,
-    outcome: Outcome,
-) -> Outcome
-    requires { IsFillIn start.now.here filled.now.steps.items filled.now.position }
-    ensures slots { P.slots proofs.new ≡ P.slots proofs.old }
-    ensures over { P.over proofs.new ≡ P.over proofs.old }
-    ensures seen { Extends (P.list proofs.new) (P.list proofs.old) }
-    ensures outcome { (seat : Seat)
-        → IsOutcome (P.list proofs.old) (P.slots proofs.old) seat outcome
-        → IsOutcome (P.list proofs.new) (P.slots proofs.new) seat result }
-{
-    match outcome {
-        Outcome::Proved => {
-            let position = start.here.position();
-            match outcome_of(widen_fill(rt, alloc, proofs, position, start.to_move, filled)) {
-                Some(outcome) => outcome,
-                None => Outcome::Open(start.limit),
+        let all = moves.children.len();
+        if let Some(outcome) = self.look_at_marked(situation, &mut moves, all) {
+            return outcome;
+        }
+        // Hints may change at any time, so nothing says how many rounds there are.
+        for _ in 0..u64::MAX {
+            if let Some(outcome) = self.go_on(situation, &mut moves, depth) {
+                return outcome;
             }
         }
-        other => other,
+        Outcome::Open(situation.limit)
+    }
+
+    /// Looks for what others proved, and goes down to the move that the numbers choose. None where the turn goes on after that.
+    #[cycle(search)]
+    fn go_on(&mut self, situation: &Situation, moves: &mut Moves, depth: u32) -> Option<Outcome>
+        requires { MayHold self.old depth }
+        ensures keeps { Keeps P.sight self.old self.new }
+        ensures outcome { IfSome result (Tells P.sight self.new) }
+    {
+        if let Some(outcome) = self.look_again(situation, moves) {
+            return Some(outcome);
+        }
+        let worker = self.worker;
+        let down = match choose(worker.counts, worker.hints, self.seat, situation, moves) {
+            Choice::Down(down) => down,
+            Choice::Limit(numbers) => return Some(Outcome::Open(numbers)),
+            Choice::AllLose => return Some(self.all_lose(moves)),
+        };
+        let outcome = self.descend(&down, depth);
+        self.take_in(situation, moves, &down, outcome)
+    }
+
+    /// Goes down to the position after a move, whose mover is the other player, and comes back.
+    #[cycle(search)]
+    fn descend(&mut self, down: &Down, depth: u32) -> Outcome
+        requires { MayHold self.old depth }
+        ensures keeps { Keeps P.sight self.old self.new }
+        ensures outcome { Tells P.sight self.new result }
+    {
+        if depth == 0 {
+            return Outcome::Open(down.child.numbers);
+        }
+        let word = loss_word(down.child.number);
+        self.worker.counts.hold(self.seat, word);
+        swap(&mut self.own, &mut self.others);
+        let outcome = self.turn(&down.start, depth - 1);
+        swap(&mut self.own, &mut self.others);
+        self.worker.counts.release(self.seat, word);
+        outcome
+    }
+
+    /// Ends a turn: where the position after fill-in was proved, the proof of the position before it is stored; and a hint is
+    /// left.
+    fn conclude(&mut self, start: &Start, filled: &Filled, outcome: Outcome) -> Outcome
+        requires filled { IsFillIn start.now.here filled.now.steps.items filled.now.position }
+        requires outcome { Tells P.sight self.old outcome }
+        ensures keeps { Keeps P.sight self.old self.new }
+        ensures outcome { Tells P.sight self.new result }
+    {
+        let concluded = self.after_fill(start, filled, outcome);
+        leave(self.worker.hints, &start.here, start.to_move, &concluded);
+        concluded
+    }
+
+    /// Where the position after fill-in was proved, stores the proof of the position before it.
+    fn after_fill(&mut self, start: &Start, filled: &Filled, outcome: Outcome) -> Outcome
+        requires filled { IsFillIn start.now.here filled.now.steps.items filled.now.position }
+        requires outcome { Tells P.sight self.old outcome }
+        ensures keeps { Keeps P.sight self.old self.new }
+        ensures outcome { Tells P.sight self.new result }
+    {
+        match outcome {
+            Outcome::Proved => {
+                let position = start.here.position();
+                let worker = self.worker;
+                let stored = widen_fill(
+                    worker.rt,
+                    worker.alloc,
+                    self.proofs,
+                    position,
+                    start.to_move,
+                    filled,
+                );
+                match outcome_of(stored) {
+                    Some(outcome) => outcome,
+                    None => Outcome::Open(start.limit),
+                }
+            }
+            other => other,
+        }
     }
 }

@@ -5,109 +5,102 @@
 //! are 2,000 to 40,000 moves.
 
 ghost use Rattle.std.specs.Prelude.{◌≡◌, IfSome};
-ghost use Rattle.hx_count.specs.Seats.{Seat};
-ghost use Rattle.hx_tree.specs.Entries.{Extends};
-ghost use Rattle.hx_worker.specs.Outcomes.{IsOutcome};
+ghost use Rattle.hx_worker.specs.Searches.{Keeps, Tells};
 
-use crate::outcomes::{Outcome, outcome_of};
+use crate::outcomes::Outcome;
+use crate::searches::Search;
 use hx_board::{Cell, Mask};
 use hx_book::Proofs;
+use hx_io::Gate;
+use hx_linkset::LinkSet;
 use hx_moves::{Moves, Situation};
-use hx_wide::widen_move;
-use std::alloc::Global;
+use hx_search::Workspace;
 use std::sync::Wait;
 
-/// The cells that the entry against a move does not need, and the move itself. No cell where there is no such entry.
-fn refuted_with<P: Proofs, R: Wait>(rt: &R, proofs: &mut P, turn: &Situation, cell: Cell) -> Mask
-    ensures slots { P.slots proofs.new ≡ P.slots proofs.old }
-    ensures over { P.over proofs.new ≡ P.over proofs.old }
-    ensures seen { Extends (P.list proofs.new) (P.list proofs.old) }
-{
-    let position = turn.filled.position();
-    let is_empty = position.empties().has(cell);
-    if !is_empty {
-        return Mask::empty();
+impl<P: Proofs, G: Gate, R: Wait> Search<'_, P, G, R, Workspace, LinkSet> {
+    /// The cells that the entry against a move does not need, and the move itself. No cell where there is no such entry.
+    fn refuted_with(&mut self, situation: &Situation, cell: Cell) -> Mask
+        ensures keeps { Keeps P.sight self.old self.new }
+    {
+        let position = situation.filled.position();
+        let is_empty = position.empties().has(cell);
+        if !is_empty {
+            return Mask::empty();
+        }
+        let next = position.with(situation.to_move, cell);
+        let other = situation.to_move.other();
+        match self.proofs.look_wider(self.worker.rt, &next, other, other) {
+            Some(wider) => position.empties().minus(wider.position.empties()),
+            None => Mask::empty(),
+        }
     }
-    let next = position.with(turn.to_move, cell);
-    let other = turn.to_move.other();
-    match proofs.look_wider(rt, &next, other, other) {
-        Some(wider) => position.empties().minus(wider.position.empties()),
-        None => Mask::empty(),
-    }
-}
 
-/// The end of the turn by a move after which an entry says that the mover wins.
-fn won_by<P: Proofs, R: Wait>(
-    rt: &R,
-    alloc: Global,
-    proofs: &mut P,
-    turn: &Situation,
-    cell: Cell,
-) -> Option<Outcome>
-    ensures slots { P.slots proofs.new ≡ P.slots proofs.old }
-    ensures over { P.over proofs.new ≡ P.over proofs.old }
-    ensures seen { Extends (P.list proofs.new) (P.list proofs.old) }
-    ensures outcome { (seat : Seat)
-        → IfSome result (IsOutcome (P.list proofs.new) (P.slots proofs.new) seat) }
-{
-    let position = turn.filled.position();
-    let is_empty = position.empties().has(cell);
-    if !is_empty {
-        return None;
+    /// The refuted moves, with those that the entry against a move refutes, where that move is not among them.
+    fn with_refuted(&mut self, situation: &Situation, cell: Cell, refuted: Mask) -> Mask
+        ensures keeps { Keeps P.sight self.old self.new }
+    {
+        if refuted.has(cell) {
+            return refuted;
+        }
+        refuted.union(self.refuted_with(situation, cell))
     }
-    let next = position.with(turn.to_move, cell);
-    let Some(_wider) = proofs.look_wider(rt, &next, turn.to_move.other(), turn.to_move) else {
-        return None;
-    };
-    outcome_of(widen_move(rt, alloc, proofs, position, turn.to_move, cell))
-}
 
-/// Looks each move up, the last one first. Some where that ends the turn; the moves that lose are left out.
-pub(crate) fn look_at_all<P: Proofs, R: Wait>(
-    rt: &R,
-    alloc: Global,
-    proofs: &mut P,
-    turn: &Situation,
-    moves: &mut Moves,
-) -> Option<Outcome>
-    ensures slots { P.slots proofs.new ≡ P.slots proofs.old }
-    ensures over { P.over proofs.new ≡ P.over proofs.old }
-    ensures seen { Extends (P.list proofs.new) (P.list proofs.old) }
-    ensures outcome { (seat : Seat)
-        → IfSome result (IsOutcome (P.list proofs.new) (P.slots proofs.new) seat) }
-{
-    let mut refuted = Mask::empty();
-    let mut left = moves.children.len();
-    while left > 0 {
-        left -= 1;
-        let Some(child) = moves.children.get(left).copied() else {
+    /// The end of the turn by a move after which an entry says that the mover wins.
+    fn won_by(&mut self, situation: &Situation, cell: Cell) -> Option<Outcome>
+        ensures keeps { Keeps P.sight self.old self.new }
+        ensures outcome { IfSome result (Tells P.sight self.new) }
+    {
+        let position = situation.filled.position();
+        let is_empty = position.empties().has(cell);
+        if !is_empty {
+            return None;
+        }
+        let next = position.with(situation.to_move, cell);
+        let other = situation.to_move.other();
+        let rt = self.worker.rt;
+        let Some(_wider) = self.proofs.look_wider(rt, &next, other, situation.to_move) else {
             return None;
         };
-        if let Some(outcome) = won_by(rt, alloc, proofs, turn, child.cell) {
-            return Some(outcome);
-        }
-        if !refuted.has(child.cell) {
-            refuted = refuted.union(refuted_with(rt, proofs, turn, child.cell));
-        }
-        if refuted.has(child.cell) {
-            moves.leave_out(left);
-        }
+        self.win_by(situation, cell)
     }
-    None
-}
 
-/// Leaves out the moves that the proof against a move refutes too.
-pub(crate) fn leave_out_siblings<P: Proofs, R: Wait>(
-    rt: &R,
-    proofs: &mut P,
-    turn: &Situation,
-    moves: &mut Moves,
-    cell: Cell,
-)
-    ensures slots { P.slots proofs.new ≡ P.slots proofs.old }
-    ensures over { P.over proofs.new ≡ P.over proofs.old }
-    ensures seen { Extends (P.list proofs.new) (P.list proofs.old) }
-{
-    let refuted = refuted_with(rt, proofs, turn, cell);
-    moves.leave_out_all(refuted);
+    /// Looks each move up, the last one first. Some where that ends the turn; the moves that lose are left out.
+    pub(crate) fn look_at_all(
+        &mut self,
+        situation: &Situation,
+        moves: &mut Moves,
+    ) -> Option<Outcome>
+        ensures keeps { Keeps P.sight self.old self.new }
+        ensures outcome { IfSome result (Tells P.sight self.new) }
+    {
+        let mut refuted = Mask::empty();
+        let mut left = moves.children.len();
+        while left > 0 {
+            left -= 1;
+            let Some(child) = moves.children.get(left).copied() else {
+                return None;
+            };
+            if let Some(outcome) = self.won_by(situation, child.cell) {
+                return Some(outcome);
+            }
+            refuted = self.with_refuted(situation, child.cell, refuted);
+            if refuted.has(child.cell) {
+                moves.leave_out(left);
+            }
+        }
+        None
+    }
+
+    /// Leaves out the moves that the proof against a move refutes too.
+    pub(crate) fn leave_out_siblings(
+        &mut self,
+        situation: &Situation,
+        moves: &mut Moves,
+        cell: Cell,
+    )
+        ensures keeps { Keeps P.sight self.old self.new }
+    {
+        let refuted = self.refuted_with(situation, cell);
+        moves.leave_out_all(refuted);
+    }
 }

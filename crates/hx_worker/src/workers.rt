@@ -8,11 +8,14 @@ ghost use Rattle.hx_worker.specs.Keeps.{IsSpent};
 use hx_count::{CountSeat, Counts, Hints, Spent};
 use hx_io::Gate;
 use hx_moves::Replies;
+use std::alloc::Global;
 
 /// A worker's number, and what it has in common with all other workers.
 #[derive(Drop)]
-pub(crate) struct Worker<'a, G> {
+pub(crate) struct Worker<'a, G, R> {
     pub(crate) number: u32,
+    pub(crate) alloc: Global,
+    pub(crate) rt: &'a R,
     pub(crate) gate: &'a G,
     pub(crate) counts: &'a Counts,
     pub(crate) hints: &'a Hints,
@@ -20,7 +23,7 @@ pub(crate) struct Worker<'a, G> {
 }
 
 /// Calls the gate and asks for a unit.
-pub(crate) fn ask<G: Gate>(worker: &Worker<'_, G>, seat: &mut CountSeat) -> Result<(), Spent>
+pub(crate) fn ask<G: Gate, R>(worker: &Worker<'_, G, R>, seat: &mut CountSeat) -> Result<(), Spent>
     requires { seat.old.made ≡ worker.now.counts.now }
     ensures seat { KeepsSeat seat.old seat.new }
     ensures own { own seat.new ≡ after_spend result (own seat.old) }

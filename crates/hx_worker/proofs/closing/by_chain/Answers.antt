@@ -1,5 +1,5 @@
-use Rattle.hx_tree.proofs.EntryLaws.{extends-on}
+use Rattle.hx_book.proofs.SightLaws.{grows-on}
 use Rattle.hx_worker.proofs.closing.by_chain.Goals as goal
 
-pub returns-clause-seen : goal.returns-clause-seen
-returns-clause-seen g c = extends-on _ _ _ c.store_chain-stored.ensures.seen c.ended_by.ensures.seen
+pub returns-clause-grew : goal.returns-clause-grew
+returns-clause-grew g c = grows-on _ _ _ c.store_chain-stored.ensures.grew c.ended_by.ensures.grew

@@ -1,5 +1,5 @@
-use Rattle.hx_tree.proofs.EntryLaws.{extends-on}
+use Rattle.hx_book.proofs.SightLaws.{grows-on}
 use Rattle.hx_worker.proofs.closing.by_closed.Goals as goal
 
-pub returns-in-Decided-clause-seen : goal.returns-in-Decided-clause-seen
-returns-in-Decided-clause-seen g c = extends-on _ _ _ c.store_links-stored.ensures.seen c.ended_by.ensures.seen
+pub returns-in-Decided-clause-grew : goal.returns-in-Decided-clause-grew
+returns-in-Decided-clause-grew g c = grows-on _ _ _ c.store_links-stored.ensures.grew c.ended_by.ensures.grew

@@ -2,6 +2,7 @@ use Rattle.hx_board.specs.declared.colours.Colour.TheVariants.{Black, White}
 use Rattle.hx_board.specs.Positions.{Board}
 use Rattle.hx_board.specs.Graph.{HasChain, HasNoChain}
 use Rattle.hx_tree.proofs.EntryLaws.{extends-itself, extends-on}
+use Rattle.hx_book.proofs.SightLaws.{grows-on}
 use Rattle.hx_worker.proofs.UnlistedLaws.{unlisted-wider}
 use Rattle.hx_worker.proofs.closing.decide.Goals as goal
 
@@ -16,22 +17,22 @@ returns-clause-tried g c = λ none. record {
   white_open = c.by_closed-2.ensures.open_set none;
 }
 
-pub returns-in-Some-by_chain-clause-seen : goal.returns-in-Some-by_chain-clause-seen
-returns-in-Some-by_chain-clause-seen g c = extends-on _ _ _ c.by_entry.ensures.seen c.by_chain.ensures.seen
+pub returns-in-Some-by_chain-clause-grew : goal.returns-in-Some-by_chain-clause-grew
+returns-in-Some-by_chain-clause-grew g c = grows-on _ _ _ c.by_entry.ensures.grew c.by_chain.ensures.grew
 
-pub returns-in-Some-by_chain-2-clause-seen : goal.returns-in-Some-by_chain-2-clause-seen
-returns-in-Some-by_chain-2-clause-seen g c =
-    extends-on _ _ _ (extends-on _ _ _ c.by_entry.ensures.seen c.by_chain.ensures.seen) c.by_chain-2.ensures.seen
+pub returns-in-Some-by_chain-2-clause-grew : goal.returns-in-Some-by_chain-2-clause-grew
+returns-in-Some-by_chain-2-clause-grew g c =
+    grows-on _ _ _ (grows-on _ _ _ c.by_entry.ensures.grew c.by_chain.ensures.grew) c.by_chain-2.ensures.grew
 
-pub returns-in-Some-by_closed-clause-seen : goal.returns-in-Some-by_closed-clause-seen
-returns-in-Some-by_closed-clause-seen g c =
-    extends-on _ _ _ (extends-on _ _ _ (extends-on _ _ _ c.by_entry.ensures.seen c.by_chain.ensures.seen) c.by_chain-2.ensures.seen) c.by_closed.ensures.seen
+pub returns-in-Some-by_closed-clause-grew : goal.returns-in-Some-by_closed-clause-grew
+returns-in-Some-by_closed-clause-grew g c =
+    grows-on _ _ _ (grows-on _ _ _ (grows-on _ _ _ c.by_entry.ensures.grew c.by_chain.ensures.grew) c.by_chain-2.ensures.grew) c.by_closed.ensures.grew
 
-pub returns-clause-seen : goal.returns-clause-seen
-returns-clause-seen g c =
-    extends-on _ _ _ (extends-on _ _ _ (extends-on _ _ _ (extends-on _ _ _ c.by_entry.ensures.seen c.by_chain.ensures.seen) c.by_chain-2.ensures.seen) c.by_closed.ensures.seen) c.by_closed-2.ensures.seen
+pub returns-clause-grew : goal.returns-clause-grew
+returns-clause-grew g c =
+    grows-on _ _ _ (grows-on _ _ _ (grows-on _ _ _ (grows-on _ _ _ c.by_entry.ensures.grew c.by_chain.ensures.grew) c.by_chain-2.ensures.grew) c.by_closed.ensures.grew) c.by_closed-2.ensures.grew
 
 pub returns-clause-unlisted : goal.returns-clause-unlisted
 returns-clause-unlisted g c = λ none. unlisted-wider _ _ _ _ _ _ (extends-itself _)
-    (extends-on _ _ _ (extends-on _ _ _ (extends-on _ _ _ c.by_chain.ensures.seen c.by_chain-2.ensures.seen) c.by_closed.ensures.seen) c.by_closed-2.ensures.seen)
+    (extends-on _ _ _ (extends-on _ _ _ (extends-on _ _ _ c.by_chain.ensures.grew.seen c.by_chain-2.ensures.grew.seen) c.by_closed.ensures.grew.seen) c.by_closed-2.ensures.grew.seen)
     (c.by_entry.ensures.unlisted c.in_default.is)

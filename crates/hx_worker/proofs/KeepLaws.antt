@@ -1,0 +1,136 @@
+-- What every function of a search keeps: so do two of them, one after the other.
+use Rattle.std.proofs.Common.{rules, ◌≡◌, sym, ap, ◌∙◌, subst, ℕ, ◌<◌, List, [], ◌∷◌, arith}
+use Rattle.hx_book.specs.Sights.{Sight}
+use Rattle.hx_book.proofs.SightLaws.{grows-on}
+use Rattle.hx_count.specs.Machine.{Account, holding, releasing, held_in_all}
+use Rattle.hx_count.specs.Seats.{Seat, own as own_account}
+use Rattle.hx_count.proofs.MachineLaws.{held-holding-le, releasing-held}
+use Rattle.hx_linkset.specs.States.{State, Standing}
+use Rattle.hx_moves.specs.Keeps.{KeepsSeat}
+use Rattle.hx_worker.specs.declared.searches.Search.{Search}
+use Rattle.hx_worker.specs.declared.sets.Before.{Before}
+use Rattle.hx_worker.specs.declared.sets.Before.TheVariants.{Played, Same, Other}
+use Rattle.hx_worker.specs.Keeps.{StandsAgain}
+use Rattle.hx_worker.specs.Sets.{IsPut, HasPlay, IsBack}
+use Rattle.hx_worker.specs.Searches.{Keeps, MayHold}
+
+pub stands-on : (first second third : Standing) → StandsAgain first second → StandsAgain second third → StandsAgain first third
+stands-on first second third one two = record {
+  same_player = two.same_player ∙ one.same_player;
+  same_board = two.same_board ∙ one.same_board;
+  same_past = two.same_past ∙ one.same_past;
+}
+
+pub seat-on : (first second third : Seat) → KeepsSeat first second → KeepsSeat second third → KeepsSeat first third
+seat-on first second third one two = record {
+  same_made = two.same_made ∙ one.same_made;
+  same_held = two.same_held ∙ one.same_held;
+  still_refused = λ is. two.still_refused (one.still_refused is);
+}
+
+-- a set that was moved to another place, stood there, and was moved back
+pub stands-moved : (old moved stood last : Standing) → moved ≡ old → StandsAgain moved stood → last ≡ stood → StandsAgain old last
+stands-moved old moved stood last there stands back = record {
+  same_player = ap (λ (set : Standing). set.player) back ∙ stands.same_player ∙ ap (λ (set : Standing). set.player) there;
+  same_board = ap (λ (set : Standing). set.present.board) back ∙ stands.same_board ∙ ap (λ (set : Standing). set.present.board) there;
+  same_past = ap (λ (set : Standing). set.past) back ∙ stands.same_past ∙ ap (λ (set : Standing). set.past) there;
+}
+
+-- a word is held, a turn keeps the seat, and the word is released
+pub release-keeps : (before held turned after : Seat) (word : ℕ) → held.made ≡ before.made → own_account held ≡ holding word (own_account before)
+    → KeepsSeat held turned → after.made ≡ turned.made → own_account after ≡ releasing word (own_account turned) → KeepsSeat before after
+release-keeps before held turned after word made_held own_held turn made_after own_after = record {
+  same_made = made_after ∙ turn.same_made ∙ made_held;
+  same_held =
+      ap (λ (a : Account). a.held) own_after
+      ∙ releasing-held word (own_account before) (own_account turned) (turn.same_held ∙ ap (λ (a : Account). a.held) own_held);
+  still_refused = λ is. ap (λ (a : Account). a.refused) own_after ∙ turn.still_refused (ap (λ (a : Account). a.refused) own_held ∙ is);
+}
+
+-- what holds of a value holds of what is left of it
+pub kept : {X : Type 0} (fact : X → Type 0) (now given : X) → now ≡ given → fact now → fact given
+kept fact now given same is = subst fact same is
+
+module _ {P G R W : Type 0} (sight : P → Sight) where
+  pub keeps-on : (first second third : Search P G R W Standing) → Keeps sight first second → Keeps sight second third → Keeps sight first third
+  keeps-on first second third one two = record {
+    same_worker = two.same_worker ∙ one.same_worker;
+    same_proofs = two.same_proofs ∙ one.same_proofs;
+    same_seat = two.same_seat ∙ one.same_seat;
+    grew = grows-on _ _ _ one.grew two.grew;
+    seat = seat-on _ _ _ one.seat two.seat;
+    own = stands-on _ _ _ one.own two.own;
+    others = stands-on _ _ _ one.others two.others;
+  }
+
+-- a set on which a turn put its stones, and took them back
+pub put-back : (before : Before) (old put played last : Standing) → IsPut before old put → StandsAgain put played → IsBack before played last
+    → StandsAgain old last
+put-back Played old put played last is stands back =
+    let lists : old.present ∷ old.past ≡ last.present ∷ last.past = sym is.same_past ∙ sym stands.same_past ∙ back.back in
+    let present : last.present ≡ old.present = cc in
+    let past : last.past ≡ old.past = cc in record {
+      same_player = back.same_player ∙ stands.same_player ∙ is.same_player;
+      same_board = ap (λ (state : State). state.board) present;
+      same_past = past;
+    }
+put-back Same old put played last is stands back = record {
+  same_player = ap (λ (set : Standing). set.player) back ∙ stands.same_player ∙ ap (λ (set : Standing). set.player) is;
+  same_board = ap (λ (set : Standing). set.present.board) back ∙ stands.same_board ∙ ap (λ (set : Standing). set.present.board) is;
+  same_past = ap (λ (set : Standing). set.past) back ∙ stands.same_past ∙ ap (λ (set : Standing). set.past) is;
+}
+put-back (Other set) old put played last is stands back = record {
+  same_player = ap (λ (at : Standing). at.player) (back ∙ is);
+  same_board = ap (λ (at : Standing). at.present.board) (back ∙ is);
+  same_past = ap (λ (at : Standing). at.past) (back ∙ is);
+}
+
+-- what a turn put can be taken back after the turns that came in between
+pub has-play : (before : Before) (old put played : Standing) → IsPut before old put → StandsAgain put played → HasPlay before played
+has-play Played old put played is stands = λ none.
+    let lists : old.present ∷ old.past ≡ [] = sym is.same_past ∙ sym stands.same_past ∙ none in cc
+has-play Same old put played is stands = tt
+has-play (Other set) old put played is stands = tt
+
+module _ {P G R W : Type 0} (sight : P → Sight) where
+  -- the same of the mover's set, in a search
+  pub put-own-keeps : (first second third : Search P G R W Standing) (before : Before) (put last : Standing) → Keeps sight first second
+      → IsPut before second.own put → Keeps sight (record second { own = put }) third → IsBack before third.own last
+      → Keeps sight first (record third { own = last })
+  put-own-keeps first second third before put last one is two back = record {
+    same_worker = two.same_worker ∙ one.same_worker;
+    same_proofs = two.same_proofs ∙ one.same_proofs;
+    same_seat = two.same_seat ∙ one.same_seat;
+    grew = grows-on _ _ _ one.grew two.grew;
+    seat = seat-on _ _ _ one.seat two.seat;
+    own = stands-on _ _ _ one.own (put-back before _ _ _ _ is two.own back);
+    others = stands-on _ _ _ one.others two.others;
+  }
+
+  -- the same of the other player's set
+  pub put-others-keeps : (first second third : Search P G R W Standing) (before : Before) (put last : Standing) → Keeps sight first second
+      → IsPut before second.others put → Keeps sight (record second { others = put }) third → IsBack before third.others last
+      → Keeps sight first (record third { others = last })
+  put-others-keeps first second third before put last one is two back = record {
+    same_worker = two.same_worker ∙ one.same_worker;
+    same_proofs = two.same_proofs ∙ one.same_proofs;
+    same_seat = two.same_seat ∙ one.same_seat;
+    grew = grows-on _ _ _ one.grew two.grew;
+    seat = seat-on _ _ _ one.seat two.seat;
+    own = stands-on _ _ _ one.own two.own;
+    others = stands-on _ _ _ one.others (put-back before _ _ _ _ is two.others back);
+  }
+
+module _ {P G R W : Type 0} where
+  -- a word more is held, and one move less is left
+  pub held-may-hold : (first : Search P G R W Standing) (word depth : ℕ) → MayHold first depth → (second : Search P G R W Standing) (less : ℕ) → less < depth
+      → second.worker.now.counts.now ≡ first.worker.now.counts.now → second.seat.now.made ≡ first.seat.now.made
+      → own_account second.seat.now ≡ holding word (own_account first.seat.now) → MayHold second less
+  held-may-hold first word depth may second less is_less same_counts same_made held = record {
+    made = same_made ∙ may.made ∙ sym same_counts;
+    words = search (rules, same_counts, may.words);
+    room =
+        let sum = ap held_in_all held in
+        let more = held-holding-le word (own_account first.seat.now) in
+        omega (arith, may.room, sum, more, is_less);
+  }

@@ -1,0 +1,36 @@
+-- What every function of a search keeps, and what it may ask for.
+use Rattle.std.specs.Prelude.{◌≡◌, ℕ, ◌+◌, ◌<◌}
+use Rattle.hx_book.specs.Sights.{Sight, Grows}
+use Rattle.hx_linkset.specs.States.{Standing}
+use Rattle.hx_count.specs.declared.events.TheConstants.{MOST_HELD}
+use Rattle.hx_count.specs.Machine.{held_in_all}
+use Rattle.hx_count.specs.Seats.{own as own_account}
+use Rattle.hx_moves.specs.declared.losses.TheConstants.{LOSS_WORDS}
+use Rattle.hx_moves.specs.Keeps.{KeepsSeat}
+use Rattle.hx_worker.specs.declared.outcomes.Outcome.{Outcome}
+use Rattle.hx_worker.specs.declared.searches.Search.{Search}
+use Rattle.hx_worker.specs.Keeps.{StandsAgain}
+use Rattle.hx_worker.specs.Outcomes.{IsOutcome}
+
+module _ {P G R W : Type 0} where
+  -- the proofs only grow, the seat holds what it held, and both sets stand as they stood; the first argument is what `P` tells of
+  -- a list of proofs
+  pub record Keeps (sight : P → Sight) (old new : Search P G R W Standing) : Type 0 where
+    pub same_worker : new.worker.now.counts.now ≡ old.worker.now.counts.now
+    pub same_proofs : new.proofs.ghost_name ≡ old.proofs.ghost_name
+    pub same_seat : new.seat.ghost_name ≡ old.seat.ghost_name
+    pub grew : Grows (sight old.proofs.now) (sight new.proofs.now)
+    pub seat : KeepsSeat old.seat.now new.seat.now
+    pub own : StandsAgain old.own new.own
+    pub others : StandsAgain old.others new.others
+
+  -- the seat is one of the worker's counts, which have a word for each number, and it may hold so many words more
+  pub record MayHold (search : Search P G R W Standing) (count : ℕ) : Type 0 where
+    pub made : search.seat.now.made ≡ search.worker.now.counts.now
+    pub words : search.worker.now.counts.now.limits.words ≡ LOSS_WORDS
+    pub room : held_in_all (own_account search.seat.now) + count < MOST_HELD
+
+  -- what the answer of a turn says of the search
+  abbrev pub Tells : (P → Sight) → Search P G R W Standing → Outcome → Type 0
+  Tells sight search outcome =
+      IsOutcome (sight search.proofs.now).list (sight search.proofs.now).slots search.seat.now outcome

@@ -1,0 +1,25 @@
+//! What a worker searches with.
+//!
+//! Each function of a search works with all of this, so it stands in one struct, and what every one of them keeps is one word
+//! (`Keeps` of specs/). The sets of links are the mover's and the other player's, so they are exchanged before a turn of the other
+//! player, and again after it (`turns.rt`).
+
+use crate::workers::Worker;
+use hx_count::CountSeat;
+
+/// A worker with the proofs, its seat, a workspace and the sets of links that it searches with. Their types are parameters: a
+/// proof learns what is left behind a borrow in a struct only where no field of it is declared with memory of its own.
+pub(crate) struct Search<'a, P, G, R, W, L> {
+    pub(crate) worker: &'a Worker<'a, G, R>,
+
+    /// Where proofs are looked for and stored.
+    pub(crate) proofs: &'a mut P,
+    pub(crate) seat: &'a mut CountSeat,
+    pub(crate) workspace: W,
+
+    /// The links of the player to move.
+    pub(crate) own: L,
+
+    /// The links of the other player.
+    pub(crate) others: L,
+}
