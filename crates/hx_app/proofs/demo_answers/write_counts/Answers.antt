@@ -9,7 +9,7 @@ pub returns-in-Err : goal.returns-in-Err
 returns-in-Err g c =
     let draws = draws_text c.args.seed in
     let wins = wins_text c.args.wins.now in
-    WritesAll-cut _ _ _ (draws ++ wins) (counted_text (codes " checked ") positions)
+    WritesAll-cut {T = Unit {0}} _ _ _ (draws ++ wins) (counted_text (codes " checked ") positions)
     (WritesAll-cut _ _ _ draws wins c.in-Err.ensures)
 
 pub returns-in-Err-write_wins : goal.returns-in-Err-write_wins
