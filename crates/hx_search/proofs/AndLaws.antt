@@ -76,9 +76,11 @@ module _ (was now : Standing) (g : IsGrown was now) (own : Bool) (end to : Verte
         (IsFirstFrom now Full end to (left + 1)) → IsChainSettledTo now own end to right next
     chain-next None none = λ other lt is.
         ⊎_elim (λ low. through other low is) (λ high. absurd (none other (omega (arith, high)) is)) (cases_lt other (left + 1))
-    chain-next (Some place) first =
-        (first.is, λ other lt is.
-        ⊎_elim (λ low. through other low is) (λ high. absurd (first.first other high lt is)) (cases_lt other (left + 1)))
+    chain-next (Some place) first = (
+      first.is,
+      λ other lt is.
+          ⊎_elim (λ low. through other low is) (λ high. absurd (first.first other high lt is)) (cases_lt other (left + 1)),
+    )
 
 pub chain-past : (set : Standing) (own : Bool) (end to : Vertex) (right left : ℕ) → right ≤ left
     → IsChainSettledTo set own end to right (Some left) → IsChainSettled set own end to right right
@@ -116,9 +118,9 @@ module _ (was now : Standing) (g : IsGrown was now) (own : Bool) (end : Vertex) 
       let Q : Colour → Type 0 = λ player. IsOwn was.present.board player end in
       subst P (sym g.same_board) (subst Q (sym g.same_player) own)) in (
         λ own. settled-on was now (AndStone left right) g
-        (λ place k. named true left right (length was.present.links) place l inside k) (w.0 (own_back own)),
+            (λ place k. named true left right (length was.present.links) place l inside k) (w.0 (own_back own)),
         λ not_own. settled-on was now (AndCell left right) g
-        (λ place k. named false left right (length was.present.links) place l inside k) (w.1 (λ own. not_own (own_on own))),
+            (λ place k. named false left right (length was.present.links) place l inside k) (w.1 (λ own. not_own (own_on own))),
       )
 
 pub end-skip : (set : Standing) (size : Extent) → size ≡ set.present.board.size → (code : ℕ) → ((v : Vertex) → IsVertexAt size code v → ⊥)
@@ -161,8 +163,11 @@ own-on was now end own g iff =
 module _ (set : Standing) (right : ℕ) where
   pub row-dead : ((link : Link) → (slice_get set.present.links right ≡ Some link) × IsLive set.present.board set.player link → ⊥)
       → (left : ℕ) → left < right → IsPairSettled set left right
-  row-dead dead left lt = (λ link h. let w = h.from_live right (inr refl) in
-      absurd (dead w.0 w.1), λ link h. let w = h.from_live right (inr refl) in absurd (dead w.0 w.1))
+  row-dead dead left lt = (
+    λ link h. let w = h.from_live right (inr refl) in
+        absurd (dead w.0 w.1),
+    λ link h. let w = h.from_live right (inr refl) in absurd (dead w.0 w.1),
+  )
 
   module _ (later : Link) (there : slice_get set.present.links right ≡ Some later) where
     module _ (over_a : IsEndSettled set later.a right) (over_b : IsEndSettled set later.b right) (left : ℕ) (less : left < right) where

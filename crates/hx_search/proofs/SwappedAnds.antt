@@ -45,9 +45,20 @@ module _ (set : Standing) (left right : ℕ) (link : Link) where
   stone-swapped : Gives set (AndStone left right) link → Gives set (AndStone right left) link
   stone-swapped h = let g : GivesAndStone set.present.board set.player set.present.links left right link = h.gives.rule in record {
     gives = record {
-      rule = record { from = g.to; middle = g.middle; to = g.from; first = g.second; second = g.first; meet =
-          meet-swapped set.present.links left right g.from g.middle g.to g.first g.second g.meet; own = g.own; kind =
-          g.kind; carrier = g.carrier ∙ union-comm g.first.carrier g.second.carrier; ends = swapped link g.from g.to g.ends };
+      rule = record {
+        from = g.to;
+        middle = g.middle;
+        to = g.from;
+        first = g.second;
+        second = g.first;
+        meet =
+            meet-swapped set.present.links left right g.from g.middle g.to g.first g.second g.meet;
+        own = g.own;
+        kind =
+            g.kind;
+        carrier = g.carrier ∙ union-comm g.first.carrier g.second.carrier;
+        ends = swapped link g.from g.to g.ends;
+      };
       link_ok = h.gives.link_ok;
     };
     from_live = λ place k. h.from_live place (⊎_elim inr inl k);
@@ -56,10 +67,23 @@ module _ (set : Standing) (left right : ℕ) (link : Link) where
   cell-swapped : Gives set (AndCell left right) link → Gives set (AndCell right left) link
   cell-swapped h = let g : GivesAndCell set.present.board set.player set.present.links left right link = h.gives.rule in record {
     gives = record {
-      rule = record { from = g.to; cell = g.cell; to = g.from; first = g.second; second = g.first; meet =
-          meet-swapped set.present.links left right g.from (Of g.cell) g.to g.first g.second g.meet; empty =
-          g.empty; outside_first = g.outside_second; outside_second = g.outside_first; kind = g.kind; carrier =
-          g.carrier ∙ ap (λ n. insert n g.cell) (union-comm g.first.carrier g.second.carrier); ends = swapped link g.from g.to g.ends };
+      rule = record {
+        from = g.to;
+        cell = g.cell;
+        to = g.from;
+        first = g.second;
+        second = g.first;
+        meet =
+            meet-swapped set.present.links left right g.from (Of g.cell) g.to g.first g.second g.meet;
+        empty =
+            g.empty;
+        outside_first = g.outside_second;
+        outside_second = g.outside_first;
+        kind = g.kind;
+        carrier =
+            g.carrier ∙ ap (λ n. insert n g.cell) (union-comm g.first.carrier g.second.carrier);
+        ends = swapped link g.from g.to g.ends;
+      };
       link_ok = h.gives.link_ok;
     };
     from_live = λ place k. h.from_live place (⊎_elim inr inl k);
