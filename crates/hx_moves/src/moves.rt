@@ -15,7 +15,7 @@ use crate::stones::after;
 use crate::unseen_moves::first_numbers;
 use hx_board::{Cell, Mask, Memory};
 use hx_count::Hints;
-use hx_fill::must;
+use hx_fill::{Must, must, without_lines};
 use hx_linkset::LinkSet;
 use hx_pn::Numbers;
 
@@ -44,10 +44,7 @@ impl Moves {
         let earlier = replies.earlier(situation, own.position().empties());
         let order = in_order(own, others, &earlier)?;
         let must = must(others, order.as_slice())?;
-        let mut tried = must.cells;
-        for line in must.under.items() {
-            tried = tried.without(line.cell());
-        }
+        let tried = tried_cells(&must);
         let mut children = Vec::with_capacity(own.allocator(), order.len()).map_err(|_| Memory)?;
         for cell in order.as_slice() {
             if !tried.has(*cell) {
@@ -101,6 +98,11 @@ impl Moves {
             self.children[place].numbers = numbers;
         }
     }
+}
+
+/// The cells that must be tried: those without a line.
+fn tried_cells(must: &Must) -> Mask {
+    without_lines(must.cells, must.under.items())
 }
 
 /// A move, with the numbers of its hint or the first ones. None where the cell holds a stone.
