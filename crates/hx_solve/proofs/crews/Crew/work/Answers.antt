@@ -5,7 +5,9 @@ use Rattle.hx_solve.proofs.crews.Crew.work.Goals as goal
 
 pub returns : goal.returns
 returns g c =
-    let back = c.seats_back.ensures in record {
+    let back = c.seats_back.ensures in
+    let same_slots = c.work-ended.ensures.grew.slots in
+    let same_object = c.work-ended.ensures.grew.over in record {
       same_book = search rules;
       same_counts = search rules;
       ended = search rules;
