@@ -1,5 +1,5 @@
 -- What every function of a search keeps: so do two of them, one after the other.
-use Rattle.std.proofs.Common.{rules, ◌≡◌, sym, ap, ◌∙◌, subst, ℕ, ◌<◌, List, [], ◌∷◌, arith}
+use Rattle.std.proofs.Common.{rules, ◌≡◌, sym, ap, ◌∙◌, ℕ, ◌<◌, [], ◌∷◌, arith}
 use Rattle.hx_book.specs.Sights.{Sight}
 use Rattle.hx_book.proofs.SightLaws.{grows-on}
 use Rattle.hx_count.specs.Machine.{Account, holding, releasing, held_in_all}
@@ -46,10 +46,6 @@ release-keeps before held turned after word made_held own_held turn made_after o
       ∙ releasing-held word (own_account before) (own_account turned) (turn.same_held ∙ ap (λ (a : Account). a.held) own_held);
   still_refused = λ is. ap (λ (a : Account). a.refused) own_after ∙ turn.still_refused (ap (λ (a : Account). a.refused) own_held ∙ is);
 }
-
--- what holds of a value holds of what is left of it
-pub kept : {X : Type 0} (fact : X → Type 0) (now given : X) → now ≡ given → fact now → fact given
-kept fact now given same is = subst fact same is
 
 module _ {P G R W : Type 0} (sight : P → Sight) where
   pub keeps-on : (first second third : Search P G R W Standing) → Keeps sight first second → Keeps sight second third → Keeps sight first third

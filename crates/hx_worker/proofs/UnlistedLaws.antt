@@ -8,7 +8,8 @@ use Rattle.hx_tree.proofs.EntryLaws.{seen-now, seen-within}
 use Rattle.hx_book.specs.EitherEntry.{IsNeitherFound}
 use Rattle.hx_worker.specs.Ends.{WasUnlisted}
 
-pub neither-unlisted : (old new : List Node) (board : Board) (mover : Colour) → Extends new old → IsNeitherFound old new board mover → WasUnlisted old new board mover
+pub neither-unlisted : (old new : List Node) (board : Board) (mover : Colour) → Extends new old
+    → IsNeitherFound old new board mover → WasUnlisted old new board mover
 neither-unlisted old new board mover grown neither = record {
   missed = neither.missed;
   turned = neither.turned;
@@ -16,8 +17,8 @@ neither-unlisted old new board mover grown neither = record {
   turned_missed = seen-now _ old new grown neither.none;
 }
 
-pub unlisted-wider : (first old new last : List Node) (board : Board) (mover : Colour) → Extends old first → Extends last new → WasUnlisted old new board mover
-    → WasUnlisted first last board mover
+pub unlisted-wider : (first old new last : List Node) (board : Board) (mover : Colour) → Extends old first → Extends last new
+    → WasUnlisted old new board mover → WasUnlisted first last board mover
 unlisted-wider first old new last board mover before after unlisted = record {
   missed = seen-within _ first old new last before after unlisted.missed;
   turned = unlisted.turned;

@@ -8,7 +8,7 @@ use Rattle.hx_tree.specs.Entries.{IsFirstFound}
 use Rattle.hx_turn.specs.Turned.{IsTurned}
 use Rattle.hx_book.specs.EitherEntry.{WasMissed}
 use Rattle.hx_linkset.specs.States.{Standing}
-use Rattle.hx_linkset.specs.declared.sets.TheConstants.{MOST_LINKS}
+use Rattle.hx_linkset.specs.declared.limits.TheConstants.{MOST_LINKS}
 use Rattle.hx_count.specs.Seats.{Seat}
 use Rattle.hx_search.specs.Closed.{IsClosed}
 use Rattle.hx_search.specs.Decided.{Decides}

@@ -13,8 +13,8 @@ use Rattle.hx_worker.specs.Keeps.{StandsAgain}
 use Rattle.hx_worker.specs.Outcomes.{IsOutcome}
 
 module _ {P G R W : Type 0} where
-  -- the proofs only grow, the seat holds what it held, and both sets stand as they stood; the first argument is what `P` tells of
-  -- a list of proofs
+  -- the proofs only grow, the seat holds what it held, and both sets stand as they stood; the first argument is a
+  -- member of `P`
   pub record Keeps (sight : P → Sight) (old new : Search P G R W Standing) : Type 0 where
     pub same_worker : new.worker.now.counts.now ≡ old.worker.now.counts.now
     pub same_proofs : new.proofs.ghost_name ≡ old.proofs.ghost_name

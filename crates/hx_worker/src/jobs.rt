@@ -1,9 +1,9 @@
 //! The work of one worker.
 
 ghost use Rattle.std.specs.Prelude.{◌≡◌, ◌<◌};
-ghost use Rattle.hx_book.specs.Sights.{Grows};
 ghost use Rattle.hx_count.specs.Machine.{held_in_all};
 ghost use Rattle.hx_count.specs.Seats.{own};
+ghost use Rattle.hx_book.specs.Sights.{Grows};
 ghost use Rattle.hx_search.specs.Closed.{IsGrown};
 ghost use Rattle.hx_moves.specs.Keeps.{KeepsSeat};
 ghost use Rattle.hx_worker.specs.Sets.{AreOn};

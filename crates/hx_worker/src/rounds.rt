@@ -93,7 +93,8 @@ impl<P: Proofs, G: Gate, R: Wait> Search<'_, P, G, R, Workspace, LinkSet> {
         requires { MayHold self.old DEPTH }
         ensures keeps { Keeps P.sight self.old self.new }
         ensures ended { IsEnded (P.sight self.new.proofs.now).list
-            (P.sight self.new.proofs.now).slots self.new.seat.now start.now.here start.now.to_move result }
+            (P.sight self.new.proofs.now).slots self.new.seat.now start.now.here
+            start.now.to_move result }
     {
         for _ in self.worker.rt.forever() {
             if let Some(ended) = self.round(start) {
@@ -144,14 +145,5 @@ pub(crate) fn search_position<'a, P: Proofs, G: Gate, R: Wait>(
         own,
         others,
     };
-    let ended = search.rounds(&start);
-    let Search {
-        worker: _,
-        proofs: _,
-        seat: _,
-        workspace: _,
-        own: _,
-        others: _,
-    } = search;
-    ended
+    search.rounds(&start)
 }

@@ -4,6 +4,8 @@
 //! (`Keeps` of specs/). The sets of links are the mover's and the other player's, so they are exchanged before a turn of the other
 //! player, and again after it (`turns.rt`).
 
+ghost use Rattle.std.specs.Prelude.{◌≡◌};
+
 use crate::workers::Worker;
 use hx_count::CountSeat;
 
@@ -22,4 +24,20 @@ pub(crate) struct Search<'a, P, G, R, W, L> {
 
     /// The links of the other player.
     pub(crate) others: L,
+}
+
+impl<'a, P, G, R, W: Drop, L: Drop> Drop for Search<'a, P, G, R, W, L> {
+    fn drop(self)
+        ensures proofs { self.exit.1.0.now ≡ self.entry.proofs.now }
+        ensures seat { self.exit.1.1.0.now ≡ self.entry.seat.now }
+    {
+        let Self {
+            worker: _,
+            proofs: _,
+            seat: _,
+            workspace: _,
+            own: _,
+            others: _,
+        } = self;
+    }
 }

@@ -6,4 +6,5 @@ pub returns-in-Done-clause-grew : goal.returns-in-Done-clause-grew
 returns-in-Done-clause-grew g c = grows-on _ _ _ c.store_turned.ensures.grew c.found_by.ensures.grew
 
 pub returns-in-Missing-clause-unlisted : goal.returns-in-Missing-clause-unlisted
-returns-in-Missing-clause-unlisted g c = λ none. neither-unlisted _ _ _ _ c.store_turned.ensures.grew.seen (rw c.in-Missing.is at c.store_turned.ensures.missing)
+returns-in-Missing-clause-unlisted g c = λ none.
+    neither-unlisted _ _ _ _ c.store_turned.ensures.grew.seen (rw c.in-Missing.is at c.store_turned.ensures.missing)

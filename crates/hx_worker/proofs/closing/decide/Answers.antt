@@ -1,7 +1,7 @@
 use Rattle.hx_board.specs.declared.colours.Colour.TheVariants.{Black, White}
 use Rattle.hx_board.specs.Positions.{Board}
 use Rattle.hx_board.specs.Graph.{HasChain, HasNoChain}
-use Rattle.hx_tree.proofs.EntryLaws.{extends-itself, extends-on}
+use Rattle.hx_tree.proofs.EntryLaws.{extends-itself}
 use Rattle.hx_book.proofs.SightLaws.{grows-on}
 use Rattle.hx_worker.proofs.UnlistedLaws.{unlisted-wider}
 use Rattle.hx_worker.proofs.closing.decide.Goals as goal
@@ -26,13 +26,16 @@ returns-in-Some-by_chain-2-clause-grew g c =
 
 pub returns-in-Some-by_closed-clause-grew : goal.returns-in-Some-by_closed-clause-grew
 returns-in-Some-by_closed-clause-grew g c =
-    grows-on _ _ _ (grows-on _ _ _ (grows-on _ _ _ c.by_entry.ensures.grew c.by_chain.ensures.grew) c.by_chain-2.ensures.grew) c.by_closed.ensures.grew
+    let chains = grows-on _ _ _ (grows-on _ _ _ c.by_entry.ensures.grew c.by_chain.ensures.grew) c.by_chain-2.ensures.grew in
+    grows-on _ _ _ chains c.by_closed.ensures.grew
 
 pub returns-clause-grew : goal.returns-clause-grew
 returns-clause-grew g c =
-    grows-on _ _ _ (grows-on _ _ _ (grows-on _ _ _ (grows-on _ _ _ c.by_entry.ensures.grew c.by_chain.ensures.grew) c.by_chain-2.ensures.grew) c.by_closed.ensures.grew) c.by_closed-2.ensures.grew
+    let chains = grows-on _ _ _ (grows-on _ _ _ c.by_entry.ensures.grew c.by_chain.ensures.grew) c.by_chain-2.ensures.grew in
+    grows-on _ _ _ (grows-on _ _ _ chains c.by_closed.ensures.grew) c.by_closed-2.ensures.grew
 
 pub returns-clause-unlisted : goal.returns-clause-unlisted
-returns-clause-unlisted g c = λ none. unlisted-wider _ _ _ _ _ _ (extends-itself _)
-    (extends-on _ _ _ (extends-on _ _ _ (extends-on _ _ _ c.by_chain.ensures.grew.seen c.by_chain-2.ensures.grew.seen) c.by_closed.ensures.grew.seen) c.by_closed-2.ensures.grew.seen)
-    (c.by_entry.ensures.unlisted c.in_default.is)
+returns-clause-unlisted g c = λ none.
+    let chains = grows-on _ _ _ c.by_chain.ensures.grew c.by_chain-2.ensures.grew in
+    let closed = grows-on _ _ _ (grows-on _ _ _ chains c.by_closed.ensures.grew) c.by_closed-2.ensures.grew in
+    unlisted-wider _ _ _ _ _ _ (extends-itself _) closed.seen (c.by_entry.ensures.unlisted c.in_default.is)
