@@ -1,17 +1,17 @@
 -- What a run of `demo` says with each status: each answer has a status of its own, or its line tells it.
-use Rattle.std.proofs.Common.{◌≡◌, ◌⊎◌, ℕ, ◌<◌, ◌≤◌, inl, inr, ⊎_elim, List, codes, refl, sym, ap, ◌∙◌, subst, arith}
+use Rattle.std.proofs.Common.{◌≡◌, ◌⊎◌, ℕ, ◌<◌, ◌≤◌, inl, inr, ⊎_elim, List, refl, sym, ap, ◌∙◌, subst, arith}
 use Rattle.std.specs.Prelude.{Option}
 use Rattle.std.proofs.lemmas.Bool.{cases_lt}
-use Rattle.hx_io.specs.Sinks.{append}
+use Rattle.hx_io.specs.Sinks.{Writing, SomeWriteFailed, append}
 use Rattle.hx_settings.specs.declared.settings.Settings.{Settings}
 use Rattle.hx_solve.specs.declared.unsolved.Unsolved.{Unsolved}
 use Rattle.hx_solve.specs.declared.unsolved.Unsolved.TheVariants.{Budget, Slots, Memory}
 use Rattle.hx_solve.specs.Causes.{LacksMemory}
+use Rattle.hx_answers.specs.Texts.{out_of_memory_line, unknown_budget_line, unknown_proofs_line}
 use Rattle.hx_answers.specs.Endings.{IsWritten, Whole, Cut}
 use Rattle.hx_app.specs.declared.demo_answers.DemoAnswer.{DemoAnswer}
 use Rattle.hx_app.specs.declared.demo_answers.DemoAnswer.TheVariants.{Counted, UnknownBudget, UnknownProofs, OutOfMemory}
 use Rattle.hx_app.specs.declared.finishes.Finish.{Finish}
-use Rattle.hx_app.specs.Answers.{unknown_budget_line, unknown_proofs_line}
 use Rattle.hx_app.specs.Promises.{SaysUnknown}
 use Rattle.hx_app.specs.DemoAnswers.{enough, counts_line, answer_text, status_of, tally_of, IsDue, SaysWhy}
 use Rattle.hx_app.specs.DemoPromises.{SaysCounts, IsUnlessCutShort, KeepsPromises}
@@ -74,7 +74,8 @@ module _ (seed : ℕ) (settings : Settings) (before now : Option (List ℕ)) whe
   )
   unknown_of OutOfMemory finish three due written counted = absurd (omega arith)
 
-  memory_of : (answer : DemoAnswer) → status_of answer ≡ 7 → now ≡ append before (answer_text answer) → now ≡ append before (codes "out of memory\n")
+  memory_of : (answer : DemoAnswer) → status_of answer ≡ 7 → now ≡ append before (answer_text answer)
+      → now ≡ append before out_of_memory_line
   memory_of (Counted number wins) seven written = absurd (omega arith)
   memory_of (UnknownBudget budget) seven written = absurd (omega arith)
   memory_of (UnknownProofs slots) seven written = absurd (omega arith)
@@ -92,36 +93,33 @@ status_of_demo (UnknownBudget budget) = inl refl
 status_of_demo (UnknownProofs slots) = inl refl
 status_of_demo OutOfMemory = inr (inr (inr refl))
 
-kept_whole : (seed : ℕ) (settings : Settings) (sink_rose : Type 0) (answer : DemoAnswer) (before now : Option (List ℕ)) (finish : Finish)
-    → IsDue seed settings answer → finish.tally ≡ tally_of settings answer → finish.status ≡ status_of answer
-    → now ≡ append before (answer_text answer) → KeepsPromises seed settings before now sink_rose finish
-kept_whole seed settings sink_rose answer before now finish due counted same written = record {
-  counted = λ zero. counted_of seed settings before now answer (sym same ∙ zero) due written;
-  no_refusal = λ zero. no_refusal_of seed settings before now answer finish (sym same ∙ zero) counted;
-  solved = λ some. rw same (solved_of seed settings before now answer some due);
-  unknown = λ three. unknown_of seed settings before now answer finish (sym same ∙ three) due written counted;
-  memory = λ seven. memory_of seed settings before now answer (sym same ∙ seven) written;
-  write_fault = λ six. absurd (status_not_6 answer (sym same ∙ six));
-  none_else = rw same (status_of_demo answer);
-}
+module _ (seed : ℕ) (settings : Settings) (sink sink_now : Writing) (answer : DemoAnswer) (finish : Finish) where
+  kept_whole : IsDue seed settings answer → finish.tally ≡ tally_of settings answer → finish.status ≡ status_of answer
+      → sink_now.taken ≡ append sink.taken (answer_text answer) → KeepsPromises seed settings sink sink_now finish
+  kept_whole due counted same written = record {
+    counted = λ zero. counted_of seed settings sink.taken sink_now.taken answer (sym same ∙ zero) due written;
+    no_refusal = λ zero. no_refusal_of seed settings sink.taken sink_now.taken answer finish (sym same ∙ zero) counted;
+    solved = λ some. rw same (solved_of seed settings sink.taken sink_now.taken answer some due);
+    unknown = λ three. unknown_of seed settings sink.taken sink_now.taken answer finish (sym same ∙ three) due written counted;
+    memory = λ seven. memory_of seed settings sink.taken sink_now.taken answer (sym same ∙ seven) written;
+    write_fault = λ six. absurd (status_not_6 answer (sym same ∙ six));
+    none_else = rw same (status_of_demo answer);
+  }
 
--- the sink failed before it took all of an answer
-kept_cut : (seed : ℕ) (settings : Settings) (sink_rose : Type 0) (before now : Option (List ℕ)) (finish : Finish)
-    → finish.status ≡ 6 → sink_rose → KeepsPromises seed settings before now sink_rose finish
-kept_cut seed settings sink_rose before now finish six failed = record {
-  counted = λ zero. absurd (omega (arith, six, zero));
-  no_refusal = λ zero. absurd (omega (arith, six, zero));
-  solved = λ some. inr (inl six);
-  unknown = λ three. absurd (omega (arith, six, three));
-  memory = λ seven. absurd (omega (arith, six, seven));
-  write_fault = λ is. failed;
-  none_else = inr (inr (inl six));
-}
+  -- the sink failed before it took all of an answer
+  kept_cut : finish.status ≡ 6 → SomeWriteFailed sink sink_now → KeepsPromises seed settings sink sink_now finish
+  kept_cut six failed = record {
+    counted = λ zero. absurd (omega (arith, six, zero));
+    no_refusal = λ zero. absurd (omega (arith, six, zero));
+    solved = λ some. inr (inl six);
+    unknown = λ three. absurd (omega (arith, six, three));
+    memory = λ seven. absurd (omega (arith, six, seven));
+    write_fault = λ is. failed;
+    none_else = inr (inr (inl six));
+  }
 
-pub kept : (seed : ℕ) (settings : Settings) (sink_rose : Type 0) (answer : DemoAnswer) (before now : Option (List ℕ)) (finish : Finish)
-    → IsDue seed settings answer → finish.tally ≡ tally_of settings answer
-    → IsWritten before now sink_rose (answer_text answer) (status_of answer) finish.status → KeepsPromises seed settings before now sink_rose finish
-kept seed settings sink_rose answer before now finish due counted (Whole same written) =
-    kept_whole seed settings sink_rose answer before now finish due counted same written
-kept seed settings sink_rose answer before now finish due counted (Cut six failed front) =
-    kept_cut seed settings sink_rose before now finish six failed
+  pub kept : IsDue seed settings answer → finish.tally ≡ tally_of settings answer
+      → IsWritten sink sink_now (answer_text answer) (status_of answer) finish.status
+      → KeepsPromises seed settings sink sink_now finish
+  kept due counted (Whole same written) = kept_whole due counted same written
+  kept due counted (Cut six failed front) = kept_cut six failed

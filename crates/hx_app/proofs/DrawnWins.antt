@@ -8,7 +8,7 @@ use Rattle.hx_board.specs.Counts.{empty_count, sweep_size, IsSmall}
 use Rattle.hx_demo.specs.Generators.{generator_of}
 use Rattle.hx_demo.specs.Draws.{first_positions}
 use Rattle.hx_demo.specs.WinCounts.{Empty}
-use Rattle.hx_demo.proofs.DrawnInTurn.{position_after, positions_from-none, positions_from-more}
+use Rattle.hx_demo.proofs.DrawnOneByOne.{position_after, positions_from-none, positions_from-more}
 use Rattle.hx_demo.proofs.WinCountLaws.{one_won, one_lost}
 use Rattle.hx_tree.specs.declared.nodes.Node.{Node}
 use Rattle.hx_solve.specs.Solutions.{IsSolution}

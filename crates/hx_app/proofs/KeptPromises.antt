@@ -2,7 +2,8 @@
 -- not an input that another is true of.
 use Rattle.std.proofs.Common.{◌≡◌, ◌↔◌, ℕ, ◌<◌, ◌≤◌, inl, inr, List, length, refl, sym, ap, ◌∙◌, subst, arith}
 use Rattle.std.specs.Prelude.{Option, None, Some, IfSome}
-use Rattle.hx_io.specs.Sinks.{append}
+use Rattle.hx_io.specs.Sources.{Reading, SomeReadFailed}
+use Rattle.hx_io.specs.Sinks.{Writing, SomeWriteFailed, append}
 use Rattle.hx_proof.proofs.TreeSoundness.{root_wins}
 use Rattle.hx_text.specs.declared.versions.Version.TheVariants.{Two}
 use Rattle.hx_text.specs.declared.versions.Preamble.{Preamble}
@@ -11,7 +12,8 @@ use Rattle.hx_text.proofs.WholeTrees.{written_with}
 use Rattle.hx_text.proofs.OneFault.{one_position_fault}
 use Rattle.hx_settings.specs.declared.settings.Settings.{Settings}
 use Rattle.hx_solve.specs.Tallies.{Tallied}
-use Rattle.hx_answers.specs.Endings.{IsWritten, Whole, Cut, IsUnlessStopped, AnswersUnlessStopped}
+use Rattle.hx_answers.specs.Texts.{unknown_budget_line, unknown_proofs_line}
+use Rattle.hx_answers.specs.Endings.{IsWritten, Whole, Cut, IsUnlessStopped, AnswersUnlessStopped, IsReadToEnd}
 use Rattle.hx_check.proofs.KeptPromises.{of_any}
 use Rattle.hx_app.specs.declared.answers.Answer.{Answer}
 use Rattle.hx_app.specs.declared.answers.Answer.TheVariants.{Solved, UnknownBudget, UnknownProofs, BadPosition, ReadFault, OutOfMemory, TooLong}
@@ -19,7 +21,7 @@ use Rattle.hx_app.specs.declared.finishes.Finish.{Finish}
 use Rattle.hx_app.specs.declared.solutions.Solution.{Solution}
 use Rattle.hx_app.specs.Limits.{most_bytes}
 use Rattle.hx_app.specs.Positions.{IsSmallPosition, IsOpenPosition, IsPositionWithoutChain, IsNoPosition, IsBadPosition}
-use Rattle.hx_app.specs.Answers.{IsSolved, IsDue, IsSolveStatus, preamble_of, answer_text, solution_text, unknown_budget_line, unknown_proofs_line, bad_position_line, status_of, tally_of}
+use Rattle.hx_app.specs.Answers.{IsSolved, IsDue, IsSolveStatus, preamble_of, answer_text, solution_text, bad_position_line, status_of, tally_of}
 use Rattle.hx_app.specs.Promises.{SaysSolved, SaysUnknown, KeepsPromises}
 use Rattle.hx_app.proofs.Positions.{small_not_open, not_bad, position_text_short}
 use Rattle.std.proofs.lemmas.Option.{IfSome_then}
@@ -139,7 +141,8 @@ module _ (settings : Settings) (rose : Type 0) where
   no_chain_of (Some input) OutOfMemory tally three counted one some due = absurd (omega arith)
   no_chain_of (Some input) TooLong tally three counted one some due = absurd (omega arith)
 
-  bad_of : (before : Option (List ℕ)) (answer : Answer) → status_of answer ≡ 4 → IsDue settings before rose answer → IfSome before IsNoPosition
+  bad_of : (before : Option (List ℕ)) (answer : Answer) → status_of answer ≡ 4 → IsDue settings before rose answer
+      → IfSome before IsNoPosition
   bad_of None answer four due = tt
   bad_of (Some input) (Solved solution) four due = absurd (omega arith)
   bad_of (Some input) (UnknownBudget budget) four due = absurd (omega arith)
@@ -178,7 +181,8 @@ status_of_solve OutOfMemory = inr (omega arith, omega arith)
 status_of_solve TooLong = inr (omega arith, omega arith)
 
 -- each clause of an input that the source tells
-of_input : (settings : Settings) (left : Option (List ℕ)) (rose : Type 0) (answer : Answer) (Says : List ℕ → Type 0) → IsDue settings left rose answer
+of_input : (settings : Settings) (left : Option (List ℕ)) (rose : Type 0) (answer : Answer) (Says : List ℕ → Type 0)
+    → IsDue settings left rose answer
     → ((input : List ℕ) → IsDue settings (Some input) rose answer → Says input) → IfSome left Says
 of_input settings None rose answer Says due says = tt
 of_input settings (Some input) rose answer Says due says = says input due
@@ -192,49 +196,59 @@ status_not_6 ReadFault six = omega arith
 status_not_6 OutOfMemory six = omega arith
 status_not_6 TooLong six = omega arith
 
-kept_whole : (settings : Settings) (left : Option (List ℕ)) (rose sink_rose : Type 0) (answer : Answer) (before now : Option (List ℕ)) (finish : Finish)
-    → IsDue settings left rose answer → finish.tally ≡ tally_of settings answer → finish.status ≡ status_of answer
-    → now ≡ append before (answer_text answer) → KeepsPromises settings left rose before now sink_rose finish
-kept_whole settings left rose sink_rose answer before now finish due counted same written = record {
-  solved = λ zero. of_input settings left rose answer _ due
-      (λ input is. solved_of settings input rose answer before now (sym same ∙ zero) is written);
-  small = of_input settings left rose answer _ due (λ input is small. rw same (small_of settings input rose answer small is));
-  unknown = λ three. unknown_of settings rose left answer finish before now (sym same ∙ three) due written counted;
-  no_chain = λ three one some. no_chain_of settings rose left answer finish.tally (sym same ∙ three) counted one some due;
-  no_position = of_input settings left rose answer _ due
-      (λ input is short none. rw same (no_position_of settings input rose answer short none is));
-  position_line = of_input settings left rose answer _ due
-      (λ input is line short bad. rw same (position_line_of settings input rose answer line before now written short bad is));
-  bad_position = λ four. bad_of settings rose left answer (sym same ∙ four) due;
-  long = of_input settings left rose answer _ due (λ input is long. rw same (long_of settings input rose answer long is));
-  too_long = λ eight. too_long_of settings rose left answer (sym same ∙ eight) due;
-  read_fault = λ five. read_fault_of settings rose left answer (sym same ∙ five) due;
-  write_fault = λ six. absurd (status_not_6 answer (sym same ∙ six));
-  none_else = rw same (status_of_solve answer);
-}
+module _ (settings : Settings) (source source_now : Reading) (sink sink_now : Writing) (answer : Answer) (finish : Finish) where
+  abbrev FailedHere : Type 0
+  FailedHere = SomeReadFailed source source_now
 
--- the sink failed before it took all of an answer
-kept_cut : (settings : Settings) (left : Option (List ℕ)) (rose sink_rose : Type 0) (before now : Option (List ℕ)) (finish : Finish)
-    → finish.status ≡ 6 → sink_rose → KeepsPromises settings left rose before now sink_rose finish
-kept_cut settings left rose sink_rose before now finish six failed = record {
-  solved = λ zero. absurd (omega (arith, six, zero));
-  small = of_any left _ (λ input small. inr (inr (inl six)));
-  unknown = λ three. absurd (omega (arith, six, three));
-  no_chain = λ three one some. absurd (omega (arith, six, three));
-  no_position = of_any left _ (λ input short none. inr (inr (inl six)));
-  position_line = of_any left _ (λ input line short bad. inr (inr (inl six)));
-  bad_position = λ four. absurd (omega (arith, six, four));
-  long = of_any left _ (λ input long. inr (inr (inl six)));
-  too_long = λ eight. absurd (omega (arith, six, eight));
-  read_fault = λ five. absurd (omega (arith, six, five));
-  write_fault = λ is. failed;
-  none_else = inr (omega (arith, six), omega (arith, six));
-}
+  -- each clause of an input that the source tells
+  told : (Says : List ℕ → Type 0) → IsDue settings source.left FailedHere answer
+      → ((input : List ℕ) → IsDue settings (Some input) FailedHere answer → Says input) → IfSome source.left Says
+  told Says due says = of_input settings source.left FailedHere answer Says due says
 
-pub kept : (settings : Settings) (left : Option (List ℕ)) (rose sink_rose : Type 0) (answer : Answer) (before now : Option (List ℕ)) (finish : Finish)
-    → IsDue settings left rose answer → finish.tally ≡ tally_of settings answer
-    → IsWritten before now sink_rose (answer_text answer) (status_of answer) finish.status → KeepsPromises settings left rose before now sink_rose finish
-kept settings left rose sink_rose answer before now finish due counted (Whole same written) =
-    kept_whole settings left rose sink_rose answer before now finish due counted same written
-kept settings left rose sink_rose answer before now finish due counted (Cut six failed front) =
-    kept_cut settings left rose sink_rose before now finish six failed
+  kept_whole : IsDue settings source.left FailedHere answer → (status_of answer ≡ 0 → IsReadToEnd source.left source_now.left)
+      → finish.tally ≡ tally_of settings answer → finish.status ≡ status_of answer
+      → sink_now.taken ≡ append sink.taken (answer_text answer) → KeepsPromises settings source source_now sink sink_now finish
+  kept_whole due read counted same written = record {
+    solved = λ zero. told _ due
+        (λ input is. solved_of settings input FailedHere answer sink.taken sink_now.taken (sym same ∙ zero) is written);
+    read_to_end = λ zero. read (sym same ∙ zero);
+    small = told _ due (λ input is small. rw same (small_of settings input FailedHere answer small is));
+    unknown = λ three.
+        unknown_of settings FailedHere source.left answer finish sink.taken sink_now.taken (sym same ∙ three) due written counted;
+    no_chain = λ three one some.
+        no_chain_of settings FailedHere source.left answer finish.tally (sym same ∙ three) counted one some due;
+    no_position = told _ due (λ input is short none. rw same (no_position_of settings input FailedHere answer short none is));
+    position_line = told _ due
+        (λ input is line short bad.
+        rw same (position_line_of settings input FailedHere answer line sink.taken sink_now.taken written short bad is));
+    bad_position = λ four. bad_of settings FailedHere source.left answer (sym same ∙ four) due;
+    long = told _ due (λ input is long. rw same (long_of settings input FailedHere answer long is));
+    too_long = λ eight. too_long_of settings FailedHere source.left answer (sym same ∙ eight) due;
+    read_fault = λ five. read_fault_of settings FailedHere source.left answer (sym same ∙ five) due;
+    write_fault = λ six. absurd (status_not_6 answer (sym same ∙ six));
+    none_else = rw same (status_of_solve answer);
+  }
+
+  -- the sink failed before it took all of an answer
+  kept_cut : finish.status ≡ 6 → SomeWriteFailed sink sink_now → KeepsPromises settings source source_now sink sink_now finish
+  kept_cut six failed = record {
+    solved = λ zero. absurd (omega (arith, six, zero));
+    read_to_end = λ zero. absurd (omega (arith, six, zero));
+    small = of_any source.left _ (λ input small. inr (inr (inl six)));
+    unknown = λ three. absurd (omega (arith, six, three));
+    no_chain = λ three one some. absurd (omega (arith, six, three));
+    no_position = of_any source.left _ (λ input short none. inr (inr (inl six)));
+    position_line = of_any source.left _ (λ input line short bad. inr (inr (inl six)));
+    bad_position = λ four. absurd (omega (arith, six, four));
+    long = of_any source.left _ (λ input long. inr (inr (inl six)));
+    too_long = λ eight. absurd (omega (arith, six, eight));
+    read_fault = λ five. absurd (omega (arith, six, five));
+    write_fault = λ is. failed;
+    none_else = inr (omega (arith, six), omega (arith, six));
+  }
+
+  pub kept : IsDue settings source.left FailedHere answer → (status_of answer ≡ 0 → IsReadToEnd source.left source_now.left)
+      → finish.tally ≡ tally_of settings answer → IsWritten sink sink_now (answer_text answer) (status_of answer) finish.status
+      → KeepsPromises settings source source_now sink sink_now finish
+  kept due read counted (Whole same written) = kept_whole due read counted same written
+  kept due read counted (Cut six failed front) = kept_cut six failed

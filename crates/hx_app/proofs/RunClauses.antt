@@ -1,6 +1,7 @@
 -- What a run promises by the command that its words are. Words are one command at most, with one seed and one choice of settings.
 use Rattle.std.proofs.Common.{◌≡◌, ℕ, List, [], sym, subst}
-use Rattle.std.specs.Prelude.{Option}
+use Rattle.hx_io.specs.Sources.{Reading}
+use Rattle.hx_io.specs.Sinks.{Writing}
 use Rattle.hx_settings.specs.declared.settings.Settings.{Settings}
 use Rattle.hx_words.specs.declared.commands.Command.{Command}
 use Rattle.hx_words.specs.declared.commands.Command.TheVariants.{Check, Solve, Htp, Demo}
@@ -45,50 +46,52 @@ module _ (words : List (List ℕ)) where
       let same : Htp a ≡ Htp b = Asks-one words (Htp a) (Htp b) one other in
       cc
 
-module _ (words : List (List ℕ)) (left left_now : Option (List ℕ)) (rose : Type 0) (before now : Option (List ℕ)) (sink_rose : Type 0) where
+module _ (words : List (List ℕ)) (source source_now : Reading) (sink sink_now : Writing) where
   pub checked_run : (status : ℕ) (finish : Finish) → Asks Check words → finish.status ≡ status → CountsNothing finish
-      → IsCheckRun left left_now rose before now sink_rose status → IsRun words left left_now rose before now sink_rose finish
+      → IsCheckRun source source_now sink sink_now status → IsRun words source source_now sink sink_now finish
   checked_run status finish asks same none ran =
-      Checked asks none (subst (IsCheckRun left left_now rose before now sink_rose) (sym same) ran)
+      Checked asks none (subst (IsCheckRun source source_now sink sink_now) (sym same) ran)
 
   pub solved_run : (settings : Settings) (finish : Finish) → Asks (Solve settings) words
-      → IsSolveRun settings left rose before now sink_rose finish → IsRun words left left_now rose before now sink_rose finish
+      → IsSolveRun settings source source_now sink sink_now finish → IsRun words source source_now sink sink_now finish
   solved_run settings finish asks ran = Searched settings asks ran
 
-  pub drew_run : (seed : ℕ) (settings : Settings) (finish : Finish) → Asks (Demo seed settings) words → left_now ≡ left
-      → IsDemoRun seed settings before now sink_rose finish → IsRun words left left_now rose before now sink_rose finish
+  pub drew_run : (seed : ℕ) (settings : Settings) (finish : Finish) → Asks (Demo seed settings) words
+      → source_now.left ≡ source.left → IsDemoRun seed settings sink sink_now finish
+      → IsRun words source source_now sink sink_now finish
   drew_run seed settings finish asks same ran = Drew seed settings asks same ran
 
   pub served_run : (settings : Settings) (finish : Finish) → Asks (Htp settings) words
-      → IsSessionRun settings left left_now rose before now sink_rose finish → IsRun words left left_now rose before now sink_rose finish
+      → IsSessionRun settings source source_now sink sink_now finish → IsRun words source source_now sink sink_now finish
   served_run settings finish asks ran = Served settings asks ran
 
-module _ (left : Option (List ℕ)) (rose : Type 0) (before now : Option (List ℕ)) (sink_rose : Type 0) where
-  pub checked_kept : (left_now : Option (List ℕ)) (status : ℕ) (finish : Finish) → finish.status ≡ status
-      → ChecksAsPromised left left_now rose before now sink_rose status → ChecksAsPromised left left_now rose before now sink_rose finish.status
-  checked_kept left_now status finish same kept = subst (ChecksAsPromised left left_now rose before now sink_rose) (sym same) kept
+module _ (source source_now : Reading) (sink sink_now : Writing) where
+  pub checked_kept : (status : ℕ) (finish : Finish) → finish.status ≡ status
+      → ChecksAsPromised source source_now sink sink_now status → ChecksAsPromised source source_now sink sink_now finish.status
+  checked_kept status finish same kept = subst (ChecksAsPromised source source_now sink sink_now) (sym same) kept
 
-  pub solved_kept : (finish : Finish) (words : List (List ℕ)) (own settings : Settings) → Asks (Solve own) words → IsSolve settings words
-      → SolvesAsPromised own left rose before now sink_rose finish → SolvesAsPromised settings left rose before now sink_rose finish
+  pub solved_kept : (finish : Finish) (words : List (List ℕ)) (own settings : Settings) → Asks (Solve own) words
+      → IsSolve settings words → SolvesAsPromised own source source_now sink sink_now finish
+      → SolvesAsPromised settings source source_now sink sink_now finish
   solved_kept finish words own settings asks solve kept =
-      subst (λ (s : Settings). SolvesAsPromised s left rose before now sink_rose finish) (same_solve words own settings asks solve) kept
+      subst (λ (s : Settings). SolvesAsPromised s source source_now sink sink_now finish) (same_solve words own settings asks solve) kept
 
-  pub served_kept : (left_now : Option (List ℕ)) (finish : Finish) (words : List (List ℕ)) (own settings : Settings) → Asks (Htp own) words
-      → IsSession settings words → ServesAsPromised own left left_now rose before now sink_rose finish
-      → ServesAsPromised settings left left_now rose before now sink_rose finish
-  served_kept left_now finish words own settings asks session kept =
-      subst (λ (s : Settings). ServesAsPromised s left left_now rose before now sink_rose finish)
+  pub served_kept : (finish : Finish) (words : List (List ℕ)) (own settings : Settings) → Asks (Htp own) words
+      → IsSession settings words → ServesAsPromised own source source_now sink sink_now finish
+      → ServesAsPromised settings source source_now sink sink_now finish
+  served_kept finish words own settings asks session kept =
+      subst (λ (s : Settings). ServesAsPromised s source source_now sink sink_now finish)
       (same_session words own settings asks session) kept
 
-module _ (before now : Option (List ℕ)) (sink_rose : Type 0) (finish : Finish) where
+module _ (sink sink_now : Writing) (finish : Finish) where
   -- what is promised of `demo`, by its command
   abbrev AsPromised : Command → Type 0
   AsPromised Check = Unit {0}
   AsPromised (Solve settings) = Unit {0}
   AsPromised (Htp settings) = Unit {0}
-  AsPromised (Demo seed settings) = DrawsAsPromised seed settings before now sink_rose finish
+  AsPromised (Demo seed settings) = DrawsAsPromised seed settings sink sink_now finish
 
-  pub drew_kept : (words : List (List ℕ)) (own seed : ℕ) (of settings : Settings) → Asks (Demo own of) words → IsDraw seed settings words
-      → DrawsAsPromised own of before now sink_rose finish → DrawsAsPromised seed settings before now sink_rose finish
+  pub drew_kept : (words : List (List ℕ)) (own seed : ℕ) (of settings : Settings) → Asks (Demo own of) words
+      → IsDraw seed settings words → DrawsAsPromised own of sink sink_now finish → DrawsAsPromised seed settings sink sink_now finish
   drew_kept words own seed of settings asks draw kept =
       subst AsPromised (Asks-one words (Demo own of) (Demo seed settings) asks draw) kept

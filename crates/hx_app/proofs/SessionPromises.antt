@@ -1,6 +1,8 @@
 -- What a run of `htp` says with each status, by how the session ended.
 use Rattle.std.proofs.Common.{◌≡◌, ℕ, ◌<◌, ◌^◌, inl, inr, List, length, refl, sym, subst, arith}
 use Rattle.std.specs.Prelude.{Option}
+use Rattle.hx_io.specs.Sources.{Reading, SomeReadFailed}
+use Rattle.hx_io.specs.Sinks.{Writing, SomeWriteFailed}
 use Rattle.hx_settings.specs.declared.settings.Settings.{Settings}
 use Rattle.hx_solve.specs.Tallies.{Tallied, tallied}
 use Rattle.hx_htp.specs.Accounts.{Account}
@@ -8,8 +10,8 @@ use Rattle.hx_htp.specs.States.{fresh}
 use Rattle.hx_htp.specs.Sessions.{Moment, moment}
 use Rattle.hx_htp.specs.Runs.{Run, SessionRun, until_quit}
 use Rattle.hx_htp.specs.Laws.{IsCounted, NamesWinners}
-use Rattle.hx_serve.specs.declared.serving.Ended.{Ended}
-use Rattle.hx_serve.specs.declared.serving.Ended.TheVariants.{Done, ReadFault, WriteFault, TooLong}
+use Rattle.hx_lines.specs.declared.ended.Ended.{Ended}
+use Rattle.hx_lines.specs.declared.ended.Ended.TheVariants.{Done, ReadFault, WriteFault, TooLong}
 use Rattle.hx_serve.specs.Serving.{Ends, IsTooLong, IsWithinLimits}
 use Rattle.hx_check.proofs.KeptPromises.{of_any}
 use Rattle.hx_app.specs.declared.finishes.Finish.{Finish}
@@ -25,19 +27,19 @@ end_has_cause rose sink_rose ReadFault read write = read refl
 end_has_cause rose sink_rose WriteFault read write = write refl
 end_has_cause rose sink_rose TooLong read write = tt
 
-pub session_ran : (settings : Settings) (left left_now : Option (List ℕ)) (rose : Type 0) (before now : Option (List ℕ)) (sink_rose : Type 0)
+pub session_ran : (settings : Settings) (source source_now : Reading) (sink sink_now : Writing)
     (ended : Ended) (fresh used : Tallied) (finish : Finish) → fresh ≡ tallied settings.budget settings.slots 0 0
     → finish.tally ≡ used → finish.status ≡ status_of_end ended
-    → Ends (account_of fresh) (account_of used) left left_now before now ended
-    → (ended ≡ ReadFault → rose) → (ended ≡ WriteFault → sink_rose)
-    → IsSessionRun settings left left_now rose before now sink_rose finish
-session_ran settings left left_now rose before now sink_rose ended fresh used finish is_fresh is_used status ends read write =
-    let P : Tallied → Type 0 = λ t. Ends (account_of t) (account_of used) left left_now before now ended in
-    let Q : Tallied → Type 0 = λ t. Ends (start_of settings) (account_of t) left left_now before now ended in
+    → Ends (account_of fresh) (account_of used) source.left source_now.left sink.taken sink_now.taken ended
+    → (ended ≡ ReadFault → SomeReadFailed source source_now) → (ended ≡ WriteFault → SomeWriteFailed sink sink_now)
+    → IsSessionRun settings source source_now sink sink_now finish
+session_ran settings source source_now sink sink_now ended fresh used finish is_fresh is_used status ends read write =
+    let P : Tallied → Type 0 = λ t. Ends (account_of t) (account_of used) source.left source_now.left sink.taken sink_now.taken ended in
+    let Q : Tallied → Type 0 = λ t. Ends (start_of settings) (account_of t) source.left source_now.left sink.taken sink_now.taken ended in
     record {
       ended = ended;
       ends = subst Q (sym is_used) (subst P is_fresh ends);
-      cause = end_has_cause rose sink_rose ended read write;
+      cause = end_has_cause (SomeReadFailed source source_now) (SomeWriteFailed sink sink_now) ended read write;
       status = status;
     }
 
@@ -65,14 +67,14 @@ each_run_is_counted : (settings : Settings) (after : Account) → RepliesAreCoun
 each_run_is_counted settings after law lines replies run few =
     law (start_of settings) after lines replies run refl refl (omega (arith, few))
 
-module _ (settings : Settings) (left left_now : Option (List ℕ)) (rose : Type 0) (before now : Option (List ℕ)) (sink_rose : Type 0) (finish : Finish)
+module _ (settings : Settings) (source source_now : Reading) (sink sink_now : Writing) (finish : Finish)
     (apart : LimitsAreApart) (winners : EachRunNamesWinners (start_of settings) (account_of finish.tally))
     (counted : EachRunIsCounted (start_of settings) (account_of finish.tally)) where
   abbrev Kept : Type 0
-  Kept = KeepsPromises settings left left_now rose before now sink_rose finish
+  Kept = KeepsPromises settings source source_now sink sink_now finish
 
   abbrev EndsAs : Ended → Type 0
-  EndsAs ended = Ends (start_of settings) (account_of finish.tally) left left_now before now ended
+  EndsAs ended = Ends (start_of settings) (account_of finish.tally) source.left source_now.left sink.taken sink_now.taken ended
 
   kept_done : EndsAs Done → finish.status ≡ 0 → Kept
   kept_done ends zero = record {
@@ -80,34 +82,34 @@ module _ (settings : Settings) (left left_now : Option (List ℕ)) (rose : Type 
     read_fault = λ five. absurd (omega (arith, zero, five));
     write_fault = λ six. absurd (omega (arith, zero, six));
     too_long = λ eight. absurd (omega (arith, zero, eight));
-    within = of_any left _ (λ input within. inl zero);
-    above = IfSome_then left ends (λ input done above. absurd (above done.within));
+    within = of_any source.left _ (λ input within. inl zero);
+    above = IfSome_then source.left ends (λ input done above. absurd (above done.within));
     winners = winners;
     counted = counted;
     none_else = inr (inl zero);
   }
 
-  kept_read_fault : EndsAs ReadFault → rose → finish.status ≡ 5 → Kept
+  kept_read_fault : EndsAs ReadFault → SomeReadFailed source source_now → finish.status ≡ 5 → Kept
   kept_read_fault ends cause five = record {
     replies = λ zero. absurd (omega (arith, five, zero));
     read_fault = λ is. (cause, ends);
     write_fault = λ six. absurd (omega (arith, five, six));
     too_long = λ eight. absurd (omega (arith, five, eight));
-    within = of_any left _ (λ input within. inr (inl five));
-    above = of_any left _ (λ input above. inr (inl five));
+    within = of_any source.left _ (λ input within. inr (inl five));
+    above = of_any source.left _ (λ input above. inr (inl five));
     winners = winners;
     counted = counted;
     none_else = inr (inr (inl five));
   }
 
-  kept_write_fault : EndsAs WriteFault → sink_rose → finish.status ≡ 6 → Kept
+  kept_write_fault : EndsAs WriteFault → SomeWriteFailed sink sink_now → finish.status ≡ 6 → Kept
   kept_write_fault ends cause six = record {
     replies = λ zero. absurd (omega (arith, six, zero));
     read_fault = λ five. absurd (omega (arith, six, five));
     write_fault = λ is. (cause, ends);
     too_long = λ eight. absurd (omega (arith, six, eight));
-    within = of_any left _ (λ input within. inr (inr six));
-    above = of_any left _ (λ input above. inr (inr six));
+    within = of_any source.left _ (λ input within. inr (inr six));
+    above = of_any source.left _ (λ input above. inr (inr six));
     winners = winners;
     counted = counted;
     none_else = inr (inr (inr six));
@@ -119,25 +121,26 @@ module _ (settings : Settings) (left left_now : Option (List ℕ)) (rose : Type 
     read_fault = λ five. absurd (omega (arith, eight, five));
     write_fault = λ six. absurd (omega (arith, eight, six));
     too_long = λ is. ends;
-    within = IfSome_then left ends (λ input long within. absurd (apart _ _ input before now long within));
-    above = of_any left _ (λ input above. inl eight);
+    within = IfSome_then source.left ends (λ input long within. absurd (apart (start_of settings)
+        (account_of finish.tally) input sink.taken sink_now.taken long within));
+    above = of_any source.left _ (λ input above. inl eight);
     winners = winners;
     counted = counted;
     none_else = inl eight;
   }
 
-  kept_end : (ended : Ended) → EndsAs ended → EndHasCause rose sink_rose ended → finish.status ≡ status_of_end ended → Kept
+  kept_end : (ended : Ended) → EndsAs ended → EndHasCause (SomeReadFailed source source_now) (SomeWriteFailed sink sink_now) ended
+      → finish.status ≡ status_of_end ended → Kept
   kept_end Done ends cause same = kept_done ends same
   kept_end ReadFault ends cause same = kept_read_fault ends cause same
   kept_end WriteFault ends cause same = kept_write_fault ends cause same
   kept_end TooLong ends cause same = kept_too_long ends same
 
-pub kept : (settings : Settings) (left left_now : Option (List ℕ)) (rose : Type 0) (before now : Option (List ℕ)) (sink_rose : Type 0)
-    (finish : Finish) → LimitsAreApart → NamedPlayersWin → RepliesAreCounted
-    → IsSessionRun settings left left_now rose before now sink_rose finish
-    → KeepsPromises settings left left_now rose before now sink_rose finish
-kept settings left left_now rose before now sink_rose finish apart named law ran =
-    kept_end settings left left_now rose before now sink_rose finish apart
+pub kept : (settings : Settings) (source source_now : Reading) (sink sink_now : Writing) (finish : Finish)
+    → LimitsAreApart → NamedPlayersWin → RepliesAreCounted → IsSessionRun settings source source_now sink sink_now finish
+    → KeepsPromises settings source source_now sink sink_now finish
+kept settings source source_now sink sink_now finish apart named law ran =
+    kept_end settings source source_now sink sink_now finish apart
     (each_run_names_winners (start_of settings) (account_of finish.tally) named)
     (each_run_is_counted settings (account_of finish.tally) law)
     ran.ended ran.ends ran.cause ran.status

@@ -1,6 +1,8 @@
 -- What `solve` answers, and when.
 use Rattle.std.specs.Prelude.{◌≡◌, ◌↔◌, ◌⊎◌, ℕ, ◌<◌, ◌≤◌, List, length, flat_map, codes, Option, IfSome}
 use Rattle.std.specs.List.{All}
+use Rattle.hx_io.specs.Sources.{Reading, SomeReadFailed}
+use Rattle.hx_io.specs.Sinks.{Writing}
 use Rattle.hx_board.specs.declared.colours.Colour.{Colour}
 use Rattle.hx_board.specs.Positions.{Board}
 use Rattle.hx_tree.specs.declared.nodes.Node.{Node}
@@ -16,10 +18,12 @@ use Rattle.hx_solve.specs.declared.unsolved.Unsolved.{Unsolved}
 use Rattle.hx_solve.specs.declared.unsolved.Unsolved.TheVariants.{Budget, Slots, Memory}
 use Rattle.hx_solve.specs.Solutions.{IsSolution}
 use Rattle.hx_solve.specs.Tallies.{Tallied, tallied}
-use Rattle.hx_answers.specs.Texts.{counted_text}
-use Rattle.hx_answers.specs.Endings.{IsWritten}
+use Rattle.hx_answers.specs.Texts.{counted_text, read_fault_line, out_of_memory_line, too_long_line}
+use Rattle.hx_answers.specs.Texts.{unknown_budget_line, unknown_proofs_line}
+use Rattle.hx_answers.specs.Endings.{IsWritten, IsReadToEnd}
 use Rattle.hx_app.specs.declared.answers.Answer.{Answer}
-use Rattle.hx_app.specs.declared.answers.Answer.TheVariants.{Solved, UnknownBudget, UnknownProofs, BadPosition, ReadFault, OutOfMemory, TooLong}
+use Rattle.hx_app.specs.declared.answers.Answer.TheVariants.{Solved, UnknownBudget, UnknownProofs, BadPosition}
+use Rattle.hx_app.specs.declared.answers.Answer.TheVariants.{ReadFault, OutOfMemory, TooLong}
 use Rattle.hx_app.specs.declared.finishes.Finish.{Finish}
 use Rattle.hx_app.specs.declared.solutions.Solution.{Solution}
 use Rattle.hx_app.specs.Limits.{most_bytes}
@@ -33,14 +37,6 @@ preamble_of solution = record { version = solution.version; size = solution.size
 abbrev pub solution_text : Solution → List ℕ
 solution_text solution = written_tree (preamble_of solution) solution.nodes.items solution.winner
 
--- the line that names a budget that was used up
-abbrev pub unknown_budget_line : ℕ → List ℕ
-unknown_budget_line budget = counted_text (codes "unknown budget ") budget
-
--- the line that names how many slots were used up
-abbrev pub unknown_proofs_line : ℕ → List ℕ
-unknown_proofs_line slots = counted_text (codes "unknown proofs ") slots
-
 -- the line that names a wrong line of a position
 abbrev pub bad_position_line : ℕ → List ℕ
 bad_position_line line = counted_text (codes "bad position ") line
@@ -51,9 +47,9 @@ answer_text (Solved solution) = solution_text solution
 answer_text (UnknownBudget budget) = unknown_budget_line budget
 answer_text (UnknownProofs slots) = unknown_proofs_line slots
 answer_text (BadPosition line) = bad_position_line line
-answer_text ReadFault = codes "read fault\n"
-answer_text OutOfMemory = codes "out of memory\n"
-answer_text TooLong = codes "too long\n"
+answer_text ReadFault = read_fault_line
+answer_text OutOfMemory = out_of_memory_line
+answer_text TooLong = too_long_line
 
 -- the exit status that tells each answer, where it was written whole
 abbrev pub status_of : Answer → ℕ
@@ -79,8 +75,8 @@ tally_of settings TooLong = tallied settings.budget settings.slots 0 0
 abbrev pub IsVersionOf : Version → List Node → Type 0
 IsVersionOf version nodes = (version ≡ Two) ↔ HasTurned nodes
 
--- the input is the text of a position, and the solution is a tree that solves it, with its root's winner and the version of
--- its text
+-- the input is the text of a position, and the solution is a tree that solves it, with its root's winner and the
+-- version of its text
 pub record IsSolved (input : List ℕ) (solution : Solution) : Type 0 where
   pub board : Board
   pub mover : Colour
@@ -91,8 +87,8 @@ pub record IsSolved (input : List ℕ) (solution : Solution) : Type 0 where
   pub fits : EachNodeFits (preamble_of solution) solution.nodes.items
   pub winner : solution.winner ≡ tree.root.heading.winner
 
--- the input is the text of a position that is not small under the budget, and in which, unless the budget is 0, neither player has
--- a chain
+-- the input is the text of a position that is not small under the budget, and in which, unless the budget is 0, neither
+-- player has a chain
 pub record IsLeftOpen (budget : ℕ) (input : List ℕ) : Type 0 where
   pub open_position : IsOpenPosition budget input
   pub no_chain : 0 < budget → IsPositionWithoutChain input
@@ -104,19 +100,23 @@ WithinLimit left says = IfSome left (λ input. (length input ≤ most_bytes) × 
 -- When each answer comes: what the source had left before, and whether its faults rose.
 abbrev pub IsDue : Settings → Option (List ℕ) → Type 0 → Answer → Type 0
 IsDue settings before rose (Solved solution) = WithinLimit before (λ input. IsSolved input solution)
-IsDue settings before rose (UnknownBudget budget) = (budget ≡ settings.budget) × WithinLimit before (IsLeftOpen settings.budget)
-IsDue settings before rose (UnknownProofs slots) = (slots ≡ settings.slots) × WithinLimit before (IsOpenPosition settings.budget)
+IsDue settings before rose (UnknownBudget budget) =
+    (budget ≡ settings.budget) × WithinLimit before (IsLeftOpen settings.budget)
+IsDue settings before rose (UnknownProofs slots) =
+    (slots ≡ settings.slots) × WithinLimit before (IsOpenPosition settings.budget)
 IsDue settings before rose (BadPosition line) = WithinLimit before (λ input. IsBadPosition input line)
 IsDue settings before rose ReadFault = rose
 IsDue settings before rose OutOfMemory = Unit {0}
 IsDue settings before rose TooLong = IfSome before (λ input. most_bytes < length input)
 
--- A run of `solve`: some answer is due, it was written, and the tally has the refusals behind it.
-pub record IsSolveRun (settings : Settings) (left_before : Option (List ℕ)) (source_rose : Type 0)
-    (taken_before taken_now : Option (List ℕ)) (sink_rose : Type 0) (finish : Finish) : Type 0 where
+-- A run of `solve`: some answer is due, for a tree the input was read to its end, the answer was written, and the tally
+-- has the refusals behind it.
+pub record IsSolveRun (settings : Settings) (source source_now : Reading) (sink sink_now : Writing)
+    (finish : Finish) : Type 0 where
   pub answer : Answer
-  pub due : IsDue settings left_before source_rose answer
-  pub written : IsWritten taken_before taken_now sink_rose (answer_text answer) (status_of answer) finish.status
+  pub due : IsDue settings source.left (SomeReadFailed source source_now) answer
+  pub read_to_end : status_of answer ≡ 0 → IsReadToEnd source.left source_now.left
+  pub written : IsWritten sink sink_now (answer_text answer) (status_of answer) finish.status
   pub counted : finish.tally ≡ tally_of settings answer
 
 -- a status of `solve`
@@ -141,7 +141,8 @@ IsFound settings input TooLong = ⊥
 
 -- the tree of a solution is within the limits of a text
 abbrev pub CanBeWritten : Answer → Type 0
-CanBeWritten (Solved solution) = (length solution.nodes.items ≤ most_nodes) × All (λ node. ListsFit node.rule) solution.nodes.items
+CanBeWritten (Solved solution) =
+    (length solution.nodes.items ≤ most_nodes) × All (λ node. ListsFit node.rule) solution.nodes.items
 CanBeWritten (UnknownBudget budget) = Unit {0}
 CanBeWritten (UnknownProofs slots) = Unit {0}
 CanBeWritten (BadPosition line) = Unit {0}

@@ -1,5 +1,6 @@
 -- What `demo` answers, and when.
-use Rattle.std.specs.Prelude.{◌≡◌, ℕ, ◌+◌, ◌<◌, List, ◌++◌, codes, Option}
+use Rattle.std.specs.Prelude.{◌≡◌, ℕ, ◌+◌, ◌<◌, List, ◌++◌, codes}
+use Rattle.hx_io.specs.Sinks.{Writing}
 use Rattle.hx_board.specs.declared.colours.Colour.{Colour}
 use Rattle.hx_board.specs.declared.colours.Colour.TheVariants.{Black, White}
 use Rattle.hx_board.specs.Positions.{Board}
@@ -9,13 +10,14 @@ use Rattle.hx_settings.specs.declared.settings.Settings.{Settings}
 use Rattle.hx_solve.specs.declared.unsolved.Unsolved.{Unsolved}
 use Rattle.hx_solve.specs.declared.unsolved.Unsolved.TheVariants.{Budget, Slots, Memory}
 use Rattle.hx_solve.specs.Tallies.{Tallied, tallied}
-use Rattle.hx_answers.specs.Texts.{numbered_text, counted_text}
+use Rattle.hx_answers.specs.Texts.{numbered_text, counted_text, out_of_memory_line, unknown_budget_line}
+use Rattle.hx_answers.specs.Texts.{unknown_proofs_line}
 use Rattle.hx_answers.specs.Endings.{IsWritten}
 use Rattle.hx_app.specs.declared.demo_answers.DemoAnswer.{DemoAnswer}
-use Rattle.hx_app.specs.declared.demo_answers.DemoAnswer.TheVariants.{Counted, UnknownBudget, UnknownProofs, OutOfMemory}
+use Rattle.hx_app.specs.declared.demo_answers.DemoAnswer.TheVariants.{Counted, UnknownBudget, UnknownProofs}
+use Rattle.hx_app.specs.declared.demo_answers.DemoAnswer.TheVariants.{OutOfMemory}
 use Rattle.hx_app.specs.declared.demo_answers.WinCounts.{WinCounts}
 use Rattle.hx_app.specs.declared.finishes.Finish.{Finish}
-use Rattle.hx_app.specs.Answers.{unknown_budget_line, unknown_proofs_line}
 
 -- how many positions are drawn
 abbrev pub positions : ℕ
@@ -40,7 +42,7 @@ abbrev pub answer_text : DemoAnswer → List ℕ
 answer_text (Counted seed wins) = counts_line seed wins
 answer_text (UnknownBudget budget) = unknown_budget_line budget
 answer_text (UnknownProofs slots) = unknown_proofs_line slots
-answer_text OutOfMemory = codes "out of memory\n"
+answer_text OutOfMemory = out_of_memory_line
 
 -- the exit status that tells each answer, where it was written whole
 abbrev pub status_of : DemoAnswer → ℕ
@@ -70,10 +72,10 @@ IsDue seed settings (UnknownProofs slots) = (slots ≡ settings.slots) × (setti
 IsDue seed settings OutOfMemory = Unit {0}
 
 -- A run of `demo`: some answer is due, it was written, and the tally has the refusals behind it.
-pub record IsDemoRun (seed : ℕ) (settings : Settings) (taken_before taken_now : Option (List ℕ)) (sink_rose : Type 0) (finish : Finish) : Type 0 where
+pub record IsDemoRun (seed : ℕ) (settings : Settings) (sink sink_now : Writing) (finish : Finish) : Type 0 where
   pub answer : DemoAnswer
   pub due : IsDue seed settings answer
-  pub written : IsWritten taken_before taken_now sink_rose (answer_text answer) (status_of answer) finish.status
+  pub written : IsWritten sink sink_now (answer_text answer) (status_of answer) finish.status
   pub counted : finish.tally ≡ tally_of settings answer
 
 -- ---- words for the functions inside the crate alone

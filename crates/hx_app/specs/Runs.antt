@@ -1,5 +1,7 @@
 -- A run of the program: its words are a command, which then ran, or they are none.
-use Rattle.std.specs.Prelude.{◌≡◌, ℕ, List, codes, Option}
+use Rattle.std.specs.Prelude.{◌≡◌, ℕ, List, codes}
+use Rattle.hx_io.specs.Sources.{Reading}
+use Rattle.hx_io.specs.Sinks.{Writing}
 use Rattle.hx_settings.specs.declared.settings.Settings.{Settings}
 use Rattle.hx_solve.specs.Tallies.{tallied}
 use Rattle.hx_words.specs.declared.commands.Command.{Command}
@@ -39,22 +41,22 @@ bad_words_line = codes "bad words\n"
 abbrev pub CountsNothing : Finish → Type 0
 CountsNothing finish = finish.tally ≡ tallied 0 0 0 0
 
--- A run: words that are no command are told so, and then the source is left as it was; or they are one, and it ran. `demo` leaves
--- the source as it was too.
-pub data IsRun (words : List (List ℕ)) (left_before left_now : Option (List ℕ)) (source_rose : Type 0)
-    (taken_before taken_now : Option (List ℕ)) (sink_rose : Type 0) (finish : Finish) : Type 0 where
-  Refused : (IsCommand words → ⊥) → left_now ≡ left_before → CountsNothing finish
-      → IsWritten taken_before taken_now sink_rose bad_words_line 2 finish.status
-      → IsRun words left_before left_now source_rose taken_before taken_now sink_rose finish
+-- A run: words that are no command are told so, and then the source is left as it was; or they are one, and it ran.
+-- `demo` leaves the source as it was too.
+pub data IsRun (words : List (List ℕ)) (source source_now : Reading) (sink sink_now : Writing)
+    (finish : Finish) : Type 0 where
+  Refused : (IsCommand words → ⊥) → source_now.left ≡ source.left → CountsNothing finish
+      → IsWritten sink sink_now bad_words_line 2 finish.status
+      → IsRun words source source_now sink sink_now finish
   Checked : IsCheck words → CountsNothing finish
-      → IsCheckRun left_before left_now source_rose taken_before taken_now sink_rose finish.status
-      → IsRun words left_before left_now source_rose taken_before taken_now sink_rose finish
+      → IsCheckRun source source_now sink sink_now finish.status
+      → IsRun words source source_now sink sink_now finish
   Searched : (settings : Settings) → IsSolve settings words
-      → IsSolveRun settings left_before source_rose taken_before taken_now sink_rose finish
-      → IsRun words left_before left_now source_rose taken_before taken_now sink_rose finish
+      → IsSolveRun settings source source_now sink sink_now finish
+      → IsRun words source source_now sink sink_now finish
   Served : (settings : Settings) → IsSession settings words
-      → IsSessionRun settings left_before left_now source_rose taken_before taken_now sink_rose finish
-      → IsRun words left_before left_now source_rose taken_before taken_now sink_rose finish
-  Drew : (seed : ℕ) (settings : Settings) → IsDraw seed settings words → left_now ≡ left_before
-      → IsDemoRun seed settings taken_before taken_now sink_rose finish
-      → IsRun words left_before left_now source_rose taken_before taken_now sink_rose finish
+      → IsSessionRun settings source source_now sink sink_now finish
+      → IsRun words source source_now sink sink_now finish
+  Drew : (seed : ℕ) (settings : Settings) → IsDraw seed settings words → source_now.left ≡ source.left
+      → IsDemoRun seed settings sink sink_now finish
+      → IsRun words source source_now sink sink_now finish

@@ -1,5 +1,7 @@
 -- What the command `htp` does, and what a run of it is good for.
-use Rattle.std.specs.Prelude.{◌≡◌, ◌⊎◌, ℕ, ◌≤◌, List, length, Option, IfSome, Result, Ok, IsErr}
+use Rattle.std.specs.Prelude.{◌≡◌, ◌⊎◌, ℕ, ◌≤◌, List, length, IfSome, Result, Ok, IsErr}
+use Rattle.hx_io.specs.Sources.{Reading, SomeReadFailed}
+use Rattle.hx_io.specs.Sinks.{Writing, SomeWriteFailed}
 use Rattle.hx_board.specs.declared.Memory.{Memory as OutOfMemory}
 use Rattle.hx_settings.specs.declared.settings.Settings.{Settings}
 use Rattle.hx_solve.specs.declared.unsolved.Unsolved.{Unsolved}
@@ -10,9 +12,10 @@ use Rattle.hx_htp.specs.declared.answerers.Told.TheVariants as told
 use Rattle.hx_htp.specs.Accounts.{Account}
 use Rattle.hx_htp.specs.Runs.{SessionRun, until_quit}
 use Rattle.hx_htp.specs.Laws.{IsCounted, NamesWinners}
-use Rattle.hx_serve.specs.declared.serving.Ended.{Ended}
-use Rattle.hx_serve.specs.declared.serving.Ended.TheVariants.{Done, ReadFault, WriteFault, TooLong}
-use Rattle.hx_serve.specs.Serving.{Ends, IsDone, IsReadFault, IsTooLong, IsWriteFault, IsWithinLimits, most_lines}
+use Rattle.hx_lines.specs.declared.ended.Ended.{Ended}
+use Rattle.hx_lines.specs.declared.ended.Ended.TheVariants.{Done, ReadFault, WriteFault, TooLong}
+use Rattle.hx_lines.specs.Services.{most_lines}
+use Rattle.hx_serve.specs.Serving.{Ends, IsDone, IsReadFault, IsTooLong, IsWriteFault, IsWithinLimits}
 use Rattle.hx_app.specs.declared.finishes.Finish.{Finish}
 
 -- what a tally tells of the questions of a session
@@ -39,11 +42,12 @@ EndHasCause rose sink_rose WriteFault = sink_rose
 EndHasCause rose sink_rose TooLong = Unit {0}
 
 -- A run of `htp`: a session answered the lines of the input, from counts 0 to those of the tally, and came to an end.
-pub record IsSessionRun (settings : Settings) (left_before left_now : Option (List ℕ)) (rose : Type 0)
-    (taken_before taken_now : Option (List ℕ)) (sink_rose : Type 0) (finish : Finish) : Type 0 where
+pub record IsSessionRun (settings : Settings) (source source_now : Reading) (sink sink_now : Writing)
+    (finish : Finish) : Type 0 where
   pub ended : Ended
-  pub ends : Ends (start_of settings) (account_of finish.tally) left_before left_now taken_before taken_now ended
-  pub cause : EndHasCause rose sink_rose ended
+  pub ends : Ends (start_of settings)
+      (account_of finish.tally) source.left source_now.left sink.taken sink_now.taken ended
+  pub cause : EndHasCause (SomeReadFailed source source_now) (SomeWriteFailed sink sink_now) ended
   pub status : finish.status ≡ status_of_end ended
 
 -- this status, unless a fault came in its place
@@ -61,24 +65,29 @@ EachRunIsCounted before after =
     (lines : List (List ℕ)) (replies : List ℕ) (run : SessionRun before lines replies after)
     → length (until_quit lines) ≤ most_lines → IsCounted run
 
--- The promises of `htp` with its settings, by what the source had left and has left, whether its faults rose, what the sink had
--- taken and has taken, whether its faults rose, and how it ended. What is said of an input is said of sources that tell what
--- they have left.
-pub record KeepsPromises (settings : Settings) (left left_now : Option (List ℕ)) (rose : Type 0) (before now : Option (List ℕ))
-    (sink_rose : Type 0) (finish : Finish) : Type 0 where
-  -- with status 0 the output is the replies of a session to the lines of the input, to all of them or to those up to `quit`
-  pub replies : finish.status ≡ 0 → IfSome left (IsDone (start_of settings) (account_of finish.tally) left_now before now)
-  -- with status 5 it is the replies to all lines whose LF was read, and words that say so; with status 6 a front of an output
+-- The promises of `htp` with its settings, by how far its source was read before and is now, how far was written to its
+-- sink, and how it ended. What is said of an input is said of sources that tell what they have left.
+pub record KeepsPromises (settings : Settings) (source source_now : Reading) (sink sink_now : Writing)
+    (finish : Finish) : Type 0 where
+  -- with status 0 the output is the replies of a session to the lines of the input, to all of them or to those up to
+  -- `quit`
+  pub replies : finish.status ≡ 0 → IfSome source.left
+      (IsDone (start_of settings) (account_of finish.tally) source_now.left sink.taken sink_now.taken)
+  -- with status 5 it is the replies to all lines whose LF was read, and words that say so; with status 6 a front of an
+  -- output
   pub read_fault : finish.status ≡ 5
-      → rose × IsReadFault (start_of settings) (account_of finish.tally) left left_now before now
+      → SomeReadFailed source source_now
+      × IsReadFault (start_of settings) (account_of finish.tally) source.left source_now.left sink.taken sink_now.taken
   pub write_fault : finish.status ≡ 6
-      → sink_rose × IsWriteFault (start_of settings) (account_of finish.tally) left left_now before now
+      → SomeWriteFailed sink sink_now
+      × IsWriteFault (start_of settings) (account_of finish.tally) source.left source_now.left sink.taken sink_now.taken
   -- with status 8 it is the replies to all lines before a limit, and words that say so
   pub too_long : finish.status ≡ 8
-      → IfSome left (λ input. IsTooLong (start_of settings) (account_of finish.tally) input before now)
+      → IfSome source.left (λ input. IsTooLong (start_of settings)
+      (account_of finish.tally) input sink.taken sink_now.taken)
   -- an input whose lines up to `quit` are within the limits ends with 0, and any other with 8
-  pub within : IfSome left (λ input. IsWithinLimits input → IsUnlessFault finish.status 0)
-  pub above : IfSome left (λ input. (IsWithinLimits input → ⊥) → IsUnlessFault finish.status 8)
+  pub within : IfSome source.left (λ input. IsWithinLimits input → IsUnlessFault finish.status 0)
+  pub above : IfSome source.left (λ input. (IsWithinLimits input → ⊥) → IsUnlessFault finish.status 8)
   -- each player whom a reply to `solve` names wins the position, and the other one does not
   pub winners : EachRunNamesWinners (start_of settings) (account_of finish.tally)
   -- the tally has counted each reply that names a limit

@@ -1,13 +1,15 @@
 //! The answers of `solve`: the text that is written for each, and the exit status that tells it.
 
 ghost use Rattle.std.specs.Prelude.{◌≡◌};
-ghost use Rattle.hx_io.specs.Causes.{HasCause};
-ghost use Rattle.hx_io.specs.Sinks.{TakesAll};
+ghost use Rattle.hx_io.specs.Sinks.{WritesAll};
 ghost use Rattle.hx_app.specs.Answers.{CanBeWritten, status_of, answer_text};
 
 use crate::solutions::{Solution, write_solution};
-use hx_answers::{OUT_OF_MEMORY, READ_FAULT, write_counted};
-use hx_io::{Failed, Sink, write_all};
+use hx_answers::{
+    OUT_OF_MEMORY, READ_FAULT, TOO_LONG, UNKNOWN, write_counted, write_out_of_memory,
+    write_read_fault, write_too_long, write_unknown_budget, write_unknown_proofs,
+};
+use hx_io::{Failed, Sink};
 
 /// What is said in the end, whatever becomes of the writing.
 #[derive(Debug, Drop, PartialEq, Eq)]
@@ -35,11 +37,11 @@ impl Answer {
     {
         match self {
             Answer::Solved(_) => 0,
-            Answer::UnknownBudget { .. } | Answer::UnknownProofs { .. } => 3,
+            Answer::UnknownBudget { .. } | Answer::UnknownProofs { .. } => UNKNOWN,
             Answer::BadPosition { .. } => 4,
             Answer::ReadFault => READ_FAULT,
             Answer::OutOfMemory => OUT_OF_MEMORY,
-            Answer::TooLong => 8,
+            Answer::TooLong => TOO_LONG,
         }
     }
 }
@@ -47,18 +49,15 @@ impl Answer {
 /// Writes an answer.
 pub(crate) fn write_answer<K: Sink>(sink: &mut K, answer: &Answer) -> Result<(), Failed>
     requires { CanBeWritten answer.now }
-    ensures bytes { TakesAll (K.taken sink.old) (K.taken sink.new) result (answer_text answer.now) }
-    ensures cause { HasCause (K.faults sink.old) (K.faults sink.new) result }
+    ensures { WritesAll (K.writing sink.old) (K.writing sink.new) result (answer_text answer.now) }
 {
     match answer {
         Answer::Solved(solution) => write_solution(sink, solution),
-        Answer::UnknownBudget { budget } => write_counted(sink, b"unknown budget ", *budget),
-        Answer::UnknownProofs { slots } => {
-            write_counted(sink, b"unknown proofs ", u64::from(*slots))
-        }
+        Answer::UnknownBudget { budget } => write_unknown_budget(sink, *budget),
+        Answer::UnknownProofs { slots } => write_unknown_proofs(sink, *slots),
         Answer::BadPosition { line } => write_counted(sink, b"bad position ", *line),
-        Answer::ReadFault => write_all(sink, b"read fault\n"),
-        Answer::OutOfMemory => write_all(sink, b"out of memory\n"),
-        Answer::TooLong => write_all(sink, b"too long\n"),
+        Answer::ReadFault => write_read_fault(sink),
+        Answer::OutOfMemory => write_out_of_memory(sink),
+        Answer::TooLong => write_too_long(sink),
     }
 }

@@ -1,7 +1,7 @@
 //! The top call: from the words of the command line to the exit status.
 
 ghost use Rattle.std.specs.Prelude.{◌≡◌, ◌⊎◌, ℕ};
-ghost use Rattle.hx_io.specs.Causes.{Rose};
+ghost use Rattle.hx_io.specs.Sinks.{SomeWriteFailed};
 ghost use Rattle.hx_settings.specs.declared.settings.Settings.{Settings as Bounds};
 ghost use Rattle.hx_words.specs.Words.{words_of};
 ghost use Rattle.hx_answers.specs.Endings.{IsWritten};
@@ -32,9 +32,9 @@ const BAD_WORDS: u8 = 2;
 /// `check` reads the text of a tree, judges its lines and nodes in their order and writes `yes` with the winner and the
 /// position of the root, or where the first fault is. `solve` reads the text of a position and writes the text of a tree
 /// that proves who wins it, or why there is none. Its workers call the gate at each of their turns; it may wait for them.
-/// `htp` answers the lines of a session, each before the next read; its workers have the gate that holds nobody back. `demo` reads
-/// nothing: it draws positions with a seed, solves them, checks their trees and writes how many each player wins; its workers call
-/// the gate, and it may wait for them.
+/// `htp` answers the lines of a session, each before the next read; its workers have the gate that holds nobody back. `demo`
+/// reads nothing: it draws positions with a seed, solves them, checks their trees and writes how many each player wins; its
+/// workers call the gate, and it may wait for them.
 pub fn run<S: Source, K: Sink, G: Gate + Sync, R: Threads + Wait + Sync>(
     rt: &R,
     alloc: Global,
@@ -46,48 +46,44 @@ pub fn run<S: Source, K: Sink, G: Gate + Sync, R: Threads + Wait + Sync>(
     // Some answer is due, and it was written whole, or the sink failed before it took all of it. A session has answered lines,
     // and came to an end.
     ensures run { IsRun (words_of words.now)
-        (S.left source.old) (S.left source.new) (Rose (S.faults source.old) (S.faults source.new))
-        (K.taken sink.old) (K.taken sink.new) (Rose (K.faults sink.old) (K.faults sink.new))
-        result }
+        (S.reading source.old) (S.reading source.new)
+        (K.writing sink.old) (K.writing sink.new) result }
 
-    // `check` keeps its promises: with status 0 the input is the text of a valid tree, which the output says, and the player that
-    // it names wins and the other does not; it accepts exactly the valid trees that have no more nodes than a text
-    // may have, however many bytes they have.
+    // `check` keeps its promises: with status 0 the input was read to its end and is the text of a valid tree, which the
+    // output says, and the player that it names wins and the other does not; it accepts exactly the valid trees that have no
+    // more nodes than a text may have, however many bytes they have.
     ensures check { IsCheck (words_of words.now) → ChecksAsPromised
-        (S.left source.old) (S.left source.new) (Rose (S.faults source.old) (S.faults source.new))
-        (K.taken sink.old) (K.taken sink.new) (Rose (K.faults sink.old) (K.faults sink.new))
-        result.status }
+        (S.reading source.old) (S.reading source.new)
+        (K.writing sink.old) (K.writing sink.new) result.status }
 
-    // `solve` keeps its promises: with status 0 the output is the text of a valid tree of the input's position, and the player
-    // that it names wins and the other does not; `unknown` comes only where a refusal of a unit or of a slot was counted, of a unit
-    // only for a position without a chain, unless the budget is 0.
+    // `solve` keeps its promises: with status 0 the input was read to its end, the output is the text of a valid tree of the
+    // input's position, and the player that it names wins and the other does not; `unknown` comes only where a refusal of a
+    // unit or of a slot was counted, of a unit only for a position without a chain, unless the budget is 0.
     ensures solve { (settings : Bounds) → IsSolve settings (words_of words.now)
         → SolvesAsPromised settings
-        (S.left source.old) (Rose (S.faults source.old) (S.faults source.new))
-        (K.taken sink.old) (K.taken sink.new) (Rose (K.faults sink.old) (K.faults sink.new))
-        result }
+        (S.reading source.old) (S.reading source.new)
+        (K.writing sink.old) (K.writing sink.new) result }
 
     // `htp` keeps its promises: the output is the replies of a session to the lines of the input; a player that it names wins;
     // `unknown` comes only where a refusal of a unit or of a slot was counted.
     ensures htp { (settings : Bounds) → IsSession settings (words_of words.now)
         → ServesAsPromised settings
-        (S.left source.old) (S.left source.new) (Rose (S.faults source.old) (S.faults source.new))
-        (K.taken sink.old) (K.taken sink.new) (Rose (K.faults sink.old) (K.faults sink.new))
-        result }
+        (S.reading source.old) (S.reading source.new)
+        (K.writing sink.old) (K.writing sink.new) result }
 
     // `demo` keeps its promises: with status 0 the output is how many of the positions that the seed draws each player wins;
     // `unknown` comes only with a budget below 986,410, and only where a refusal of a unit or of a slot was counted.
     ensures demo { (seed : ℕ) (settings : Bounds) → IsDraw seed settings (words_of words.now)
         → DrawsAsPromised seed settings
-        (K.taken sink.old) (K.taken sink.new) (Rose (K.faults sink.old) (K.faults sink.new))
-        result }
+        (K.writing sink.old) (K.writing sink.new) result }
 
     // It reads nothing.
     ensures unread { (seed : ℕ) (settings : Bounds) → IsDraw seed settings (words_of words.now)
         → source.new ≡ source.old }
 
     // Whatever the words, the status of a failed write has its cause.
-    ensures write_fault { result.status ≡ 6 → Rose (K.faults sink.old) (K.faults sink.new) }
+    ensures write_fault { result.status ≡ 6
+        → SomeWriteFailed (K.writing sink.old) (K.writing sink.new) }
 
     // Without a command nothing is read.
     ensures refused { (IsCommand (words_of words.now) → ⊥)
@@ -104,10 +100,11 @@ pub fn run<S: Source, K: Sink, G: Gate + Sync, R: Threads + Wait + Sync>(
 
 /// Says that the words are no command, and answers the exit status.
 fn refuse<K: Sink>(sink: &mut K) -> u8
-    ensures written { IsWritten (K.taken sink.old) (K.taken sink.new)
-        (Rose (K.faults sink.old) (K.faults sink.new)) bad_words_line 2 result }
+    ensures written { IsWritten (K.writing sink.old) (K.writing sink.new)
+        bad_words_line 2 result }
     ensures status { (result ≡ 2) ⊎ (result ≡ 6) }
-    ensures write_fault { result ≡ 6 → Rose (K.faults sink.old) (K.faults sink.new) }
+    ensures write_fault { result ≡ 6
+        → SomeWriteFailed (K.writing sink.old) (K.writing sink.new) }
 {
     match write_all(sink, b"bad words\n") {
         Ok(()) => BAD_WORDS,

@@ -1,12 +1,14 @@
 //! The answers of `demo`: the text that is written for each, and the exit status that tells it.
 
 ghost use Rattle.std.specs.Prelude.{◌≡◌};
-ghost use Rattle.hx_io.specs.Causes.{HasCause};
-ghost use Rattle.hx_io.specs.Sinks.{TakesAll};
+ghost use Rattle.hx_io.specs.Sinks.{WritesAll};
 ghost use Rattle.hx_app.specs.DemoAnswers.{status_of, answer_text, draws_text, wins_text, counts_line};
 
-use hx_answers::{OUT_OF_MEMORY, write_counted, write_numbered};
-use hx_io::{Failed, Sink, write_all};
+use hx_answers::{
+    OUT_OF_MEMORY, UNKNOWN, write_counted, write_numbered, write_out_of_memory,
+    write_unknown_budget, write_unknown_proofs,
+};
+use hx_io::{Failed, Sink};
 
 /// How many positions are drawn.
 pub(crate) const POSITIONS: u64 = 200;
@@ -38,7 +40,7 @@ impl DemoAnswer {
     {
         match self {
             DemoAnswer::Counted { .. } => 0,
-            DemoAnswer::UnknownBudget { .. } | DemoAnswer::UnknownProofs { .. } => 3,
+            DemoAnswer::UnknownBudget { .. } | DemoAnswer::UnknownProofs { .. } => UNKNOWN,
             DemoAnswer::OutOfMemory => OUT_OF_MEMORY,
         }
     }
@@ -46,24 +48,20 @@ impl DemoAnswer {
 
 /// Writes an answer.
 pub(crate) fn write_demo_answer<K: Sink>(sink: &mut K, answer: &DemoAnswer) -> Result<(), Failed>
-    ensures bytes { TakesAll (K.taken sink.old) (K.taken sink.new) result (answer_text answer.now) }
-    ensures cause { HasCause (K.faults sink.old) (K.faults sink.new) result }
+    ensures { WritesAll (K.writing sink.old) (K.writing sink.new) result (answer_text answer.now) }
 {
     match answer {
         DemoAnswer::Counted { seed, wins } => write_counts(sink, *seed, wins),
-        DemoAnswer::UnknownBudget { budget } => write_counted(sink, b"unknown budget ", *budget),
-        DemoAnswer::UnknownProofs { slots } => {
-            write_counted(sink, b"unknown proofs ", u64::from(*slots))
-        }
-        DemoAnswer::OutOfMemory => write_all(sink, b"out of memory\n"),
+        DemoAnswer::UnknownBudget { budget } => write_unknown_budget(sink, *budget),
+        DemoAnswer::UnknownProofs { slots } => write_unknown_proofs(sink, *slots),
+        DemoAnswer::OutOfMemory => write_out_of_memory(sink),
     }
 }
 
 /// Writes the line of the counts. As many trees were accepted as positions were drawn.
 fn write_counts<K: Sink>(sink: &mut K, seed: u64, wins: &WinCounts) -> Result<(), Failed>
-    ensures bytes { TakesAll (K.taken sink.old) (K.taken sink.new) result
+    ensures { WritesAll (K.writing sink.old) (K.writing sink.new) result
         (counts_line seed wins.now) }
-    ensures cause { HasCause (K.faults sink.old) (K.faults sink.new) result }
 {
     match write_draws(sink, seed) {
         Ok(()) => {}
@@ -77,8 +75,7 @@ fn write_counts<K: Sink>(sink: &mut K, seed: u64, wins: &WinCounts) -> Result<()
 
 /// Writes what was drawn.
 fn write_draws<K: Sink>(sink: &mut K, seed: u64) -> Result<(), Failed>
-    ensures bytes { TakesAll (K.taken sink.old) (K.taken sink.new) result (draws_text seed) }
-    ensures cause { HasCause (K.faults sink.old) (K.faults sink.new) result }
+    ensures { WritesAll (K.writing sink.old) (K.writing sink.new) result (draws_text seed) }
 {
     match write_numbered(sink, b"demo ", seed) {
         Ok(()) => write_numbered(sink, b" positions ", POSITIONS),
@@ -88,8 +85,7 @@ fn write_draws<K: Sink>(sink: &mut K, seed: u64) -> Result<(), Failed>
 
 /// Writes how many positions each player wins.
 fn write_wins<K: Sink>(sink: &mut K, wins: &WinCounts) -> Result<(), Failed>
-    ensures bytes { TakesAll (K.taken sink.old) (K.taken sink.new) result (wins_text wins.now) }
-    ensures cause { HasCause (K.faults sink.old) (K.faults sink.new) result }
+    ensures { WritesAll (K.writing sink.old) (K.writing sink.new) result (wins_text wins.now) }
 {
     match write_numbered(sink, b" black ", wins.black) {
         Ok(()) => write_numbered(sink, b" white ", wins.white),

@@ -3,7 +3,6 @@
 ghost use Rattle.std.specs.Prelude.{◌≡◌, ◌+◌, ◌-◌, ◌≤◌, ◌<◌, ◌^◌, IfOk, IfErr};
 ghost use Rattle.hx_board.specs.declared.colours.Colour.TheVariants.{Black};
 ghost use Rattle.hx_board.specs.Counts.{IsSmall};
-ghost use Rattle.hx_io.specs.Causes.{Rose};
 ghost use Rattle.hx_demo.specs.Draws.{first_positions};
 ghost use Rattle.hx_settings.specs.Settings.{AreSettings};
 ghost use Rattle.hx_solve.specs.Causes.{HasCause, LacksMemory};
@@ -42,10 +41,9 @@ pub(crate) fn run_demo<K: Sink, G: Gate + Sync, R: Threads + Wait + Sync>(
     gate: &G,
 ) -> Finish
     requires { AreSettings settings }
-    ensures run { IsDemoRun seed settings (K.taken sink.old) (K.taken sink.new)
-        (Rose (K.faults sink.old) (K.faults sink.new)) result }
-    ensures promises { KeepsPromises seed settings (K.taken sink.old) (K.taken sink.new)
-        (Rose (K.faults sink.old) (K.faults sink.new)) result }
+    ensures run { IsDemoRun seed settings (K.writing sink.old) (K.writing sink.new) result }
+    ensures promises { KeepsPromises seed settings
+        (K.writing sink.old) (K.writing sink.new) result }
 {
     let DemoFinding { answer, tally } = settle(rt, alloc, seed, settings, gate);
     let status = say(sink, &answer);
@@ -54,9 +52,8 @@ pub(crate) fn run_demo<K: Sink, G: Gate + Sync, R: Threads + Wait + Sync>(
 
 /// Writes an answer, and gives the exit status.
 fn say<K: Sink>(sink: &mut K, answer: &DemoAnswer) -> u8
-    ensures { IsWritten (K.taken sink.old) (K.taken sink.new)
-        (Rose (K.faults sink.old) (K.faults sink.new)) (answer_text answer.now)
-        (status_of answer.now) result }
+    ensures { IsWritten (K.writing sink.old) (K.writing sink.new)
+        (answer_text answer.now) (status_of answer.now) result }
 {
     match write_demo_answer(sink, answer) {
         Ok(()) => answer.status(),

@@ -1,7 +1,8 @@
 //! What follows from the promises of two commands. The call does nothing; what it says stands in its contract.
 
-ghost use Rattle.std.specs.Prelude.{ℕ, List, Option, Some};
-ghost use Rattle.hx_io.specs.Causes.{Rose};
+ghost use Rattle.std.specs.Prelude.{◌≡◌, ℕ, List, Option, Some};
+ghost use Rattle.hx_io.specs.Sources.{Reading};
+ghost use Rattle.hx_io.specs.Sinks.{Writing};
 ghost use Rattle.hx_answers.specs.Endings.{IsUnlessStopped};
 ghost use Rattle.hx_check.specs.Promises.{KeepsPromises as ChecksAsPromised};
 ghost use Rattle.hx_app.specs.Promises.{SaysSolved};
@@ -11,8 +12,8 @@ ghost use Rattle.hx_app.specs.Promises.{SaysSolved};
 pub fn check_accepts_what_solve_writes()
     ensures { (input : List ℕ) (taken taken_now : Option (List ℕ))
         (solved : SaysSolved input taken taken_now)
-        (left before now : Option (List ℕ)) (reads reads_now writes writes_now status : ℕ)
-        → ChecksAsPromised (Some solved.tree) left (Rose reads reads_now)
-        before now (Rose writes writes_now) status
+        (source source_now : Reading) (sink sink_now : Writing) (status : ℕ)
+        → source.left ≡ Some solved.tree
+        → ChecksAsPromised source source_now sink sink_now status
         → IsUnlessStopped status 0 }
 {}

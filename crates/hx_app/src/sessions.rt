@@ -1,13 +1,12 @@
 //! The command `htp`: a session over the lines of the input, whose questions a search answers.
 
 ghost use Rattle.std.specs.Prelude.{◌≡◌};
-ghost use Rattle.hx_io.specs.Causes.{Rose};
 ghost use Rattle.hx_settings.specs.Settings.{AreSettings};
 ghost use Rattle.hx_app.specs.Sessions.{IsSessionRun, KeepsPromises, status_of_end};
 
 use crate::finishes::Finish;
 use crate::searchers::Searcher;
-use hx_answers::{READ_FAULT, WRITE_FAULT};
+use hx_answers::{READ_FAULT, TOO_LONG, WRITE_FAULT};
 use hx_htp::{named_players_win, open_questions_are_counted};
 use hx_io::{Sink, Source};
 use hx_serve::{Ended, only_lines_above_a_limit_are_too_long, serve};
@@ -27,13 +26,11 @@ pub(crate) fn run_session<S: Source, K: Sink, R: Threads + Wait + Sync>(
 ) -> Finish
     requires { AreSettings settings }
     ensures run { IsSessionRun settings
-        (S.left source.old) (S.left source.new) (Rose (S.faults source.old) (S.faults source.new))
-        (K.taken sink.old) (K.taken sink.new) (Rose (K.faults sink.old) (K.faults sink.new))
-        result }
+        (S.reading source.old) (S.reading source.new)
+        (K.writing sink.old) (K.writing sink.new) result }
     ensures promises { KeepsPromises settings
-        (S.left source.old) (S.left source.new) (Rose (S.faults source.old) (S.faults source.new))
-        (K.taken sink.old) (K.taken sink.new) (Rose (K.faults sink.old) (K.faults sink.new))
-        result }
+        (S.reading source.old) (S.reading source.new)
+        (K.writing sink.old) (K.writing sink.new) result }
 {
     named_players_win();
     open_questions_are_counted();
@@ -51,9 +48,8 @@ fn serve_lines<S: Source, K: Sink, R: Threads + Wait + Sync>(
 ) -> Finish
     requires { AreSettings settings }
     ensures { IsSessionRun settings
-        (S.left source.old) (S.left source.new) (Rose (S.faults source.old) (S.faults source.new))
-        (K.taken sink.old) (K.taken sink.new) (Rose (K.faults sink.old) (K.faults sink.new))
-        result }
+        (S.reading source.old) (S.reading source.new)
+        (K.writing sink.old) (K.writing sink.new) result }
 {
     let mut searcher = Searcher::new(alloc, settings);
     let ended = serve(rt, source, sink, &mut searcher);
@@ -71,6 +67,6 @@ fn status_of(ended: Ended) -> u8
         Ended::Done => 0,
         Ended::ReadFault => READ_FAULT,
         Ended::WriteFault => WRITE_FAULT,
-        Ended::TooLong => 8,
+        Ended::TooLong => TOO_LONG,
     }
 }

@@ -2,8 +2,7 @@
 
 ghost use Rattle.std.specs.Prelude.{◌≤◌, length};
 ghost use Rattle.std.specs.List.{All};
-ghost use Rattle.hx_io.specs.Causes.{HasCause};
-ghost use Rattle.hx_io.specs.Sinks.{TakesAll};
+ghost use Rattle.hx_io.specs.Sinks.{WritesAll};
 ghost use Rattle.hx_text.specs.TreeTexts.{ListsFit};
 ghost use Rattle.hx_text.specs.Lengths.{most_nodes};
 ghost use Rattle.hx_app.specs.Answers.{nodes_text, solution_text};
@@ -28,9 +27,8 @@ pub struct Solution {
 pub(crate) fn write_solution<K: Sink>(sink: &mut K, solution: &Solution) -> Result<(), Failed>
     requires count { length solution.now.nodes.items ≤ most_nodes }
     requires lists { All (λ node. ListsFit node.rule) solution.now.nodes.items }
-    ensures bytes { TakesAll (K.taken sink.old) (K.taken sink.new) result
+    ensures { WritesAll (K.writing sink.old) (K.writing sink.new) result
         (solution_text solution.now) }
-    ensures cause { HasCause (K.faults sink.old) (K.faults sink.new) result }
 {
     match write_heading(sink, solution.version, solution.size) {
         Ok(()) => {}
@@ -45,8 +43,7 @@ pub(crate) fn write_solution<K: Sink>(sink: &mut K, solution: &Solution) -> Resu
 /// Writes each node.
 fn write_nodes<K: Sink>(sink: &mut K, nodes: &[Node]) -> Result<(), Failed>
     requires { All (λ node. ListsFit node.rule) nodes.now }
-    ensures bytes { TakesAll (K.taken sink.old) (K.taken sink.new) result (nodes_text nodes.now) }
-    ensures cause { HasCause (K.faults sink.old) (K.faults sink.new) result }
+    ensures { WritesAll (K.writing sink.old) (K.writing sink.new) result (nodes_text nodes.now) }
 {
     for node in nodes {
         match write_node(sink, node) {

@@ -1,13 +1,13 @@
 //! The command `solve`: a position is read, workers search it, and the tree that they come to is written, or why there is none.
 
 ghost use Rattle.std.specs.Prelude.{◌≡◌};
-ghost use Rattle.hx_io.specs.Causes.{Rose};
+ghost use Rattle.hx_io.specs.Sources.{SomeReadFailed};
 ghost use Rattle.hx_tree.specs.declared.nodes.Node.{Node as TreeNode};
 ghost use Rattle.hx_tree.specs.Trees.{IsValidTree, IsRoot};
 ghost use Rattle.hx_settings.specs.Settings.{AreSettings};
 ghost use Rattle.hx_solve.specs.Tallies.{tallied};
 ghost use Rattle.hx_solve.specs.Causes.{HasCause};
-ghost use Rattle.hx_answers.specs.Endings.{IsWritten};
+ghost use Rattle.hx_answers.specs.Endings.{IsReadToEnd, IsWritten};
 ghost use Rattle.hx_app.specs.Answers.{CanBeWritten, IsDue, IsFound, IsSolveRun, IsVersionOf, answer_text, status_of, tally_of, SaysWhy};
 ghost use Rattle.hx_app.specs.Promises.{KeepsPromises};
 
@@ -18,6 +18,7 @@ use crate::solutions::Solution;
 use hx_answers::{Unread, WRITE_FAULT, read_all};
 use hx_board::Position;
 use hx_io::{Failed, Gate, Sink, Source};
+use hx_lines::LONGEST;
 use hx_reader::read_position;
 use hx_solve::{Settings, Tally, Unsolved, solve};
 use hx_text::version_of;
@@ -25,9 +26,6 @@ use hx_tree::Node;
 use std::alloc::Global;
 use std::sync::Wait;
 use std::thread::Threads;
-
-/// The most bytes that are read.
-const MOST_BYTES: usize = 4096;
 
 /// What is to be said, and the refusals that stand behind it.
 #[derive(Drop)]
@@ -48,13 +46,11 @@ pub(crate) fn run_solve<S: Source, K: Sink, G: Gate + Sync, R: Threads + Wait + 
 ) -> Finish
     requires { AreSettings settings }
     ensures run { IsSolveRun settings
-        (S.left source.old) (Rose (S.faults source.old) (S.faults source.new))
-        (K.taken sink.old) (K.taken sink.new) (Rose (K.faults sink.old) (K.faults sink.new))
-        result }
+        (S.reading source.old) (S.reading source.new)
+        (K.writing sink.old) (K.writing sink.new) result }
     ensures promises { KeepsPromises settings
-        (S.left source.old) (Rose (S.faults source.old) (S.faults source.new))
-        (K.taken sink.old) (K.taken sink.new) (Rose (K.faults sink.old) (K.faults sink.new))
-        result }
+        (S.reading source.old) (S.reading source.new)
+        (K.writing sink.old) (K.writing sink.new) result }
 {
     let Finding { answer, tally } = settle(rt, alloc, settings, source, gate);
     let status = say(sink, &answer);
@@ -64,9 +60,8 @@ pub(crate) fn run_solve<S: Source, K: Sink, G: Gate + Sync, R: Threads + Wait + 
 /// Writes an answer, and gives the exit status.
 fn say<K: Sink>(sink: &mut K, answer: &Answer) -> u8
     requires { CanBeWritten answer.now }
-    ensures { IsWritten (K.taken sink.old) (K.taken sink.new)
-        (Rose (K.faults sink.old) (K.faults sink.new)) (answer_text answer.now)
-        (status_of answer.now) result }
+    ensures { IsWritten (K.writing sink.old) (K.writing sink.new)
+        (answer_text answer.now) (status_of answer.now) result }
 {
     match write_answer(sink, answer) {
         Ok(()) => answer.status(),
@@ -83,12 +78,14 @@ fn settle<S: Source, G: Gate + Sync, R: Threads + Wait + Sync>(
     gate: &G,
 ) -> Finding
     requires { AreSettings settings }
-    ensures due { IsDue settings (S.left source.old)
-        (Rose (S.faults source.old) (S.faults source.new)) result.answer }
+    ensures due { IsDue settings (S.reading source.old).left
+        (SomeReadFailed (S.reading source.old) (S.reading source.new)) result.answer }
+    ensures read_to_end { status_of result.answer ≡ 0
+        → IsReadToEnd (S.reading source.old).left (S.reading source.new).left }
     ensures counted { result.tally ≡ tally_of settings result.answer }
     ensures writable { CanBeWritten result.answer }
 {
-    match read_all(alloc, source, MOST_BYTES) {
+    match read_all(alloc, source, LONGEST) {
         Ok(bytes) => found(rt, alloc, settings, &bytes, gate),
         Err(Unread::Failed) => without_refusal(settings, Answer::ReadFault),
         Err(Unread::TooLong) => without_refusal(settings, Answer::TooLong),

@@ -4,5 +4,5 @@ pub mod BoardCells
 pub mod DrawnSets
 pub mod DrawnStones
 pub mod DrawnBoards
-pub mod DrawnInTurn
+pub mod DrawnOneByOne
 pub mod WinCountLaws

@@ -1,5 +1,6 @@
 -- The position that sixteen words draw.
-use Rattle.std.specs.Prelude.{◌≡◌, ℕ, ◌%◌, List, [], ◌∷◌, ◌++◌, length, map, take, drop, slice_index, remove}
+use Rattle.std.specs.Prelude.{◌≡◌, ℕ, ◌%◌}
+use Rattle.std.specs.Prelude.{List, [], ◌∷◌, ◌++◌, length, map, take, drop, slice_index, remove}
 use Rattle.hx_board.specs.Cells.{Extent, index_of}
 use Rattle.hx_board.specs.Positions.{Board}
 use Rattle.hx_board.specs.Sets.{insert}

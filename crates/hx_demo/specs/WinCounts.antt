@@ -8,7 +8,9 @@ use Rattle.hx_board.specs.Game.{Wins}
 -- of these positions the player wins so many with Black to move
 pub data WinsSoMany (player : Colour) : List Board → ℕ → Type 0 where
   Empty : WinsSoMany player [] 0
-  Won : (board : Board) (boards : List Board) (count : ℕ) → Wins player board Black → WinsSoMany player boards count
+  Won : (board : Board) (boards : List Board) (count : ℕ)
+      → Wins player board Black → WinsSoMany player boards count
       → WinsSoMany player (board ∷ boards) (suc count)
-  Lost : (board : Board) (boards : List Board) (count : ℕ) → ¬ Wins player board Black → WinsSoMany player boards count
+  Lost : (board : Board) (boards : List Board) (count : ℕ)
+      → ¬ Wins player board Black → WinsSoMany player boards count
       → WinsSoMany player (board ∷ boards) count

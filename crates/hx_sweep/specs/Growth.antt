@@ -10,8 +10,8 @@ use Rattle.hx_tree.specs.Trees.{AreRight}
 use Rattle.hx_sweep.specs.Moves.{AreByMoves}
 use Rattle.hx_sweep.specs.Sweeps.{AreOfSize}
 
--- right nodes by moves alone, to which those of a proof for this board can be added: each number of a node has 32 binary
--- digits at the most
+-- right nodes by moves alone, to which those of a proof for this board can be added: each number of a node has 32
+-- binary digits at the most
 pub record IsBegun (board : Board) (nodes : List Node) : Type 0 where
   pub valid : IsBoard board
   pub right : AreRight nodes
@@ -28,7 +28,8 @@ pub record HasMoreNodes (size : Extent) (limit : ℕ) (before after : List Node)
   pub of_size : AreOfSize size after
   pub by_moves : AreByMoves after
 
--- right nodes that were added, the last of which has this number and says that the winner wins the board with this mover
+-- right nodes that were added, the last of which has this number and says that the winner wins the board with this
+-- mover
 pub record IsProved (board : Board) (mover winner : Colour) (before after : List Node) (number : ℕ) : Type 0 where
   pub grown : HasMoreNodes board.size (sweep_size (empty_count board)) before after
   pub front : List Node

@@ -12,7 +12,8 @@ abbrev pub IsChildLine : Line → Type 0
 IsChildLine (Child cell child) = Unit {0}
 IsChildLine (Under cell better kill) = ⊥
 
--- a rule that shows a chain, a move of the winner, or an answer by a child to each move of the opponent, and uses no link
+-- a rule that shows a chain, a move of the winner, or an answer by a child to each move of the opponent, and uses no
+-- link
 abbrev pub IsByMoves : Rule → Type 0
 IsByMoves Chain = Unit {0}
 IsByMoves (Links steps) = ⊥

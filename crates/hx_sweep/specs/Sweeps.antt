@@ -13,8 +13,8 @@ use Rattle.hx_sweep.specs.Moves.{AreByMoves}
 abbrev pub AreOfSize : Extent → List Node → Type 0
 AreOfSize size nodes = All (λ node. node.heading.position.size ≡ size) nodes
 
--- a valid tree by moves alone with this board and mover at its root, no larger than a full search of it can become, and all
--- of one size
+-- a valid tree by moves alone with this board and mover at its root, no larger than a full search of it can become, and
+-- all of one size
 pub record IsSweep (board : Board) (mover : Colour) (nodes : List Node) : Type 0 where
   pub valid : IsValidTree nodes
   pub root : Node

@@ -5,12 +5,16 @@ use Rattle.hx_app.proofs.commands.run.Goals as goal
 
 pub returns-in-Some-Check-clause-run : goal.returns-in-Some-Check-clause-run
 returns-in-Some-Check-clause-run g c =
-    checked_run _ _ _ _ _ _ _ c.run_check.result c.uncounted.result (rw c.in-Some-Check.field-0-is at c.in-Some-Check.ensures.finds)
+    checked_run _ (g.S.Source.reading c.args.source.now) (g.S.Source.reading c.run_check.new.source)
+    (g.K.Sink.writing c.args.sink.now) (g.K.Sink.writing c.run_check.new.sink)
+    c.run_check.result c.uncounted.result (rw c.in-Some-Check.field-0-is at c.in-Some-Check.ensures.finds)
     c.uncounted.ensures.status c.uncounted.ensures.tally c.run_check.ensures.run
 
 pub returns-in-Some-Check-clause-check : goal.returns-in-Some-Check-clause-check
 returns-in-Some-Check-clause-check g c = λ check.
-    checked_kept _ _ _ _ _ _ c.run_check.result c.uncounted.result c.uncounted.ensures.status c.run_check.ensures.promises
+    checked_kept (g.S.Source.reading c.args.source.now) (g.S.Source.reading c.run_check.new.source)
+    (g.K.Sink.writing c.args.sink.now) (g.K.Sink.writing c.run_check.new.sink)
+    c.run_check.result c.uncounted.result c.uncounted.ensures.status c.run_check.ensures.promises
 
 pub returns-in-Some-Check-clause-solve : goal.returns-in-Some-Check-clause-solve
 returns-in-Some-Check-clause-solve g c = λ settings solve. absurd (checked_not_solved _ settings (rw c.in-Some-Check.field-0-is at c.in-Some-Check.ensures.finds) solve)
@@ -19,21 +23,30 @@ pub returns-in-Some-Check-clause-htp : goal.returns-in-Some-Check-clause-htp
 returns-in-Some-Check-clause-htp g c = λ settings session. absurd (checked_not_served _ settings (rw c.in-Some-Check.field-0-is at c.in-Some-Check.ensures.finds) session)
 
 pub returns-in-Some-Solve-clause-run : goal.returns-in-Some-Solve-clause-run
-returns-in-Some-Solve-clause-run g c = solved_run _ _ _ _ _ _ _ _ _ (rw (c.in-Some-Solve.field-0-is, c.in-Some-Solve.settings-is) at c.in-Some-Solve.ensures.finds) c.run_solve.ensures.run
+returns-in-Some-Solve-clause-run g c =
+    solved_run _ (g.S.Source.reading c.args.source.now) (g.S.Source.reading c.run_solve.new.source)
+    (g.K.Sink.writing c.args.sink.now) (g.K.Sink.writing c.run_solve.new.sink)
+    _ _ (rw (c.in-Some-Solve.field-0-is, c.in-Some-Solve.settings-is) at c.in-Some-Solve.ensures.finds) c.run_solve.ensures.run
 
 pub returns-in-Some-Solve-clause-check : goal.returns-in-Some-Solve-clause-check
 returns-in-Some-Solve-clause-check g c = λ check. absurd (checked_not_solved _ _ check (rw (c.in-Some-Solve.field-0-is, c.in-Some-Solve.settings-is) at c.in-Some-Solve.ensures.finds))
 
 pub returns-in-Some-Solve-clause-solve : goal.returns-in-Some-Solve-clause-solve
 returns-in-Some-Solve-clause-solve g c = λ settings solve.
-    solved_kept _ _ _ _ _ _ _ _ settings (rw (c.in-Some-Solve.field-0-is, c.in-Some-Solve.settings-is) at c.in-Some-Solve.ensures.finds) solve c.run_solve.ensures.promises
+    solved_kept (g.S.Source.reading c.args.source.now) (g.S.Source.reading c.run_solve.new.source)
+    (g.K.Sink.writing c.args.sink.now) (g.K.Sink.writing c.run_solve.new.sink)
+    _ _ _ settings (rw (c.in-Some-Solve.field-0-is, c.in-Some-Solve.settings-is) at c.in-Some-Solve.ensures.finds)
+    solve c.run_solve.ensures.promises
 
 pub returns-in-Some-Solve-clause-htp : goal.returns-in-Some-Solve-clause-htp
 returns-in-Some-Solve-clause-htp g c = λ settings session.
     absurd (solved_not_served _ _ settings (rw (c.in-Some-Solve.field-0-is, c.in-Some-Solve.settings-is) at c.in-Some-Solve.ensures.finds) session)
 
 pub returns-in-Some-Htp-clause-run : goal.returns-in-Some-Htp-clause-run
-returns-in-Some-Htp-clause-run g c = served_run _ _ _ _ _ _ _ _ _ (rw (c.in-Some-Htp.field-0-is, c.in-Some-Htp.settings-is) at c.in-Some-Htp.ensures.finds) c.run_session.ensures.run
+returns-in-Some-Htp-clause-run g c =
+    served_run _ (g.S.Source.reading c.args.source.now) (g.S.Source.reading c.run_session.new.source)
+    (g.K.Sink.writing c.args.sink.now) (g.K.Sink.writing c.run_session.new.sink)
+    _ _ (rw (c.in-Some-Htp.field-0-is, c.in-Some-Htp.settings-is) at c.in-Some-Htp.ensures.finds) c.run_session.ensures.run
 
 pub returns-in-Some-Htp-clause-check : goal.returns-in-Some-Htp-clause-check
 returns-in-Some-Htp-clause-check g c = λ check. absurd (checked_not_served _ _ check (rw (c.in-Some-Htp.field-0-is, c.in-Some-Htp.settings-is) at c.in-Some-Htp.ensures.finds))
@@ -44,7 +57,9 @@ returns-in-Some-Htp-clause-solve g c = λ settings solve.
 
 pub returns-in-Some-Htp-clause-htp : goal.returns-in-Some-Htp-clause-htp
 returns-in-Some-Htp-clause-htp g c = λ settings session.
-    served_kept _ _ _ _ _ _ _ _ _ settings (rw (c.in-Some-Htp.field-0-is, c.in-Some-Htp.settings-is) at c.in-Some-Htp.ensures.finds) session c.run_session.ensures.promises
+    served_kept (g.S.Source.reading c.args.source.now) (g.S.Source.reading c.run_session.new.source)
+    (g.K.Sink.writing c.args.sink.now) (g.K.Sink.writing c.run_session.new.sink)
+    _ _ _ settings (rw (c.in-Some-Htp.field-0-is, c.in-Some-Htp.settings-is) at c.in-Some-Htp.ensures.finds) session c.run_session.ensures.promises
 
 pub returns-in-None-clause-check : goal.returns-in-None-clause-check
 returns-in-None-clause-check g c = λ check. absurd (c.in-None.ensures.finds Check check)
@@ -84,7 +99,10 @@ pub returns-in-None-clause-unread : goal.returns-in-None-clause-unread
 returns-in-None-clause-unread g c = λ seed settings draw. absurd (c.in-None.ensures.finds (Demo seed settings) draw)
 
 pub returns-in-Some-Demo-clause-run : goal.returns-in-Some-Demo-clause-run
-returns-in-Some-Demo-clause-run g c = drew_run _ _ _ _ _ _ _ _ _ _ (rw (c.in-Some-Demo.field-0-is, c.in-Some-Demo.seed-is, c.in-Some-Demo.settings-is) at c.in-Some-Demo.ensures.finds) refl c.run_demo.ensures.run
+returns-in-Some-Demo-clause-run g c =
+    drew_run _ (g.S.Source.reading c.args.source.now) (g.S.Source.reading c.args.source.now)
+    (g.K.Sink.writing c.args.sink.now) (g.K.Sink.writing c.run_demo.new.sink)
+    _ _ _ (rw (c.in-Some-Demo.field-0-is, c.in-Some-Demo.seed-is, c.in-Some-Demo.settings-is) at c.in-Some-Demo.ensures.finds) refl c.run_demo.ensures.run
 
 pub returns-in-Some-Demo-clause-check : goal.returns-in-Some-Demo-clause-check
 returns-in-Some-Demo-clause-check g c = λ check. absurd (checked_not_drawn _ _ _ check (rw (c.in-Some-Demo.field-0-is, c.in-Some-Demo.seed-is, c.in-Some-Demo.settings-is) at c.in-Some-Demo.ensures.finds))
@@ -99,4 +117,5 @@ returns-in-Some-Demo-clause-htp g c = λ settings session.
 
 pub returns-in-Some-Demo-clause-demo : goal.returns-in-Some-Demo-clause-demo
 returns-in-Some-Demo-clause-demo g c = λ seed settings draw.
-    drew_kept _ _ _ _ _ _ seed _ settings (rw (c.in-Some-Demo.field-0-is, c.in-Some-Demo.seed-is, c.in-Some-Demo.settings-is) at c.in-Some-Demo.ensures.finds) draw c.run_demo.ensures.promises
+    drew_kept (g.K.Sink.writing c.args.sink.now) (g.K.Sink.writing c.run_demo.new.sink)
+    _ _ _ seed _ settings (rw (c.in-Some-Demo.field-0-is, c.in-Some-Demo.seed-is, c.in-Some-Demo.settings-is) at c.in-Some-Demo.ensures.finds) draw c.run_demo.ensures.promises

@@ -1,7 +1,7 @@
 use Rattle.std.proofs.Common.{◌≡◌, ℕ, ◌∙◌, sym, subst, arith}
 use Rattle.hx_demo.specs.Generators.{generator_of}
 use Rattle.hx_demo.specs.Draws.{first_positions}
-use Rattle.hx_demo.proofs.DrawnInTurn.{positions_later-none, drawn_next, stands_next}
+use Rattle.hx_demo.proofs.DrawnOneByOne.{positions_later-none, drawn_next, stands_next}
 use Rattle.hx_app.specs.DemoAnswers.{positions, AreCounts}
 use Rattle.hx_app.proofs.DrawnWins.{counts_none, counts_more, small_enough}
 use Rattle.hx_app.proofs.demos.count_wins.Goals as goal

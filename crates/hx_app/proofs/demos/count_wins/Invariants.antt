@@ -2,7 +2,7 @@
 use Rattle.std.proofs.Common.{◌≡◌}
 use Rattle.hx_demo.specs.Generators.{generator_of}
 use Rattle.hx_demo.specs.Draws.{first_positions}
-use Rattle.hx_demo.proofs.DrawnInTurn.{positions_later}
+use Rattle.hx_demo.proofs.DrawnOneByOne.{positions_later}
 use Rattle.hx_app.specs.DemoAnswers.{AreCounts}
 use Rattle.hx_app.proofs.demos.count_wins.Given as goal
 

@@ -5,24 +5,25 @@ use Rattle.hx_app.proofs.solutions.write_nodes.Goals as goal
 pub loop-node-init : goal.loop-node-init
 loop-node-init g c = record { out = none_out _ c.args.nodes.now; later = omega arith }
 
-pub returns-in-Err-clause-bytes : goal.returns-in-Err-clause-bytes
-returns-in-Err-clause-bytes g c =
-    cut_short _ _ _ c.args.nodes.now c.loop-node.node-index c.node-item.result c.loop-node-test.true c.node-item.is c.loop-node.invariant.out c.in-Err.ensures.bytes
-
-pub returns-in-Err-clause-cause : goal.returns-in-Err-clause-cause
-returns-in-Err-clause-cause g c = record {
-  later = omega (arith, c.loop-node.invariant.later, c.in-Err.ensures.cause.later);
-  failed = omega (arith, c.loop-node.invariant.later, c.in-Err.ensures.cause.failed);
+pub returns-in-Err : goal.returns-in-Err
+returns-in-Err g c = record {
+  bytes = cut_short _ _ _ c.args.nodes.now c.loop-node.node-index c.node-item.result c.loop-node-test.true c.node-item.is
+      c.loop-node.invariant.out c.in-Err.ensures.bytes;
+  cause = record {
+    later = omega (arith, c.loop-node.invariant.later, c.in-Err.ensures.cause.later);
+    failed = omega (arith, c.loop-node.invariant.later, c.in-Err.ensures.cause.failed);
+  };
 }
 
 pub loop-node-preserved : goal.loop-node-preserved
 loop-node-preserved g c = record {
-  out = one_more_out _ _ _ c.args.nodes.now c.loop-node.node-index c.node-item.result c.loop-node-test.true c.node-item.is c.loop-node.invariant.out c.in-Ok.ensures.bytes;
+  out = one_more_out _ _ _ c.args.nodes.now c.loop-node.node-index c.node-item.result c.loop-node-test.true c.node-item.is
+      c.loop-node.invariant.out c.in-Ok.ensures.bytes;
   later = omega (arith, c.loop-node.invariant.later, c.in-Ok.ensures.cause.later);
 }
 
-pub returns-clause-bytes : goal.returns-clause-bytes
-returns-clause-bytes g c = all_out _ _ c.args.nodes.now c.loop-node.node-index (omega arith) c.loop-node.invariant.out
-
-pub returns-clause-cause : goal.returns-clause-cause
-returns-clause-cause g c = record { later = c.loop-node.invariant.later; failed = tt }
+pub returns : goal.returns
+returns g c = record {
+  bytes = all_out _ _ c.args.nodes.now c.loop-node.node-index (omega arith) c.loop-node.invariant.out;
+  cause = record { later = c.loop-node.invariant.later; failed = tt };
+}

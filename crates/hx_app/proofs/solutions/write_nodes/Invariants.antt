@@ -6,6 +6,6 @@ use Rattle.hx_app.proofs.solutions.write_nodes.Given as goal
 
 abbrev pub invariant-loop-node : goal.invariant-loop-node
 invariant-loop-node g l = record {
-  out : g.K.Sink.taken l.sink ≡ append (g.K.Sink.taken l.initial.sink) (nodes_text (take l.node-index l.nodes));
-  later : g.K.Sink.faults l.initial.sink ≤ g.K.Sink.faults l.sink;
+  out : (g.K.Sink.writing l.sink).taken ≡ append (g.K.Sink.writing l.initial.sink).taken (nodes_text (take l.node-index l.nodes));
+  later : (g.K.Sink.writing l.initial.sink).faults ≤ (g.K.Sink.writing l.sink).faults;
 }

@@ -14,12 +14,14 @@ positions_later count generator = words_later (count * 16) generator
 pub positions_later-none : (generator : Lcg) → positions_later 0 generator ≡ generator
 positions_later-none generator = words_later-none generator
 
-pub positions_later-more : (count : ℕ) (generator : Lcg) → positions_later (count + 1) generator ≡ words_later 16 (positions_later count generator)
+pub positions_later-more : (count : ℕ) (generator : Lcg)
+    → positions_later (count + 1) generator ≡ words_later 16 (positions_later count generator)
 positions_later-more count generator =
     let words : (count + 1) * 16 ≡ count * 16 + 16 = omega arith in
     ap (λ (n : ℕ). words_later n generator) words ∙ words_later-add (count * 16) 16 generator
 
-positions_later-first : (count : ℕ) (generator : Lcg) → positions_later (suc count) generator ≡ positions_later count (words_later 16 generator)
+positions_later-first : (count : ℕ) (generator : Lcg)
+    → positions_later (suc count) generator ≡ positions_later count (words_later 16 generator)
 positions_later-first count generator =
     let words : suc count * 16 ≡ 16 + count * 16 = omega arith in
     ap (λ (n : ℕ). words_later n generator) words ∙ words_later-add 16 (count * 16) generator
@@ -32,15 +34,18 @@ positions_from-none generator = refl
 abbrev pub position_after : ℕ → Lcg → Board
 position_after count generator = drawn_position (next_words 16 (positions_later count generator))
 
-more : (count : ℕ) (generator : Lcg) → positions_from (suc count) generator ≡ positions_from count generator ++ position_after count generator ∷ []
+more : (count : ℕ) (generator : Lcg)
+    → positions_from (suc count) generator ≡ positions_from count generator ++ position_after count generator ∷ []
 unfolding positions_from
 more zero generator =
     ap (λ (g : Lcg). drawn_position (next_words 16 g) ∷ []) (sym (positions_later-none generator))
 more (suc count) generator =
     ap (λ (boards : List Board). drawn_position (next_words 16 generator) ∷ boards) (more count (words_later 16 generator))
-    ∙ ap (λ (g : Lcg). positions_from (suc count) generator ++ drawn_position (next_words 16 g) ∷ []) (sym (positions_later-first count generator))
+    ∙ ap (λ (g : Lcg). positions_from (suc count) generator ++ drawn_position (next_words 16 g) ∷ [])
+    (sym (positions_later-first count generator))
 
-pub positions_from-more : (count : ℕ) (generator : Lcg) → positions_from (count + 1) generator ≡ positions_from count generator ++ position_after count generator ∷ []
+pub positions_from-more : (count : ℕ) (generator : Lcg)
+    → positions_from (count + 1) generator ≡ positions_from count generator ++ position_after count generator ∷ []
 positions_from-more count generator =
     let one : count + 1 ≡ suc count = omega arith in
     ap (λ (n : ℕ). positions_from n generator) one ∙ more count generator
@@ -52,7 +57,8 @@ length-positions_from (suc count) generator = ap suc (length-positions_from coun
 
 -- ---- where a generator stands after so many positions
 
-pub drawn_next : (count : ℕ) (generator now : Lcg) (board : Board) → now ≡ positions_later count generator → board ≡ drawn_position (next_words 16 now)
+pub drawn_next : (count : ℕ) (generator now : Lcg) (board : Board)
+    → now ≡ positions_later count generator → board ≡ drawn_position (next_words 16 now)
     → board ≡ position_after count generator
 drawn_next count generator now board stands drawn = drawn ∙ ap (λ (g : Lcg). drawn_position (next_words 16 g)) stands
 
