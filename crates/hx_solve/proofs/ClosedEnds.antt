@@ -11,14 +11,13 @@ use Rattle.hx_board.specs.Graph.{HasNoChain}
 use Rattle.hx_tree.specs.declared.nodes.Node.{Node}
 use Rattle.hx_tree.specs.Entries.{Extends}
 use Rattle.hx_book.specs.Entries.{Contents, IsBook}
-use Rattle.hx_count.specs.Seats.{Origin, Seat, own, AreTotals}
+use Rattle.hx_count.specs.Seats.{Origin, Seat, own}
 use Rattle.hx_share.specs.Readers.{Reader}
 use Rattle.hx_nodes.specs.Stored.{IsOutOfSlots}
 use Rattle.hx_worker.specs.declared.ended.Ended.{Ended}
 use Rattle.hx_worker.specs.declared.ended.Ended.TheVariants.{Proved, Spent, NoSlots, Memory}
 use Rattle.hx_worker.specs.Ends.{IsEnded, EndsSpent}
 use Rattle.hx_settings.specs.declared.settings.Settings.{Settings}
-use Rattle.hx_solve.specs.Causes.{AllGranted}
 use Rattle.hx_solve.specs.Parts.{IsEndOfSome, AllFoundNoChain}
 use Rattle.hx_solve.specs.Searches.{IsClosedEnd}
 use Rattle.hx_solve.proofs.LaterLists.{all-get, any-get, found-later, no_longer}
@@ -94,34 +93,3 @@ pub no_chain-closed : (board : Board) (mover : Colour) (settings : Settings) (co
 no_chain-closed board mover settings counts ends end nodes granted none before is sum spent some =
     some-seat (HasNoChain board) counts (none (all-spent end ends spent before))
     (omega (arith, some, sum, all-granted nodes granted board mover settings end is spent))
-
--- the worker whose end this is was refused a unit
-refused-of : (slots : ℕ) (board : Board) (mover : Colour) (books : List Reader) (counts : List Seat) (end : Ended)
-    (some : IsEndOfSome slots board mover books counts end) → IsEnded some.book.seen slots some.seat board mover end → EndsSpent end
-    → Any (λ (s : Seat). (own s).refused ≡ true) counts
-refused-of slots board mover books counts (Proved index winner) some is spent = absurd spent
-refused-of slots board mover books counts (Spent taken) some is spent =
-    any-get (λ (s : Seat). (own s).refused ≡ true) counts some.place some.seat some.seat_there is.refused
-refused-of slots board mover books counts (NoSlots refusal) some is spent = absurd spent
-refused-of slots board mover books counts Memory some is spent = absurd spent
-
--- where units are wanting all of them were granted
-pub granted-closed : (slots : ℕ) (board : Board) (mover : Colour) (settings : Settings) (made : Origin) (books : List Reader)
-    (counts : List Seat) (ends : List Ended) (end : Ended) (nodes : List Node) (granted held : ℕ)
-    → made.limits.budget ≡ settings.budget → made.limits.workers ≡ settings.workers
-    → All (λ (s : Seat). s.made ≡ made) counts → AreTotals made counts granted held → granted ≡ sum_by granted_to counts
-    → All (IsEndOfSome slots board mover books counts) ends → Contains ends end
-    → IsClosedEnd nodes granted board mover settings end → EndsSpent end → AllGranted settings
-granted-closed slots board mover settings made books counts ends end nodes granted held budget workers same totals sum all one is spent =
-    let some : IsEndOfSome slots board mover books counts end = All-contains (IsEndOfSome slots board mover books counts) ends end all one in
-    let full : granted ≡ settings.budget = all-granted nodes granted board mover settings end is spent in record {
-      counts = made;
-      seats = counts;
-      held = held;
-      budget = budget;
-      workers = workers;
-      of_these = same;
-      history = subst (λ (n : ℕ). AreTotals made counts n held) full totals;
-      granted = sym sum ∙ full;
-      refused = refused-of slots board mover books counts end some some.ended spent;
-    }

@@ -1,10 +1,8 @@
 -- Why a position was not solved.
-use Rattle.std.specs.Prelude.{◌≡◌, ℕ, List, sum_by, true}
-use Rattle.std.specs.List.{All, Any}
+use Rattle.std.specs.Prelude.{◌≡◌, ℕ, List}
 use Rattle.hx_tree.specs.declared.nodes.Node.{Node}
 use Rattle.hx_book.specs.Entries.{contents, IsBook}
 use Rattle.hx_book.specs.Puts.{Refusal}
-use Rattle.hx_count.specs.Seats.{Origin, Seat, own, AreTotals}
 use Rattle.hx_nodes.specs.Stored.{IsOutOfSlots}
 use Rattle.hx_settings.specs.declared.settings.Settings.{Settings}
 use Rattle.hx_solve.specs.declared.unsolved.Unsolved.{Unsolved}
@@ -16,19 +14,6 @@ pub record FoundNoRoom (slots : ℕ) (refusal : Refusal) : Type 0 where
   pub nodes : List Node
   pub book : IsBook (contents slots nodes)
   pub out_of_slots : IsOutOfSlots nodes slots refusal
-
--- how the counts of a search with these settings end, where a worker was refused a unit: after one history of all
--- steps the workers were granted all units of the budget together, and no more, as the sum over their seats says too
-pub record AllGranted (settings : Settings) : Type 0 where
-  pub counts : Origin
-  pub seats : List Seat
-  pub held : ℕ
-  pub budget : counts.limits.budget ≡ settings.budget
-  pub workers : counts.limits.workers ≡ settings.workers
-  pub of_these : All (λ (s : Seat). s.made ≡ counts) seats
-  pub history : AreTotals counts seats settings.budget held
-  pub granted : sum_by (λ (s : Seat). (own s).granted) seats ≡ settings.budget
-  pub refused : Any (λ (s : Seat). (own s).refused ≡ true) seats
 
 -- the refusal of a unit carries the budget, and the refusal of a proof is by a book in which it found no room
 abbrev pub HasCause : Settings → Unsolved → Type 0

@@ -12,7 +12,6 @@ use Rattle.hx_worker.specs.Ends.{EndsSpent}
 use Rattle.hx_worker.specs.declared.ended.Ended.{Ended}
 use Rattle.hx_worker.specs.declared.ended.Ended.TheVariants.{Proved, Spent, NoSlots, Memory}
 use Rattle.hx_settings.specs.declared.settings.Settings.{Settings}
-use Rattle.hx_solve.specs.Causes.{AllGranted}
 use Rattle.hx_solve.specs.declared.searches.Searched.{Searched}
 use Rattle.hx_solve.specs.declared.unsolved.Unsolved.{Unsolved}
 use Rattle.hx_solve.specs.declared.unsolved.Unsolved.TheVariants.{Budget, Slots, Memory as NoMemory}
@@ -27,12 +26,11 @@ IsClosedEnd nodes granted board mover settings (NoSlots refusal) = IsOutOfSlots 
 IsClosedEnd nodes granted board mover settings Memory = Unit {0}
 
 -- the closed book has the slots of the settings, and the end says what it should of the book and of the counts; where
--- units are wanting all are granted, and where there were some, neither player has a chain
+-- units are wanting though there were some, neither player has a chain
 pub record IsSearched (board : Board) (mover : Colour) (settings : Settings) (searched : Searched) : Type 0 where
   pub book : IsBook searched.book
   pub slots : searched.book.slots ≡ settings.slots
   pub ended : IsClosedEnd searched.book.nodes searched.totals.granted board mover settings searched.ended
-  pub granted : EndsSpent searched.ended → AllGranted settings
   pub no_chain : EndsSpent searched.ended → 0 < settings.budget → HasNoChain board
 
 -- where the end is a proof, the list has its place

@@ -5,7 +5,7 @@ ghost use Rattle.hx_board.specs.Counts.{IsSmall};
 ghost use Rattle.hx_board.specs.Graph.{HasNoChain};
 ghost use Rattle.hx_settings.specs.Settings.{AreSettings};
 ghost use Rattle.hx_solve.specs.Solutions.{IsSolution};
-ghost use Rattle.hx_solve.specs.Causes.{AllGranted, HasCause, LacksMemory, LacksUnit};
+ghost use Rattle.hx_solve.specs.Causes.{HasCause, LacksMemory, LacksUnit};
 
 use crate::searches::search;
 use crate::small_positions::{by_sweep, is_small};
@@ -36,8 +36,6 @@ pub fn solve<G: Gate + Sync, R: Threads + Wait + Sync>(
     ensures tree { IfOk result (λ tree. IsSolution position.now to_move tree.items) }
     // A refusal carries the budget or the slots of the settings.
     ensures cause { IfErr result (HasCause settings) }
-    // Where units are wanting the workers were granted all of them together, and no more.
-    ensures granted { IfErr result (λ why. LacksUnit why → AllGranted settings) }
     // Where units are wanting though there were some, neither player has a chain.
     ensures no_chain { IfErr result
         (λ why. LacksUnit why → 0 < settings.budget → HasNoChain position.now) }
@@ -62,7 +60,6 @@ fn by_workers<G: Gate + Sync, R: Threads + Wait + Sync>(
     requires { AreSettings settings.now }
     ensures tree { IfOk result (λ tree. IsSolution position.now to_move tree.items) }
     ensures cause { IfErr result (HasCause settings.now) }
-    ensures granted { IfErr result (λ why. LacksUnit why → AllGranted settings.now) }
     ensures no_chain { IfErr result
         (λ why. LacksUnit why → 0 < settings.now.budget → HasNoChain position.now) }
 {

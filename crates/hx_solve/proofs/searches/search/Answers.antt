@@ -3,7 +3,7 @@ use Rattle.std.proofs.lemmas.List.{length-replicate}
 use Rattle.hx_count.specs.declared.views.Limits.{Limits}
 use Rattle.hx_count.proofs.DealLaws.{length-new}
 use Rattle.hx_share.specs.Readers.{reader}
-use Rattle.hx_solve.proofs.ClosedEnds.{contained-closed, granted-closed, no_chain-closed}
+use Rattle.hx_solve.proofs.ClosedEnds.{contained-closed, no_chain-closed}
 use Rattle.hx_solve.proofs.searches.search.Goals as goal
 
 pub deal-requires-clause-len : goal.deal-requires-clause-len
@@ -30,12 +30,6 @@ returns g c =
       book = c.keeps.ensures.book;
       slots = book.slots ∙ c.in_ok-shared.ensures.limits.0;
       ended = ended;
-      granted = granted-closed c.in_ok-shared.shared.made.slots c.args.position.now c.args.to_move c.args.settings.now c.in_ok-counts.counts
-          parts.books.items parts.counts.items parts.ends.items c.foremost-ended.result c.close-book.result.nodes c.close-totals.result.granted
-          c.close-totals.result.held (ap (λ (l : Limits). l.budget) c.in_ok-counts.ensures.limits)
-          (ap (λ (l : Limits). l.workers) c.in_ok-counts.ensures.limits)
-          c.take_apart-parts.ensures.counts c.close-totals.ensures.history c.close-totals.ensures.granted.0
-          c.take_apart-parts.ensures.ends c.foremost-ended.ensures.one ended;
       no_chain = no_chain-closed c.args.position.now c.args.to_move c.args.settings.now parts.counts.items parts.ends.items c.foremost-ended.result
           c.close-book.result.nodes c.close-totals.result.granted c.take_apart-parts.ensures.no_chain c.foremost-ended.ensures.first ended
           c.close-totals.ensures.granted.0;

@@ -2,7 +2,7 @@ use Rattle.std.proofs.Common.{◌<◌, arith}
 use Rattle.std.proofs.lemmas.Result.{IfErr-weaker, IfOk-weaker}
 use Rattle.hx_board.specs.Graph.{HasNoChain}
 use Rattle.hx_solve.specs.Solutions.{IsSolution}
-use Rattle.hx_solve.specs.Causes.{AllGranted, LacksUnit}
+use Rattle.hx_solve.specs.Causes.{LacksUnit}
 use Rattle.hx_solve.specs.Searches.{IsTreeFrom, SaysWhy}
 use Rattle.hx_solve.proofs.TreeSolutions.{spent-by, tree-solves}
 use Rattle.hx_solve.proofs.solves.by_workers.Goals as goal
@@ -13,14 +13,6 @@ returns-in-Ok-clause-tree g c =
     IfOk-weaker c.conclude.result (λ tree. IsTreeFrom searched.book.nodes searched.ended tree.items) (λ tree. IsSolution c.args.position.now c.args.to_move tree.items)
     (λ tree from. tree-solves searched.book.nodes tree.items searched.totals.granted c.args.position.now c.args.to_move c.args.settings.now searched.ended (omega (arith, is.book.held, is.book.small)) is.ended from)
     c.conclude.ensures.tree
-
-pub returns-in-Ok-clause-granted : goal.returns-in-Ok-clause-granted
-returns-in-Ok-clause-granted g c =
-    let searched = c.in-Ok.searched in
-    IfErr-weaker c.conclude.result (SaysWhy searched.ended)
-    (λ why. LacksUnit why → AllGranted c.args.settings.now)
-    (λ why says lacks. c.in-Ok.ensures.granted (spent-by searched.ended why says lacks))
-    c.conclude.ensures.cause
 
 pub returns-in-Ok-clause-no_chain : goal.returns-in-Ok-clause-no_chain
 returns-in-Ok-clause-no_chain g c =
