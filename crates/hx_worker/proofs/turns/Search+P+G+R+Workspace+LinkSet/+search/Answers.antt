@@ -1,5 +1,6 @@
-use Rattle.std.proofs.Common.{rules, ◌-◌, ◌<◌, arith}
-use Rattle.hx_worker.proofs.KeepLaws.{keeps-on, put-own-keeps, put-others-keeps, held-may-hold, release-keeps, stands-moved}
+use Rattle.std.proofs.Common.{rules, ◌-◌, ◌<◌, ◌∙◌, arith}
+use Rattle.hx_book.proofs.SightLaws.{grows-on}
+use Rattle.hx_worker.proofs.KeepLaws.{keeps-on, put-own-keeps, put-others-keeps, held-may-hold, release-keeps, seat-on, stands-moved, stands-on}
 use Rattle.hx_worker.proofs.turns.Search+P+G+R+Workspace+LinkSet.+search.Goals as goal
 
 pub descend-turn-outcome-requires : goal.descend-turn-outcome-requires
@@ -28,6 +29,19 @@ expand-returns-in-Some-look_at_marked-clause-keeps g t c =
 pub expand-loop-init : goal.expand-loop-init
 expand-loop-init g t c =
     keeps-on _ _ _ _ (keeps-on _ _ _ _ c.by_others_links.ensures.keeps c.look_at_all.ensures.keeps) c.look_at_marked.ensures.keeps
+
+pub go_on-returns-clause-keeps : goal.go_on-returns-clause-keeps
+go_on-returns-clause-keeps g t c =
+    let before = c.look_again.ensures.keeps in
+    let after = keeps-on _ _ _ _ c.descend-outcome.ensures.keeps c.take_in.ensures.keeps in record {
+      same_worker = after.same_worker ∙ before.same_worker;
+      same_proofs = after.same_proofs ∙ before.same_proofs;
+      same_seat = after.same_seat ∙ before.same_seat;
+      grew = grows-on _ _ _ before.grew after.grew;
+      seat = seat-on _ _ _ before.seat (seat-on _ _ _ c.choose.ensures.seat after.seat);
+      own = stands-on _ _ _ before.own after.own;
+      others = stands-on _ _ _ before.others after.others;
+    }
 
 pub with_others-returns-clause-keeps : goal.with_others-returns-clause-keeps
 with_others-returns-clause-keeps g t c =
