@@ -30,11 +30,7 @@ fn is_leading(node: &Node) -> bool {
 impl Proofs for Counting {
     ghost use Rattle.std.specs.Prelude.{None};
 
-    ghost list = { λ c. c.book.nodes };
-
-    ghost slots = { λ c. c.book.slots };
-
-    ghost over = { λ c. None };
+    ghost sight = { λ c. record { list = c.book.nodes; slots = c.book.slots; over = None } };
 
     fn look<R: Wait>(&mut self, rt: &R, position: &Position, to_move: Colour) -> Option<Found> {
         self.book.look(rt, position, to_move)
