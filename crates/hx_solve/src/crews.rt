@@ -4,9 +4,13 @@
 //! book and the counts are closed with all seats. Its links are made in the thread, so that workers do not wait for one
 //! another's. Where no thread can be made the work is done on the caller's thread, one worker after another. The fork and the
 //! join take no memory that could be wanting: what a worker gives back lies where its seats lay.
+//!
+//! Where there are several workers the caller's thread only waits. It may be the program's first thread, whose stack the system gives
+//! where it is written to: it would end the program where the stacks of the other threads, each there as a whole, have left no memory.
 
 ghost use Rattle.std.specs.Prelude.{◌≡◌, ◌<◌, IfOk, length};
 ghost use Rattle.std.specs.List.{All};
+ghost use denote.Param.Send.{IsSync};
 ghost use Rattle.hx_worker.specs.Sets.{AreOn};
 ghost use Rattle.hx_solve.specs.Seats.{AreNewSeats, IsDone, IsBefore, IsAfter};
 
@@ -35,8 +39,38 @@ pub(crate) struct Crew<'a> {
 }
 
 impl Crew<'_> {
-    /// The work of all workers, each at its place.
+    /// The work of all workers, each at its place. Several have threads of their own, and this one waits for them.
     pub(crate) fn work_all<G: Gate + Sync, R: Threads + Wait + Sync>(
+        &self,
+        rt: &R,
+        alloc: Global,
+        gate: &G,
+        places: &mut [Place],
+    )
+        requires words { self.now.counts.now.limits.words ≡ LOSS_WORDS }
+        requires some { 0 < length places.old }
+        requires before { All (IsBefore self.now.shared.now.made self.now.counts.now) places.old }
+        ensures len { length places.new ≡ length places.old }
+        ensures after { All
+            (IsAfter self.now.shared.now.made self.now.counts.now self.now.position self.now.to_move)
+            places.new }
+    {
+        if places.len() == 1 {
+            self.work_here(rt, alloc, gate, places);
+            return;
+        }
+        let mut all = ||
+            requires { IsSync R.row × IsSync G.row × (self.now.counts.now.limits.words ≡ LOSS_WORDS) × (0 < length places.now)
+                × All (IsBefore self.now.shared.now.made self.now.counts.now) places.now }
+            ensures { (length places.exit.now ≡ length places.entry.now) × All
+                (IsAfter self.entry.now.shared.now.made self.entry.now.counts.now self.entry.now.position self.entry.now.to_move)
+                places.exit.now }
+        { self.work_here(rt, alloc, gate, places) };
+        thread::join_mut(rt, &mut all, &mut || {});
+    }
+
+    /// The work of all workers, one of them in this thread.
+    fn work_here<G: Gate + Sync, R: Threads + Wait + Sync>(
         &self,
         rt: &R,
         alloc: Global,
