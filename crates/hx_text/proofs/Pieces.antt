@@ -6,7 +6,7 @@ use Rattle.std.proofs.lemmas.List.{take_more, take-append-drop, flat_map_more}
 use Rattle.std.proofs.lemmas.Grind.{flat_map-append}
 use Rattle.hx_io.specs.Sinks.{TakesFront, TakesAll}
 use Rattle.hx_io.proofs.SinkLaws.{append-then, TakesFront-append, TakesFront-then, TakesAll-then}
-use Rattle.hx_text.specs.Spelling.{IsOut, Spells}
+use Rattle.hx_text.specs.Spelling.{IsOut, IsSpelled}
 
 -- what is held at the end goes out
 pub IsOut-end : {T E : Type 0} (old between new : Option (List ℕ)) (held text : List ℕ) (result : Result T E) → IsOut old between held text
@@ -42,31 +42,31 @@ TakesFront-more old new held front back cut =
     subst (TakesFront old new) (append_assoc held front back) (TakesFront-append old new (held ++ front) back cut)
 
 -- a front was spelled, and then the back, or a part of it
-Spells-joined : {T E : Type 0} (old between new : Option (List ℕ)) (held holds last front back : List ℕ) (result : Result T E)
-    → IsOut old between holds (held ++ front) → Spells between holds new last result back → Spells old held new last result (front ++ back)
-Spells-joined old between new held holds last front back (Ok done) out then = IsOut-joined old between new held holds last front back out then
-Spells-joined old between new held holds last front back (Err failed) out then = TakesFront-joined old between new held holds front back out then
+IsSpelled-joined : {T E : Type 0} (old between new : Option (List ℕ)) (held holds last front back : List ℕ) (result : Result T E)
+    → IsOut old between holds (held ++ front) → IsSpelled between holds new last result back → IsSpelled old held new last result (front ++ back)
+IsSpelled-joined old between new held holds last front back (Ok done) out then = IsOut-joined old between new held holds last front back out then
+IsSpelled-joined old between new held holds last front back (Err failed) out then = TakesFront-joined old between new held holds front back out then
 
 -- of three pieces the first was cut short
 pub first_cut_short : {T E : Type 0} (old new : Option (List ℕ)) (held last a b c : List ℕ) (result : Result T E) → IsErr result
-    → TakesFront old new (held ++ a) → Spells old held new last result (a ++ (b ++ c))
+    → TakesFront old new (held ++ a) → IsSpelled old held new last result (a ++ (b ++ c))
 first_cut_short old new held last a b c result failed cut =
     MatchResult-from_err result _ _ failed (λ _. TakesFront-more old new held a (b ++ c) cut)
 
 -- the first was spelled, and the second cut short
 pub second_cut_short : {T E : Type 0} (old between new : Option (List ℕ)) (held holds last a b c : List ℕ) (result : Result T E) → IsErr result
-    → IsOut old between holds (held ++ a) → TakesFront between new (holds ++ b) → Spells old held new last result (a ++ (b ++ c))
+    → IsOut old between holds (held ++ a) → TakesFront between new (holds ++ b) → IsSpelled old held new last result (a ++ (b ++ c))
 second_cut_short old between new held holds last a b c result failed out cut =
     MatchResult-from_err result _ _ failed
     (λ _. TakesFront-joined old between new held holds a (b ++ c) out (TakesFront-more between new holds b c cut))
 
 -- the first two were spelled, and then the third, or a part of it
 pub three_spelled : {T E : Type 0} (old first second new : Option (List ℕ)) (held after_first after_second last a b c : List ℕ) (result : Result T E)
-    → IsOut old first after_first (held ++ a) → IsOut first second after_second (after_first ++ b) → Spells second after_second new last result c
-    → Spells old held new last result (a ++ (b ++ c))
+    → IsOut old first after_first (held ++ a) → IsOut first second after_second (after_first ++ b) → IsSpelled second after_second new last result c
+    → IsSpelled old held new last result (a ++ (b ++ c))
 three_spelled old first second new held after_first after_second last a b c result out then rest =
-    Spells-joined old first new held after_first last a (b ++ c) result out
-    (Spells-joined first second new after_first after_second last b c result then rest)
+    IsSpelled-joined old first new held after_first last a (b ++ c) result out
+    (IsSpelled-joined first second new after_first after_second last b c result then rest)
 
 -- the texts of the items before a place, and of the item there
 flat_map_next : {X : Type 0} (text : X → List ℕ) (items : List X) (place : ℕ) (item default : X) → place < length items
@@ -98,7 +98,7 @@ each_so_far text old between new first held holds items place item default withi
 pub each_cut_short : {X T E : Type 0} (text : X → List ℕ) (old between new : Option (List ℕ)) (first held last : List ℕ) (items : List X)
     (place : ℕ) (item default : X) (result : Result T E) → place < length items → item ≡ get_or items place default → IsErr result
     → IsOut old between held (first ++ flat_map text (take place items)) → TakesFront between new (held ++ text item)
-    → Spells old first new last result (flat_map text items)
+    → IsSpelled old first new last result (flat_map text items)
 each_cut_short text old between new first held last items place item default result within is failed out cut =
     rw (← flat_map_parts text items place item default within is)
     (second_cut_short old between new first held last (flat_map text (take place items)) (text item)

@@ -3,8 +3,7 @@
 
 ghost use Rattle.std.specs.Prelude.{◌+◌, ◌≤◌, ◌++◌, ◌∷◌, [], map, length, OnOk};
 ghost use Rattle.hx_link.specs.declared.steps.Step.TheVariants.{Or as Or_of};
-ghost use Rattle.hx_io.specs.Causes.{HasCause};
-ghost use Rattle.hx_io.specs.Sinks.{TakesAll};
+ghost use Rattle.hx_io.specs.Sinks.{WritesAll};
 ghost use Rattle.hx_text.specs.Grammars.{text_of};
 ghost use Rattle.hx_text.specs.PositionTexts.{position_text};
 ghost use Rattle.hx_text.specs.StepTexts.{step_line, threat_line};
@@ -47,9 +46,8 @@ pub fn write_position<K: Sink>(
     position: &Position,
     to_move: Colour,
 ) -> Result<(), Failed>
-    ensures bytes { TakesAll (K.writing sink.old).taken (K.writing sink.new).taken result
+    ensures { WritesAll (K.writing sink.old) (K.writing sink.new) result
         (position_text position.now to_move) }
-    ensures cause { HasCause (K.writing sink.old).faults (K.writing sink.new).faults result }
 {
     let mut text = Text::new();
     put_position(&mut text, position, to_move);
@@ -59,9 +57,8 @@ pub fn write_position<K: Sink>(
 /// Writes the two lines of a tree's text that come before its nodes: the title, which tells the version, and the size of the
 /// board. After `Failed` the sink has taken no more than a part of them, from their beginning.
 pub fn write_heading<K: Sink>(sink: &mut K, version: Version, size: Size) -> Result<(), Failed>
-    ensures bytes { TakesAll (K.writing sink.old).taken (K.writing sink.new).taken result
+    ensures { WritesAll (K.writing sink.old) (K.writing sink.new) result
         (text_of (front_lines (record { version = version; size = size }))) }
-    ensures cause { HasCause (K.writing sink.old).faults (K.writing sink.new).faults result }
 {
     let mut text = Text::new();
     put_heading(&mut text, version, size);
@@ -73,9 +70,8 @@ pub fn write_heading<K: Sink>(sink: &mut K, version: Version, size: Size) -> Res
 pub fn write_node<K: Sink>(sink: &mut K, node: &Node) -> Result<(), Failed>
     // A text has no more entries of a node.
     requires { ListsFit node.now.rule }
-    ensures bytes { TakesAll (K.writing sink.old).taken (K.writing sink.new).taken result
+    ensures { WritesAll (K.writing sink.old) (K.writing sink.new) result
         (text_of (node_lines node.now)) }
-    ensures cause { HasCause (K.writing sink.old).faults (K.writing sink.new).faults result }
 {
     let mut text = Text::new();
     put_head(&mut text, node);
@@ -86,10 +82,8 @@ pub fn write_node<K: Sink>(sink: &mut K, node: &Node) -> Result<(), Failed>
 /// Spells the lines of a node after the first.
 #[tactic(auto, unfolding(crate::specs::Grammars::text_of))]
 fn write_rule<K: Sink>(sink: &mut K, text: &mut Text, rule: &Rule) -> Result<(), Failed>
-    ensures bytes { Spells (K.writing sink.old).taken text.old
-        (K.writing sink.new).taken text.new result
+    ensures { Spells (K.writing sink.old) (K.writing sink.new) text.old text.new result
         (text_of (map entry_line (entries_of rule.now))) }
-    ensures cause { HasCause (K.writing sink.old).faults (K.writing sink.new).faults result }
 {
     match rule {
         Rule::Chain | Rule::Move { .. } | Rule::Turned { .. } => Ok(()),
@@ -111,10 +105,8 @@ fn write_entries<K: Sink>(
     threats: &[u32],
     lines: &[Line],
 ) -> Result<(), Failed>
-    ensures bytes { Spells (K.writing sink.old).taken text.old
-        (K.writing sink.new).taken text.new result
+    ensures { Spells (K.writing sink.old) (K.writing sink.new) text.old text.new result
         (text_of (map entry_line (entries_for steps.now threats.now lines.now []))) }
-    ensures cause { HasCause (K.writing sink.old).faults (K.writing sink.new).faults result }
 {
     write_steps(sink, text, steps)?;
     write_threats(sink, text, threats)?;
@@ -123,9 +115,8 @@ fn write_entries<K: Sink>(
 
 /// Spells the line of each step.
 fn write_steps<K: Sink>(sink: &mut K, text: &mut Text, steps: &[Step]) -> Result<(), Failed>
-    ensures bytes { Spells (K.writing sink.old).taken text.old
-        (K.writing sink.new).taken text.new result (each_line step_line steps.now) }
-    ensures cause { HasCause (K.writing sink.old).faults (K.writing sink.new).faults result }
+    ensures { Spells (K.writing sink.old) (K.writing sink.new) text.old text.new result
+        (each_line step_line steps.now) }
 {
     for step in steps {
         write_step(sink, text, step)?;
@@ -135,9 +126,8 @@ fn write_steps<K: Sink>(sink: &mut K, text: &mut Text, steps: &[Step]) -> Result
 
 /// Spells the line of a step.
 fn write_step<K: Sink>(sink: &mut K, text: &mut Text, step: &Step) -> Result<(), Failed>
-    ensures bytes { Spells (K.writing sink.old).taken text.old
-        (K.writing sink.new).taken text.new result (step_line step.now ++ 10 ∷ []) }
-    ensures cause { HasCause (K.writing sink.old).faults (K.writing sink.new).faults result }
+    ensures { Spells (K.writing sink.old) (K.writing sink.new) text.old text.new result
+        (step_line step.now ++ 10 ∷ []) }
 {
     match step {
         Step::Or { parts } => write_or(sink, text, parts.items()),
@@ -151,9 +141,8 @@ fn write_step<K: Sink>(sink: &mut K, text: &mut Text, step: &Step) -> Result<(),
 
 /// Spells the line of an Or, part by part.
 fn write_or<K: Sink>(sink: &mut K, text: &mut Text, parts: &[u32]) -> Result<(), Failed>
-    ensures bytes { Spells (K.writing sink.old).taken text.old
-        (K.writing sink.new).taken text.new result (step_line (Or_of parts.now) ++ 10 ∷ []) }
-    ensures cause { HasCause (K.writing sink.old).faults (K.writing sink.new).faults result }
+    ensures { Spells (K.writing sink.old) (K.writing sink.new) text.old text.new result
+        (step_line (Or_of parts.now) ++ 10 ∷ []) }
 {
     write_bytes(sink, text, b"or")?;
     write_parts(sink, text, parts)?;
@@ -162,9 +151,8 @@ fn write_or<K: Sink>(sink: &mut K, text: &mut Text, parts: &[u32]) -> Result<(),
 
 /// Spells the parts of an Or, each with the space before it.
 fn write_parts<K: Sink>(sink: &mut K, text: &mut Text, parts: &[u32]) -> Result<(), Failed>
-    ensures bytes { Spells (K.writing sink.old).taken text.old
-        (K.writing sink.new).taken text.new result (parts_text parts.now) }
-    ensures cause { HasCause (K.writing sink.old).faults (K.writing sink.new).faults result }
+    ensures { Spells (K.writing sink.old) (K.writing sink.new) text.old text.new result
+        (parts_text parts.now) }
 {
     for part in parts {
         write_part(sink, text, *part)?;
@@ -174,9 +162,8 @@ fn write_parts<K: Sink>(sink: &mut K, text: &mut Text, parts: &[u32]) -> Result<
 
 /// Spells one more part of an Or.
 fn write_part<K: Sink>(sink: &mut K, text: &mut Text, part: u32) -> Result<(), Failed>
-    ensures bytes { Spells (K.writing sink.old).taken text.old
-        (K.writing sink.new).taken text.new result (part_text part) }
-    ensures cause { HasCause (K.writing sink.old).faults (K.writing sink.new).faults result }
+    ensures { Spells (K.writing sink.old) (K.writing sink.new) text.old text.new result
+        (part_text part) }
 {
     make_room(sink, text, PART_BYTES)?;
     put_part(text, part);
@@ -185,9 +172,8 @@ fn write_part<K: Sink>(sink: &mut K, text: &mut Text, part: u32) -> Result<(), F
 
 /// Spells the line of each threat.
 fn write_threats<K: Sink>(sink: &mut K, text: &mut Text, threats: &[u32]) -> Result<(), Failed>
-    ensures bytes { Spells (K.writing sink.old).taken text.old
-        (K.writing sink.new).taken text.new result (each_line threat_line threats.now) }
-    ensures cause { HasCause (K.writing sink.old).faults (K.writing sink.new).faults result }
+    ensures { Spells (K.writing sink.old) (K.writing sink.new) text.old text.new result
+        (each_line threat_line threats.now) }
 {
     for place in threats {
         write_threat(sink, text, *place)?;
@@ -197,9 +183,8 @@ fn write_threats<K: Sink>(sink: &mut K, text: &mut Text, threats: &[u32]) -> Res
 
 /// Spells the line of a threat.
 fn write_threat<K: Sink>(sink: &mut K, text: &mut Text, place: u32) -> Result<(), Failed>
-    ensures bytes { Spells (K.writing sink.old).taken text.old
-        (K.writing sink.new).taken text.new result (threat_line place ++ 10 ∷ []) }
-    ensures cause { HasCause (K.writing sink.old).faults (K.writing sink.new).faults result }
+    ensures { Spells (K.writing sink.old) (K.writing sink.new) text.old text.new result
+        (threat_line place ++ 10 ∷ []) }
 {
     make_room(sink, text, THREAT_BYTES)?;
     put_threat(text, place);
@@ -208,9 +193,8 @@ fn write_threat<K: Sink>(sink: &mut K, text: &mut Text, place: u32) -> Result<()
 
 /// Spells the line of each answer.
 fn write_answers<K: Sink>(sink: &mut K, text: &mut Text, lines: &[Line]) -> Result<(), Failed>
-    ensures bytes { Spells (K.writing sink.old).taken text.old
-        (K.writing sink.new).taken text.new result (each_line answer_line lines.now) }
-    ensures cause { HasCause (K.writing sink.old).faults (K.writing sink.new).faults result }
+    ensures { Spells (K.writing sink.old) (K.writing sink.new) text.old text.new result
+        (each_line answer_line lines.now) }
 {
     for line in lines {
         write_answer(sink, text, line)?;
@@ -220,9 +204,8 @@ fn write_answers<K: Sink>(sink: &mut K, text: &mut Text, lines: &[Line]) -> Resu
 
 /// Spells the line of an answer.
 fn write_answer<K: Sink>(sink: &mut K, text: &mut Text, line: &Line) -> Result<(), Failed>
-    ensures bytes { Spells (K.writing sink.old).taken text.old
-        (K.writing sink.new).taken text.new result (answer_line line.now ++ 10 ∷ []) }
-    ensures cause { HasCause (K.writing sink.old).faults (K.writing sink.new).faults result }
+    ensures { Spells (K.writing sink.old) (K.writing sink.new) text.old text.new result
+        (answer_line line.now ++ 10 ∷ []) }
 {
     make_room(sink, text, ANSWER_BYTES)?;
     put_answer(text, line);
@@ -231,9 +214,8 @@ fn write_answer<K: Sink>(sink: &mut K, text: &mut Text, line: &Line) -> Result<(
 
 /// Spells the line of each fill step.
 fn write_fills<K: Sink>(sink: &mut K, text: &mut Text, fills: &[FillStep]) -> Result<(), Failed>
-    ensures bytes { Spells (K.writing sink.old).taken text.old
-        (K.writing sink.new).taken text.new result (each_line fill_line fills.now) }
-    ensures cause { HasCause (K.writing sink.old).faults (K.writing sink.new).faults result }
+    ensures { Spells (K.writing sink.old) (K.writing sink.new) text.old text.new result
+        (each_line fill_line fills.now) }
 {
     for fill in fills {
         write_fill(sink, text, fill)?;
@@ -243,9 +225,8 @@ fn write_fills<K: Sink>(sink: &mut K, text: &mut Text, fills: &[FillStep]) -> Re
 
 /// Spells the line of a fill step.
 fn write_fill<K: Sink>(sink: &mut K, text: &mut Text, fill: &FillStep) -> Result<(), Failed>
-    ensures bytes { Spells (K.writing sink.old).taken text.old
-        (K.writing sink.new).taken text.new result (fill_line fill.now ++ 10 ∷ []) }
-    ensures cause { HasCause (K.writing sink.old).faults (K.writing sink.new).faults result }
+    ensures { Spells (K.writing sink.old) (K.writing sink.new) text.old text.new result
+        (fill_line fill.now ++ 10 ∷ []) }
 {
     make_room(sink, text, FILL_BYTES)?;
     put_fill(text, fill);
@@ -255,10 +236,8 @@ fn write_fill<K: Sink>(sink: &mut K, text: &mut Text, fill: &FillStep) -> Result
 /// Spells these bytes.
 fn write_bytes<K: Sink>(sink: &mut K, text: &mut Text, bytes: &[u8]) -> Result<(), Failed>
     requires { length bytes.now ≤ TEXT_ROOM }
-    ensures bytes { Spells (K.writing sink.old).taken text.old
-        (K.writing sink.new).taken text.new result
+    ensures { Spells (K.writing sink.old) (K.writing sink.new) text.old text.new result
         bytes.now }
-    ensures cause { HasCause (K.writing sink.old).faults (K.writing sink.new).faults result }
 {
     make_room(sink, text, bytes.len())?;
     text.put(bytes);
@@ -269,9 +248,8 @@ fn write_bytes<K: Sink>(sink: &mut K, text: &mut Text, bytes: &[u8]) -> Result<(
 fn make_room<K: Sink>(sink: &mut K, text: &mut Text, bytes: usize) -> Result<(), Failed>
     requires { bytes ≤ TEXT_ROOM }
     ensures room { OnOk result (length text.new + bytes ≤ TEXT_ROOM) }
-    ensures bytes { Spells (K.writing sink.old).taken text.old
-        (K.writing sink.new).taken text.new result [] }
-    ensures cause { HasCause (K.writing sink.old).faults (K.writing sink.new).faults result }
+    ensures spells { Spells (K.writing sink.old) (K.writing sink.new) text.old text.new result
+        [] }
 {
     if !text.has_room(bytes) {
         write_all(sink, text.bytes())?;
@@ -283,9 +261,8 @@ fn make_room<K: Sink>(sink: &mut K, text: &mut Text, bytes: usize) -> Result<(),
 /// Writes the last line of a tree's text, which says how many nodes came before it and who wins the last one's
 /// position. After `Failed` the sink has taken no more than a part of it, from its beginning.
 pub fn write_end<K: Sink>(sink: &mut K, nodes: u32, winner: Colour) -> Result<(), Failed>
-    ensures bytes { TakesAll (K.writing sink.old).taken (K.writing sink.new).taken result
+    ensures { WritesAll (K.writing sink.old) (K.writing sink.new) result
         (text_of (end_line nodes winner ∷ [])) }
-    ensures cause { HasCause (K.writing sink.old).faults (K.writing sink.new).faults result }
 {
     let mut text = Text::new();
     put_end(&mut text, nodes, winner);
