@@ -1,7 +1,7 @@
 //! The text of a reply, put together in place. The longest shows a board of eleven rows and columns behind a number of ten
 //! digits, and has 358 bytes. Players, cells and numbers are spelled as in the texts of positions and trees.
 
-ghost use Rattle.std.specs.Prelude.{◌≡◌, ◌+◌, ◌≤◌, ◌<◌, ◌++◌, [], length, codes};
+ghost use Rattle.std.specs.Prelude.{◌≡◌, ◌+◌, ◌≤◌, ◌<◌, ◌++◌, [], length, replicate, codes};
 ghost use Rattle.std.specs.Fmt.{decimal};
 ghost use Rattle.hx_htp.specs.Replies.{stone_byte, columns_line, row_line, board_text, names_text, answer_text, refusal_text, reply_text};
 
@@ -131,9 +131,7 @@ fn put_row(text: &mut Text, position: &Position, row: u8)
     let size = position.size();
     // The proof takes from here how many rows there can be.
     let _rows = size.rows();
-    for _ in 0..row {
-        text.put(b" ");
-    }
+    put_spaces(text, row);
     text.put_number(u32::from(row + 1));
     for col in 0..size.cols() {
         let stone = match size.cell(row, col) {
@@ -141,6 +139,17 @@ fn put_row(text: &mut Text, position: &Position, row: u8)
             None => unreachable!(),
         };
         text.put(&[b' ', stone_byte(stone)]);
+    }
+}
+
+/// So many spaces.
+fn put_spaces(text: &mut Text, count: u8)
+    requires { length text.old + count ≤ TEXT_ROOM }
+    ensures text { text.new ≡ text.old ++ replicate count 32 }
+    ensures short { length text.new ≤ length text.old + count }
+{
+    for _ in 0..count {
+        text.put(b" ");
     }
 }
 

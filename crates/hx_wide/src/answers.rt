@@ -20,7 +20,7 @@ use crate::widened::widened;
 use crate::wider::{end_of, store_wider};
 use hx_board::{CELLS, Cell, Colour, Mask, Memory, Position};
 use hx_book::Proofs;
-use hx_fill::{Must, must};
+use hx_fill::{Must, must, without_lines};
 use hx_linkset::LinkSet;
 use hx_nodes::{Stored, store_answers};
 use hx_tree::{Heading, Line, Lines, Node, Rule, Threats};
@@ -75,26 +75,19 @@ fn empties_after<P: Proofs, R: Wait>(
     }
 }
 
-/// The cells without those of these lines.
-fn without_lines(cells: Mask, lines: &[Line]) -> Mask
-    ensures inside { IsSubset result cells }
-    ensures kept { (cell : ℕ) → has cells cell ≡ true → ¬ HasLineFor lines.now cell
-        → has result cell ≡ true }
-{
-    let mut left = cells;
-    for line in lines {
-        left = left.without(line.cell());
-    }
-    left
-}
-
-/// What the threats and the lines that name a better cell need.
-fn needed_at_once(set: &LinkSet, threats: &[u32], under: &[Line]) -> Mask {
+/// What these threats need.
+fn needed_by_threats(set: &LinkSet, threats: &[u32]) -> Mask {
     let mut needed = Mask::empty();
     for threat in threats {
         needed = needed.union(set.carrier(*threat));
     }
-    for line in under {
+    needed
+}
+
+/// What these lines need.
+fn needed_by_lines(lines: &[Line]) -> Mask {
+    let mut needed = Mask::empty();
+    for line in lines {
         needed = needed.union(needed_by(line));
     }
     needed
@@ -116,8 +109,8 @@ fn position_for<P: Proofs, R: Wait>(
     let Some(after) = needed_after(rt, proofs, position, winner, tried) else {
         return None;
     };
-    let needed = after.union(needed_at_once(set, found.threats.items(), under));
-    widened(position, winner, needed)
+    let at_once = needed_by_threats(set, found.threats.items()).union(needed_by_lines(under));
+    widened(position, winner, after.union(at_once))
 }
 
 /// Stores the answers where the opponent has all cells that they do not need.

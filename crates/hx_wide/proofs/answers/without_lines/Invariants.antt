@@ -1,6 +1,0 @@
-use Rattle.std.proofs.Common.{take}
-use Rattle.hx_wide.proofs.CellsTried.{AreWithout}
-use Rattle.hx_wide.proofs.answers.without_lines.Given as goal
-
-abbrev pub invariant-loop-line : goal.invariant-loop-line
-invariant-loop-line l = AreWithout l.fn.cells l.left (take l.line-index l.lines)
