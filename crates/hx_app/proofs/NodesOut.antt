@@ -20,7 +20,8 @@ nodes_text-append nodes more = flat_map-append node_text nodes more
 nodes_text-more : (nodes : List Node) (place : ℕ) (node : Node) → place < length nodes → node ≡ get_or nodes place node
     → nodes_text (take place nodes) ++ node_text node ≡ nodes_text (take (place + 1) nodes)
 nodes_text-more nodes place node less is =
-    let one_more : take (place + 1) nodes ≡ take place nodes ++ node ∷ [] = take_more nodes place node less ∙ ap (λ n. take place nodes ++ n ∷ []) (sym is) in
+    let one_more : take (place + 1) nodes ≡ take place nodes ++ node ∷ [] = take_more nodes place node less
+        ∙ ap (λ n. take place nodes ++ n ∷ []) (sym is) in
     sym (ap nodes_text one_more ∙ nodes_text-append (take place nodes) (node ∷ [])
     ∙ ap (λ (t : List ℕ). nodes_text (take place nodes) ++ t) (list_append-nil (node_text node)))
 
@@ -29,13 +30,17 @@ pub none_out : (old : Option (List ℕ)) (nodes : List Node) → old ≡ append 
 none_out old nodes = sym (append-nil old)
 
 -- one more node was written
-pub one_more_out : (old between new : Option (List ℕ)) (nodes : List Node) (place : ℕ) (node : Node) → place < length nodes → node ≡ get_or nodes place node
-    → between ≡ append old (nodes_text (take place nodes)) → new ≡ append between (node_text node) → new ≡ append old (nodes_text (take (place + 1) nodes))
+pub one_more_out : (old between new : Option (List ℕ)) (nodes : List Node) (place : ℕ) (node : Node) → place < length nodes
+    → node ≡ get_or nodes place node
+    → between ≡ append old (nodes_text (take place nodes)) → new ≡ append between (node_text node)
+        → new ≡ append old (nodes_text (take (place + 1) nodes))
 one_more_out old between new nodes place node less is out then =
-    append-then old between new (nodes_text (take place nodes)) (node_text node) out then ∙ ap (append old) (nodes_text-more nodes place node less is)
+    append-then old between new (nodes_text (take place nodes)) (node_text node) out then
+        ∙ ap (append old) (nodes_text-more nodes place node less is)
 
 -- the writing of a node was cut short
-pub cut_short : (old between new : Option (List ℕ)) (nodes : List Node) (place : ℕ) (node : Node) → place < length nodes → node ≡ get_or nodes place node
+pub cut_short : (old between new : Option (List ℕ)) (nodes : List Node) (place : ℕ) (node : Node) → place < length nodes
+    → node ≡ get_or nodes place node
     → between ≡ append old (nodes_text (take place nodes)) → TakesFront between new (node_text node) → TakesFront old new (nodes_text nodes)
 cut_short old between new nodes place node less is out cut =
     let rest : List Node = drop (place + 1) nodes in
@@ -47,6 +52,7 @@ cut_short old between new nodes place node less is out cut =
     (TakesFront-then old between new (nodes_text (take place nodes)) (node_text node) out cut))
 
 -- all were written
-pub all_out : (old new : Option (List ℕ)) (nodes : List Node) (place : ℕ) → length nodes ≤ place → new ≡ append old (nodes_text (take place nodes))
+pub all_out : (old new : Option (List ℕ)) (nodes : List Node) (place : ℕ) → length nodes ≤ place
+    → new ≡ append old (nodes_text (take place nodes))
     → new ≡ append old (nodes_text nodes)
 all_out old new nodes place end out = out ∙ ap (λ (ns : List Node). append old (nodes_text ns)) (take_all place nodes end)

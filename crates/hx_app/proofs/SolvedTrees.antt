@@ -43,7 +43,8 @@ is_solved input board mover solution text tree size version winner = record {
 
 -- ---- of a solution that is made of some nodes
 
-pub solution_found : (input : List ℕ) (board : Board) (mover : Colour) (nodes : List Node) (solution : Solution) → IsPositionText input board mover
+pub solution_found : (input : List ℕ) (board : Board) (mover : Colour) (nodes : List Node) (solution : Solution)
+    → IsPositionText input board mover
     → IsSolution board mover nodes → solution.nodes.items ≡ nodes → solution.size ≡ board.size → IsVersionOf solution.version nodes
     → ((root : Node) → IsRoot nodes root → solution.winner ≡ root.heading.winner) → IsSolved input solution
 solution_found input board mover nodes solution text tree same size version winner =

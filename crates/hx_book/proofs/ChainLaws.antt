@@ -37,7 +37,8 @@ module _ (key : ℕ → Node → ℕ) (nodes : List Node) (heads next : List ℕ
         none = λ place from node there has. first.newest place from (slice_get_within nodes place node there) (has-in place node there has);
       }
 
-  module _ (link : ℕ) (some : link ≢ 0) (reached : IsReached own nodes bucket Has link) (node : Node) (node_read : node ≡ get_or nodes (link - 1) node) where
+  module _ (link : ℕ) (some : link ≢ 0) (reached : IsReached own nodes bucket Has link) (node : Node)
+      (node_read : node ≡ get_or nodes (link - 1) node) where
     inside : link - 1 < length nodes
     inside = omega (arith, reached.within, some)
 
@@ -57,20 +58,24 @@ module _ (key : ℕ → Node → ℕ) (nodes : List Node) (heads next : List ℕ
         none = λ place from found there has. ⊎_elim
             (λ below. is_older.newest place from below (has-in place found there has))
             (λ above. ⊎_elim
-            (λ (same : place ≡ link - 1). other-read nodes Has (link - 1) node inside node_read lacks found (subst (λ (p : ℕ). slice_get nodes p ≡ Some found) same there) has)
+            (λ (same : place ≡ link - 1).
+                other-read nodes Has (link - 1) node inside node_read lacks found
+                (subst (λ (p : ℕ). slice_get nodes p ≡ Some found) same there) has)
             (λ (different : place ≡ link - 1 → ⊥). reached.none place (omega (arith, above, different)) found there has)
             (cases_eq place (link - 1)))
             (cases_lt place (link - 1));
       }
 
 -- the node that is read stands one below the link
-pub reached-there : (key : Node → ℕ) (nodes : List Node) (bucket : ℕ) (Has : Node → Type 0) (link : ℕ) → link ≢ 0 → IsReached key nodes bucket Has link
+pub reached-there : (key : Node → ℕ) (nodes : List Node) (bucket : ℕ) (Has : Node → Type 0) (link : ℕ) → link ≢ 0
+    → IsReached key nodes bucket Has link
     → (node : Node) → node ≡ get_or nodes (link - 1) node → slice_get nodes (link - 1) ≡ Some node
 reached-there key nodes bucket Has link some reached node read =
     let inside : link - 1 < length nodes = omega (arith, reached.within, some) in
     slice_get_read nodes _ (link - 1) node refl inside read
 
 -- at the end of the chain there is nothing below
-pub reached-end : (key : Node → ℕ) (nodes : List Node) (bucket : ℕ) (Has : Node → Type 0) (link : ℕ) → link ≡ 0 → IsReached key nodes bucket Has link
+pub reached-end : (key : Node → ℕ) (nodes : List Node) (bucket : ℕ) (Has : Node → Type 0) (link : ℕ) → link ≡ 0
+    → IsReached key nodes bucket Has link
     → (place : ℕ) (node : Node) → slice_get nodes place ≡ Some node → Has node → ⊥
 reached-end key nodes bucket Has link end reached place node there has = reached.none place (omega (arith, end)) node there has

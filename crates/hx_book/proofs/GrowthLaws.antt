@@ -29,7 +29,8 @@ index-push_last (y ∷ ys) x = index-push_last ys x
 
 module _ (key : Node → ℕ) (nodes : List Node) (node : Node) where
   in-before : (bucket place : ℕ) → IsIn key nodes bucket place → IsIn key (nodes ++ node ∷ []) bucket place
-  in-before bucket place was = record { node = was.node; there = get-push_before nodes node place was.node was.there; same_bucket = was.same_bucket }
+  in-before bucket place was =
+      record { node = was.node; there = get-push_before nodes node place was.node was.there; same_bucket = was.same_bucket }
 
   in-last : IsIn key (nodes ++ node ∷ []) (key node) (length nodes)
   in-last = record { node = node; there = get-push_last nodes node; same_bucket = refl }
@@ -42,11 +43,13 @@ module _ (key : Node → ℕ) (nodes : List Node) (node : Node) where
       (get-push nodes node is.node place is.there)
 
   -- below the end nothing changes
-  newest-before : (bucket bound link : ℕ) → bound ≤ length nodes → IsNewestBelow key nodes bucket bound link → IsNewestBelow key (nodes ++ node ∷ []) bucket bound link
+  newest-before : (bucket bound link : ℕ) → bound ≤ length nodes → IsNewestBelow key nodes bucket bound link
+      → IsNewestBelow key (nodes ++ node ∷ []) bucket bound link
   newest-before bucket bound link small newest = record {
     within = newest.within;
     is_in = λ some. in-before bucket (link - 1) (newest.is_in some);
-    newest = λ place from below is. ⊎_elim (λ was. newest.newest place from below was) (λ last. absurd (omega (arith, last.0))) (in-cases bucket place is);
+    newest = λ place from below is.
+        ⊎_elim (λ was. newest.newest place from below was) (λ last. absurd (omega (arith, last.0))) (in-cases bucket place is);
   }
 
   -- the head of another bucket is as before
@@ -85,7 +88,10 @@ module _ (key : ℕ → Node → ℕ) (nodes : List Node) (heads next : List ℕ
 
   head-more : (b : ℕ) → b < length heads → IsNewestBelow own more b (length nodes + 1) (slice_index new_heads b)
   head-more b inside = ⊎_elim
-      (λ (same : b ≡ bucket). rw (same, get_or-set_same heads bucket (length nodes + 1) 0 below) (subst (λ (mine : ℕ). IsNewestBelow own more mine (length nodes + 1) (length nodes + 1)) (sym is_bucket) (newest-own own nodes node)))
+      (λ (same : b ≡ bucket).
+          rw (same, get_or-set_same heads bucket (length nodes + 1) 0 below)
+          (subst (λ (mine : ℕ). IsNewestBelow own more mine (length nodes + 1) (length nodes + 1)) (sym is_bucket)
+          (newest-own own nodes node)))
       (λ (different : b ≡ bucket → ⊥). rw (get_or-set_other heads bucket b (length nodes + 1) 0 different)
       (newest-other own nodes node b (slice_index heads b) (λ same. different (sym same ∙ sym is_bucket)) (chains.heads_lead b inside)))
       (cases_eq b bucket)
@@ -101,9 +107,11 @@ module _ (key : ℕ → Node → ℕ) (nodes : List Node) (heads next : List ℕ
   next-more_last : (b place : ℕ) → place ≡ length nodes → b ≡ bucket → IsNewestBelow own more b place (slice_index new_next place)
   next-more_last b place at here =
       let last : place ≡ length next = at ∙ sym chains.long in
-      let value : slice_index new_next place ≡ slice_index heads bucket = ap (λ (p : ℕ). slice_index new_next p) last ∙ index-push_last next (slice_index heads bucket) in
+      let value : slice_index new_next place ≡ slice_index heads bucket = ap (λ (p : ℕ). slice_index new_next p) last
+          ∙ index-push_last next (slice_index heads bucket) in
       let within : length nodes ≤ length nodes = omega arith in
-      rw (value, here, at) (newest-before own nodes node bucket (length nodes) (slice_index heads bucket) within (chains.heads_lead bucket below))
+      rw (value, here, at) (newest-before own nodes node bucket (length nodes) (slice_index heads bucket) within
+          (chains.heads_lead bucket below))
 
   next-more : (b place : ℕ) → IsIn own more b place → IsNewestBelow own more b place (slice_index new_next place)
   next-more b place is = ⊎_elim
@@ -124,7 +132,8 @@ module _ (key : ℕ → Node → ℕ) (nodes : List Node) (heads next : List ℕ
       }
 
   -- where the links after it are given by what was done to those before
-  pub chains-added : (made_heads made_next : List ℕ) → made_heads ≡ set heads bucket (length next + 1) → made_next ≡ next ++ slice_index heads bucket ∷ []
+  pub chains-added : (made_heads made_next : List ℕ) → made_heads ≡ set heads bucket (length next + 1) → made_next ≡ next
+      ++ slice_index heads bucket ∷ []
       → AreChains key more made_heads made_next
   chains-added made_heads made_next heads_made next_made =
       let held : length next ≡ length nodes = chains.long in
@@ -143,15 +152,20 @@ module _ (slots : ℕ) (nodes : List Node) (node : Node) (book : IsBook (record 
   }
 
 -- the fields before, the buckets of the node, and the links after it was linked in
-module _ (slots : ℕ) (nodes : List Node) (by_position by_stones : Links) (room : ℕ) (node : Node) (fields : FieldsKeep slots nodes by_position by_stones room)
-    (place stones : ℕ) (is_place : place ≡ position_key (length by_position.heads) node) (is_stones : stones ≡ stones_key (length by_stones.heads) node)
+module _ (slots : ℕ) (nodes : List Node) (by_position by_stones : Links) (room : ℕ) (node : Node)
+    (fields : FieldsKeep slots nodes by_position by_stones room)
+    (place stones : ℕ) (is_place : place ≡ position_key (length by_position.heads) node)
+        (is_stones : stones ≡ stones_key (length by_stones.heads) node)
     (place_below : place < length by_position.heads) (stones_below : stones < length by_stones.heads)
-    (new_position new_stones : Links) (position_added : IsLinked by_position place new_position) (stones_added : IsLinked by_stones stones new_stones) where
-  pub fields-more : length nodes ≢ slots → IsRightNode (headings_of nodes) node → HasNoEntry nodes node.heading.position node.heading.to_move
+    (new_position new_stones : Links) (position_added : IsLinked by_position place new_position)
+        (stones_added : IsLinked by_stones stones new_stones) where
+  pub fields-more : length nodes ≢ slots → IsRightNode (headings_of nodes) node
+      → HasNoEntry nodes node.heading.position node.heading.to_move
       → FieldsKeep slots (nodes ++ node ∷ []) new_position new_stones room
   fields-more room_left right none = record {
     book = book-more slots nodes node fields.book (omega (arith, room_left, fields.book.held)) right none;
-    position_chains = chains-added position_key nodes by_position.heads by_position.next node fields.position_chains place is_place place_below
+    position_chains = chains-added position_key nodes by_position.heads by_position.next node fields.position_chains place is_place
+        place_below
         new_position.heads new_position.next position_added.heads_set position_added.next_pushed;
     stones_chains = chains-added stones_key nodes by_stones.heads by_stones.next node fields.stones_chains stones is_stones stones_below
         new_stones.heads new_stones.next stones_added.heads_set stones_added.next_pushed;

@@ -20,12 +20,14 @@ use Rattle.hx_book.proofs.NeedLaws.{needed-marked}
 
 -- ---- what is left
 
-pub rest-node : (nodes : List Node) (place : ℕ) (rest : List Node) (node : Node) (later : List Node) → IsRest nodes place rest → rest ≡ node ∷ later → slice_get nodes place ≡ Some node
+pub rest-node : (nodes : List Node) (place : ℕ) (rest : List Node) (node : Node) (later : List Node) → IsRest nodes place rest
+    → rest ≡ node ∷ later → slice_get nodes place ≡ Some node
 rest-node nodes place rest node later is same =
     let here : place ≡ place + 0 = omega arith in
     ap (λ (p : ℕ). slice_get nodes p) here ∙ is 0 ∙ ap (λ (ns : List Node). slice_get ns 0) same
 
-pub rest-more : (nodes : List Node) (place : ℕ) (rest : List Node) (node : Node) (later : List Node) → IsRest nodes place rest → rest ≡ node ∷ later → IsRest nodes (place + 1) later
+pub rest-more : (nodes : List Node) (place : ℕ) (rest : List Node) (node : Node) (later : List Node) → IsRest nodes place rest
+    → rest ≡ node ∷ later → IsRest nodes (place + 1) later
 rest-more nodes place rest node later is same k =
     let next : place + 1 + k ≡ place + suc k = omega arith in
     ap (λ (p : ℕ). slice_get nodes p) next ∙ is (suc k) ∙ ap (λ (ns : List Node). slice_get ns (suc k)) same
@@ -63,7 +65,8 @@ module _ (kept : List Node) (node : Node) where
 
 -- ---- what is kept
 
-pub kept-none : (nodes : List Node) (root : ℕ) (marks : List Bool) (names : List ℕ) → length names ≡ length nodes → AreKeptBelow nodes root marks 0 [] names
+pub kept-none : (nodes : List Node) (root : ℕ) (marks : List Bool) (names : List ℕ) → length names ≡ length nodes
+    → AreKeptBelow nodes root marks 0 [] names
 kept-none nodes root marks names long = record {
   right = λ k. tt;
   few = omega arith;
@@ -83,7 +86,8 @@ kept-none nodes root marks names long = record {
   last = λ less. absurd (omega (arith, less));
 }
 
-module _ (nodes : List Node) (right : AreRight nodes) (root : ℕ) (marks : List Bool) (marked : AreMarkedFrom nodes root 0 marks) (bound : ℕ) (kept : List Node) (names : List ℕ)
+module _ (nodes : List Node) (right : AreRight nodes) (root : ℕ) (marks : List Bool) (marked : AreMarkedFrom nodes root 0 marks) (bound : ℕ)
+    (kept : List Node) (names : List ℕ)
     (old : AreKeptBelow nodes root marks bound kept names) where
   pub kept-skip : bound < length nodes → (IsMarked marks bound → ⊥) → AreKeptBelow nodes root marks (bound + 1) kept names
   kept-skip within none = record {
@@ -109,7 +113,8 @@ module _ (nodes : List Node) (right : AreRight nodes) (root : ℕ) (marks : List
   }
 
   pub child-kept : (node : Node) → slice_get nodes bound ≡ Some node → (child : ℕ) → Names node.rule child → child < length names
-  child-kept node there child names_it = omega (arith, child-before nodes right bound node there child names_it, slice_get_within nodes bound node there, old.named)
+  child-kept node there child names_it =
+      omega (arith, child-before nodes right bound node there child names_it, slice_get_within nodes bound node there, old.named)
 
   module _ (node : Node) (there : slice_get nodes bound ≡ Some node) (here : IsMarked marks bound) where
     abbrev name : ℕ → ℕ
@@ -130,28 +135,34 @@ module _ (nodes : List Node) (right : AreRight nodes) (root : ℕ) (marks : List
     own_heading : slice_get (headings_of nodes) bound ≡ Some node.heading
     own_heading = get-map (λ (n : Node). n.heading) nodes bound node there
 
-    same-child : (child : ℕ) → Names node.rule child → slice_get (headings_of kept) (name child) ≡ slice_get (headings_of (take bound nodes)) child
+    same-child : (child : ℕ) → Names node.rule child
+        → slice_get (headings_of kept) (name child) ≡ slice_get (headings_of (take bound nodes)) child
     same-child child names_it =
         let less : child < bound = child-before nodes right bound node there child names_it in
-        let child_marked : IsMarked marks child = marked.closed bound child (omega arith) here (record { node = node; there = there; names = names_it }) in
+        let child_marked : IsMarked marks child =
+            marked.closed bound child (omega arith) here (record { node = node; there = there; names = names_it }) in
         old.gives child child_marked less ∙ sym (take-heading nodes bound child less)
 
     new-right : IsRightNode (headings_of kept) new
-    new-right = node-renamed (headings_of (take bound nodes)) (headings_of kept) name node same-child (right-at nodes right bound node there)
+    new-right = node-renamed (headings_of (take bound nodes)) (headings_of kept) name node same-child
+        (right-at nodes right bound node there)
 
     gives-own : slice_get (headings_of more) (slice_index new_names bound) ≡ slice_get (headings_of nodes) bound
     gives-own =
         let inside_names : bound < length names = omega (arith, within, old.named) in
-        ap (λ (p : ℕ). slice_get (headings_of more) p) (get_or-set_same names bound (length kept) 0 inside_names) ∙ heading-last kept new ∙ sym own_heading
+        ap (λ (p : ℕ). slice_get (headings_of more) p) (get_or-set_same names bound (length kept) 0 inside_names) ∙ heading-last kept new
+            ∙ sym own_heading
 
-    gives-before : (place : ℕ) → IsMarked marks place → place < bound → slice_get (headings_of more) (slice_index new_names place) ≡ slice_get (headings_of nodes) place
+    gives-before : (place : ℕ) → IsMarked marks place → place < bound
+        → slice_get (headings_of more) (slice_index new_names place) ≡ slice_get (headings_of nodes) place
     gives-before place h less =
         let different : place ≡ bound → ⊥ = λ (same : place ≡ bound). omega (arith, same, less) in
         let found = get-there (headings_of nodes) place (omega (arith, less, within, length-map nodes (λ (n : Node). n.heading))) in
         ap (λ (p : ℕ). slice_get (headings_of more) p) (get_or-set_other names bound place (length kept) 0 different)
         ∙ heading-before kept new (name place) (slice_get (headings_of nodes) place) found.0 (old.gives place h less) found.1
 
-    gives-more : (place : ℕ) → IsMarked marks place → place < bound + 1 → slice_get (headings_of more) (slice_index new_names place) ≡ slice_get (headings_of nodes) place
+    gives-more : (place : ℕ) → IsMarked marks place → place < bound + 1
+        → slice_get (headings_of more) (slice_index new_names place) ≡ slice_get (headings_of nodes) place
     gives-more place h less = ⊎_elim
         (λ (same : place ≡ bound). rw same gives-own)
         (λ (different : place ≡ bound → ⊥). gives-before place h (omega (arith, less, different)))
@@ -176,15 +187,19 @@ module _ (nodes : List Node) (right : AreRight nodes) (root : ℕ) (marks : List
     renamed-more : (k place : ℕ) → slice_get new_places k ≡ Some place → new_name place ≡ k
     renamed-more k place e = ⊎_elim
         (λ was. sym (name-before place (old.below k place was)) ∙ old.needed.renamed k place was)
-        (λ last. ap new_name last.1 ∙ get_or-set_same names bound (length kept) 0 (omega (arith, within, old.named)) ∙ sym (last.0 ∙ old.needed.as_many))
+        (λ last. ap new_name last.1 ∙ get_or-set_same names bound (length kept) 0 (omega (arith, within, old.named))
+            ∙ sym (last.0 ∙ old.needed.as_many))
         (get-push old.places bound place k e)
 
     -- a node that stands before is renamed as it was
-    node-before : (place : ℕ) (at : Node) → place ≤ bound → slice_get nodes place ≡ Some at → renamed_node name at ≡ renamed_node new_name at
+    node-before : (place : ℕ) (at : Node) → place ≤ bound → slice_get nodes place ≡ Some at
+        → renamed_node name at ≡ renamed_node new_name at
     node-before place at less there_at =
-        node-same name new_name at (λ child names_it. name-before child (omega (arith, child-before nodes right place at there_at child names_it, less)))
+        node-same name new_name at (λ child names_it.
+            name-before child (omega (arith, child-before nodes right place at there_at child names_it, less)))
 
-    node-more : (k place : ℕ) (at : Node) → slice_get new_places k ≡ Some place → slice_get nodes place ≡ Some at → slice_get more k ≡ Some (renamed_node new_name at)
+    node-more : (k place : ℕ) (at : Node) → slice_get new_places k ≡ Some place → slice_get nodes place ≡ Some at
+        → slice_get more k ≡ Some (renamed_node new_name at)
     node-more k place at e there_at = ⊎_elim
         (λ was. get-push_before kept new k (renamed_node name at) (old.needed.same_node k place at was there_at)
         ∙ ap Some (node-before place at (omega (arith, old.below k place was)) there_at))
@@ -197,7 +212,8 @@ module _ (nodes : List Node) (right : AreRight nodes) (root : ℕ) (marks : List
     each-more : (place : ℕ) → IsMarked marks place → place < bound + 1 → StandsIn new_places place
     each-more place h less = ⊎_elim
         (λ (same : place ≡ bound). (length old.places, get-push_last old.places bound ∙ ap Some (sym same)))
-        (λ (different : place ≡ bound → ⊥). let was = old.each place h (omega (arith, less, different)) in (was.0, get-push_before old.places bound was.0 place was.1))
+        (λ (different : place ≡ bound → ⊥). let was = old.each place h (omega (arith, less, different)) in
+            (was.0, get-push_before old.places bound was.0 place was.1))
         (cases_eq place bound)
 
     order-more : (j k one other : ℕ) → j < k → slice_get new_places j ≡ Some one → slice_get new_places k ≡ Some other → one < other
@@ -213,7 +229,8 @@ module _ (nodes : List Node) (right : AreRight nodes) (root : ℕ) (marks : List
         (get-push old.places bound one j first)
 
     below-more : (k place : ℕ) → slice_get new_places k ≡ Some place → place < bound + 1
-    below-more k place e = ⊎_elim (λ was. omega (arith, old.below k place was)) (λ last. omega (arith, last.1)) (get-push old.places bound place k e)
+    below-more k place e =
+        ⊎_elim (λ was. omega (arith, old.below k place was)) (λ last. omega (arith, last.1)) (get-push old.places bound place k e)
 
     last-more : root < bound + 1 → EndsInRoot nodes root more
     last-more less =
@@ -240,7 +257,8 @@ module _ (nodes : List Node) (right : AreRight nodes) (root : ℕ) (marks : List
       last = last-more;
     }
 
-  pub kept-next : (node : Node) → slice_get nodes bound ≡ Some node → (is_needed : Bool) → slice_index_or marks bound false ≡ is_needed → (new_kept : List Node) (new_names : List ℕ)
+  pub kept-next : (node : Node) → slice_get nodes bound ≡ Some node → (is_needed : Bool) → slice_index_or marks bound false ≡ is_needed
+      → (new_kept : List Node) (new_names : List ℕ)
       → (is_needed ≡ true → IsKept kept names bound node new_kept new_names) → (is_needed ≡ false → (new_kept ≡ kept) × (new_names ≡ names))
       → AreKeptBelow nodes root marks (bound + 1) new_kept new_names
   kept-next node there true mark new_kept new_names needed dropped =

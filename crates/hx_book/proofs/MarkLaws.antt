@@ -7,7 +7,8 @@ use Rattle.hx_tree.specs.declared.nodes.Line.{Line}
 use Rattle.hx_book.specs.Trees.{NamesChild, HasLine}
 use Rattle.hx_book.specs.Renaming.{MarksMore}
 
-mark-then : (A B : ℕ → Type 0) (old middle new : List Bool) → MarksMore A old middle → MarksMore B middle new → MarksMore (λ p. A p ⊎ B p) old new
+mark-then : (A B : ℕ → Type 0) (old middle new : List Bool) → MarksMore A old middle → MarksMore B middle new
+    → MarksMore (λ p. A p ⊎ B p) old new
 mark-then A B old middle new m n = record {
   long = n.long ∙ m.long;
   stay = λ p h. n.stay p (m.stay p h);
@@ -15,7 +16,8 @@ mark-then A B old middle new m n = record {
   only = λ p h. ⊎_elim (λ k. ⊎_elim (λ was. inl was) (λ a. inr (inl a)) (m.only p k)) (λ b. inr (inr b)) (n.only p h);
 }
 
-mark-as : (A B : ℕ → Type 0) (old new : List Bool) → ((p : ℕ) → A p → B p) → ((p : ℕ) → B p → A p) → MarksMore A old new → MarksMore B old new
+mark-as : (A B : ℕ → Type 0) (old new : List Bool) → ((p : ℕ) → A p → B p) → ((p : ℕ) → B p → A p) → MarksMore A old new
+    → MarksMore B old new
 mark-as A B old new to from m = record {
   long = m.long;
   stay = m.stay;
@@ -31,7 +33,8 @@ lines-none lines marks = record { long = refl; stay = λ p h. h; each = λ p has
 
 module _ (lines : List Line) (line : Line) where
   lines-push : (place : ℕ) → HasLine lines place ⊎ NamesChild line place → HasLine (lines ++ line ∷ []) place
-  lines-push place (inl has) = record { k = has.k; line = has.line; there = get-push_before lines line has.k has.line has.there; names = has.names }
+  lines-push place (inl has) =
+      record { k = has.k; line = has.line; there = get-push_before lines line has.k has.line has.there; names = has.names }
   lines-push place (inr names) = record { k = length lines; line = line; there = get-push_last lines line; names = names }
 
   lines-cases : (place : ℕ) → HasLine (lines ++ line ∷ []) place → HasLine lines place ⊎ NamesChild line place
@@ -49,6 +52,7 @@ module _ (lines : List Line) (i : ℕ) (line : Line) (inside : i < length lines)
   lines-more old middle new m n =
       let up_to : take (i + 1) lines ≡ take i lines ++ line ∷ [] = take-read lines i line inside is in
       let more : MarksMore (HasLine (take i lines ++ line ∷ [])) old new =
-      mark-as (λ p. HasLine (take i lines) p ⊎ NamesChild line p) (HasLine (take i lines ++ line ∷ [])) old new (lines-push (take i lines) line) (lines-cases (take i lines) line)
+      mark-as (λ p. HasLine (take i lines) p ⊎ NamesChild line p) (HasLine (take i lines ++ line ∷ [])) old new
+          (lines-push (take i lines) line) (lines-cases (take i lines) line)
       (mark-then (HasLine (take i lines)) (NamesChild line) old middle new m n) in
       subst (λ (ls : List Line). MarksMore (HasLine ls) old new) (sym up_to) more

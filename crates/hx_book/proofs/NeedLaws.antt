@@ -10,10 +10,12 @@ use Rattle.hx_book.specs.Trees.{Names, HasChildAt, LeadsTo, IsNeeded}
 use Rattle.hx_book.specs.Renaming.{IsMarked, AreUnmarked, MarksMore, AreMarkedFrom}
 use Rattle.hx_book.proofs.ChildLaws.{child-before, leads-further}
 
-pub marked-begun : (nodes : List Node) (root : ℕ) (none marks : List Bool) → AreUnmarked (length nodes) none → MarksMore (λ (other : ℕ). other ≡ root) none marks
+pub marked-begun : (nodes : List Node) (root : ℕ) (none marks : List Bool) → AreUnmarked (length nodes) none
+    → MarksMore (λ (other : ℕ). other ≡ root) none marks
     → AreMarkedFrom nodes root (root + 1) marks
 marked-begun nodes root none marks empty more =
-    let only : (place : ℕ) → IsMarked marks place → place ≡ root = λ place h. ⊎_elim (λ was. absurd (empty.none place was)) (λ same. same) (more.only place h) in
+    let only : (place : ℕ) → IsMarked marks place → place ≡ root = λ place h.
+        ⊎_elim (λ was. absurd (empty.none place was)) (λ same. same) (more.only place h) in
     record {
       long = more.long ∙ empty.long;
       root_marked = more.each root refl;
@@ -22,7 +24,8 @@ marked-begun nodes root none marks empty more =
       closed = λ place child from h has. absurd (omega (arith, only place h, from));
     }
 
-module _ (nodes : List Node) (right : AreRight nodes) (root bound : ℕ) (marks : List Bool) (marked : AreMarkedFrom nodes root (bound + 1) marks) where
+module _ (nodes : List Node) (right : AreRight nodes) (root bound : ℕ) (marks : List Bool)
+    (marked : AreMarkedFrom nodes root (bound + 1) marks) where
   pub marked-skip : (IsMarked marks bound → ⊥) → AreMarkedFrom nodes root bound marks
   marked-skip none = record {
     long = marked.long;
@@ -35,18 +38,21 @@ module _ (nodes : List Node) (right : AreRight nodes) (root bound : ℕ) (marks 
         (cases_eq place bound);
   }
 
-  module _ (node : Node) (there : slice_get nodes bound ≡ Some node) (here : IsMarked marks bound) (new : List Bool) (more : MarksMore (Names node.rule) marks new) where
+  module _ (node : Node) (there : slice_get nodes bound ≡ Some node) (here : IsMarked marks bound) (new : List Bool)
+      (more : MarksMore (Names node.rule) marks new) where
     before : (child : ℕ) → Names node.rule child → child < bound
     before child names = child-before nodes right bound node there child names
 
     needed_more : (place : ℕ) → IsMarked new place → IsNeeded nodes root place
     needed_more place h = ⊎_elim
         (λ was. marked.needed place was)
-        (λ names. let need = marked.needed bound here in leads-further nodes need.0 root bound place need.1 (record { node = node; there = there; names = names }))
+        (λ names. let need = marked.needed bound here in
+            leads-further nodes need.0 root bound place need.1 (record { node = node; there = there; names = names }))
         (more.only place h)
 
     own_child : (child : ℕ) → HasChildAt nodes bound child → IsMarked new child
-    own_child child has = more.each child (subst (λ (n : Node). Names n.rule child) (same_Some has.node node (sym has.there ∙ there)) has.names)
+    own_child child has =
+        more.each child (subst (λ (n : Node). Names n.rule child) (same_Some has.node node (sym has.there ∙ there)) has.names)
 
     closed_more : (place child : ℕ) → bound ≤ place → IsMarked new place → HasChildAt nodes place child → IsMarked new child
     closed_more place child from h has = ⊎_elim
@@ -61,13 +67,15 @@ module _ (nodes : List Node) (right : AreRight nodes) (root bound : ℕ) (marks 
     marked-more = record {
       long = more.long ∙ marked.long;
       root_marked = more.stay root marked.root_marked;
-      under = λ place h. ⊎_elim (λ was. marked.under place was) (λ names. omega (arith, before place names, marked.under bound here)) (more.only place h);
+      under = λ place h. ⊎_elim (λ was. marked.under place was) (λ names. omega (arith, before place names, marked.under bound here))
+          (more.only place h);
       needed = needed_more;
       closed = closed_more;
     }
 
 -- all that the root needs is marked, once the children of all marked nodes are
-pub needed-marked : (nodes : List Node) (root : ℕ) (marks : List Bool) → AreMarkedFrom nodes root 0 marks → (first place : ℕ) (path : List ℕ) → IsMarked marks first
+pub needed-marked : (nodes : List Node) (root : ℕ) (marks : List Bool) → AreMarkedFrom nodes root 0 marks
+    → (first place : ℕ) (path : List ℕ) → IsMarked marks first
     → LeadsTo nodes first path place → IsMarked marks place
 needed-marked nodes root marks marked first place [] here leads = subst (λ (p : ℕ). IsMarked marks p) leads here
 needed-marked nodes root marks marked first place (next ∷ path) here leads =

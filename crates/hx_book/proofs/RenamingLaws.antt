@@ -31,7 +31,8 @@ mapped-next f zero xs d = refl
 mapped-next f (suc n) [] d = refl
 mapped-next f (suc n) (x ∷ xs) d = mapped-next f n xs d
 
-pub mapped-set : {A : Type 0} → (f : A → A) (n : ℕ) (xs : List A) (x : A) → slice_get xs n ≡ Some x → set (mapped f n xs) n (f x) ≡ mapped f (suc n) xs
+pub mapped-set : {A : Type 0} → (f : A → A) (n : ℕ) (xs : List A) (x : A) → slice_get xs n ≡ Some x
+    → set (mapped f n xs) n (f x) ≡ mapped f (suc n) xs
 mapped-set f zero [] x e = cc
 mapped-set f zero (y ∷ ys) x e = cc
 mapped-set f (suc n) [] x e = cc
@@ -49,7 +50,8 @@ cell-renamed name (Under cell better kill) = refl
 
 cells-renamed : (name : ℕ → ℕ) (lines : List Line) → cells_of (map (renamed_line name) lines) ≡ cells_of lines
 cells-renamed name [] = refl
-cells-renamed name (line ∷ lines) = ap (λ (n : ℕ). n ∷ cells_of (map (renamed_line name) lines)) (cell-renamed name line) ∙ ap (λ (ns : List ℕ). cell_of line ∷ ns) (cells-renamed name lines)
+cells-renamed name (line ∷ lines) = ap (λ (n : ℕ). n ∷ cells_of (map (renamed_line name) lines)) (cell-renamed name line)
+    ∙ ap (λ (ns : List ℕ). cell_of line ∷ ns) (cells-renamed name lines)
 
 contains-map : {A B : Type 0} → (f : A → B) (xs : List A) (x : A) → Contains xs x → Contains (map f xs) (f x)
 contains-map f xs x has =
@@ -59,7 +61,8 @@ contains-map f xs x has =
 
 module _ (before after : List Heading) (heading : Heading) (links : List Link) (threats : List ℕ) (name : ℕ → ℕ) (lines : List Line) where
   line-renamed : (line : Line) → ((child : ℕ) → NamesChild line child → slice_get after (name child) ≡ slice_get before child)
-      → IsRightLine before heading links threats lines line → IsRightLine after heading links threats (map (renamed_line name) lines) (renamed_line name line)
+      → IsRightLine before heading links threats lines line
+          → IsRightLine after heading links threats (map (renamed_line name) lines) (renamed_line name line)
   line-renamed (Child cell child) same right = rw (same child refl) right
   line-renamed (Under cell better kill) same right = record {
     dominated = right.dominated;
@@ -69,7 +72,8 @@ module _ (before after : List Heading) (heading : Heading) (links : List Link) (
         right.answered;
   }
 
-  if-renamed : (k : ℕ) (found : Option Line) → slice_get lines k ≡ found → ((child : ℕ) → HasLine lines child → slice_get after (name child) ≡ slice_get before child)
+  if-renamed : (k : ℕ) (found : Option Line) → slice_get lines k ≡ found
+      → ((child : ℕ) → HasLine lines child → slice_get after (name child) ≡ slice_get before child)
       → IfSome found (IsRightLine before heading links threats lines)
       → IfSome (slice_get (map (renamed_line name) lines) k) (IsRightLine after heading links threats (map (renamed_line name) lines))
   if-renamed k None there same right = rw (get-map_none (renamed_line name) lines k there) tt
@@ -77,7 +81,8 @@ module _ (before after : List Heading) (heading : Heading) (links : List Link) (
       rw (get-map (renamed_line name) lines k line there)
       (line-renamed line (λ child has. same child (record { k = k; line = line; there = there; names = has })) right)
 
-  answered-renamed : ((child : ℕ) → HasLine lines child → slice_get after (name child) ≡ slice_get before child) → AreAnswered before heading links threats lines
+  answered-renamed : ((child : ℕ) → HasLine lines child → slice_get after (name child) ≡ slice_get before child)
+      → AreAnswered before heading links threats lines
       → AreAnswered after heading links threats (map (renamed_line name) lines)
   answered-renamed same answered = record {
     threats_right = answered.threats_right;
@@ -88,7 +93,8 @@ module _ (before after : List Heading) (heading : Heading) (links : List Link) (
 -- ---- rules
 
 module _ (before after : List Heading) (heading : Heading) (name : ℕ → ℕ) where
-  rule-renamed : (rule : Rule) → ((child : ℕ) → Names rule child → slice_get after (name child) ≡ slice_get before child) → IsRightRule before heading rule
+  rule-renamed : (rule : Rule) → ((child : ℕ) → Names rule child → slice_get after (name child) ≡ slice_get before child)
+      → IsRightRule before heading rule
       → IsRightRule after heading (renamed_rule name rule)
   rule-renamed Chain same right = right
   rule-renamed (Links steps) same right = right
@@ -104,18 +110,22 @@ module _ (before after : List Heading) (heading : Heading) (name : ℕ → ℕ) 
   rule-renamed (Fill steps child) same right = record { some = right.some; right = right.right; leads = rw (same child refl) right.leads }
   rule-renamed (Turned child) same right = rw (same child refl) right
 
-pub node-renamed : (before after : List Heading) (name : ℕ → ℕ) (node : Node) → ((child : ℕ) → Names node.rule child → slice_get after (name child) ≡ slice_get before child)
+pub node-renamed : (before after : List Heading) (name : ℕ → ℕ) (node : Node)
+    → ((child : ℕ) → Names node.rule child → slice_get after (name child) ≡ slice_get before child)
     → IsRightNode before node → IsRightNode after (renamed_node name node)
-node-renamed before after name node same right = record { board = right.board; rule = rule-renamed before after node.heading name node.rule same right.rule }
+node-renamed before after name node same right =
+    record { board = right.board; rule = rule-renamed before after node.heading name node.rule same right.rule }
 
 -- ---- the same new numbers
 
 module _ (one other : ℕ → ℕ) where
-  line-same : (line : Line) → ((child : ℕ) → NamesChild line child → one child ≡ other child) → renamed_line one line ≡ renamed_line other line
+  line-same : (line : Line) → ((child : ℕ) → NamesChild line child → one child ≡ other child)
+      → renamed_line one line ≡ renamed_line other line
   line-same (Child cell child) same = ap (λ (c : ℕ). Child cell c) (same child refl)
   line-same (Under cell better kill) same = refl
 
-  lines-same : (lines : List Line) → ((child : ℕ) → HasLine lines child → one child ≡ other child) → map (renamed_line one) lines ≡ map (renamed_line other) lines
+  lines-same : (lines : List Line) → ((child : ℕ) → HasLine lines child → one child ≡ other child)
+      → map (renamed_line one) lines ≡ map (renamed_line other) lines
   lines-same [] same = refl
   lines-same (line ∷ lines) same =
       let first : renamed_line one line ≡ renamed_line other line =
@@ -133,12 +143,14 @@ module _ (one other : ℕ → ℕ) where
   rule-same (Turned child) same = ap (λ (c : ℕ). Turned c) (same child refl)
 
   -- a node is renamed alike by numbers that are the same for its children
-  pub node-same : (node : Node) → ((child : ℕ) → Names node.rule child → one child ≡ other child) → renamed_node one node ≡ renamed_node other node
+  pub node-same : (node : Node) → ((child : ℕ) → Names node.rule child → one child ≡ other child)
+      → renamed_node one node ≡ renamed_node other node
   node-same node same = ap (λ (r : Rule). record { heading = node.heading; rule = r }) (rule-same node.rule same)
 
 -- ---- the loop over the lines
 
-module _ {A : Type 0} (f : A → A) (old now : List A) (k : ℕ) (x : A) (is : now ≡ mapped f k old) (inside : k < length old) (read : x ≡ get_or now k x) where
+module _ {A : Type 0} (f : A → A) (old now : List A) (k : ℕ) (x : A) (is : now ≡ mapped f k old) (inside : k < length old)
+    (read : x ≡ get_or now k x) where
   pub line-read : slice_get old k ≡ Some x
   line-read = slice_get_read old _ k x refl inside (read ∙ ap (λ (xs : List A). get_or xs k x) is ∙ mapped-next f k old x)
 

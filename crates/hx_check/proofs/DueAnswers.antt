@@ -195,7 +195,8 @@ module _ (before : Option (List ℕ)) (reader : TreeReader) (headings : List Hea
             rest = later;
             parts = parts ∙ sym (text_of-push upto.judged.lines new.line later)
                 ∙ ap (λ (ls : List (List ℕ)). text_of (ls ++ new.line ∷ []) ++ later) stands.same
-                ∙ ap (λ (l : List ℕ). text_of ((front_lines next.so_far.preamble ++ flat_map node_lines upto.judged.nodes) ++ l ∷ []) ++ later)
+                ∙ ap (λ (l : List ℕ). text_of ((front_lines next.so_far.preamble ++ flat_map node_lines upto.judged.nodes) ++ l ∷ [])
+                    ++ later)
                 (next.same ∙ ap head_line (sym whole.2));
           }
 
@@ -230,7 +231,8 @@ module _ (before : Option (List ℕ)) (reader : TreeReader) (headings : List Hea
       → MatchOption answer (JudgedUpTo before new_reader now new.held then_left) (IsDue before then_left rose)
   node_answer rose new_reader now node None cut counts unended reads says =
       judged_node before reader new_reader headings old new left then_left upto cut counts now node unended reads says.0 says.1
-  node_answer rose new_reader now node (Some (NoNode k)) cut counts unended reads says = wrong_node new_reader node k cut unended reads says.0 says.1
+  node_answer rose new_reader now node (Some (NoNode k)) cut counts unended reads says =
+      wrong_node new_reader node k cut unended reads says.0 says.1
   node_answer rose new_reader now node (Some OutOfMemory) cut counts unended reads says = tt
   node_answer rose new_reader now node (Some (Yes root)) cut counts unended reads says = absurd says
   node_answer rose new_reader now node (Some (NoText l)) cut counts unended reads says = absurd says

@@ -207,7 +207,8 @@ module _ (source source_now : Reading) (sink sink_now : Writing) where
   kept_of : (judgement : Judgement) → IsDueHere judgement → sink_now.taken ≡ append sink.taken (judgement_text judgement)
       → KeepsPromises source source_now sink sink_now (status_of judgement)
   kept_of judgement due written = record {
-    yes = λ zero. told judgement _ due (λ input is. yes_of input source_now.left FailedHere judgement sink.taken sink_now.taken zero is written);
+    yes = λ zero. told judgement _ due
+        (λ input is. yes_of input source_now.left FailedHere judgement sink.taken sink_now.taken zero is written);
     read_to_end = λ zero. read_to_end_of source_now.left FailedHere source.left judgement zero due;
     proof = told judgement _ due (λ input is proof. proof_of input source_now.left FailedHere judgement proof is);
     no_proof = told judgement _ due (λ input is within none. no_proof_of input source_now.left FailedHere judgement within none is);

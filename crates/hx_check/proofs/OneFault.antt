@@ -15,7 +15,8 @@ data NamesFault (input : List ℕ) (answer : Judgement) : Type 0 where
   Node : (node : ℕ) → answer ≡ NoNode node → IsNoNode input node → NamesFault input answer
 
 module _ (input : List ℕ) (rose : Type 0) where
-  names_fault : (after : Option (List ℕ)) (answer : Judgement) → IsDue (Some input) after rose answer → status_of answer ≡ 1 → NamesFault input answer
+  names_fault : (after : Option (List ℕ)) (answer : Judgement) → IsDue (Some input) after rose answer → status_of answer ≡ 1
+      → NamesFault input answer
   names_fault after (Yes root) due one = absurd (omega arith)
   names_fault after (NoText line) due one = Line line refl due
   names_fault after (NoNode node) due one = Node node refl due
@@ -31,6 +32,8 @@ module _ (input : List ℕ) (rose : Type 0) where
   same_fault a b (Node node is wrong) (Node other also too) =
       is ∙ ap (λ (n : ℕ). NoNode n) (one_node input node other wrong too) ∙ sym also
 
-  pub one_fault : (after other_after : Option (List ℕ)) (a b : Judgement) → IsDue (Some input) after rose a → IsDue (Some input) other_after rose b
+  pub one_fault : (after other_after : Option (List ℕ)) (a b : Judgement) → IsDue (Some input) after rose a
+      → IsDue (Some input) other_after rose b
       → status_of a ≡ 1 → status_of b ≡ 1 → a ≡ b
-  one_fault after other_after a b due_a due_b one_a one_b = same_fault a b (names_fault after a due_a one_a) (names_fault other_after b due_b one_b)
+  one_fault after other_after a b due_a due_b one_a one_b =
+      same_fault a b (names_fault after a due_a one_a) (names_fault other_after b due_b one_b)

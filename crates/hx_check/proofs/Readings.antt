@@ -33,10 +33,12 @@ pub ended_first : (lines more : List (List ℕ)) (nodes all : List Node) (preamb
 ended_first lines more nodes all preamble winner (Before_size none short) are =
     record { more = all; same = ap (λ (ns : List Node). ns ++ all) (sym none) }
 ended_first lines more nodes all preamble winner (Among_nodes first is_size each few same) are =
-    let on = aligned first nodes lines more preamble all winner is_size each same are in record { more = on.on.more; same = on.on.nodes_are }
+    let on = aligned first nodes lines more preamble all winner is_size each same are in
+        record { more = on.on.more; same = on.on.nodes_are }
 ended_first lines more nodes all preamble winner (Inside_node first is_size each few node fits part rest whole some same) are =
     let front : List (List ℕ) = front_lines first ++ flat_map node_lines nodes in
-    let same_lines : lines ++ more ≡ front ++ (part ++ more) = ap (λ (ls : List (List ℕ)). ls ++ more) same ∙ append_assoc front part more in
+    let same_lines : lines ++ more ≡ front ++ (part ++ more) = ap (λ (ls : List (List ℕ)). ls ++ more) same
+        ∙ append_assoc front part more in
     let on = aligned first nodes front (part ++ more) preamble all winner is_size each refl
     (subst (AreTreeLinesOf preamble all winner) same_lines are) in record { more = on.on.more; same = on.on.nodes_are }
 ended_first lines more nodes all preamble winner (After_end first last whole few) are =
@@ -90,7 +92,8 @@ last_split first [] = ([], first, refl)
 last_split first (next ∷ nodes) =
     let rest = last_split next nodes in (first ∷ rest.0, rest.1, ap (λ (ns : List Node). first ∷ ns) rest.2)
 
-completed_nodes : (preamble : Preamble) (nodes : List Node) (lines : List (List ℕ)) → 3 ≤ length lines → IsExtent preamble.size.rows preamble.size.cols
+completed_nodes : (preamble : Preamble) (nodes : List Node) (lines : List (List ℕ)) → 3 ≤ length lines
+    → IsExtent preamble.size.rows preamble.size.cols
     → EachNodeFits preamble nodes → length nodes ≤ most_nodes → lines ≡ front_lines preamble ++ flat_map node_lines nodes → Completed lines
 completed_nodes preamble [] lines long is_size each few same = absurd (omega (arith, ap length same))
 completed_nodes preamble (first ∷ nodes) lines long is_size each few same =
@@ -98,7 +101,8 @@ completed_nodes preamble (first ∷ nodes) lines long is_size each few same =
     with_end preamble last.0 last.1 lines is_size (subst (EachNodeFits preamble) last.2 each) (omega (arith, few, ap length last.2))
     (same ∙ ap (λ (ns : List Node). front_lines preamble ++ flat_map node_lines ns) last.2)
 
-completed_begun : (preamble : Preamble) (nodes : List Node) (node : Node) (part rest lines : List (List ℕ)) → IsExtent preamble.size.rows preamble.size.cols
+completed_begun : (preamble : Preamble) (nodes : List Node) (node : Node) (part rest lines : List (List ℕ))
+    → IsExtent preamble.size.rows preamble.size.cols
     → EachNodeFits preamble nodes → length nodes < most_nodes → NodeFits preamble node → node_lines node ≡ part ++ rest
     → lines ≡ (front_lines preamble ++ flat_map node_lines nodes) ++ part → Completed lines
 completed_begun preamble nodes node part rest lines is_size each few fits whole same =
@@ -142,7 +146,8 @@ all_of many = many.nodes ++ many.next ∷ []
 
 -- and the lines with which a text of theirs goes on
 many_rest : {input : List ℕ} → IsTooManyNodes input → List (List ℕ)
-many_rest many = map entry_line (entries_of many.next.rule) ++ end_line (length (many.nodes ++ many.next ∷ [])) many.next.heading.winner ∷ []
+many_rest many = map entry_line (entries_of many.next.rule)
+    ++ end_line (length (many.nodes ++ many.next ∷ [])) many.next.heading.winner ∷ []
 
 many_are : {input : List ℕ} (many : IsTooManyNodes input)
     → many_lines many ++ many_rest many ≡ tree_lines many.preamble (all_of many) many.next.heading.winner
@@ -150,7 +155,8 @@ unfolding many_rest
 many_are many =
     let front : List (List ℕ) = front_lines many.preamble ++ flat_map node_lines many.nodes in
     let end : List (List ℕ) = end_line (length (all_of many)) many.next.heading.winner ∷ [] in
-    ap (λ (ls : List (List ℕ)). ls ++ many_rest many) (sym (append_assoc (front_lines many.preamble) (flat_map node_lines many.nodes) (head_line (head_of many.next) ∷ [])))
+    ap (λ (ls : List (List ℕ)). ls ++ many_rest many)
+        (sym (append_assoc (front_lines many.preamble) (flat_map node_lines many.nodes) (head_line (head_of many.next) ∷ [])))
     ∙ append_assoc front (head_line (head_of many.next) ∷ []) (many_rest many)
     ∙ sym (append_assoc front (node_lines many.next) end)
     ∙ ap (λ (ls : List (List ℕ)). ls ++ end)
@@ -175,7 +181,8 @@ AllShort-many_lines many =
     (AllShort-tree_lines _
     (record { preamble = many.preamble; nodes = all_of many; winner = many.next.heading.winner; are = many_whole many }))
 
-no_end_yet : {input : List ℕ} (many : IsTooManyNodes input) (more : List Node) (rest : List (List ℕ)) (count : ℕ) (winner : Colour) → IsNumber count
+no_end_yet : {input : List ℕ} (many : IsTooManyNodes input) (more : List Node) (rest : List (List ℕ)) (count : ℕ) (winner : Colour)
+    → IsNumber count
     → head_line (head_of many.next) ∷ rest ≡ flat_map node_lines more ++ end_line count winner ∷ [] → 1 ≤ length more
 no_end_yet many [] rest count winner small e =
     let first : head_line (head_of many.next) ≡ end_line count winner = cc in
@@ -198,7 +205,8 @@ more_nodes many preamble all winner rest are few =
 
 long_many : {input : List ℕ} (many : IsTooManyNodes input) (lines more : List (List ℕ)) → lines ≡ many_lines many ++ more → 3 ≤ length lines
 long_many many lines more is =
-    omega (arith, ap length is, length-append (many_lines many) more, length-append (flat_map node_lines many.nodes) (head_line (head_of many.next) ∷ []))
+    omega (arith, ap length is, length-append (many_lines many) more,
+        length-append (flat_map node_lines many.nodes) (head_line (head_of many.next) ∷ []))
 
 -- more nodes than a text may have
 pub too_many : {input : List ℕ} (many : IsTooManyNodes input) (lines more : List (List ℕ)) (nodes : List Node)
@@ -240,7 +248,8 @@ many_not_wrong input k many is =
     (sym many.parts ∙ is.parts))
 
 -- what comes after the lines before a fault begins no text
-no_next : (input : List ℕ) (line : ℕ) (fault : IsFaultyLine AreTreeLines input line) (next : List ℕ) (more rest : List (List ℕ)) (tail : List ℕ)
+no_next : (input : List ℕ) (line : ℕ) (fault : IsFaultyLine AreTreeLines input line) (next : List ℕ) (more rest : List (List ℕ))
+    (tail : List ℕ)
     → fault.rest ≡ text_of (next ∷ more) ++ tail → AreTreeLines (fault.before ++ (next ∷ rest)) → ⊥
 unfolding text_of
 no_next input line fault next more rest tail is are =
@@ -254,7 +263,8 @@ many_not_fault_at many line is [] same rest =
     is.ended
 many_not_fault_at {input} many line is (next ∷ more) same rest =
     no_next input line is.fault next more (more ++ many_rest many) many.rest rest
-    (record { preamble = many.preamble; nodes = all_of many; winner = many.next.heading.winner; are = goes_to_end many is.fault.before (next ∷ more) same })
+    (record { preamble = many.preamble; nodes = all_of many; winner = many.next.heading.winner; are =
+        goes_to_end many is.fault.before (next ∷ more) same })
 
 many_not_fault_by : {input : List ℕ} (many : IsTooManyNodes input) (line : ℕ) (is : IsNoText input line)
     → Agree (many_lines many) is.fault.before many.rest is.fault.rest → ⊥
@@ -288,13 +298,15 @@ front_whole text line fault [] same rest =
 front_whole text line fault (next ∷ more) same rest =
     ended-some next (text_of more ++ fault.rest) (sym (append_assoc next (10 ∷ text_of more) fault.rest) ∙ sym rest)
 
-valid_not_fault_by : {input : List ℕ} {nodes : List Node} (text : IsTreeText input nodes) (line : ℕ) (fault : IsFaultyLine AreTreeLines input line)
+valid_not_fault_by : {input : List ℕ} {nodes : List Node} (text : IsTreeText input nodes) (line : ℕ)
+    (fault : IsFaultyLine AreTreeLines input line)
     → Agree text.lines fault.before [] fault.rest → ⊥
 valid_not_fault_by text line fault (Second_goes_on more same rest) = front_whole text line fault more same rest
 valid_not_fault_by text line fault (First_goes_on more same rest) = valid_not_fault_at text line fault more same rest
 
 AllLack-text : {input : List ℕ} {nodes : List Node} (text : IsTreeText input nodes) → AllLack text.lines
-AllLack-text {input} {nodes} text = AllLack-tree_lines text.lines (record { preamble = text.preamble; nodes = nodes; winner = text.winner; are = text.are })
+AllLack-text {input} {nodes} text =
+    AllLack-tree_lines text.lines (record { preamble = text.preamble; nodes = nodes; winner = text.winner; are = text.are })
 
 pub text_not_fault : (input : List ℕ) (nodes : List Node) (line : ℕ) → IsTreeText input nodes → IsNoText input line → ⊥
 text_not_fault input nodes line text is =
@@ -303,7 +315,8 @@ text_not_fault input nodes line text is =
     (append-nil (text_of text.lines) ∙ sym text.same ∙ is.fault.parts))
 
 -- the nodes that ended in the first lines of a text
-within_text : {input : List ℕ} {nodes : List Node} (text : IsTreeText input nodes) (lines : List (List ℕ)) (rest : List ℕ) (some : List Node)
+within_text : {input : List ℕ} {nodes : List Node} (text : IsTreeText input nodes) (lines : List (List ℕ)) (rest : List ℕ)
+    (some : List Node)
     → EndedIn lines some → Agree text.lines lines [] rest → GoOn some nodes
 unfolding text_of
 within_text {input} {nodes} text lines rest some ended (First_goes_on more same left) =
@@ -323,7 +336,8 @@ valid_not_wrong input nodes k text valid is =
     within_text text is.lines is.rest is.nodes is.ended
     (agree text.lines is.lines [] is.rest (AllLack-text text) (AllLack-begun is.lines is.right)
     (append-nil (text_of text.lines) ∙ sym text.same ∙ is.parts)) in
-    let least : IsLeastWrong nodes k = subst (λ (ns : List Node). IsLeastWrong ns k) (sym on.same) (least_wrong-append is.nodes on.more k is.wrong) in
+    let least : IsLeastWrong nodes k =
+        subst (λ (ns : List Node). IsLeastWrong ns k) (sym on.same) (least_wrong-append is.nodes on.more k is.wrong) in
     least.wrong (valid.right k)
 
 text_not_many_by : {input : List ℕ} {nodes : List Node} (text : IsTreeText input nodes) → length nodes ≤ most_nodes

@@ -63,7 +63,8 @@ module _ (workers slots : ℕ) (book : BookState) (kept : IsBook workers slots b
   pub told-grows : (from to : ℕ) → BookGrows book (told book from to)
   told-grows from to = seen-grows to (max (seen_by book from) (seen_by book to)) (omega arith)
 
-  pub node-kept : (node : Node) → length book.nodes < book.slots → IsRightNode (headings_of book.nodes) node → HasNoEntry book.nodes node.heading.position node.heading.to_move
+  pub node-kept : (node : Node) → length book.nodes < book.slots → IsRightNode (headings_of book.nodes) node
+      → HasNoEntry book.nodes node.heading.position node.heading.to_move
       → IsBook workers slots (with_nodes book (book.nodes ++ node ∷ []))
   node-kept node room right none =
       let longer : length (book.nodes ++ node ∷ []) ≡ length book.nodes + 1 = length-append book.nodes (node ∷ []) in record {
@@ -77,11 +78,14 @@ module _ (workers slots : ℕ) (book : BookState) (kept : IsBook workers slots b
 
   -- ---- a store
 
-  module _ (worker : ℕ) (node : Node) (right : IsRightNode (headings_of (take (seen_by book worker) book.nodes)) node) (nodes : List Node) where
+  module _ (worker : ℕ) (node : Node) (right : IsRightNode (headings_of (take (seen_by book worker) book.nodes)) node)
+      (nodes : List Node) where
     stored-kept : (place : ℕ) → IsStored book.slots book.nodes node place nodes → IsBook workers slots (with_nodes book nodes)
     stored-kept place = ⊎_elim
-        (λ (there : IsThere book.nodes node place nodes). subst (λ (ns : List Node). IsBook workers slots (with_nodes book ns)) (sym there.same) kept)
-        (λ (added : IsAdded book.slots book.nodes node place nodes). subst (λ (ns : List Node). IsBook workers slots (with_nodes book ns)) (sym added.grown)
+        (λ (there : IsThere book.nodes node place nodes).
+            subst (λ (ns : List Node). IsBook workers slots (with_nodes book ns)) (sym there.same) kept)
+        (λ (added : IsAdded book.slots book.nodes node place nodes).
+            subst (λ (ns : List Node). IsBook workers slots (with_nodes book ns)) (sym added.grown)
         (node-kept node added.room (right_node-whole book.nodes (seen_by book worker) node right) added.none))
 
     stored-extends : (place : ℕ) → IsStored book.slots book.nodes node place nodes → Extends nodes book.nodes
@@ -92,29 +96,41 @@ module _ (workers slots : ℕ) (book : BookState) (kept : IsBook workers slots b
     longer-grows : Extends nodes book.nodes → BookGrows book (with_all_seen book nodes worker)
     longer-grows extends = record {
       extends = extends;
-      seen = le-set book.seen worker (length nodes) (omega (arith, ap length extends.1, length-append book.nodes extends.0, kept.seen worker));
+      seen = le-set book.seen worker (length nodes)
+          (omega (arith, ap length extends.1, length-append book.nodes extends.0, kept.seen worker));
     }
 
 module _ (workers slots : ℕ) (book : BookState) (kept : IsBook workers slots book) where
-  module _ (worker : ℕ) (node : Node) (right : IsRightNode (headings_of (take (seen_by book worker) book.nodes)) node) (new : BookState) where
+  module _ (worker : ℕ) (node : Node) (right : IsRightNode (headings_of (take (seen_by book worker) book.nodes)) node)
+      (new : BookState) where
     abbrev IsKeptBook : BookState → Type 0
     IsKeptBook b = IsBook workers slots b
 
     pub store-kept : (reply : Reply) → StoreStep book worker node reply new → IsBook workers slots new
-    store-kept (Stored place) step = subst IsKeptBook (sym step.1) (all_seen-kept workers slots (with_nodes book new.nodes) (stored-kept workers slots book kept worker node right new.nodes place step.0) worker)
-    store-kept (NoSlot held) step = subst IsKeptBook (sym (step.1 ∙ ap (λ ns. with_all_seen book ns worker) step.0.same)) (all_seen-kept workers slots book kept worker)
+    store-kept (Stored place) step =
+        subst IsKeptBook (sym step.1)
+        (all_seen-kept workers slots (with_nodes book new.nodes)
+        (stored-kept workers slots book kept worker node right new.nodes place step.0) worker)
+    store-kept (NoSlot held) step =
+        subst IsKeptBook (sym (step.1 ∙ ap (λ ns. with_all_seen book ns worker) step.0.same)) (all_seen-kept workers slots book kept worker)
     store-kept _ step = absurd step
 
     pub store-grows : (reply : Reply) → StoreStep book worker node reply new → BookGrows book new
-    store-grows (Stored place) step = subst (BookGrows book) (sym step.1) (longer-grows workers slots book kept worker node right new.nodes (stored-extends workers slots book kept worker node right new.nodes place step.0))
-    store-grows (NoSlot held) step = subst (BookGrows book) (sym (step.1 ∙ ap (λ ns. with_all_seen book ns worker) step.0.same)) (all_seen-grows workers slots book kept worker)
+    store-grows (Stored place) step =
+        subst (BookGrows book) (sym step.1)
+        (longer-grows workers slots book kept worker node right new.nodes
+        (stored-extends workers slots book kept worker node right new.nodes place step.0))
+    store-grows (NoSlot held) step =
+        subst (BookGrows book) (sym (step.1 ∙ ap (λ ns. with_all_seen book ns worker) step.0.same))
+        (all_seen-grows workers slots book kept worker)
     store-grows _ step = absurd step
 
   -- ---- a look
 
   module _ (worker : ℕ) (board : Board) (mover : Colour) (new : BookState) where
     pub look-kept : (reply : Reply) → LookStep book worker board mover reply new → IsBook workers slots new
-    look-kept (Looked found) step = subst (λ (b : BookState). IsBook workers slots b) (sym step.1) (all_seen-kept workers slots book kept worker)
+    look-kept (Looked found) step =
+        subst (λ (b : BookState). IsBook workers slots b) (sym step.1) (all_seen-kept workers slots book kept worker)
     look-kept _ step = absurd step
 
     pub look-grows : (reply : Reply) → LookStep book worker board mover reply new → BookGrows book new

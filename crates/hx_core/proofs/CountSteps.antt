@@ -16,7 +16,8 @@ counts-begun workers budget words = record {
   bounded = start-bounded budget words workers;
 }
 
-pub counts-kept : (workers budget words : ℕ) (counts : CountsState) → AreCounts workers budget words counts → (event : CountEvent) → IsAllowed counts event
+pub counts-kept : (workers budget words : ℕ) (counts : CountsState) → AreCounts workers budget words counts → (event : CountEvent)
+    → IsAllowed counts event
     → AreCounts workers budget words (counts_step counts event)
 counts-kept workers budget words counts kept event allowed = record {
   same_workers = step-workers counts event ∙ kept.same_workers;

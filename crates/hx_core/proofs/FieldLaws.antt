@@ -22,7 +22,8 @@ use Rattle.hx_core.proofs.BookSteps.{seen-kept, node-kept}
 use Rattle.hx_core.proofs.CountSteps.{counts-kept}
 use Rattle.hx_core.proofs.RunLaws.{begun-kept}
 
-pub fields-begun : (workers slots budget words room : ℕ) (nodes : List Node) (seen : List ℕ) (accounts : List Account) → AreInRange workers slots budget words
+pub fields-begun : (workers slots budget words room : ℕ) (nodes : List Node) (seen : List ℕ) (accounts : List Account)
+    → AreInRange workers slots budget words
     → nodes ≡ [] → seen ≡ replicate workers 0 → accounts ≡ replicate workers (account 0 false (replicate words 0)) → slots ≤ room
     → FieldsKeep (machine slots nodes seen budget accounts) room
 fields-begun workers slots budget words room nodes seen accounts in_range no_node none_seen at_start enough = record {
@@ -52,18 +53,23 @@ module _ (slots : ℕ) (nodes : List Node) (seen : List ℕ) (budget : ℕ) (acc
   }
 
   -- a worker has seen so many nodes
-  pub fields-seen : (worker count : ℕ) → count ≤ length nodes → FieldsKeep (machine slots nodes (set seen worker count) budget accounts) room
+  pub fields-seen : (worker count : ℕ) → count ≤ length nodes
+      → FieldsKeep (machine slots nodes (set seen worker count) budget accounts) room
   fields-seen worker count few = fields-as (machine slots nodes (set seen worker count) budget accounts) (record {
     book = seen-kept fields.workers fields.slots state.book fields.kept.book worker count few;
     counts = fields.kept.counts;
   })
 
   -- a node more, which the worker has seen
-  pub fields-added : (worker held : ℕ) (node : Node) → held ≡ length nodes → held ≢ slots → IsRightNode (headings_of (take (slice_index seen worker) nodes)) node
-      → HasNoEntry nodes node.heading.position node.heading.to_move → FieldsKeep (machine slots (nodes ++ node ∷ []) (set seen worker (held + 1)) budget accounts) room
-  fields-added worker held node is_held left right none = fields-as (machine slots (nodes ++ node ∷ []) (set seen worker (held + 1)) budget accounts) (record {
+  pub fields-added : (worker held : ℕ) (node : Node) → held ≡ length nodes → held ≢ slots
+      → IsRightNode (headings_of (take (slice_index seen worker) nodes)) node
+      → HasNoEntry nodes node.heading.position node.heading.to_move
+          → FieldsKeep (machine slots (nodes ++ node ∷ []) (set seen worker (held + 1)) budget accounts) room
+  fields-added worker held node is_held left right none =
+      fields-as (machine slots (nodes ++ node ∷ []) (set seen worker (held + 1)) budget accounts) (record {
     book = seen-kept fields.workers fields.slots (record { slots = slots; nodes = nodes ++ node ∷ []; seen = seen })
-        (node-kept fields.workers fields.slots state.book fields.kept.book node (omega (arith, is_held, left, fields.kept.book.held, fields.kept.book.same_slots))
+        (node-kept fields.workers fields.slots state.book fields.kept.book node
+            (omega (arith, is_held, left, fields.kept.book.held, fields.kept.book.same_slots))
         (right_node-whole nodes (slice_index seen worker) node right) none)
         worker (held + 1) (omega (arith, is_held, length-append nodes (node ∷ [])));
     counts = fields.kept.counts;
@@ -75,7 +81,8 @@ module _ (slots : ℕ) (nodes : List Node) (seen : List ℕ) (budget : ℕ) (acc
       omega (arith, losses-le fields.words state.counts word counts.bounded, counts.same_workers, in_range.few_workers)
 
   -- the counts after an event
-  pub fields-counted : (event : CountEvent) → IsAllowed state.counts event → FieldsKeep (record state { counts = counts_step state.counts event }) room
+  pub fields-counted : (event : CountEvent) → IsAllowed state.counts event
+      → FieldsKeep (record state { counts = counts_step state.counts event }) room
   fields-counted event allowed = fields-as (record state { counts = counts_step state.counts event }) (record {
     book = fields.kept.book;
     counts = counts-kept fields.workers fields.budget fields.words state.counts fields.kept.counts event allowed;
@@ -92,7 +99,8 @@ module _ (slots : ℕ) (nodes : List Node) (seen : List ℕ) (worker held : ℕ)
   all-seen = ap (λ (n : ℕ). with_seen book worker n) is_held
 
   module _ (node : Node) (none : HasNoEntry nodes node.heading.position node.heading.to_move) where
-    pub refused-step : held ≡ slots → StoreStep book worker node (NoSlot held) (record { slots = slots; nodes = nodes; seen = set seen worker held })
+    pub refused-step : held ≡ slots
+        → StoreStep book worker node (NoSlot held) (record { slots = slots; nodes = nodes; seen = set seen worker held })
     refused-step full = (record { none = none; full = omega (arith, is_held, full); same_held = is_held; same = refl }, all-seen)
 
     pub added-step : held ≢ slots → length nodes ≤ slots
@@ -116,22 +124,28 @@ module _ (slots : ℕ) (nodes : List Node) (seen : List ℕ) (budget : ℕ) (acc
   abbrev before : MachineState
   before = machine slots nodes seen budget accounts
 
-  pub step-written : machine slots nodes seen budget (set accounts (worker_of event) written) ≡ record before { counts = counts_step before.counts event }
+  pub step-written : machine slots nodes seen budget
+      (set accounts (worker_of event) written) ≡ record before { counts = counts_step before.counts event }
   step-written =
       let one : set accounts (worker_of event) written ≡ changed_at change accounts (worker_of event) =
-      ap (λ (a : Account). set accounts (worker_of event) a) is_changed ∙ set-changed change accounts (worker_of event) read allowed.0 is_read in
-      ap (λ (all : List Account). machine slots nodes seen budget all) one ∙ ap (λ (c : CountsState). record before { counts = c }) (sym changes)
+      ap (λ (a : Account). set accounts (worker_of event) a) is_changed
+          ∙ set-changed change accounts (worker_of event) read allowed.0 is_read in
+      ap (λ (all : List Account). machine slots nodes seen budget all) one
+          ∙ ap (λ (c : CountsState). record before { counts = c }) (sym changes)
 
-  pub fields-written : (room : ℕ) → FieldsKeep before room → FieldsKeep (machine slots nodes seen budget (set accounts (worker_of event) written)) room
+  pub fields-written : (room : ℕ) → FieldsKeep before room
+      → FieldsKeep (machine slots nodes seen budget (set accounts (worker_of event) written)) room
   fields-written room fields =
-      subst (λ (s : MachineState). FieldsKeep s room) (sym step-written) (fields-counted slots nodes seen budget accounts room fields event allowed)
+      subst (λ (s : MachineState). FieldsKeep s room) (sym step-written)
+          (fields-counted slots nodes seen budget accounts room fields event allowed)
 
 -- ---- units
 
 pub unit_left : (counts : CountsState) (granted : ℕ) → granted ≡ granted_to_all counts → granted < counts.budget → has_units counts ≡ true
 unit_left counts granted is less = lt-ltb (granted_to_all counts) counts.budget (omega (arith, is, less))
 
-pub no_unit_left : (counts : CountsState) (granted : ℕ) → granted ≡ granted_to_all counts → counts.budget ≤ granted → has_units counts ≡ false
+pub no_unit_left : (counts : CountsState) (granted : ℕ) → granted ≡ granted_to_all counts → counts.budget ≤ granted
+    → has_units counts ≡ false
 no_unit_left counts granted is more = le-ltb (granted_to_all counts) counts.budget (omega (arith, is, more))
 
 module _ (counts : CountsState) (worker : ℕ) where

@@ -3,7 +3,8 @@ use Rattle.std.proofs.Common.{◌≡◌, ℕ, zero, suc, ◌<◌, ◌≤◌, Lis
 use Rattle.hx_count.specs.Machine.{changed_at}
 
 -- a bound of each number, and of the one that is written
-pub set-le : (xs : List ℕ) (place x bound : ℕ) → ((j : ℕ) → get_or xs j 0 ≤ bound) → x ≤ bound → (k : ℕ) → get_or (set xs place x) k 0 ≤ bound
+pub set-le : (xs : List ℕ) (place x bound : ℕ) → ((j : ℕ) → get_or xs j 0 ≤ bound) → x ≤ bound → (k : ℕ)
+    → get_or (set xs place x) k 0 ≤ bound
 set-le [] place x bound each new k = each k
 set-le (y ∷ ys) zero x bound each new zero = new
 set-le (y ∷ ys) zero x bound each new (suc k) = each (suc k)
@@ -25,7 +26,8 @@ positive-lt (x ∷ xs) zero some = omega arith
 positive-lt (x ∷ xs) (suc place) some = omega (arith, positive-lt xs place some)
 
 -- a write of the changed item
-pub set-changed : {A : Type 0} → (change : A → A) (xs : List A) (place : ℕ) (x : A) → place < length xs → x ≡ get_or xs place x → set xs place (change x) ≡ changed_at change xs place
+pub set-changed : {A : Type 0} → (change : A → A) (xs : List A) (place : ℕ) (x : A) → place < length xs → x ≡ get_or xs place x
+    → set xs place (change x) ≡ changed_at change xs place
 set-changed change [] place x less read = refl
 set-changed change (y ∷ ys) zero x less read = ap (λ z. change z ∷ ys) read
 set-changed change (y ∷ ys) (suc place) x less read = ap (λ zs. y ∷ zs) (set-changed change ys place x (omega arith) read)

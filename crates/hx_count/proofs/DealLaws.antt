@@ -14,32 +14,42 @@ pub one-new : (limits : Limits) (worker : ℕ) (me : Seated) → me ≡ (view (p
 one-new limits worker me same = subst IsNew (sym same) refl
 
 -- the first seat while i seats are dealt: the parts of the others
-pub rest-parts : (limits : Limits) (dealt count : ℕ) (me after : Seated) → me ≡ (view (new_parts limits dealt count), []) → after ≡ (all_but_first me.0, me.1)
+pub rest-parts : (limits : Limits) (dealt count : ℕ) (me after : Seated) → me ≡ (view (new_parts limits dealt count), [])
+    → after ≡ (all_but_first me.0, me.1)
     → after ≡ (view (new_parts limits (dealt + 1) (count - 1)), [])
-rest-parts limits dealt count me after same cut = cut ∙ (ap (λ (m : Seated). (all_but_first m.0, m.1)) same ∙ λ k. (view (rest-new limits dealt count k), []))
+rest-parts limits dealt count me after same cut = cut
+    ∙ (ap (λ (m : Seated). (all_but_first m.0, m.1)) same ∙ λ k. (view (rest-new limits dealt count k), []))
 
-pub first-parts : (limits : Limits) (dealt count : ℕ) (me new : Seated) → 0 < count → me ≡ (view (new_parts limits dealt count), []) → new ≡ (only_first me.0, [])
+pub first-parts : (limits : Limits) (dealt count : ℕ) (me new : Seated) → 0 < count → me ≡ (view (new_parts limits dealt count), [])
+    → new ≡ (only_first me.0, [])
     → new ≡ (view (part limits dealt [] ∷ []), [])
-first-parts limits dealt count me new more same cut = cut ∙ (ap (λ (m : Seated). (only_first m.0, [])) same ∙ λ k. (view (first-new limits dealt count more k), []))
+first-parts limits dealt count me new more same cut = cut
+    ∙ (ap (λ (m : Seated). (only_first m.0, [])) same ∙ λ k. (view (first-new limits dealt count more k), []))
 
 -- one seat more is dealt
-seats-more : (made : Origin) (first count : ℕ) → new_seats made first count ++ seat made (first + count) [] ∷ [] ≡ new_seats made first (count + 1)
+seats-more : (made : Origin) (first count : ℕ) → new_seats made first count
+    ++ seat made (first + count) [] ∷ [] ≡ new_seats made first (count + 1)
 seats-more made first zero = let e : first + 0 ≡ first = omega arith in ap (λ n. seat made n [] ∷ []) e
 seats-more made first (suc count) =
     let e : first + suc count ≡ first + 1 + count = omega arith in let one : suc count + 1 ≡ suc (count + 1) = omega arith in
-    ap (λ n. seat made first [] ∷ (new_seats made (first + 1) count ++ seat made n [] ∷ [])) e ∙ (ap (λ l. seat made first [] ∷ l) (seats-more made (first + 1) count) ∙ ap (new_seats made first) (sym one))
+    ap (λ n. seat made first [] ∷ (new_seats made (first + 1) count ++ seat made n [] ∷ [])) e
+        ∙ (ap (λ l. seat made first [] ∷ l) (seats-more made (first + 1) count) ∙ ap (new_seats made first) (sym one))
 
-pub dealt-more : (made : Origin) (limits : Limits) (table : TableId) (dealt : ℕ) (me : Seated) (seats after : List Seat) → made ≡ origin table limits → me ≡ (view (part limits dealt [] ∷ []), [])
+pub dealt-more : (made : Origin) (limits : Limits) (table : TableId) (dealt : ℕ) (me : Seated) (seats after : List Seat)
+    → made ≡ origin table limits → me ≡ (view (part limits dealt [] ∷ []), [])
     → seats ≡ new_seats made 0 dealt → after ≡ seats ++ seat_of table (first_part me.0) ∷ [] → after ≡ new_seats made 0 (dealt + 1)
 dealt-more made limits table dealt me seats after is_made one were pushed =
-    let new : seat_of table (first_part me.0) ≡ seat made dealt [] = ap (λ (m : Seated). seat_of table (first_part m.0)) one ∙ ap (λ (o : Origin). seat o dealt []) (sym is_made) in
+    let new : seat_of table (first_part me.0) ≡ seat made dealt [] = ap (λ (m : Seated). seat_of table (first_part m.0)) one
+        ∙ ap (λ (o : Origin). seat o dealt []) (sym is_made) in
     let zero_first : 0 + dealt ≡ dealt = omega arith in
-    pushed ∙ ((λ k. were k ++ new k ∷ []) ∙ (ap (λ n. new_seats made 0 dealt ++ seat made n [] ∷ []) (sym zero_first) ∙ seats-more made 0 dealt))
+    pushed ∙ ((λ k. were k ++ new k ∷ [])
+        ∙ (ap (λ n. new_seats made 0 dealt ++ seat made n [] ∷ []) (sym zero_first) ∙ seats-more made 0 dealt))
 
 -- ---- seats that come back
 
 -- the parts of one seat more, which come first
-pub joined-parts : (me other after : Seated) (one : Seat) (done : List Seat) → me ≡ (view (map part_of done), []) → other ≡ (view (part_of one ∷ []), []) → after ≡ (joined me.0 other.0, me.1)
+pub joined-parts : (me other after : Seated) (one : Seat) (done : List Seat) → me ≡ (view (map part_of done), [])
+    → other ≡ (view (part_of one ∷ []), []) → after ≡ (joined me.0 other.0, me.1)
     → after ≡ (view (map part_of (one ∷ done)), [])
 joined-parts me other after one done were its joins = joins ∙ λ k. (joined (were k).0 (its k).0, (were k).1)
 

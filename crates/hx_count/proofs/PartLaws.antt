@@ -14,7 +14,8 @@ use Rattle.hx_count.proofs.Workers.{one_same, same-one, other-none}
 pub times-single : (worker : ℕ) (p : Part) → times_in worker (p ∷ []) ≡ one_same worker p.worker
 times-single worker p = omega (arith, sum_by-cons (λ (q : Part). cond (q.worker == worker) 1 0) p [])
 
-pub times-first : (worker : ℕ) (p : Part) (parts : List Part) → times_in worker (p ∷ parts) ≡ one_same worker p.worker + times_in worker parts
+pub times-first : (worker : ℕ) (p : Part) (parts : List Part)
+    → times_in worker (p ∷ parts) ≡ one_same worker p.worker + times_in worker parts
 times-first worker p parts = sum_by-cons (λ (q : Part). cond (q.worker == worker) 1 0) p parts
 
 pub times-append : (worker : ℕ) (parts more : List Part) → times_in worker (parts ++ more) ≡ times_in worker parts + times_in worker more
@@ -25,21 +26,25 @@ pub times-cut : (worker : ℕ) (parts : List Part) → times_in worker (take 1 p
 times-cut worker [] = refl
 times-cut worker (p ∷ parts) = omega (arith, times-first worker p parts, times-single worker p)
 
-pub current-append : (limits : Limits) (history : List CountEvent) (parts more : List Part) → AreCurrentParts limits history parts → AreCurrentParts limits history more → AreCurrentParts limits history (parts ++ more)
+pub current-append : (limits : Limits) (history : List CountEvent) (parts more : List Part) → AreCurrentParts limits history parts
+    → AreCurrentParts limits history more → AreCurrentParts limits history (parts ++ more)
 current-append limits history [] more current also = also
 current-append limits history (p ∷ parts) more current also = (current.0, current-append limits history parts more current.1 also)
 
-pub current-first : (limits : Limits) (history : List CountEvent) (parts : List Part) → AreCurrentParts limits history parts → AreCurrentParts limits history (take 1 parts)
+pub current-first : (limits : Limits) (history : List CountEvent) (parts : List Part) → AreCurrentParts limits history parts
+    → AreCurrentParts limits history (take 1 parts)
 current-first limits history [] current = current
 current-first limits history (p ∷ parts) current = (current.0, tt)
 
-pub current-rest : (limits : Limits) (history : List CountEvent) (parts : List Part) → AreCurrentParts limits history parts → AreCurrentParts limits history (drop 1 parts)
+pub current-rest : (limits : Limits) (history : List CountEvent) (parts : List Part) → AreCurrentParts limits history parts
+    → AreCurrentParts limits history (drop 1 parts)
 current-rest limits history [] current = current
 current-rest limits history (p ∷ parts) current = current.1
 
 -- ---- histories
 
-others-append : (worker : ℕ) (events more : List CountEvent) → AreOthers worker events → AreOthers worker more → AreOthers worker (events ++ more)
+others-append : (worker : ℕ) (events more : List CountEvent) → AreOthers worker events → AreOthers worker more
+    → AreOthers worker (events ++ more)
 others-append worker [] more others also = also
 others-append worker (event ∷ events) more others also = (others.0, others-append worker events more others.1 also)
 
@@ -47,7 +52,8 @@ pub goes_on-now : (worker : ℕ) (history : List CountEvent) → GoesOn worker h
 goes_on-now worker history = record { between = []; others = tt; same = sym (append-nil history) }
 
 -- another worker's event is one more
-pub goes_on-more : (worker : ℕ) (old history : List CountEvent) (event : CountEvent) → worker_of event ≢ worker → GoesOn worker old history → GoesOn worker old (history ++ event ∷ [])
+pub goes_on-more : (worker : ℕ) (old history : List CountEvent) (event : CountEvent) → worker_of event ≢ worker → GoesOn worker old history
+    → GoesOn worker old (history ++ event ∷ [])
 goes_on-more worker old history event apart on = record {
   between = on.between ++ event ∷ [];
   others = others-append worker on.between (event ∷ []) on.others (apart, tt);
@@ -55,7 +61,8 @@ goes_on-more worker old history event apart on = record {
 }
 
 -- parts of other workers stay current
-pub current-more : (limits : Limits) (history : List CountEvent) (event : CountEvent) (parts : List Part) → times_in (worker_of event) parts ≡ 0
+pub current-more : (limits : Limits) (history : List CountEvent) (event : CountEvent) (parts : List Part)
+    → times_in (worker_of event) parts ≡ 0
     → AreCurrentParts limits history parts → AreCurrentParts limits (history ++ event ∷ []) parts
 current-more limits history event [] none current = tt
 current-more limits history event (p ∷ parts) none current =
@@ -76,11 +83,14 @@ times-before limits first (suc count) worker less = omega (
   times-before limits (first + 1) count worker (omega arith),
 )
 
-pub times-among : (limits : Limits) (first count worker : ℕ) → first ≤ worker → worker < first + count → times_in worker (new_parts limits first count) ≡ 1
+pub times-among : (limits : Limits) (first count worker : ℕ) → first ≤ worker → worker < first + count
+    → times_in worker (new_parts limits first count) ≡ 1
 times-among limits first zero worker from to = absurd (omega arith)
 times-among limits first (suc count) worker from to = ⊎_elim
-    (λ same. omega (arith, times-first worker (part limits first []) (new_parts limits (first + 1) count), same-one worker first same, times-before limits (first + 1) count worker (omega arith)))
-    (λ apart. omega (arith, times-first worker (part limits first []) (new_parts limits (first + 1) count), other-none worker first apart, times-among limits (first + 1) count worker (omega arith) (omega arith)))
+    (λ same. omega (arith, times-first worker (part limits first []) (new_parts limits (first + 1) count), same-one worker first same,
+        times-before limits (first + 1) count worker (omega arith)))
+    (λ apart. omega (arith, times-first worker (part limits first []) (new_parts limits (first + 1) count), other-none worker first apart,
+        times-among limits (first + 1) count worker (omega arith) (omega arith)))
     (cases_eq first worker)
 
 pub times-after : (limits : Limits) (first count worker : ℕ) → first + count ≤ worker → times_in worker (new_parts limits first count) ≡ 0

@@ -20,7 +20,8 @@ use Rattle.hx_count.proofs.Changes.{changed-here}
 use Rattle.hx_count.proofs.Keeps.{spends-keep, holds-keep, releases-keep, looks-keep}
 
 -- the last event of a history was allowed
-allowed-last : (state : CountsState) (events : List CountEvent) (event : CountEvent) → AreAllowed state (events ++ event ∷ []) → IsAllowed (counts_run state events) event
+allowed-last : (state : CountsState) (events : List CountEvent) (event : CountEvent) → AreAllowed state (events ++ event ∷ [])
+    → IsAllowed (counts_run state events) event
 allowed-last state [] event all = all.0
 allowed-last state (first ∷ events) event all = allowed-last (counts_step state first) events event all.1
 
@@ -34,17 +35,29 @@ module _ (limits : Limits) (slots id : ℕ) (me : Seated) (granted held : ℕ) (
   own_account = account_of (state_after p.limits p.seen) p.worker
 
   pub may-spend : refused ≡ false → Allows (Counted limits) slots id me 0 (λ n. (n + 1) % 2 ^ 64) (spends (step slots 0 1 0 none) me)
-  may-spend not_yet = subst (λ (m : Seated). Allows (Counted limits) slots id m 0 (λ n. (n + 1) % 2 ^ 64) (spends (step slots 0 1 0 none) m)) (sym k.whole) (spends-keep limits slots id p (k.same_refused ∙ not_yet))
+  may-spend not_yet = subst
+      (λ (m : Seated). Allows (Counted limits) slots id m 0 (λ n. (n + 1) % 2 ^ 64) (spends (step slots 0 1 0 none) m)) (sym k.whole)
+      (spends-keep limits slots id p (k.same_refused ∙ not_yet))
 
-  pub may-hold : (word : ℕ) → word < limits.words → held_in_all own_account < MOST_HELD → Allows (Counted limits) slots id me (word + 1) (λ n. (n + 1) % 2 ^ 64) (holds (step slots (word + 1) 1 0 none) me)
-  may-hold word inside room = subst (λ (m : Seated). Allows (Counted limits) slots id m (word + 1) (λ n. (n + 1) % 2 ^ 64) (holds (step slots (word + 1) 1 0 none) m)) (sym k.whole) (holds-keep limits slots id p word inside room)
+  pub may-hold : (word : ℕ) → word < limits.words → held_in_all own_account < MOST_HELD
+      → Allows (Counted limits) slots id me (word + 1) (λ n. (n + 1) % 2 ^ 64) (holds (step slots (word + 1) 1 0 none) me)
+  may-hold word inside room =
+      subst (λ (m : Seated).
+      Allows (Counted limits) slots id m (word + 1) (λ n. (n + 1) % 2 ^ 64) (holds (step slots (word + 1) 1 0 none) m)) (sym k.whole)
+      (holds-keep limits slots id p word inside room)
 
   pub may-release : (word : ℕ) → word < limits.words → 0 < slice_index own_account.held word
       → Allows (Counted limits) slots id me (word + 1) (λ n. (n + (2 ^ 64 - 1)) % 2 ^ 64) (releases (step slots (word + 1) 1 0 none) me)
-  may-release word inside some_held = subst (λ (m : Seated). Allows (Counted limits) slots id m (word + 1) (λ n. (n + (2 ^ 64 - 1)) % 2 ^ 64) (releases (step slots (word + 1) 1 0 none) m)) (sym k.whole) (releases-keep limits slots id p word inside some_held)
+  may-release word inside some_held =
+      subst (λ (m : Seated).
+      Allows (Counted limits) slots id m (word + 1) (λ n. (n + (2 ^ 64 - 1)) % 2 ^ 64) (releases (step slots (word + 1) 1 0 none) m))
+      (sym k.whole) (releases-keep limits slots id p word inside some_held)
 
-  pub may-look : (word : ℕ) → word < limits.words → Allows (Counted limits) slots id me (word + 1) (λ n. n) (looks (step slots (word + 1) 0 0 none) me)
-  may-look word inside = subst (λ (m : Seated). Allows (Counted limits) slots id m (word + 1) (λ n. n) (looks (step slots (word + 1) 0 0 none) m)) (sym k.whole) (looks-keep limits slots id p word inside)
+  pub may-look : (word : ℕ) → word < limits.words
+      → Allows (Counted limits) slots id me (word + 1) (λ n. n) (looks (step slots (word + 1) 0 0 none) me)
+  may-look word inside =
+      subst (λ (m : Seated). Allows (Counted limits) slots id m (word + 1) (λ n. n) (looks (step slots (word + 1) 0 0 none) m))
+      (sym k.whole) (looks-keep limits slots id p word inside)
 
 -- ---- what was told of a step
 
@@ -60,25 +73,37 @@ module _ (limits : Limits) (worker : ℕ) (seen before : List CountEvent) (on : 
     spender : worker < length (state_after limits before).accounts
     spender = (allowed-last (start_of limits) before (Spend worker) is).0
 
-    pub account-unit : has_units (state_after limits before) ≡ true → account_of (state_after limits (before ++ Spend worker ∷ [])) worker ≡ with_unit (account_of (state_after limits seen) worker)
-    account-unit units = ap (λ (s : CountsState). account_of s worker) (after (Spend worker)) ∙ (spend-unit (state_after limits before) worker spender units ∙ ap with_unit was)
+    pub account-unit : has_units (state_after limits before) ≡ true
+        → account_of (state_after limits (before ++ Spend worker ∷ [])) worker ≡ with_unit (account_of (state_after limits seen) worker)
+    account-unit units = ap (λ (s : CountsState). account_of s worker) (after (Spend worker))
+        ∙ (spend-unit (state_after limits before) worker spender units ∙ ap with_unit was)
 
-    pub account-refusal : has_units (state_after limits before) ≡ false → account_of (state_after limits (before ++ Spend worker ∷ [])) worker ≡ with_refusal (account_of (state_after limits seen) worker)
-    account-refusal units = ap (λ (s : CountsState). account_of s worker) (after (Spend worker)) ∙ (spend-refusal (state_after limits before) worker spender units ∙ ap with_refusal was)
+    pub account-refusal : has_units (state_after limits before) ≡ false
+        → account_of (state_after limits (before ++ Spend worker ∷ [])) worker ≡ with_refusal (account_of (state_after limits seen) worker)
+    account-refusal units = ap (λ (s : CountsState). account_of s worker) (after (Spend worker))
+        ∙ (spend-refusal (state_after limits before) worker spender units ∙ ap with_refusal was)
 
-  pub account-hold : (word : ℕ) → IsHistory limits (before ++ Hold worker word ∷ []) → account_of (state_after limits (before ++ Hold worker word ∷ [])) worker ≡ holding word (account_of (state_after limits seen) worker)
+  pub account-hold : (word : ℕ) → IsHistory limits (before ++ Hold worker word ∷ [])
+      → account_of (state_after limits (before ++ Hold worker word ∷ [])) worker ≡ holding word
+      (account_of (state_after limits seen) worker)
   account-hold word is = ap (λ (s : CountsState). account_of s worker) (after (Hold worker word))
-      ∙ (hold-own (state_after limits before) worker (allowed-last (start_of limits) before (Hold worker word) is).0 word ∙ ap (holding word) was)
+      ∙ (hold-own (state_after limits before) worker (allowed-last (start_of limits) before (Hold worker word) is).0 word
+          ∙ ap (holding word) was)
 
   -- there is room for the word in the account
-  pub hold-inside : (word : ℕ) → IsHistory limits (before ++ Hold worker word ∷ []) → word < length (account_of (state_after limits seen) worker).held
+  pub hold-inside : (word : ℕ) → IsHistory limits (before ++ Hold worker word ∷ [])
+      → word < length (account_of (state_after limits seen) worker).held
   hold-inside word is = subst (λ (a : Account). word < length a.held) was (allowed-last (start_of limits) before (Hold worker word) is).1.0
 
-  pub account-release : (word : ℕ) → IsHistory limits (before ++ Release worker word ∷ []) → account_of (state_after limits (before ++ Release worker word ∷ [])) worker ≡ releasing word (account_of (state_after limits seen) worker)
+  pub account-release : (word : ℕ) → IsHistory limits (before ++ Release worker word ∷ [])
+      → account_of (state_after limits (before ++ Release worker word ∷ [])) worker ≡ releasing word
+      (account_of (state_after limits seen) worker)
   account-release word is = ap (λ (s : CountsState). account_of s worker) (after (Release worker word))
-      ∙ (release-own (state_after limits before) worker (allowed-last (start_of limits) before (Release worker word) is).0 word ∙ ap (releasing word) was)
+      ∙ (release-own (state_after limits before) worker (allowed-last (start_of limits) before (Release worker word) is).0 word
+          ∙ ap (releasing word) was)
 
-  pub account-look : (word : ℕ) → account_of (state_after limits (before ++ Look worker word ∷ [])) worker ≡ account_of (state_after limits seen) worker
+  pub account-look : (word : ℕ)
+      → account_of (state_after limits (before ++ Look worker word ∷ [])) worker ≡ account_of (state_after limits seen) worker
   account-look word = ap (λ (s : CountsState). account_of s worker) (after (Look worker word)) ∙ was
 
 -- ---- the seat after its step
@@ -88,7 +113,8 @@ only-first_part : (v : View) (q : Part) → v ≡ view (q ∷ []) → first_part
 only-first_part v q same = ap first_part same
 
 pub keeps-part : (me : Seated) (q : Part) (granted held : ℕ) (refused : Bool) → me.0 ≡ view (q ∷ []) → me.1 ≡ [] → IsHistory q.limits q.seen
-    → (account_of (state_after q.limits q.seen) q.worker).granted ≡ granted → (account_of (state_after q.limits q.seen) q.worker).refused ≡ refused
+    → (account_of (state_after q.limits q.seen) q.worker).granted ≡ granted
+        → (account_of (state_after q.limits q.seen) q.worker).refused ≡ refused
     → held_in_all (account_of (state_after q.limits q.seen) q.worker) ≡ held → SeatKeeps me granted held refused
 keeps-part me q granted held refused one bare is same_granted same_refused same_held =
     let first = only-first_part me.0 q one in
@@ -105,8 +131,11 @@ module _ (table table_after : TableId) (same : table_after ≡ table) (p : Part)
   }
 
   -- what the worker has then
-  own-next : (event : CountEvent) (next : IsNext p event me.0) → own (seat_of table_after (first_part me.0)) ≡ account_of (state_after p.limits (next.before ++ event ∷ [])) p.worker
-  own-next event next = ap (λ (q : Part). account_of (state_after q.limits q.seen) q.worker) (only-first_part me.0 (part p.limits p.worker (next.before ++ event ∷ [])) next.seen)
+  own-next : (event : CountEvent) (next : IsNext p event me.0)
+      → own (seat_of table_after (first_part me.0)) ≡ account_of (state_after p.limits (next.before ++ event ∷ [])) p.worker
+  own-next event next =
+      ap (λ (q : Part). account_of (state_after q.limits q.seen) q.worker)
+      (only-first_part me.0 (part p.limits p.worker (next.before ++ event ∷ [])) next.seen)
 
   module _ (old : Seat) (is_old : seat_of table p ≡ old) where
     abbrev new : Seat
@@ -116,54 +145,74 @@ module _ (table table_after : TableId) (same : table_after ≡ table) (p : Part)
     made-next event next = ap (λ (n : Seat). n.made) (adds-next event next).same ∙ ap (λ (o : Seat). o.made) is_old
 
     units-left : (found : ℕ) (t : IsSpend p found me.0) → found < p.limits.budget → has_units (state_after p.limits t.next.before) ≡ true
-    units-left found t room = lt-ltb (granted_to_all (state_after p.limits t.next.before)) (state_after p.limits t.next.before).budget (omega (arith, t.granted, room, run-budget (start_of p.limits) t.next.before))
+    units-left found t room =
+        lt-ltb (granted_to_all (state_after p.limits t.next.before)) (state_after p.limits t.next.before).budget
+        (omega (arith, t.granted, room, run-budget (start_of p.limits) t.next.before))
 
     no-units : (found : ℕ) (t : IsSpend p found me.0) → p.limits.budget ≤ found → has_units (state_after p.limits t.next.before) ≡ false
-    no-units found t full = le-ltb (granted_to_all (state_after p.limits t.next.before)) (state_after p.limits t.next.before).budget (omega (arith, t.granted, full, run-budget (start_of p.limits) t.next.before))
+    no-units found t full =
+        le-ltb (granted_to_all (state_after p.limits t.next.before)) (state_after p.limits t.next.before).budget
+        (omega (arith, t.granted, full, run-budget (start_of p.limits) t.next.before))
 
     pub spends-ok : (found : ℕ) → IsSpend p found me.0 → found < p.limits.budget → Spends old (Ok tt) new
     unfolding adds-next
-    spends-ok found t room = subst (λ (o : Seat). Spends o (Ok tt) new) is_old (record { adds = adds-next (Spend p.worker) t.next; exact = units-left found t room })
+    spends-ok found t room =
+        subst (λ (o : Seat). Spends o (Ok tt) new) is_old
+        (record { adds = adds-next (Spend p.worker) t.next; exact = units-left found t room })
 
     pub spends-err : (found taken : ℕ) → IsSpend p found me.0 → p.limits.budget ≤ found → Spends old (Err taken) new
     unfolding adds-next
-    spends-err found taken t full = subst (λ (o : Seat). Spends o (Err taken) new) is_old (record { adds = adds-next (Spend p.worker) t.next; exact = no-units found t full })
+    spends-err found taken t full =
+        subst (λ (o : Seat). Spends o (Err taken) new) is_old
+        (record { adds = adds-next (Spend p.worker) t.next; exact = no-units found t full })
 
     pub own-ok : (found : ℕ) → IsSpend p found me.0 → found < p.limits.budget → own new ≡ with_unit (own old)
     own-ok found t room = own-next (Spend p.worker) t.next
-        ∙ (account-unit p.limits p.worker p.seen t.next.before t.next.goes_on t.next.is_history (units-left found t room) ∙ ap (λ (o : Seat). with_unit (own o)) is_old)
+        ∙ (account-unit p.limits p.worker p.seen t.next.before t.next.goes_on t.next.is_history (units-left found t room)
+            ∙ ap (λ (o : Seat). with_unit (own o)) is_old)
 
     pub own-err : (found : ℕ) → IsSpend p found me.0 → p.limits.budget ≤ found → own new ≡ with_refusal (own old)
     own-err found t full = own-next (Spend p.worker) t.next
-        ∙ (account-refusal p.limits p.worker p.seen t.next.before t.next.goes_on t.next.is_history (no-units found t full) ∙ ap (λ (o : Seat). with_refusal (own o)) is_old)
+        ∙ (account-refusal p.limits p.worker p.seen t.next.before t.next.goes_on t.next.is_history (no-units found t full)
+            ∙ ap (λ (o : Seat). with_refusal (own o)) is_old)
 
     -- after a refusal all units are granted
     pub granted-err : (found : ℕ) → IsSpend p found me.0 → p.limits.budget ≤ found → granted_to_all (state_seen new) ≡ p.limits.budget
     granted-err found t full =
         let history = t.next.before ++ Spend p.worker ∷ [] in
-        let same : state_seen new ≡ state_after p.limits history = ap (λ (q : Part). state_after q.limits q.seen) (only-first_part me.0 (part p.limits p.worker history) t.next.seen) in
+        let same : state_seen new ≡ state_after p.limits history =
+            ap (λ (q : Part). state_after q.limits q.seen) (only-first_part me.0 (part p.limits p.worker history) t.next.seen) in
         let mine : (own new).refused ≡ true = ap (λ (a : Account). a.refused) (own-err found t full) in
-        let mine_there : (account_of (state_after p.limits history) p.worker).refused ≡ true = sym (ap (λ (a : Account). a.refused) (own-next (Spend p.worker) t.next)) ∙ mine in
+        let mine_there : (account_of (state_after p.limits history) p.worker).refused ≡ true =
+            sym (ap (λ (a : Account). a.refused) (own-next (Spend p.worker) t.next)) ∙ mine in
         let in_budget = history-in_budget p.limits.budget p.limits.words p.limits.workers history t.next.is_history in
-        ap granted_to_all same ∙ (in_budget.full (refused-own (state_after p.limits history) p.worker mine_there) ∙ run-budget (start_of p.limits) history)
+        ap granted_to_all same
+            ∙ (in_budget.full (refused-own (state_after p.limits history) p.worker mine_there) ∙ run-budget (start_of p.limits) history)
 
     pub adds-hold : (word : ℕ) → IsNext p (Hold p.worker word) me.0 → Adds old (Hold old.worker word) new
     adds-hold word next = subst (λ (o : Seat). Adds o (Hold o.worker word) new) is_old (adds-next (Hold p.worker word) next)
 
     pub own-hold : (word : ℕ) → IsNext p (Hold p.worker word) me.0 → own new ≡ holding word (own old)
-    own-hold word next = own-next (Hold p.worker word) next ∙ (account-hold p.limits p.worker p.seen next.before next.goes_on word next.is_history ∙ ap (λ (o : Seat). holding word (own o)) is_old)
+    own-hold word next = own-next (Hold p.worker word) next
+        ∙ (account-hold p.limits p.worker p.seen next.before next.goes_on word next.is_history
+        ∙ ap (λ (o : Seat). holding word (own o)) is_old)
 
     -- what was held can be released
     pub held-hold : (word : ℕ) → IsNext p (Hold p.worker word) me.0 → 0 < slice_index (own new).held word
     held-hold word next =
-        let inside : word < length (own old).held = subst (λ (o : Seat). word < length (own o).held) is_old (hold-inside p.limits p.worker p.seen next.before next.goes_on word next.is_history) in
-        omega (arith, ap (λ (a : Account). slice_index a.held word) (own-hold word next), changed-here (λ (n : ℕ). n + 1) (own old).held word 0 inside)
+        let inside : word < length (own old).held =
+            subst (λ (o : Seat). word < length (own o).held) is_old
+            (hold-inside p.limits p.worker p.seen next.before next.goes_on word next.is_history) in
+        omega (arith, ap (λ (a : Account). slice_index a.held word) (own-hold word next),
+            changed-here (λ (n : ℕ). n + 1) (own old).held word 0 inside)
 
     pub adds-release : (word : ℕ) → IsNext p (Release p.worker word) me.0 → Adds old (Release old.worker word) new
     adds-release word next = subst (λ (o : Seat). Adds o (Release o.worker word) new) is_old (adds-next (Release p.worker word) next)
 
     pub own-release : (word : ℕ) → IsNext p (Release p.worker word) me.0 → own new ≡ releasing word (own old)
-    own-release word next = own-next (Release p.worker word) next ∙ (account-release p.limits p.worker p.seen next.before next.goes_on word next.is_history ∙ ap (λ (o : Seat). releasing word (own o)) is_old)
+    own-release word next = own-next (Release p.worker word) next
+        ∙ (account-release p.limits p.worker p.seen next.before next.goes_on word next.is_history
+        ∙ ap (λ (o : Seat). releasing word (own o)) is_old)
 
     -- a look
     module _ (word found : ℕ) (t : IsLook p word found me.0) where
@@ -171,16 +220,20 @@ module _ (table table_after : TableId) (same : table_after ≡ table) (p : Part)
       adds-look = subst (λ (o : Seat). Adds o (Look o.worker word) new) is_old (adds-next (Look p.worker word) t.next)
 
       pub own-look : own new ≡ own old
-      own-look = own-next (Look p.worker word) t.next ∙ (account-look p.limits p.worker p.seen t.next.before t.next.goes_on word ∙ ap own is_old)
+      own-look = own-next (Look p.worker word) t.next
+          ∙ (account-look p.limits p.worker p.seen t.next.before t.next.goes_on word ∙ ap own is_old)
 
       pub sum-look : found ≡ losses_at (state_seen new) word
       sum-look =
           let history = t.next.before ++ Look p.worker word ∷ [] in
-          let same : state_seen new ≡ state_after p.limits history = ap (λ (q : Part). state_after q.limits q.seen) (only-first_part me.0 (part p.limits p.worker history) t.next.seen) in
-          t.losses ∙ ap (λ (s : CountsState). losses_at s word) (sym (same ∙ run-append (start_of p.limits) t.next.before (Look p.worker word ∷ [])))
+          let same : state_seen new ≡ state_after p.limits history =
+              ap (λ (q : Part). state_after q.limits q.seen) (only-first_part me.0 (part p.limits p.worker history) t.next.seen) in
+          t.losses ∙ ap (λ (s : CountsState). losses_at s word)
+              (sym (same ∙ run-append (start_of p.limits) t.next.before (Look p.worker word ∷ [])))
 
       pub least-look : slice_index (own old).held word ≤ found
-      least-look = omega (arith, ap (λ (a : Account). slice_index a.held word) own-look, sum-look, losses-own (state_seen new) new.worker word)
+      least-look = omega (arith, ap (λ (a : Account). slice_index a.held word) own-look, sum-look,
+          losses-own (state_seen new) new.worker word)
 
 -- ---- the fields after a step
 
@@ -195,13 +248,15 @@ module _ (me after_me : Seated) (granted held : ℕ) (refused : Bool) (k : SeatK
   pub own-granted : granted ≤ q.limits.budget
   own-granted =
       let in_budget = history-in_budget q.limits.budget q.limits.words q.limits.workers q.seen k.is_history in
-      omega (arith, k.same_granted, granted-own (state_after q.limits q.seen) q.worker, in_budget.within, run-budget (start_of q.limits) q.seen)
+      omega (arith, k.same_granted, granted-own (state_after q.limits q.seen) q.worker, in_budget.within,
+          run-budget (start_of q.limits) q.seen)
 
   -- where the seat was refused, all units are granted
   pub refused-granted : refused ≡ true → granted_to_all (state_after q.limits q.seen) ≡ q.limits.budget
   refused-granted yes_refused =
       let in_budget = history-in_budget q.limits.budget q.limits.words q.limits.workers q.seen k.is_history in
-      in_budget.full (refused-own (state_after q.limits q.seen) q.worker (k.same_refused ∙ yes_refused)) ∙ run-budget (start_of q.limits) q.seen
+      in_budget.full (refused-own (state_after q.limits q.seen) q.worker (k.same_refused ∙ yes_refused))
+          ∙ run-budget (start_of q.limits) q.seen
 
   module _ (found : ℕ) (t : IsSpend q found after_me.0) where
     abbrev longer : List CountEvent
@@ -209,7 +264,9 @@ module _ (me after_me : Seated) (granted held : ℕ) (refused : Bool) (k : SeatK
 
     pub keeps-ok : found < q.limits.budget → SeatKeeps after_me (granted + 1) held refused
     keeps-ok room =
-        let units : has_units (state_after q.limits t.next.before) ≡ true = lt-ltb (granted_to_all (state_after q.limits t.next.before)) (state_after q.limits t.next.before).budget (omega (arith, t.granted, room, run-budget (start_of q.limits) t.next.before)) in
+        let units : has_units (state_after q.limits t.next.before) ≡ true =
+            lt-ltb (granted_to_all (state_after q.limits t.next.before)) (state_after q.limits t.next.before).budget
+            (omega (arith, t.granted, room, run-budget (start_of q.limits) t.next.before)) in
         let mine = account-unit q.limits q.worker q.seen t.next.before t.next.goes_on t.next.is_history units in
         keeps-part after_me (part q.limits q.worker longer) (granted + 1) held refused t.next.seen stays-bare t.next.is_history
         (ap (λ (a : Account). a.granted) mine ∙ ap (λ n. n + 1) k.same_granted)
@@ -218,7 +275,9 @@ module _ (me after_me : Seated) (granted held : ℕ) (refused : Bool) (k : SeatK
 
     pub keeps-err : q.limits.budget ≤ found → SeatKeeps after_me granted held true
     keeps-err full =
-        let units : has_units (state_after q.limits t.next.before) ≡ false = le-ltb (granted_to_all (state_after q.limits t.next.before)) (state_after q.limits t.next.before).budget (omega (arith, t.granted, full, run-budget (start_of q.limits) t.next.before)) in
+        let units : has_units (state_after q.limits t.next.before) ≡ false =
+            le-ltb (granted_to_all (state_after q.limits t.next.before)) (state_after q.limits t.next.before).budget
+            (omega (arith, t.granted, full, run-budget (start_of q.limits) t.next.before)) in
         let mine = account-refusal q.limits q.worker q.seen t.next.before t.next.goes_on t.next.is_history units in
         keeps-part after_me (part q.limits q.worker longer) granted held true t.next.seen stays-bare t.next.is_history
         (ap (λ (a : Account). a.granted) mine ∙ k.same_granted)
@@ -229,16 +288,19 @@ module _ (me after_me : Seated) (granted held : ℕ) (refused : Bool) (k : SeatK
   keeps-hold word next =
       let mine = account-hold q.limits q.worker q.seen next.before next.goes_on word next.is_history in
       let inside = hold-inside q.limits q.worker q.seen next.before next.goes_on word next.is_history in
-      keeps-part after_me (part q.limits q.worker (next.before ++ Hold q.worker word ∷ [])) granted (held + 1) refused next.seen stays-bare next.is_history
+      keeps-part after_me (part q.limits q.worker (next.before ++ Hold q.worker word ∷ [])) granted
+          (held + 1) refused next.seen stays-bare next.is_history
       (ap (λ (a : Account). a.granted) mine ∙ k.same_granted)
       (ap (λ (a : Account). a.refused) mine ∙ k.same_refused)
       (ap held_in_all mine ∙ (held-holding (account_of (state_after q.limits q.seen) q.worker) word inside ∙ ap (λ n. n + 1) k.same_held))
 
-  pub keeps-release : (word : ℕ) → 0 < slice_index (account_of (state_after q.limits q.seen) q.worker).held word → IsNext q (Release q.worker word) after_me.0 → SeatKeeps after_me granted (held - 1) refused
+  pub keeps-release : (word : ℕ) → 0 < slice_index (account_of (state_after q.limits q.seen) q.worker).held word
+      → IsNext q (Release q.worker word) after_me.0 → SeatKeeps after_me granted (held - 1) refused
   keeps-release word some_held next =
       let mine = account-release q.limits q.worker q.seen next.before next.goes_on word next.is_history in
       let less = held-releasing (account_of (state_after q.limits q.seen) q.worker) word some_held in
-      keeps-part after_me (part q.limits q.worker (next.before ++ Release q.worker word ∷ [])) granted (held - 1) refused next.seen stays-bare next.is_history
+      keeps-part after_me (part q.limits q.worker (next.before ++ Release q.worker word ∷ [])) granted
+          (held - 1) refused next.seen stays-bare next.is_history
       (ap (λ (a : Account). a.granted) mine ∙ k.same_granted)
       (ap (λ (a : Account). a.refused) mine ∙ k.same_refused)
       (omega (arith, ap held_in_all mine, less, k.same_held))
@@ -246,7 +308,8 @@ module _ (me after_me : Seated) (granted held : ℕ) (refused : Bool) (k : SeatK
   pub keeps-look : (word found : ℕ) → IsLook q word found after_me.0 → SeatKeeps after_me granted held refused
   keeps-look word found t =
       let mine = account-look q.limits q.worker q.seen t.next.before t.next.goes_on word in
-      keeps-part after_me (part q.limits q.worker (t.next.before ++ Look q.worker word ∷ [])) granted held refused t.next.seen stays-bare t.next.is_history
+      keeps-part after_me (part q.limits q.worker
+          (t.next.before ++ Look q.worker word ∷ [])) granted held refused t.next.seen stays-bare t.next.is_history
       (ap (λ (a : Account). a.granted) mine ∙ k.same_granted)
       (ap (λ (a : Account). a.refused) mine ∙ k.same_refused)
       (ap held_in_all mine ∙ k.same_held)

@@ -35,12 +35,17 @@ pub sum-upto : (xs : List ℕ) → sum xs ≡ upto (length xs) (λ k. slice_inde
 sum-upto xs = sum_by-upto (λ x. x) xs 0
 
 -- terms that agree place by place give one sum
-pub sum_by-same : {A : Type 0} → (f g : A → ℕ) (xs : List A) (d : A) → ((k : ℕ) → k < length xs → f (get_or xs k d) ≡ g (get_or xs k d)) → sum_by f xs ≡ sum_by g xs
-sum_by-same f g xs d same = sum_by-upto f xs d ∙ (upto-same (length xs) (λ k. f (get_or xs k d)) (λ k. g (get_or xs k d)) same ∙ sym (sum_by-upto g xs d))
+pub sum_by-same : {A : Type 0} → (f g : A → ℕ) (xs : List A) (d : A) → ((k : ℕ) → k < length xs → f (get_or xs k d) ≡ g (get_or xs k d))
+    → sum_by f xs ≡ sum_by g xs
+sum_by-same f g xs d same = sum_by-upto f xs d
+    ∙ (upto-same (length xs) (λ k. f (get_or xs k d)) (λ k. g (get_or xs k d)) same ∙ sym (sum_by-upto g xs d))
 
 -- a sum of sums in the other order
-pub upto-sum_by : {A : Type 0} → (bound : ℕ) (f : ℕ → A → ℕ) (xs : List A) → upto bound (λ k. sum_by (f k) xs) ≡ sum_by (λ x. upto bound (λ k. f k x)) xs
+pub upto-sum_by : {A : Type 0} → (bound : ℕ) (f : ℕ → A → ℕ) (xs : List A)
+    → upto bound (λ k. sum_by (f k) xs) ≡ sum_by (λ x. upto bound (λ k. f k x)) xs
 upto-sum_by bound f [] = upto-zero bound
 upto-sum_by bound f (x ∷ xs) =
-    let each : upto bound (λ k. sum_by (f k) (x ∷ xs)) ≡ upto bound (λ k. f k x + sum_by (f k) xs) = upto-same bound (λ k. sum_by (f k) (x ∷ xs)) (λ k. f k x + sum_by (f k) xs) (λ k less. sum_by-cons (f k) x xs) in
-    omega (arith, each, upto-add bound (λ k. f k x) (λ k. sum_by (f k) xs), upto-sum_by bound f xs, sum_by-cons (λ y. upto bound (λ k. f k y)) x xs)
+    let each : upto bound (λ k. sum_by (f k) (x ∷ xs)) ≡ upto bound (λ k. f k x + sum_by (f k) xs) =
+        upto-same bound (λ k. sum_by (f k) (x ∷ xs)) (λ k. f k x + sum_by (f k) xs) (λ k less. sum_by-cons (f k) x xs) in
+    omega (arith, each, upto-add bound (λ k. f k x) (λ k. sum_by (f k) xs), upto-sum_by bound f xs,
+        sum_by-cons (λ y. upto bound (λ k. f k y)) x xs)

@@ -17,11 +17,15 @@ module _ {A : Type 0} where
   at-get (y ∷ ys) zero x d there = some-injective y x there
   at-get (y ∷ ys) (suc place) x d there = at-get ys place x d there
 
-  pub sum-set : (f : A → ℕ) (xs : List A) (place : ℕ) (x new : A) → get_elem? xs place ≡ some x → sum_by f (set xs place new) + f x ≡ sum_by f xs + f new
-  sum-set f xs place x new there = subst (λ y. sum_by f (set xs place new) + f y ≡ sum_by f xs + f new) (at-get xs place x x there) (sum_by-set f xs place new x (at-within xs place x there))
+  pub sum-set : (f : A → ℕ) (xs : List A) (place : ℕ) (x new : A) → get_elem? xs place ≡ some x
+      → sum_by f (set xs place new) + f x ≡ sum_by f xs + f new
+  sum-set f xs place x new there =
+      subst (λ y. sum_by f (set xs place new) + f y ≡ sum_by f xs + f new) (at-get xs place x x there)
+      (sum_by-set f xs place new x (at-within xs place x there))
 
   pub term-le : (f : A → ℕ) (xs : List A) (place : ℕ) (x : A) → get_elem? xs place ≡ some x → f x ≤ sum_by f xs
-  term-le f xs place x there = subst (λ y. f y ≤ sum_by f xs) (at-get xs place x x there) (get_or-le-sum_by f xs place x (at-within xs place x there))
+  term-le f xs place x there =
+      subst (λ y. f y ≤ sum_by f xs) (at-get xs place x x there) (get_or-le-sum_by f xs place x (at-within xs place x there))
 
   -- where one term is 1 and the sum is at most 1, each other term is 0
   pub others-none : (f : A → ℕ) (xs : List A) (place other : ℕ) (x y none : A) → f none ≡ 0 → sum_by f xs ≤ 1 → f x ≡ 1 → other ≢ place

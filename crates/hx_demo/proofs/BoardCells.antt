@@ -20,7 +20,8 @@ cell_at place low = eqb-true _ _ (agree_below_at is_at (λ _. true) 25 place ref
 pub length-cells_so_far : (items : List ℕ) (place : ℕ) → place < 25 → items ≡ take place cells_in_order → length items < 25
 length-cells_so_far items place low before = rw (before, length-take-le place cells_in_order (omega arith)) low
 
-pub cells_so_far-more : (items : List ℕ) (place cell : ℕ) → place < 25 → items ≡ take place cells_in_order → cell ≡ index_of (place / 5) (place % 5)
+pub cells_so_far-more : (items : List ℕ) (place cell : ℕ) → place < 25 → items ≡ take place cells_in_order
+    → cell ≡ index_of (place / 5) (place % 5)
     → items ++ cell ∷ [] ≡ take (place + 1) cells_in_order
 cells_so_far-more items place cell low before is = rw (before, is, ← cell_at place low) (sym (take_more cells_in_order place 0 low))
 
@@ -34,7 +35,8 @@ on_board-by_tests : (cells : List ℕ) (cell : ℕ) → are_on_board cells ≡ t
 on_board-by_tests [] cell pass h = absurd h
 on_board-by_tests (first ∷ cells) cell pass (inl same) =
     let both = first_of_both (ltb (first / 11) 5 && ltb (first % 11) 5) (are_on_board cells) pass in
-    let here : OnBoard board_size first = record { row = ltb-true _ _ (first_of_both _ _ both); col = ltb-true _ _ (second_of_both _ _ both) } in
+    let here : OnBoard board_size first =
+        record { row = ltb-true _ _ (first_of_both _ _ both); col = ltb-true _ _ (second_of_both _ _ both) } in
     let P : ℕ → Type 0 = OnBoard board_size in subst P (sym same) here
 on_board-by_tests (first ∷ cells) cell pass (inr h) = on_board-by_tests cells cell (second_of_both _ (are_on_board cells) pass) h
 
@@ -58,7 +60,9 @@ not_in-by_test n (x ∷ xs) pass (inr h) = not_in-by_test n xs (second_of_both (
 
 distinct-by_test : (xs : List ℕ) → are_distinct xs ≡ true → AreDistinct xs
 distinct-by_test [] pass = tt
-distinct-by_test (x ∷ xs) pass = (not_in-by_test x xs (first_of_both (lacks x xs) (are_distinct xs) pass), distinct-by_test xs (second_of_both (lacks x xs) (are_distinct xs) pass))
+distinct-by_test (x ∷ xs) pass =
+    (not_in-by_test x xs (first_of_both (lacks x xs) (are_distinct xs) pass),
+    distinct-by_test xs (second_of_both (lacks x xs) (are_distinct xs) pass))
 
 pub in_order-distinct : AreDistinct cells_in_order
 in_order-distinct = distinct-by_test cells_in_order refl

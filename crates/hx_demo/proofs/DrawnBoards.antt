@@ -30,7 +30,8 @@ use Rattle.hx_demo.proofs.DrawnSets.{set_of-lacks, count-set_of}
 abbrev pub with_stones : List ℕ → List ℕ → Board
 with_stones black white = record { size = board_size; black = set_of black; white = set_of white }
 
-cell_is_empty : (black white : List ℕ) (cell : ℕ) → OnBoard board_size cell → (IsIn cell (black ++ white) → ⊥) → IsEmpty (with_stones black white) cell
+cell_is_empty : (black white : List ℕ) (cell : ℕ) → OnBoard board_size cell → (IsIn cell (black ++ white) → ⊥)
+    → IsEmpty (with_stones black white) cell
 cell_is_empty black white cell on not_in = record {
   on_board = on;
   no_black = set_of-lacks black cell (λ h. not_in (in-left cell black white h));
@@ -46,7 +47,8 @@ pub record HasStones (board : Board) (count : ℕ) : Type 0 where
   pub valid : IsBoard board
   pub empty : empty_count board + count ≡ 25
 
-one_more : (board : Board) (colour : Colour) (cell count : ℕ) → HasStones board count → IsEmpty board cell → HasStones (put board colour cell) (suc count)
+one_more : (board : Board) (colour : Colour) (cell count : ℕ) → HasStones board count → IsEmpty board cell
+    → HasStones (put board colour cell) (suc count)
 one_more board colour cell count before is_empty =
     let less = empty_count-put board colour cell before.valid is_empty in
     let rest = before.empty in
@@ -87,7 +89,8 @@ length-white_cells generator =
     length-drawn_from (left_after cells_in_order (next_words 8 generator)) (next_words 8 (words_later 8 generator))
     ∙ length-next_words 8 (words_later 8 generator)
 
-pub drawn_position-parts : (generator : Lcg) → drawn_position (next_words 16 generator) ≡ with_stones (black_cells generator) (white_cells generator)
+pub drawn_position-parts : (generator : Lcg)
+    → drawn_position (next_words 16 generator) ≡ with_stones (black_cells generator) (white_cells generator)
 drawn_position-parts generator =
     let black : List ℕ = black_cells generator in
     let white : List ℕ = white_cells generator in
@@ -109,7 +112,8 @@ drawn_cells-on_board generator n h =
 
 drawn_cells-small : (generator : Lcg) (n : ℕ) → IsIn n (black_cells generator ++ white_cells generator) → n < 128
 drawn_cells-small generator n h =
-    let small : n < 121 = on_board-small board_size n (lit≤ tt, lit≤ tt, lit≤ tt, lit≤ tt) (drawn_cells-on_board generator n h) in omega arith
+    let small : n < 121 = on_board-small board_size n (lit≤ tt, lit≤ tt, lit≤ tt, lit≤ tt) (drawn_cells-on_board generator n h) in
+        omega arith
 
 -- ---- what the two parts are
 
@@ -123,7 +127,8 @@ two_parts generator further board cells left size_is cells_are black_is left_is 
     let white : board.white ≡ set_of (white_cells generator) = rw (left_is, cells_are, further_is) at white_is in
     same_board board (with_stones (black_cells generator) (white_cells generator)) size_is black white
 
-pub drawn-stones : (generator : Lcg) → HasStones (with_stones (black_cells generator) (white_cells generator)) (length (black_cells generator ++ white_cells generator))
+pub drawn-stones : (generator : Lcg)
+    → HasStones (with_stones (black_cells generator) (white_cells generator)) (length (black_cells generator ++ white_cells generator))
 drawn-stones generator =
     stones-put (black_cells generator) (white_cells generator) (drawn_cells-distinct generator) (drawn_cells-on_board generator)
 
@@ -141,27 +146,31 @@ pub drawn-black : (generator : Lcg) → count_below 128 (set_of (black_cells gen
 drawn-black generator =
     let black : List ℕ = black_cells generator in
     let white : List ℕ = white_cells generator in
-    count-set_of black (distinct-left black white (drawn_cells-distinct generator)) (λ n h. drawn_cells-small generator n (in-left n black white h))
+    count-set_of black (distinct-left black white (drawn_cells-distinct generator))
+        (λ n h. drawn_cells-small generator n (in-left n black white h))
     ∙ length-black_cells generator
 
 pub drawn-white : (generator : Lcg) → count_below 128 (set_of (white_cells generator)) ≡ 8
 drawn-white generator =
     let black : List ℕ = black_cells generator in
     let white : List ℕ = white_cells generator in
-    count-set_of white (distinct-right black white (drawn_cells-distinct generator)) (λ n h. drawn_cells-small generator n (in-right n black white h))
+    count-set_of white (distinct-right black white (drawn_cells-distinct generator))
+        (λ n h. drawn_cells-small generator n (in-right n black white h))
     ∙ length-white_cells generator
 
 -- ---- the position that is found
 
 -- after the black stones there are cells enough for the white ones
-pub cells-left : (generator : Lcg) (cells left : List ℕ) → cells ≡ cells_in_order → left ≡ left_after cells (next_words 8 generator) → 8 ≤ length left
+pub cells-left : (generator : Lcg) (cells left : List ℕ) → cells ≡ cells_in_order → left ≡ left_after cells (next_words 8 generator)
+    → 8 ≤ length left
 cells-left generator cells left cells_are left_is =
     let words : length (next_words 8 generator) ≡ 8 = length-next_words 8 generator in
     let count : length cells ≡ 25 = ap length cells_are in
     let rest = length-left_after cells (next_words 8 generator) (omega arith) in
     let same = ap length left_is in omega arith
 
-pub found-some : (found : Option Board) (board : Board) (generator : Lcg) → board ≡ with_stones (black_cells generator) (white_cells generator)
+pub found-some : (found : Option Board) (board : Board) (generator : Lcg)
+    → board ≡ with_stones (black_cells generator) (white_cells generator)
     → SomeIff found (IsPosition board.size board.black board.white) board → IsSome found
 found-some None board generator same iff =
     absurd (iff (let P : Board → Type 0 = λ b. IsPosition b.size b.black b.white in subst P (sym same) (drawn-is_position generator)))

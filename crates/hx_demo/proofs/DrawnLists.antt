@@ -8,10 +8,12 @@ use Rattle.hx_demo.specs.CellsLeft.{left_after}
 
 -- ---- words one after the other
 
-pub drawn_from-append : (cells words more : List ℕ) → drawn_from cells (words ++ more) ≡ drawn_from cells words ++ drawn_from (left_after cells words) more
+pub drawn_from-append : (cells words more : List ℕ) → drawn_from cells (words ++ more) ≡ drawn_from cells words
+    ++ drawn_from (left_after cells words) more
 drawn_from-append cells [] more = refl
 drawn_from-append cells (word ∷ words) more =
-    ap (λ (drawn : List ℕ). slice_index cells (place_of word cells) ∷ drawn) (drawn_from-append (remove cells (place_of word cells)) words more)
+    ap (λ (drawn : List ℕ). slice_index cells (place_of word cells) ∷ drawn)
+        (drawn_from-append (remove cells (place_of word cells)) words more)
 
 pub left_after-append : (cells words more : List ℕ) → left_after cells (words ++ more) ≡ left_after (left_after cells words) more
 left_after-append cells [] more = refl

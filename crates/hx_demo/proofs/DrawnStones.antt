@@ -26,7 +26,8 @@ drawn_none cells first set none = record {
   room = omega arith;
 }
 
-pub drawn_more : (cells : List ℕ) (first : Lcg) (count set : ℕ) (left rest : List ℕ) (now next : Lcg) (cell : ℕ) → AreDrawn cells first count set left now → 0 < length left
+pub drawn_more : (cells : List ℕ) (first : Lcg) (count set : ℕ) (left rest : List ℕ) (now next : Lcg) (cell : ℕ)
+    → AreDrawn cells first count set left now → 0 < length left
     → cell ≡ slice_index left (place_of (pcg32 now).0 left) → rest ≡ remove left (place_of (pcg32 now).0 left) → next ≡ (pcg32 now).1
     → AreDrawn cells first (count + 1) (insert set cell) rest next
 drawn_more cells first count set left rest now next cell before some cell_is rest_is next_is =

@@ -14,7 +14,8 @@ one_won player boards count board (Won first rest fewer won counted) wins =
 one_won player boards count board (Lost first rest same lost counted) wins =
     Lost first (rest ++ board ∷ []) (suc same) lost (one_won player rest same board counted wins)
 
-pub one_lost : (player : Colour) (boards : List Board) (count : ℕ) (board : Board) → WinsSoMany player boards count → ¬ Wins player board Black
+pub one_lost : (player : Colour) (boards : List Board) (count : ℕ) (board : Board) → WinsSoMany player boards count
+    → ¬ Wins player board Black
     → WinsSoMany player (boards ++ board ∷ []) count
 one_lost player boards count board Empty loses = Lost board [] 0 loses Empty
 one_lost player boards count board (Won first rest fewer won counted) loses =
@@ -24,7 +25,9 @@ one_lost player boards count board (Lost first rest same lost counted) loses =
 
 pub one_count : (player : Colour) (boards : List Board) (m n : ℕ) → WinsSoMany player boards m → WinsSoMany player boards n → m ≡ n
 one_count player boards m n Empty Empty = refl
-one_count player boards m n (Won first rest fewer won counted) (Won _ _ other won' counted') = ap suc (one_count player rest fewer other counted counted')
+one_count player boards m n (Won first rest fewer won counted) (Won _ _ other won' counted') =
+    ap suc (one_count player rest fewer other counted counted')
 one_count player boards m n (Won first rest fewer won counted) (Lost _ _ other lost counted') = absurd (lost won)
 one_count player boards m n (Lost first rest same lost counted) (Won _ _ other won counted') = absurd (lost won)
-one_count player boards m n (Lost first rest same lost counted) (Lost _ _ other lost' counted') = one_count player rest same other counted counted'
+one_count player boards m n (Lost first rest same lost counted) (Lost _ _ other lost' counted') =
+    one_count player rest same other counted counted'

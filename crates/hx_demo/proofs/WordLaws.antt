@@ -10,12 +10,14 @@ unfolding first_words
 length-next_words zero generator = refl
 length-next_words (suc count) generator = ap suc (length-next_words count (pcg32 generator).1)
 
-pub words_later-add : (count more : ℕ) (generator : Lcg) → words_later (count + more) generator ≡ words_later more (words_later count generator)
+pub words_later-add : (count more : ℕ) (generator : Lcg)
+    → words_later (count + more) generator ≡ words_later more (words_later count generator)
 unfolding state_after
 words_later-add zero more generator = rw zero-add refl
 words_later-add (suc count) more generator = rw suc-add (words_later-add count more (pcg32 generator).1)
 
-pub next_words-add : (count more : ℕ) (generator : Lcg) → next_words (count + more) generator ≡ next_words count generator ++ next_words more (words_later count generator)
+pub next_words-add : (count more : ℕ) (generator : Lcg) → next_words (count + more) generator ≡ next_words count generator
+    ++ next_words more (words_later count generator)
 unfolding first_words state_after
 next_words-add zero more generator = rw zero-add refl
 next_words-add (suc count) more generator =
@@ -34,6 +36,7 @@ pub words_later-one : (count : ℕ) (generator : Lcg) → words_later (count + 1
 unfolding state_after
 words_later-one count generator = words_later-add count 1 generator
 
-pub next_words-one : (count : ℕ) (generator : Lcg) → next_words (count + 1) generator ≡ next_words count generator ++ (pcg32 (words_later count generator)).0 ∷ []
+pub next_words-one : (count : ℕ) (generator : Lcg) → next_words (count + 1) generator ≡ next_words count generator
+    ++ (pcg32 (words_later count generator)).0 ∷ []
 unfolding first_words
 next_words-one count generator = next_words-add count 1 generator

@@ -25,13 +25,15 @@ module _ (OnIt : ℕ → Type 0) (places cell : ℕ) (before : List ℕ) where
   pub added_none : length before ≡ CELLS → AreAdded OnIt places cell before before places
   added_none count = record { count = count; kept = λ n m h. h; added = λ n on here out. absurd (false≢true (sym out ∙ here)) }
 
-  pub added_more : (after : List ℕ) (left place row : ℕ) → place < 121 → row ≡ slice_index after place → AreAdded OnIt places cell before after left
+  pub added_more : (after : List ℕ) (left place row : ℕ) → place < 121 → row ≡ slice_index after place
+      → AreAdded OnIt places cell before after left
       → AreAdded OnIt places cell before (set after place (insert row cell)) (remove left place)
   added_more after left place row small is k = record {
     count = length-set after place (insert row cell) ∙ k.count;
     kept = λ n m h. ⊎_elim (λ t. here n m t.1 (k.kept n m h)) (λ t. there n m t.1 (k.kept n m h)) (eqb_tells n place);
     added = λ n on h out. ⊎_elim (λ (same : n ≡ place). new n same)
-        (λ still. ⊎_elim (λ t. new n t.1) (λ t. there n cell t.1 (k.added n on h still)) (eqb_tells n place)) (removed_cases left place n out);
+        (λ still. ⊎_elim (λ t. new n t.1) (λ t. there n cell t.1 (k.added n on h still)) (eqb_tells n place))
+            (removed_cases left place n out);
   }
     where
       within : place < length after
@@ -55,7 +57,8 @@ module _ (board : Board) (mover : Colour) (cells : ℕ) where
   pub hold_none : (sets : List ℕ) → length sets ≡ CELLS → HoldDominated board mover cells cells sets
   hold_none sets count = record { count = count; held = λ better worse kill _ here out. absurd (false≢true (sym out ∙ here)) }
 
-  pub hold_more : (left next killers places : ℕ) (sets more : List ℕ) → places ≡ intersection killers cells → AreKillers board mover next killers
+  pub hold_more : (left next killers places : ℕ) (sets more : List ℕ) → places ≡ intersection killers cells
+      → AreKillers board mover next killers
       → length more ≡ CELLS → ((n m : ℕ) → has (slice_index sets n) m ≡ true → has (slice_index more n) m ≡ true)
       → ((n : ℕ) → OnBoard board.size n → has places n ≡ true → has (slice_index more n) next ≡ true)
       → HoldDominated board mover cells left sets → HoldDominated board mover cells (remove left next) more
@@ -68,12 +71,16 @@ module _ (board : Board) (mover : Colour) (cells : ℕ) where
         (λ still. kept better worse (k.held better worse kill in_cells here still dominated)) (removed_cases left next worse out);
   }
 
-  pub hold_all : (left : ℕ) (sets : List ℕ) → ((n : ℕ) → has cells n ≡ true → has left n ≡ false) → HoldDominated board mover cells left sets
+  pub hold_all : (left : ℕ) (sets : List ℕ) → ((n : ℕ) → has cells n ≡ true → has left n ≡ false)
+      → HoldDominated board mover cells left sets
       → HoldDominated board mover cells 0 sets
-  hold_all left sets none k = record { count = k.count; held = λ better worse kill in_cells here _ dominated. k.held better worse kill in_cells here (none worse here) dominated }
+  hold_all left sets none k =
+      record { count = k.count; held = λ better worse kill in_cells here _ dominated.
+      k.held better worse kill in_cells here (none worse here) dominated }
 
   -- what holds for all cells holds for fewer
-  pub hold_fewer : (fewer : ℕ) (sets : List ℕ) → IsSubset fewer cells → HoldDominated board mover cells 0 sets → HoldDominated board mover fewer 0 sets
+  pub hold_fewer : (fewer : ℕ) (sets : List ℕ) → IsSubset fewer cells → HoldDominated board mover cells 0 sets
+      → HoldDominated board mover fewer 0 sets
   hold_fewer fewer sets inside k = record {
     count = k.count;
     held = λ better worse kill h here out dominated. k.held better worse kill (inside better h) (inside worse here) out dominated;

@@ -19,7 +19,8 @@ grown-filled board player (Other cell) = grown-put board (other_of player) cell
 grown-filled board player (Dead cell) = grown-put board player cell
 grown-filled board player (Pair a b) = grown-trans _ _ _ (grown-put board player a) (grown-put (put board player a) player b)
 
-pub fills_to-append : (first second : List Fill) (board mid final : Board) → FillsTo board first mid → FillsTo mid second final → FillsTo board (first ++ second) final
+pub fills_to-append : (first second : List Fill) (board mid final : Board) → FillsTo board first mid → FillsTo mid second final
+    → FillsTo board (first ++ second) final
 fills_to-append [] second board mid final one two = let P : Board → Type 0 = λ b. FillsTo b second final in subst P (sym one) two
 fills_to-append (fill ∷ rest) second board mid final one two =
     (one.0, fills_to-append rest second (filled board fill.colour fill.step) mid final one.1 two)
@@ -29,12 +30,14 @@ pub fills_to-one : (board final : Board) (player : Colour) (step : FillStep) →
 fills_to-one board final player step may is = (may, sym is)
 
 -- steps leave fewer empty cells, if there are any
-count-fills_to : (fills : List Fill) (board final : Board) → IsBoard board → FillsTo board fills final → empty_count final + length fills ≤ empty_count board
+count-fills_to : (fills : List Fill) (board final : Board) → IsBoard board → FillsTo board fills final
+    → empty_count final + length fills ≤ empty_count board
 count-fills_to [] board final is to = let same = ap empty_count to in omega arith
 count-fills_to (fill ∷ rest) board final is to =
     let one = empty_count-filled board fill.colour is fill.step to.0 in
     let more = count-fills_to rest (filled board fill.colour fill.step) final (board-filled board fill.colour is fill.step to.0) to.1 in
     omega arith
 
-pub fewer_empty : (fills : List Fill) (board final : Board) → IsBoard board → FillsTo board fills final → 0 < length fills → empty_count final < empty_count board
+pub fewer_empty : (fills : List Fill) (board final : Board) → IsBoard board → FillsTo board fills final → 0 < length fills
+    → empty_count final < empty_count board
 fewer_empty fills board final is to some = let all = count-fills_to fills board final is to in omega arith

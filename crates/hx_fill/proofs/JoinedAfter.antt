@@ -30,7 +30,8 @@ module _ (board : Board) (player : Colour) (cell : ℕ) where
   over_own : (from v to : Vertex) → IsOwn board player v → Touches board.size player from v → JoinedAround v to → JoinedAround from to
   over_own from v to own touch rest =
       let here : Joined board player from v = joined-touches board player from v touch in
-      ⊎_elim (λ r. inl (joined-over_own board player from v to own here r)) (λ r. inr (joined-over_own board player from v (Of cell) own here r.0, r.1)) rest
+      ⊎_elim (λ r. inl (joined-over_own board player from v to own here r))
+          (λ r. inr (joined-over_own board player from v (Of cell) own here r.0, r.1)) rest
 
   walk_before : (inner : List Vertex) (from to : Vertex) → Walk (put board player cell) player from inner to → JoinedAround from to
   walk_before [] from to walk = inl (joined-touches board player from to (rw size-put at walk))
@@ -46,7 +47,8 @@ module _ (board : Board) (player : Colour) (cell : ℕ) where
   pub joined_still : (from to : Vertex) → Joined board player from to → Joined (put board player cell) player from to
   joined_still from to joined = joined_stays player from to board (put board player cell) (keeps_put player board player cell) joined
 
-  pub joined_over_stone : (from to : Vertex) → Joined board player from (Of cell) → Joined board player (Of cell) to → Joined (put board player cell) player from to
+  pub joined_over_stone : (from to : Vertex) → Joined board player from (Of cell) → Joined board player (Of cell) to
+      → Joined (put board player cell) player from to
   joined_over_stone from to a b =
       joined-over_own (put board player cell) player from (Of cell) to ((stones-put board player player cell cell).1 (inl (refl, refl)))
       (joined_still from (Of cell) a) (joined_still (Of cell) to b)

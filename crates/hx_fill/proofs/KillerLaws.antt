@@ -34,7 +34,8 @@ cells_have set cells n are small h = are n ∙ and_from _ _ h (lt-ltb n 121 smal
 
 -- ---- by a cell that becomes dead for the opponent
 
-module _ (board : Board) (mover : Colour) (better worse around : ℕ) (is : IsSetOf board.size (IsOpenNeighbour board (other_of mover) worse) around)
+module _ (board : Board) (mover : Colour) (better worse around : ℕ)
+    (is : IsSetOf board.size (IsOpenNeighbour board (other_of mover) worse) around)
     (apart : has around better ≡ false) where
   joined_without : (from to : Vertex) → Joined (put board mover better) (other_of mover) from to → Joined board (other_of mover) from to
   joined_without from to joined = joined_stays (other_of mover) from to (put board mover better) board (record {
@@ -56,7 +57,8 @@ module _ (board : Board) (mover : Colour) (better worse around : ℕ) (is : IsSe
     joined = λ one other differ o p. joined_without one other (dead.joined one other differ (still one o) (still other p));
   }
 
-pub killers_by_dead-neighbours : (board : Board) (mover : Colour) (worse around : ℕ) → IsSetOf board.size (IsOpenNeighbour board (other_of mover) worse) around
+pub killers_by_dead-neighbours : (board : Board) (mover : Colour) (worse around : ℕ)
+    → IsSetOf board.size (IsOpenNeighbour board (other_of mover) worse) around
     → (IsDead board (other_of mover) worse → ⊥) → (better : ℕ) → IsDominated board mover better worse ByDead → has around better ≡ true
 killers_by_dead-neighbours board mover worse around is not_dead better dominated =
     by_member around better (λ h. h) (λ apart. absurd (not_dead (dead_before board mover better worse around is apart dominated.killed)))
@@ -69,25 +71,33 @@ IsApart board player cell other = (v : Vertex) → IsOpenNeighbour board player 
 
 module _ (board : Board) (player : Colour) (stone : ℕ) where
   module _ (cell : ℕ) (apart : IsApart board player cell stone) where
-    same_joined : (v to : Vertex) → IsOpenNeighbour board player cell v → Joined (put board player stone) player v to → Joined board player v to
+    same_joined : (v to : Vertex) → IsOpenNeighbour board player cell v → Joined (put board player stone) player v to
+        → Joined board player v to
     same_joined v to o joined = ⊎_elim (λ j. j) (λ both. absurd (apart v o both.0)) (joined_before board player stone v to joined)
 
     -- a maker of the cell was one before a stone that none of its open neighbours was joined with
-    pub dead_without : (maker : ℕ) → IsEmpty board cell → cell ≢ maker → IsDead (put (put board player stone) player maker) player cell → IsDead (put board player maker) player cell
+    pub dead_without : (maker : ℕ) → IsEmpty board cell → cell ≢ maker → IsDead (put (put board player stone) player maker) player cell
+        → IsDead (put board player maker) player cell
     dead_without maker empty differ dead = record {
       empty = (empty-put board player maker cell).1 (empty, differ);
-      joined = λ one other apart_ones o p. joined one other (open_before board player maker cell one o) (open_before board player maker cell other p) (dead.joined one other apart_ones (later one o) (later other p));
+      joined = λ one other apart_ones o p.
+          joined one other (open_before board player maker cell one o) (open_before board player maker cell other p)
+          (dead.joined one other apart_ones (later one o) (later other p));
     }
       where
-        later : (v : Vertex) → IsOpenNeighbour (put board player maker) player cell v → IsOpenNeighbour (put (put board player stone) player maker) player cell v
-        later v o = open_after (put board player stone) player maker cell v (open_after board player stone cell v (open_before board player maker cell v o))
+        later : (v : Vertex) → IsOpenNeighbour (put board player maker) player cell v
+            → IsOpenNeighbour (put (put board player stone) player maker) player cell v
+        later v o = open_after (put board player stone) player maker cell v
+            (open_after board player stone cell v (open_before board player maker cell v o))
 
-        joined : (one other : Vertex) → IsOpenNeighbour board player cell one → IsOpenNeighbour board player cell other → Joined (put (put board player stone) player maker) player one other
+        joined : (one other : Vertex) → IsOpenNeighbour board player cell one → IsOpenNeighbour board player cell other
+            → Joined (put (put board player stone) player maker) player one other
             → Joined (put board player maker) player one other
         joined one other o p with_both = ⊎_elim
             (λ j. joined_still board player maker one other (same_joined one other o j))
             (λ both. joined_over_stone board player maker one other (same_joined one (Of maker) o both.0)
-            (joined-sym board player other (Of maker) (same_joined other (Of maker) p (joined-sym (put board player stone) player (Of maker) other both.1))))
+            (joined-sym board player other (Of maker)
+                (same_joined other (Of maker) p (joined-sym (put board player stone) player (Of maker) other both.1))))
             (joined_before (put board player stone) player maker one other with_both)
 
   pub maker_before : (a b : ℕ) → IsPair (put board player stone) player a b → IsApart board player a stone → IsMaker board player a b
@@ -99,7 +109,8 @@ module _ (board : Board) (player : Colour) (stone : ℕ) where
         dead = dead_without a apart b a_empty pair.differ pair.a_dead;
       }
 
-  pub pair_before : (a b : ℕ) → IsPair (put board player stone) player a b → IsApart board player a stone → IsApart board player b stone → IsPair board player a b
+  pub pair_before : (a b : ℕ) → IsPair (put board player stone) player a b → IsApart board player a stone → IsApart board player b stone
+      → IsPair board player a b
   pair_before a b pair apart_a apart_b = record {
     a_empty = ((empty-put board player stone a).0 pair.a_empty).0;
     b_empty = ((empty-put board player stone b).0 pair.b_empty).0;
@@ -110,31 +121,42 @@ module _ (board : Board) (player : Colour) (stone : ℕ) where
 
 -- a cell that is a pair with no maker among the empty cells is a pair with none
 pub no_pair-by_makers : (board : Board) (player : Colour) (cell among : ℕ) (makers : Makers) → AreMakers board player cell among makers
-    → ((n : ℕ) → IsEmpty board n → has among n ≡ true) → ((n : ℕ) → has makers.cells n ≡ true → ¬ IsPair board player cell n) → (n : ℕ) → ¬ IsPair board player cell n
+    → ((n : ℕ) → IsEmpty board n → has among n ≡ true) → ((n : ℕ) → has makers.cells n ≡ true → ¬ IsPair board player cell n) → (n : ℕ)
+        → ¬ IsPair board player cell n
 no_pair-by_makers board player cell among makers are all none n pair =
-    none n ((are.cells n).1 (all n pair.b_empty, record { empty = pair.b_empty; differ = λ e. pair.differ (sym e); dead = pair.a_dead })) pair
+    none n ((are.cells n).1
+        (all n pair.b_empty, record { empty = pair.b_empty; differ = λ e. pair.differ (sym e); dead = pair.a_dead })) pair
 
 -- a partner after a move is one that makes the move a better one
-pub partner-dominates : (board : Board) (mover : Colour) (better worse : ℕ) (makers : ℕ) (found : Option ℕ) → IsEmpty board better → IsEmpty board worse → better ≢ worse
-    → (((n : ℕ) → has makers n ≡ true → ¬ IsPair (put board mover better) mover worse n) → (n : ℕ) → ¬ IsPair (put board mover better) mover worse n)
-    → Finds found (λ n. (has makers n ≡ true) × IsPair (put board mover better) mover worse n) → Finds found (λ n. IsDominated board mover better worse (ByPair n))
-partner-dominates board mover better worse makers None empty worse_empty differ all none = λ n dominated. all (λ k among pair. none k (among, pair)) n dominated.killed
-partner-dominates board mover better worse makers (Some partner) empty worse_empty differ all is = record { better_empty = empty; worse_empty = worse_empty; differ = differ; killed = is.1 }
+pub partner-dominates : (board : Board) (mover : Colour) (better worse : ℕ) (makers : ℕ) (found : Option ℕ) → IsEmpty board better
+    → IsEmpty board worse → better ≢ worse
+    → (((n : ℕ) → has makers n ≡ true → ¬ IsPair (put board mover better) mover worse n) → (n : ℕ)
+        → ¬ IsPair (put board mover better) mover worse n)
+    → Finds found (λ n. (has makers n ≡ true) × IsPair (put board mover better) mover worse n)
+        → Finds found (λ n. IsDominated board mover better worse (ByPair n))
+partner-dominates board mover better worse makers None empty worse_empty differ all none = λ n dominated.
+    all (λ k among pair. none k (among, pair)) n dominated.killed
+partner-dominates board mover better worse makers (Some partner) empty worse_empty differ all is =
+    record { better_empty = empty; worse_empty = worse_empty; differ = differ; killed = is.1 }
 
 module _ (board : Board) (mover : Colour) (worse : ℕ) where
-  not_reached : (cell better near : ℕ) → IsEmpty board better → HoldsReached board mover cell near → has near better ≡ false → IsApart board mover cell better
+  not_reached : (cell better near : ℕ) → IsEmpty board better → HoldsReached board mover cell near → has near better ≡ false
+      → IsApart board mover cell better
   not_reached cell better near empty holds misses v o joined =
       false≢true (sym misses ∙ holds v o better empty.on_board joined)
 
-  pub killers_by_pair-reached : (empties : ℕ) (makers : Makers) (near near_makers : ℕ) → ((n : ℕ) → (has empties n ≡ true) ↔ IsEmpty board n) → AreMakers board mover worse empties makers
+  pub killers_by_pair-reached : (empties : ℕ) (makers : Makers) (near near_makers : ℕ)
+      → ((n : ℕ) → (has empties n ≡ true) ↔ IsEmpty board n) → AreMakers board mover worse empties makers
       → ((partner : ℕ) → has makers.cells partner ≡ true → ¬ IsPair board mover worse partner)
       → HoldsReached board mover worse near → ((cell : ℕ) → has makers.cells cell ≡ true → HoldsReached board mover cell near_makers)
       → (better partner : ℕ) → IsDominated board mover better worse (ByPair partner) → has (union near near_makers) better ≡ true
   killers_by_pair-reached empties makers near near_makers empties_are makers_are no_pair holds holds_each better partner dominated =
-      by_member near better (λ h. has-union_left near near_makers better h) (λ misses. has-union_right near near_makers better (by_maker misses))
+      by_member near better (λ h. has-union_left near near_makers better h)
+          (λ misses. has-union_right near near_makers better (by_maker misses))
     where
       by_maker : has near better ≡ false → has near_makers better ≡ true
-      by_maker misses = by_member near_makers better (λ h. h) (λ none. absurd (no_pair partner among (pair_before board mover better worse partner dominated.killed apart
+      by_maker misses = by_member near_makers better (λ h. h)
+          (λ none. absurd (no_pair partner among (pair_before board mover better worse partner dominated.killed apart
           (not_reached partner better near_makers dominated.better_empty (holds_each partner among) none))))
         where
           apart : IsApart board mover worse better
@@ -147,7 +169,11 @@ module _ (board : Board) (mover : Colour) (worse : ℕ) where
           among = (makers_are.cells partner).1 ((empties_are partner).1 maker.empty, maker)
 
 -- outside of the two sets no cell is better
-pub killers-both : (board : Board) (mover : Colour) (worse by_dead by_pair : ℕ) → ((better : ℕ) → IsDominated board mover better worse ByDead → has by_dead better ≡ true)
-    → ((better partner : ℕ) → IsDominated board mover better worse (ByPair partner) → has by_pair better ≡ true) → AreKillers board mover worse (union by_dead by_pair)
-killers-both board mover worse by_dead by_pair dead pair better ByDead dominated = has-union_left by_dead by_pair better (dead better dominated)
-killers-both board mover worse by_dead by_pair dead pair better (ByPair partner) dominated = has-union_right by_dead by_pair better (pair better partner dominated)
+pub killers-both : (board : Board) (mover : Colour) (worse by_dead by_pair : ℕ)
+    → ((better : ℕ) → IsDominated board mover better worse ByDead → has by_dead better ≡ true)
+    → ((better partner : ℕ) → IsDominated board mover better worse (ByPair partner) → has by_pair better ≡ true)
+        → AreKillers board mover worse (union by_dead by_pair)
+killers-both board mover worse by_dead by_pair dead pair better ByDead dominated =
+    has-union_left by_dead by_pair better (dead better dominated)
+killers-both board mover worse by_dead by_pair dead pair better (ByPair partner) dominated =
+    has-union_right by_dead by_pair better (pair better partner dominated)

@@ -32,12 +32,14 @@ among-open board player cell around is v = (
 
 module _ (board : Board) (player : Colour) (stone : ℕ) where
   is_open-before : (v : Vertex) → IsOpen (put board player stone) player v → IsOpen board player v
-  is_open-before (Of n) is_open = false_from_ne_true _ (λ held. false≢true (sym is_open ∙ (stones-put board player (other_of player) stone n).1 (inr held)))
+  is_open-before (Of n) is_open =
+      false_from_ne_true _ (λ held. false≢true (sym is_open ∙ (stones-put board player (other_of player) stone n).1 (inr held)))
   is_open-before First is_open = tt
   is_open-before Last is_open = tt
 
   is_open-after : (v : Vertex) → IsOpen board player v → IsOpen (put board player stone) player v
-  is_open-after (Of n) is_open = false_from_ne_true _ (λ held. ⊎_elim (λ new. other-differs player new.0) (λ was. false≢true (sym is_open ∙ was))
+  is_open-after (Of n) is_open =
+      false_from_ne_true _ (λ held. ⊎_elim (λ new. other-differs player new.0) (λ was. false≢true (sym is_open ∙ was))
       ((stones-put board player (other_of player) stone n).0 held))
   is_open-after First is_open = tt
   is_open-after Last is_open = tt
@@ -68,7 +70,8 @@ module _ (board : Board) (mover : Colour) (stone : ℕ) where
   is_open-others_before Last is_open = tt
 
   is_open-elsewhere : (v : Vertex) → code_of v ≢ stone → IsOpen board (other_of mover) v → IsOpen (put board mover stone) (other_of mover) v
-  is_open-elsewhere (Of n) differ is_open = false_from_ne_true _ (λ held. ⊎_elim (λ new. differ new.1) (λ was. false≢true (sym is_open ∙ was))
+  is_open-elsewhere (Of n) differ is_open =
+      false_from_ne_true _ (λ held. ⊎_elim (λ new. differ new.1) (λ was. false≢true (sym is_open ∙ was))
       ((stones-put board mover (other_of (other_of mover)) stone n).0 held))
   is_open-elsewhere First differ is_open = tt
   is_open-elsewhere Last differ is_open = tt
@@ -95,4 +98,5 @@ module _ (board : Board) (mover : Colour) (stone : ℕ) where
   }
     where
       not_removed : (v : Vertex) → has (remove around stone) (code_of v) ≡ true → code_of v ≢ stone
-      not_removed v h same = false≢true (sym (removed around stone) ∙ (let P : ℕ → Type 0 = λ x. has (remove around stone) x ≡ true in subst P same h))
+      not_removed v h same =
+          false≢true (sym (removed around stone) ∙ (let P : ℕ → Type 0 = λ x. has (remove around stone) x ≡ true in subst P same h))

@@ -22,7 +22,8 @@ use Rattle.hx_fill.specs.Unders.{IsUnderLine, HasLineFor, IsBetterIn, AreUnder, 
 
 -- an element of a mapped list is that of some element
 mapped_from : (lines : List Line) (n : ℕ) → HasLineFor lines n → (line : Line) × (Contains lines line) × (cell_of line ≡ n)
-mapped_from lines n found = (get_or lines found.0 default_line, Contains-get_or lines found.0 default_line low, sym (get_or-mapped lines found.0 low) ∙ found.2)
+mapped_from lines n found =
+    (get_or lines found.0 default_line, Contains-get_or lines found.0 default_line low, sym (get_or-mapped lines found.0 low) ∙ found.2)
   where
     default_line : Line
     default_line = Child n 0
@@ -50,7 +51,8 @@ module _ (choices : List (Option Better)) (lined : ℕ) where
   module _ (left cell : ℕ) (lines : List Line) (so_far : AreLinesFor choices lined left lines) (here : has left cell ≡ true)
       (least : (n : ℕ) → has left n ≡ true → n ≢ cell → cell < n) where
     not_removed : (n : ℕ) → has (remove left cell) n ≡ true → n ≢ cell
-    not_removed n h same = false≢true (sym (removed left cell) ∙ (let P : ℕ → Type 0 = λ x. has (remove left cell) x ≡ true in subst P same h))
+    not_removed n h same =
+        false≢true (sym (removed left cell) ∙ (let P : ℕ → Type 0 = λ x. has (remove left cell) x ≡ true in subst P same h))
 
     pub lines_more : (better : ℕ) (kill : Kill) → better_for choices cell ≡ Some (record { cell = better; kill = kill })
         → AreLinesFor choices lined (remove left cell) (lines ++ Under cell better kill ∷ [])
@@ -58,11 +60,14 @@ module _ (choices : List (Option Better)) (lined : ℕ) where
       each = All-push (IsLineFor choices lined) lines line so_far.each (so_far.left_inside cell here, is);
       in_order = rw pushed (increasing-push (cells_of lines) cell so_far.in_order (λ done has_line. so_far.before done has_line cell here));
       before = λ done has_line n h. ⊎_elim (λ old. so_far.before done old n (has-remove_before left cell n h))
-          (λ (same : cell ≡ done). let P : ℕ → Type 0 = λ x. x < n in subst P same (least n (has-remove_before left cell n h) (not_removed n h)))
+          (λ (same : cell ≡ done). let P : ℕ → Type 0 = λ x. x < n in
+              subst P same (least n (has-remove_before left cell n h) (not_removed n h)))
           (Contains-push_cases (cells_of lines) cell done (rw pushed at has_line));
       all = λ n in_lined out. ⊎_elim
-          (λ (same : n ≡ cell). let P : ℕ → Type 0 = λ x. HasLineFor (lines ++ line ∷ []) x in subst P (sym same) (rw pushed (Contains-push (cells_of lines) cell)))
-          (λ still. rw pushed (Contains-append_left (cells_of lines) (cell ∷ []) n (so_far.all n in_lined still))) (removed_cases left cell n out);
+          (λ (same : n ≡ cell). let P : ℕ → Type 0 = λ x. HasLineFor (lines ++ line ∷ []) x in
+              subst P (sym same) (rw pushed (Contains-push (cells_of lines) cell)))
+          (λ still. rw pushed (Contains-append_left (cells_of lines) (cell ∷ []) n (so_far.all n in_lined still)))
+              (removed_cases left cell n out);
       left_inside = λ n h. so_far.left_inside n (has-remove_before left cell n h);
     }
       where
@@ -72,7 +77,8 @@ module _ (choices : List (Option Better)) (lined : ℕ) where
         pushed : cells_of (lines ++ line ∷ []) ≡ cells_of lines ++ cell ∷ []
         pushed = map-append cell_of lines (line ∷ [])
 
-  pub lines_all : (left : ℕ) (lines : List Line) → ((n : ℕ) → has lined n ≡ true → has left n ≡ false) → AreLinesFor choices lined left lines → AreLinesFor choices lined 0 lines
+  pub lines_all : (left : ℕ) (lines : List Line) → ((n : ℕ) → has lined n ≡ true → has left n ≡ false)
+      → AreLinesFor choices lined left lines → AreLinesFor choices lined 0 lines
   lines_all left lines none so_far = record {
     each = so_far.each;
     in_order = so_far.in_order;
@@ -89,9 +95,11 @@ module _ (choices : List (Option Better)) (lined : ℕ) where
   has_line-lined lines are cell has_line =
       let P : ℕ → Type 0 = λ n. has lined n ≡ true in
       All-contains P (cells_of lines) cell
-      (All-map P cell_of lines (All-weaker (IsLineFor choices lined) (λ (line : Line). has lined (cell_of line) ≡ true) line_lined lines are.each)) has_line
+      (All-map P cell_of lines
+          (All-weaker (IsLineFor choices lined) (λ (line : Line). has lined (cell_of line) ≡ true) line_lined lines are.each)) has_line
 
-same_line : (choices : List (Option Better)) (cell better other : ℕ) (kill how : Kill) → better_for choices cell ≡ Some (record { cell = better; kill = kill })
+same_line : (choices : List (Option Better)) (cell better other : ℕ) (kill how : Kill)
+    → better_for choices cell ≡ Some (record { cell = better; kill = kill })
     → better_for choices cell ≡ Some (record { cell = other; kill = how }) → (better ≡ other) × (kill ≡ how)
 same_line choices cell better other kill how one two =
     let x : Better = record { cell = better; kill = kill } in
@@ -100,17 +108,21 @@ same_line choices cell better other kill how one two =
     (ap (λ (b : Better). b.cell) same, ap (λ (b : Better). b.kill) same)
 
 -- a cell that got no better one has no line to add
-pub adds_none : (choices : List (Option Better)) (cell : ℕ) (lines : List Line) → better_for choices cell ≡ None → AddsLine choices cell lines lines
+pub adds_none : (choices : List (Option Better)) (cell : ℕ) (lines : List Line) → better_for choices cell ≡ None
+    → AddsLine choices cell lines lines
 adds_none choices cell lines none better is = cc
 
-pub adds_one : (choices : List (Option Better)) (cell : ℕ) (better : Better) → better_for choices cell ≡ Some better → (lines more : List Line)
+pub adds_one : (choices : List (Option Better)) (cell : ℕ) (better : Better) → better_for choices cell ≡ Some better
+    → (lines more : List Line)
     → more ≡ lines ++ Under cell better.cell better.kill ∷ [] → AddsLine choices cell lines more
 adds_one choices cell better is lines more pushed other is_other =
-    let P : Better → Type 0 = λ b. more ≡ lines ++ Under cell b.cell b.kill ∷ [] in subst P (same_Some better other (sym is ∙ is_other)) pushed
+    let P : Better → Type 0 = λ b. more ≡ lines ++ Under cell b.cell b.kill ∷ [] in
+        subst P (same_Some better other (sym is ∙ is_other)) pushed
 
 -- ---- the end
 
-module _ (board : Board) (mover : Colour) (cells : ℕ) (order : List ℕ) (choices : List (Option Better)) (without_line waiting betters : ℕ) (lines : List Line)
+module _ (board : Board) (mover : Colour) (cells : ℕ) (order : List ℕ) (choices : List (Option Better)) (without_line waiting betters : ℕ)
+    (lines : List Line)
     (sifted : IsSifted board mover cells order choices without_line waiting betters) (none_waits : (n : ℕ) → has waiting n ≡ false)
     (are : AreLinesFor choices (difference cells without_line) 0 lines) where
   abbrev with_line : ℕ
@@ -121,10 +133,12 @@ module _ (board : Board) (mover : Colour) (cells : ℕ) (order : List ℕ) (choi
       (λ out. absurd (no_line (are.all cell (has-difference_both cells without_line cell here out) (has-empty cell))))
 
   no_line : (cell : ℕ) → has without_line cell ≡ true → ¬ HasLineFor lines cell
-  no_line cell h has_line = false≢true (sym (has-difference_right cells without_line cell (has_line-lined choices with_line lines are cell has_line)) ∙ h)
+  no_line cell h has_line =
+      false≢true (sym (has-difference_right cells without_line cell (has_line-lined choices with_line lines are cell has_line)) ∙ h)
 
   -- the better cell of a line
-  line_better : (worse better : ℕ) (kill : Kill) → IsLineFor choices with_line (Under worse better kill) → (h : HasBetter board mover order choices without_line betters worse)
+  line_better : (worse better : ℕ) (kill : Kill) → IsLineFor choices with_line (Under worse better kill)
+      → (h : HasBetter board mover order choices without_line betters worse)
       × ((h.better ≡ better) × (h.given.kill ≡ kill))
   line_better worse better kill is =
       let h = sifted.lined worse (has-difference_left cells without_line worse is.0) (has-difference_right cells without_line worse is.0) in
@@ -148,7 +162,8 @@ module _ (board : Board) (mover : Colour) (cells : ℕ) (order : List ℕ) (choi
       → Contains lines line → IsLineFor choices with_line line → cell_of line ≡ worse → IsBetterIn lines better
   named_in_line better worse kill (Child cell child) named at is same = absurd is
   named_in_line better worse kill (Under cell other how) named at is same =
-      let there : better_for choices cell ≡ Some (record { cell = better; kill = kill }) = (let P : ℕ → Type 0 = λ x. better_for choices x ≡ Some (record { cell = better; kill = kill }) in
+      let there : better_for choices cell ≡ Some (record { cell = better; kill = kill }) =
+          (let P : ℕ → Type 0 = λ x. better_for choices x ≡ Some (record { cell = better; kill = kill }) in
       subst P (sym same) named) in
       let e = same_line choices cell other better how kill is.1 there in
       record { worse = cell; kill = how; line = (let P : ℕ → Type 0 = λ x. Contains lines (Under cell x how) in subst P e.0 at) }
@@ -156,7 +171,8 @@ module _ (board : Board) (mover : Colour) (cells : ℕ) (order : List ℕ) (choi
   better_named : (better : ℕ) → has betters better ≡ true → IsBetterIn lines better
   better_named better h =
       let name = (sifted.named better h).1 in
-      let from = mapped_from lines name.worse (are.all name.worse (has-difference_both cells without_line name.worse name.among name.lined) (has-empty name.worse)) in
+      let from = mapped_from lines name.worse
+          (are.all name.worse (has-difference_both cells without_line name.worse name.among name.lined) (has-empty name.worse)) in
       named_in_line better name.worse name.kill from.0 name.is from.1 (contained from.0 from.1) from.2
 
   pub sifted-under : AreUnder board mover cells lines
@@ -184,12 +200,15 @@ module _ (board : Board) (mover : Colour) (cells : ℕ) (order : List ℕ) (choi
   }
 
 -- each cell with a line got a better one
-pub sifted-given : (board : Board) (mover : Colour) (cells : ℕ) (order : List ℕ) (choices : List (Option Better)) (without_line waiting betters : ℕ)
+pub sifted-given : (board : Board) (mover : Colour) (cells : ℕ) (order : List ℕ) (choices : List (Option Better))
+    (without_line waiting betters : ℕ)
     → IsSifted board mover cells order choices without_line waiting betters → AreGiven choices (difference cells without_line)
 sifted-given board mover cells order choices without_line waiting betters sifted cell h =
     let has_better = sifted.lined cell (has-difference_left cells without_line cell h) (has-difference_right cells without_line cell h) in
     let given = has_better.given in
     (record { cell = has_better.better; kill = given.kill }, given.is)
 
-pub least_below : (size : Extent) (left cell : ℕ) → IsLeastOn size left cell → (n : ℕ) → OnBoard size n → has left n ≡ true → n ≢ cell → cell < n
-least_below size left cell least n on h differ = ⊎_elim (λ low. absurd (false≢true (sym (least.first n low on) ∙ h))) (λ high. omega arith) (cases_lt n cell)
+pub least_below : (size : Extent) (left cell : ℕ) → IsLeastOn size left cell → (n : ℕ) → OnBoard size n → has left n ≡ true → n ≢ cell
+    → cell < n
+least_below size left cell least n on h differ =
+    ⊎_elim (λ low. absurd (false≢true (sym (least.first n low on) ∙ h))) (λ high. omega arith) (cases_lt n cell)

@@ -20,7 +20,8 @@ use Rattle.hx_board.proofs.KeptStones.{joined_stays, keeps_put}
 use Rattle.hx_fill.specs.Views.{widened, widened_if, TellsJoined}
 use Rattle.hx_fill.proofs.JoinedAfter.{joined_before, joined_still, joined_over_stone}
 
-pub tells-same : (board : Board) (player : Colour) (joint : ℕ) → TellsJoined (record { board = board; player = player }) board player None joint
+pub tells-same : (board : Board) (player : Colour) (joint : ℕ)
+    → TellsJoined (record { board = board; player = player }) board player None joint
 tells-same board player joint = record { same_size = refl; now = λ vertex set is. is }
 
 module _ (board : Board) (player : Colour) (cell : ℕ) where
@@ -95,14 +96,19 @@ module _ (board : Board) (player : Colour) (cell : ℕ) where
         by_test vertex set is false misses = apart vertex set is misses
 
 pub tells-after : (board : Board) (player who : Colour) (cell : ℕ) → OnBoard board.size cell → (joint : ℕ)
-    → IsSetOf board.size (Joined board player (Of cell)) joint → (stone : Option ℕ) → (who ≡ player → stone ≡ Some cell) → (who ≢ player → stone ≡ None)
+    → IsSetOf board.size (Joined board player (Of cell)) joint → (stone : Option ℕ) → (who ≡ player → stone ≡ Some cell)
+        → (who ≢ player → stone ≡ None)
     → TellsJoined (record { board = board; player = player }) (put board who cell) player stone joint
 tells-after board player who cell on joint is stone own others = ⊎_elim
     (λ (same : who ≡ player). rw (own same, same) (tells-own board player cell on joint is))
-    (λ (differ : who ≡ other_of player). rw (others (λ same. other-differs player (sym same ∙ differ)), differ) (tells-others board player cell joint)) (one_or_other who player)
+    (λ (differ : who ≡ other_of player).
+        rw (others (λ same. other-differs player (sym same ∙ differ)), differ) (tells-others board player cell joint))
+        (one_or_other who player)
 
-pub joined-widened : (before : Grouped) (board : Board) (player : Colour) (stone : Option ℕ) (joint : ℕ) → TellsJoined before board player stone joint
-    → (cell : ℕ) → stone ≡ Some cell → (vertex : Vertex) (set : ℕ) → IsSetOf before.board.size (Joined before.board before.player vertex) set
+pub joined-widened : (before : Grouped) (board : Board) (player : Colour) (stone : Option ℕ) (joint : ℕ)
+    → TellsJoined before board player stone joint
+    → (cell : ℕ) → stone ≡ Some cell → (vertex : Vertex) (set : ℕ)
+        → IsSetOf before.board.size (Joined before.board before.player vertex) set
     → (meets : Bool) → meets ≡ has set cell → IsSetOf board.size (Joined board player vertex) (widened_if meets joint set)
 joined-widened before board player stone joint tells cell same vertex set is meets meets_is =
     let now = tells.now vertex set is in

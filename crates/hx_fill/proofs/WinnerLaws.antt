@@ -15,9 +15,11 @@ use Rattle.hx_tree.proofs.FilledBoards.{second_empty}
 use Rattle.hx_fill.specs.declared.fills.Fill.{Fill}
 use Rattle.hx_fill.specs.Fills.{IsDeadOrPair, AreDeadOrPairs, FillsTo, single_stones, winner_steps, winner_steps_all}
 
-lead_to-append : (first second : List FillStep) (board mid final : Board) (winner : Colour) → LeadTo board winner first mid → LeadTo mid winner second final
+lead_to-append : (first second : List FillStep) (board mid final : Board) (winner : Colour) → LeadTo board winner first mid
+    → LeadTo mid winner second final
     → LeadTo board winner (first ++ second) final
-lead_to-append [] second board mid final winner one two = let P : Board → Type 0 = λ b. LeadTo b winner second final in subst P (sym one.same) two
+lead_to-append [] second board mid final winner one two = let P : Board → Type 0 = λ b. LeadTo b winner second final in
+    subst P (sym one.same) two
 lead_to-append (step ∷ rest) second board mid final winner one two =
     let more : LeadTo (filled board winner step) winner (rest ++ second) final =
     lead_to-append rest second (filled board winner step) mid final winner (record { right = one.right.1; same = one.same }) two in
@@ -31,10 +33,13 @@ single-lead winner who is board (Dead cell) kind may =
     subst P (sym is) (record { right = (may.empty, tt); same = refl })
 single-lead winner who is board (Pair a b) kind may =
     let empties : IsEmpty board a × IsEmpty (put board who a) b = (may.a_empty, second_empty board who a b may) in
-    let P : Colour → Type 0 = λ player. IsEmpty board a × IsEmpty (put board player a) b → LeadTo board winner (single_stones (Pair a b)) (put (put board player a) player b) in
-    subst P (sym is) (λ (both : IsEmpty board a × IsEmpty (put board (other_of winner) a) b). record { right = (both.0, (both.1, tt)); same = refl }) empties
+    let P : Colour → Type 0 = λ player. IsEmpty board a × IsEmpty (put board player a) b
+        → LeadTo board winner (single_stones (Pair a b)) (put (put board player a) player b) in
+    subst P (sym is) (λ (both : IsEmpty board a × IsEmpty (put board (other_of winner) a) b).
+        record { right = (both.0, (both.1, tt)); same = refl }) empties
 
-step-leads : (winner who : Colour) (board : Board) (step : FillStep) → IsDeadOrPair step → MayFill board who step → LeadTo board winner (winner_steps winner who step) (filled board who step)
+step-leads : (winner who : Colour) (board : Board) (step : FillStep) → IsDeadOrPair step → MayFill board who step
+    → LeadTo board winner (winner_steps winner who step) (filled board who step)
 step-leads Black Black board step kind may = record { right = (may, tt); same = refl }
 step-leads Black White board step kind may = single-lead Black White refl board step kind may
 step-leads White Black board step kind may = single-lead White Black refl board step kind may
@@ -44,9 +49,11 @@ pub winner_steps-lead : (winner : Colour) (fills : List Fill) → AreDeadOrPairs
     → LeadTo board winner (winner_steps_all winner fills) final
 winner_steps-lead winner [] kinds board final to = record { right = tt; same = to }
 winner_steps-lead winner (fill ∷ rest) kinds board final to =
-    lead_to-append (winner_steps winner fill.colour fill.step) (winner_steps_all winner rest) board (filled board fill.colour fill.step) final winner
+    lead_to-append (winner_steps winner fill.colour fill.step) (winner_steps_all winner rest) board
+        (filled board fill.colour fill.step) final winner
     (step-leads winner fill.colour board fill.step (All-head (λ (each : Fill). IsDeadOrPair each.step) fill rest kinds) to.0)
-    (winner_steps-lead winner rest (All-tail (λ (each : Fill). IsDeadOrPair each.step) fill rest kinds) (filled board fill.colour fill.step) final to.1)
+    (winner_steps-lead winner rest (All-tail (λ (each : Fill). IsDeadOrPair each.step) fill rest kinds)
+        (filled board fill.colour fill.step) final to.1)
 
 -- ---- no step
 
@@ -66,7 +73,8 @@ none_first [] second none = refl
 none_first (step ∷ rest) second none = cc
 
 -- the steps are none exactly where the fills are
-pub winner_steps_all-none : (winner : Colour) (fills : List Fill) → AreDeadOrPairs fills → (winner_steps_all winner fills ≡ []) ↔ (fills ≡ [])
+pub winner_steps_all-none : (winner : Colour) (fills : List Fill) → AreDeadOrPairs fills → (winner_steps_all winner fills ≡ [])
+    ↔ (fills ≡ [])
 winner_steps_all-none winner [] kinds = ((λ _. refl), (λ _. refl))
 winner_steps_all-none winner (fill ∷ rest) kinds = (
   (λ none. absurd (some_steps winner fill.colour fill.step (All-head (λ (each : Fill). IsDeadOrPair each.step) fill rest kinds)
@@ -81,10 +89,12 @@ pub winner_steps_all-push : (winner : Colour) (fills : List Fill) (fill : Fill)
 winner_steps_all-push winner [] fill = append-nil (winner_steps winner fill.colour fill.step)
 winner_steps_all-push winner (first ∷ rest) fill =
     ap (λ (xs : List FillStep). winner_steps winner first.colour first.step ++ xs) (winner_steps_all-push winner rest fill)
-    ∙ sym (append_assoc (winner_steps winner first.colour first.step) (winner_steps_all winner rest) (winner_steps winner fill.colour fill.step))
+    ∙ sym (append_assoc (winner_steps winner first.colour first.step) (winner_steps_all winner rest)
+        (winner_steps winner fill.colour fill.step))
 
 -- with one step more of a list
 pub winner_steps_all-more : (winner : Colour) (fills : List Fill) (i : ℕ) (fill : Fill) → i < length fills → fill ≡ get_or fills i fill
     → winner_steps_all winner (take (i + 1) fills) ≡ winner_steps_all winner (take i fills) ++ winner_steps winner fill.colour fill.step
 winner_steps_all-more winner fills i fill lt is =
-    ap (winner_steps_all winner) (take_more fills i fill lt ∙ ap (λ (x : Fill). take i fills ++ x ∷ []) (sym is)) ∙ winner_steps_all-push winner (take i fills) fill
+    ap (winner_steps_all winner) (take_more fills i fill lt ∙ ap (λ (x : Fill). take i fills ++ x ∷ []) (sym is))
+        ∙ winner_steps_all-push winner (take i fills) fill

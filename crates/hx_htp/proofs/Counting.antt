@@ -25,23 +25,28 @@ pub record Takes (before after : Account) (first second : ℕ) : Type 0 where
 takes_none : (before after : Account) → Continues before after → Takes before after 0 0
 takes_none before after later = record { budgets = omega (arith, later.budgets); proofs = omega (arith, later.proofs) }
 
-takes_more : (a b c : Account) (first second third fourth : ℕ) → Takes a b first second → Takes b c third fourth → Takes a c (first + third) (second + fourth)
-takes_more a b c first second third fourth one two = record { budgets = omega (arith, one.budgets, two.budgets); proofs = omega (arith, one.proofs, two.proofs) }
+takes_more : (a b c : Account) (first second third fourth : ℕ) → Takes a b first second → Takes b c third fourth
+    → Takes a c (first + third) (second + fourth)
+takes_more a b c first second third fourth one two =
+    record { budgets = omega (arith, one.budgets, two.budgets); proofs = omega (arith, one.proofs, two.proofs) }
 
 stays : (old new : Moment) → new ≡ old → Continues old.account new.account
 stays old new e = (let P : Moment → Type 0 = λ m. Continues old.account m.account in subst P (sym e) (continues_here old.account))
 
 turned : (old new : Moment) (mid : Moment) → new ≡ mid → mid.account ≡ old.account → Continues old.account new.account
 turned old new mid e same =
-    (let P : Account → Type 0 = λ a. Continues old.account a in subst P (sym (ap (λ (m : Moment). m.account) e ∙ same)) (continues_here old.account))
+    (let P : Account → Type 0 = λ a. Continues old.account a in
+        subst P (sym (ap (λ (m : Moment). m.account) e ∙ same)) (continues_here old.account))
 
-generated_later : (old : Moment) (player : Colour) (given : Given) (new : Moment) → GeneratesMove old player given new → Continues old.account new.account
+generated_later : (old : Moment) (player : Colour) (given : Given) (new : Moment) → GeneratesMove old player given new
+    → Continues old.account new.account
 generated_later old player (Ok (answer.Cell cell)) new h = h.2
 generated_later old player (Err refusal.NoEmptyCell) new h = stays old new h.1
 generated_later old player (Err refusal.OutOfMemory) new h = h.1.1
 generated_later old player _ new h = absurd h
 
-solved_later : (old : Moment) (player : Colour) (given : Given) (new : Moment) → Solves old player given new → Continues old.account new.account
+solved_later : (old : Moment) (player : Colour) (given : Given) (new : Moment) → Solves old player given new
+    → Continues old.account new.account
 solved_later old player (Ok (answer.Winner winner)) new h = h.2
 solved_later old player (Ok (answer.UnknownBudget n)) new h = h.4
 solved_later old player (Ok (answer.UnknownProofs n)) new h = h.4
@@ -49,7 +54,8 @@ solved_later old player (Err refusal.OutOfMemory) new h = h.1
 solved_later old player _ new h = absurd h
 
 -- no answer makes a count fall
-pub does_later : (old : Moment) (asked : Request) (given : Given) (new : Moment) → Does old asked given new → Continues old.account new.account
+pub does_later : (old : Moment) (asked : Request) (given : Given) (new : Moment) → Does old asked given new
+    → Continues old.account new.account
 does_later old request.ProtocolVersion given new h = stays old new h.1
 does_later old request.Name given new h = stays old new h.1
 does_later old request.Version given new h = stays old new h.1
@@ -70,9 +76,11 @@ does_later old (request.Solve named) given new h = solved_later old (to_move_of 
 -- what is no open question takes no share
 other_given : (given wanted : Given) → given ≡ wanted → share_of_budget (Some wanted) ≡ 0 → share_of_proofs (Some wanted) ≡ 0
     → (share_of_budget (Some given) ≡ 0) × (share_of_proofs (Some given) ≡ 0)
-other_given given wanted e no_budget no_proofs = (ap (λ g. share_of_budget (Some g)) e ∙ no_budget, ap (λ g. share_of_proofs (Some g)) e ∙ no_proofs)
+other_given given wanted e no_budget no_proofs =
+    (ap (λ g. share_of_budget (Some g)) e ∙ no_budget, ap (λ g. share_of_proofs (Some g)) e ∙ no_proofs)
 
-takes_shares : (before after : Account) (budgets proofs : ℕ) → Continues before after → (budgets ≡ 0) × (proofs ≡ 0) → Takes before after budgets proofs
+takes_shares : (before after : Account) (budgets proofs : ℕ) → Continues before after → (budgets ≡ 0) × (proofs ≡ 0)
+    → Takes before after budgets proofs
 takes_shares before after budgets proofs later none = record {
   budgets = omega (arith, later.budgets, none.0);
   proofs = omega (arith, later.proofs, none.1);
@@ -106,8 +114,10 @@ does_takes old request.Version given new h = said_takes old request.Version give
 does_takes old (request.KnownCommand known) given new h = said_takes old (request.KnownCommand known) given _ new h h.0 refl refl
 does_takes old request.ListCommands given new h = said_takes old request.ListCommands given _ new h h.0 refl refl
 does_takes old request.Quit given new h = said_takes old request.Quit given _ new h h.0 refl refl
-does_takes old (request.BoardSize cols rows) given new (inl h) = said_takes old (request.BoardSize cols rows) given _ new (inl h) h.1.0 refl refl
-does_takes old (request.BoardSize cols rows) given new (inr h) = said_takes old (request.BoardSize cols rows) given _ new (inr h) h.1.0 refl refl
+does_takes old (request.BoardSize cols rows) given new (inl h) =
+    said_takes old (request.BoardSize cols rows) given _ new (inl h) h.1.0 refl refl
+does_takes old (request.BoardSize cols rows) given new (inr h) =
+    said_takes old (request.BoardSize cols rows) given _ new (inr h) h.1.0 refl refl
 does_takes old request.ClearBoard given new h = said_takes old request.ClearBoard given _ new h h.0 refl refl
 does_takes old (request.Play player cell) given new (inl h) = said_takes old (request.Play player cell) given _ new (inl h) h.1.0 refl refl
 does_takes old (request.Play player cell) given new (inr h) = said_takes old (request.Play player cell) given _ new (inr h) h.1.0 refl refl

@@ -41,7 +41,8 @@ game_at : (state same : State) → same ≡ state → IsGame state → IsGame sa
 game_at state same e game = subst IsGame (sym e) game
 
 moved : (state : State) (move : Move) → IsGame state → IsEmpty (board_of state) move.cell → IsGame (with_move state move)
-moved state move game empty = record { extent = game.extent; legal = moves-append (empty_board state.size) state.moves move game.legal empty }
+moved state move game empty =
+    record { extent = game.extent; legal = moves-append (empty_board state.size) state.moves move game.legal empty }
 
 undone : (state : State) (moves : List Move) (move : Move) → state.moves ≡ moves ++ move ∷ [] → IsGame state
     → IsGame (record { size = state.size; moves = moves })
@@ -53,19 +54,23 @@ undone state moves move is game =
 same_state : (new wanted : Moment) → new ≡ wanted → new.state ≡ wanted.state
 same_state new wanted e = ap (λ (m : Moment). m.state) e
 
-played_empty : (before after : Account) (board : Board) (player : Colour) (cell : ℕ) → MayPlay before after board player cell → IsEmpty board cell
+played_empty : (before after : Account) (board : Board) (player : Colour) (cell : ℕ) → MayPlay before after board player cell
+    → IsEmpty board cell
 played_empty before after board player cell (Keeps_win empty wins) = empty
 played_empty before after board player cell (Of_no_win first none) = first.empty
 played_empty before after board player cell (Left_open first left) = first.empty
 
-generated_game : (old : Moment) (player : Colour) (given : Given) (new : Moment) → GeneratesMove old player given new → IsGame old.state → IsGame new.state
+generated_game : (old : Moment) (player : Colour) (given : Given) (new : Moment) → GeneratesMove old player given new → IsGame old.state
+    → IsGame new.state
 generated_game old player (Ok (answer.Cell cell)) new h game =
-    game_at (with_move old.state (record { colour = player; cell = cell })) new.state h.1 (moved old.state _ game (played_empty _ _ _ _ _ h.0))
+    game_at (with_move old.state (record { colour = player; cell = cell })) new.state h.1
+        (moved old.state _ game (played_empty _ _ _ _ _ h.0))
 generated_game old player (Err refusal.NoEmptyCell) new h game = game_at old.state new.state (same_state new old h.1) game
 generated_game old player (Err refusal.OutOfMemory) new h game = game_at old.state new.state h.1.0 game
 generated_game old player _ new h game = absurd h
 
-solved_game : (old : Moment) (mover : Colour) (given : Given) (new : Moment) → Solves old mover given new → IsGame old.state → IsGame new.state
+solved_game : (old : Moment) (mover : Colour) (given : Given) (new : Moment) → Solves old mover given new → IsGame old.state
+    → IsGame new.state
 solved_game old mover (Ok (answer.Winner winner)) new h game = game_at old.state new.state h.1 game
 solved_game old mover (Ok (answer.UnknownBudget n)) new h game = game_at old.state new.state h.3 game
 solved_game old mover (Ok (answer.UnknownProofs n)) new h game = game_at old.state new.state h.3 game
@@ -94,11 +99,13 @@ does_game old (request.GenMove player) given new h game = generated_game old pla
 does_game old request.ShowBoard given new h game = game_at old.state new.state (same_state new old h.1) game
 does_game old (request.Solve named) given new h game = solved_game old (to_move_of old.state named) given new h game
 
-asked_game : (old : Moment) (what : Result Request Refusal) (given : Given) (new : Moment) → AnswersAsked old what given new → IsGame old.state → IsGame new.state
+asked_game : (old : Moment) (what : Result Request Refusal) (given : Given) (new : Moment) → AnswersAsked old what given new
+    → IsGame old.state → IsGame new.state
 asked_game old (Ok what) given new h game = does_game old what given new h game
 asked_game old (Err why) given new h game = game_at old.state new.state (same_state new old h.1) game
 
-words_game : (old : Moment) (words : List (List ℕ)) (reply : List ℕ) (new : Moment) → AnswersWords old words reply new → IsGame old.state → IsGame new.state
+words_game : (old : Moment) (words : List (List ℕ)) (reply : List ℕ) (new : Moment) → AnswersWords old words reply new → IsGame old.state
+    → IsGame new.state
 words_game old [] reply new h game = game_at old.state new.state (same_state new old h.1) game
 words_game old (word ∷ words) reply new h game = asked_game old _ h.given new h.answers game
 
@@ -110,14 +117,17 @@ run_game old new lines replies (Then _ _ _ earlier line front reply mid last mor
 -- ---- who is named
 
 -- an answer that is this one names whom this one names
-names_as : (old : Moment) (line : List ℕ) (given wanted : Given) → given ≡ wanted → NamesRightly old line (Some wanted) → NamesRightly old line (Some given)
+names_as : (old : Moment) (line : List ℕ) (given wanted : Given) → given ≡ wanted → NamesRightly old line (Some wanted)
+    → NamesRightly old line (Some given)
 names_as old line given wanted e rightly = (let P : Given → Type 0 = λ g. NamesRightly old line (Some g) in subst P (sym e) rightly)
 
-generated_names : (old : Moment) (line : List ℕ) (player : Colour) (given : Given) (new : Moment) → GeneratesMove old player given new → NamesRightly old line (Some given)
+generated_names : (old : Moment) (line : List ℕ) (player : Colour) (given : Given) (new : Moment) → GeneratesMove old player given new
+    → NamesRightly old line (Some given)
 generated_names old line player (Ok (answer.Winner winner)) new h = absurd h
 generated_names old line player _ new h = tt
 
-solved_names : (old : Moment) (line : List ℕ) (mover : Option Colour) (given : Given) (new : Moment) → asked_on line ≡ Ok (request.Solve mover)
+solved_names : (old : Moment) (line : List ℕ) (mover : Option Colour) (given : Given) (new : Moment)
+    → asked_on line ≡ Ok (request.Solve mover)
     → IsBoard (board_of old.state) → Solves old (to_move_of old.state mover) given new → NamesRightly old line (Some given)
 solved_names old line mover (Ok (answer.Winner winner)) new solves board h = record {
   mover = mover;
@@ -127,7 +137,8 @@ solved_names old line mover (Ok (answer.Winner winner)) new solves board h = rec
 }
 solved_names old line mover _ new solves board h = tt
 
-does_names : (old : Moment) (line : List ℕ) (what : Request) (given : Given) (new : Moment) → asked_on line ≡ Ok what → IsBoard (board_of old.state)
+does_names : (old : Moment) (line : List ℕ) (what : Request) (given : Given) (new : Moment) → asked_on line ≡ Ok what
+    → IsBoard (board_of old.state)
     → Does old what given new → NamesRightly old line (Some given)
 does_names old line request.ProtocolVersion given new is board h = names_as old line given _ h.0 tt
 does_names old line request.Name given new is board h = names_as old line given _ h.0 tt
@@ -146,7 +157,8 @@ does_names old line (request.GenMove player) given new is board h = generated_na
 does_names old line request.ShowBoard given new is board h = names_as old line given _ h.0 tt
 does_names old line (request.Solve mover) given new is board h = solved_names old line mover given new is board h
 
-asked_names : (old : Moment) (line : List ℕ) (what : Result Request Refusal) (given : Given) (new : Moment) → asked_on line ≡ what → IsBoard (board_of old.state)
+asked_names : (old : Moment) (line : List ℕ) (what : Result Request Refusal) (given : Given) (new : Moment) → asked_on line ≡ what
+    → IsBoard (board_of old.state)
     → AnswersAsked old what given new → NamesRightly old line (Some given)
 asked_names old line (Ok what) given new is board h = does_names old line what given new is board h
 asked_names old line (Err why) given new is board h = names_as old line given (Err why) h.0 tt
@@ -154,14 +166,17 @@ asked_names old line (Err why) given new is board h = names_as old line given (E
 words_names : (old : Moment) (line : List ℕ) (words : List (List ℕ)) (reply : List ℕ) (new : Moment) (h : AnswersWords old words reply new)
     → asked_on line ≡ asked (command_words words) → IsBoard (board_of old.state) → NamesRightly old line (given_to old words reply new h)
 words_names old line [] reply new h is board = tt
-words_names old line (word ∷ words) reply new h is board = asked_names old line (asked (command_words (word ∷ words))) h.given new is board h.answers
+words_names old line (word ∷ words) reply new h is board =
+    asked_names old line (asked (command_words (word ∷ words))) h.given new is board h.answers
 
-run_names : (old new : Moment) (lines : List (List ℕ)) (replies : List ℕ) (run : Run old lines replies new) → IsGame old.state → NamesWinners run
+run_names : (old new : Moment) (lines : List (List ℕ)) (replies : List ℕ) (run : Run old lines replies new) → IsGame old.state
+    → NamesWinners run
 run_names old new lines replies (Begun _ _ _ none silent same) game = tt
 run_names old new lines replies (Then _ _ _ earlier line front reply mid last more run answers) game = (
   run_names old mid earlier front run game,
   words_names mid line (words_of line) reply new answers refl (board_of_game mid.state (run_game old mid earlier front run game)),
 )
 
-pub winners_named : (before : Account) (after : Moment) (lines : List (List ℕ)) (replies : List ℕ) (run : Run (moment fresh before) lines replies after) → NamesWinners run
+pub winners_named : (before : Account) (after : Moment) (lines : List (List ℕ)) (replies : List ℕ)
+    (run : Run (moment fresh before) lines replies after) → NamesWinners run
 winners_named before after lines replies run = run_names (moment fresh before) after lines replies run fresh_game

@@ -64,7 +64,8 @@ open_moved before after board player a b is at_a at_b left = record {
   rose = left.rose;
   large = λ small. left.large (record {
     few = (let P : ℕ → Type 0 = λ n. n ≤ 9 in subst P (sym (counts_moved board player a b is at_a at_b)) small.few);
-    within = (let P : ℕ → Type 0 = λ n. sweep_size n ≤ before.budget in subst P (sym (counts_moved board player a b is at_a at_b)) small.within);
+    within = (let P : ℕ → Type 0 = λ n. sweep_size n ≤ before.budget in
+        subst P (sym (counts_moved board player a b is at_a at_b)) small.within);
   });
 }
 
@@ -78,7 +79,8 @@ no_win board player some is empty lost wins =
     subst P (sym (other-other player)) (lost cell at_cell)))
 
 -- where the other player is told to win, the first empty cell may be played
-pub named_other : (before after : Account) (board : Board) (player other : Colour) (told : Told) (first : ℕ) → IsBoard board → IsFirstEmpty board first
+pub named_other : (before after : Account) (board : Board) (player other : Colour) (told : Told) (first : ℕ) → IsBoard board
+    → IsFirstEmpty board first
     → told ≡ Winner other → other ≡ other_of player → MayTell before after board player told → MayPlay before after board player first
 named_other before after board player other told first is here named opponent tells =
     let theirs : Wins other board player = subst (MayTell before after board player) named tells in
@@ -87,19 +89,23 @@ named_other before after board player other told first is here named opponent te
 
 -- the other player wins after each move to an empty cell outside a set
 abbrev pub AllLost : Board → Colour → ℕ → Type 0
-AllLost board player left = (cell : ℕ) → IsEmpty board cell → has left cell ≡ false → Wins (other_of player) (put board player cell) (other_of player)
+AllLost board player left = (cell : ℕ) → IsEmpty board cell → has left cell ≡ false
+    → Wins (other_of player) (put board player cell) (other_of player)
 
 lost_here : (board : Board) (player : Colour) (cell : ℕ) (left next : ℕ) → ((n : ℕ) → has next n ≡ (has left n && not (eqb n cell)))
     → AllLost board player left → Wins (other_of player) (put board player cell) (other_of player) → AllLost board player next
-lost_here board player cell left next members lost here = λ n at_n gone. go n at_n (has left n) refl (eqb n cell) refl (sym (members n) ∙ gone)
+lost_here board player cell left next members lost here = λ n at_n gone.
+    go n at_n (has left n) refl (eqb n cell) refl (sym (members n) ∙ gone)
   where
     go : (n : ℕ) → IsEmpty board n → (l : Bool) → has left n ≡ l → (e : Bool) → eqb n cell ≡ e → (has left n && not (eqb n cell)) ≡ false
         → Wins (other_of player) (put board player n) (other_of player)
     go n at_n false l e _ gone = lost n at_n l
-    go n at_n true l true e gone = (let P : ℕ → Type 0 = λ m. Wins (other_of player) (put board player m) (other_of player) in subst P (sym (eqb-true n cell e)) here)
+    go n at_n true l true e gone =
+        (let P : ℕ → Type 0 = λ m. Wins (other_of player) (put board player m) (other_of player) in subst P (sym (eqb-true n cell e)) here)
     go n at_n true l false e gone = absurd (true≢false (sym (ap (λ b. b && not (eqb n cell)) l ∙ ap (λ b. true && not b) e) ∙ gone))
 
-pub passed_on : (start mid now : Account) (board : Board) (player : Colour) (first cell left next : ℕ) → IsBoard board → IsEmpty board first → IsEmpty board cell
+pub passed_on : (start mid now : Account) (board : Board) (player : Colour) (first cell left next : ℕ) → IsBoard board → IsEmpty board first
+    → IsEmpty board cell
     → Continues start mid → Continues mid now → ((n : ℕ) → has next n ≡ (has left n && not (eqb n cell)))
     → AllLost board player left ⊎ LeavesOpen start mid (put board player first) → IsPassed mid now board player cell
     → AllLost board player next ⊎ LeavesOpen start now (put board player first)
@@ -108,7 +114,8 @@ passed_on start mid now board player first cell left next is at_first at_cell ea
 passed_on start mid now board player first cell left next is at_first at_cell earlier later members (inl lost) (Lost here) =
     inl (lost_here board player cell left next members lost here)
 passed_on start mid now board player first cell left next is at_first at_cell earlier later members (inl lost) (Unknown left_open) =
-    inr (open_moved start now board player cell first is at_cell at_first (open_from start mid now (put board player cell) earlier left_open))
+    inr (open_moved start now board player cell first is at_cell at_first
+        (open_from start mid now (put board player cell) earlier left_open))
 
 -- all moves were passed
 pub passed_all : (before after : Account) (board : Board) (player : Colour) (first left : ℕ) → IsBoard board → IsFirstEmpty board first

@@ -51,7 +51,8 @@ behind (byte ∷ bytes) = behind_first (is_space byte) byte bytes (position_or_l
 words_behind : (bytes : List ℕ) → IsBehind bytes → filter has_bytes (after_space bytes) ≡ words_in bytes
 unfolding parts_between after_space IsBehind
 words_behind [] h = refl
-words_behind (byte ∷ bytes) h = sym (ap (λ space. filter has_bytes (cond space ([] ∷ parts_between bytes) (in_first byte (parts_between bytes)))) h)
+words_behind (byte ∷ bytes) h =
+    sym (ap (λ space. filter has_bytes (cond space ([] ∷ parts_between bytes) (in_first byte (parts_between bytes)))) h)
 
 some_first : (bytes : List ℕ) (n : ℕ) → 1 ≤ length bytes → 1 ≤ n → has_bytes (take n bytes) ≡ true
 some_first [] n some one = absurd (omega (arith, some))
@@ -70,10 +71,12 @@ pub words_cut : (bytes : List ℕ) (n : ℕ) → n ≡ position_or_len is_space 
     → words_in bytes ≡ take n bytes ∷ words_in (drop n bytes)
 words_cut bytes n is some begun =
     let m : ℕ = position_or_len is_space bytes in
-    let all : words_in bytes ≡ filter has_bytes (take m bytes ∷ after_space (drop m bytes)) = ap (filter has_bytes) (parts_at_space bytes) in
+    let all : words_in bytes ≡ filter has_bytes (take m bytes ∷ after_space (drop m bytes)) =
+        ap (filter has_bytes) (parts_at_space bytes) in
     let first : has_bytes (take m bytes) ≡ true = some_first bytes m some (no_space_first bytes some begun) in
     let kept : filter has_bytes (take m bytes ∷ after_space (drop m bytes)) ≡ take m bytes ∷ filter has_bytes (after_space (drop m bytes))
-    = ap (λ b. cond b (take m bytes ∷ filter has_bytes (after_space (drop m bytes))) (filter has_bytes (after_space (drop m bytes)))) first in
+    = ap (λ b. cond b (take m bytes ∷ filter has_bytes (after_space (drop m bytes)))
+        (filter has_bytes (after_space (drop m bytes)))) first in
     all ∙ kept ∙ ap (λ (words : List (List ℕ)). take m bytes ∷ words) (words_behind (drop m bytes) (behind bytes))
     ∙ ap (λ k. take k bytes ∷ words_in (drop k bytes)) (sym is)
 
@@ -89,7 +92,8 @@ words_in-none = refl
 -- what of a line counts, from its first byte on
 pub shown-dropped : (byte : ℕ) (bytes : List ℕ) → is_kept byte ≡ false → shown (byte ∷ bytes) ≡ shown bytes
 shown-dropped byte bytes h =
-    ap (λ b. take (position_or_len is_hash (cond b (byte ∷ filter is_kept bytes) (filter is_kept bytes))) (cond b (byte ∷ filter is_kept bytes) (filter is_kept bytes))) h
+    ap (λ b. take (position_or_len is_hash (cond b (byte ∷ filter is_kept bytes) (filter is_kept bytes)))
+        (cond b (byte ∷ filter is_kept bytes) (filter is_kept bytes))) h
 
 kept_first : (byte : ℕ) (rest : List ℕ) (hash : Bool) → is_hash byte ≡ hash
     → take (position_or_len is_hash (byte ∷ rest)) (byte ∷ rest) ≡ cond hash [] (byte ∷ take (position_or_len is_hash rest) rest)
@@ -98,9 +102,11 @@ kept_first byte rest false h =
     ap (λ b. take (cond (not b) (1 + position_or_len is_hash rest) 0) (byte ∷ rest)) h
     ∙ ap (λ k. take k (byte ∷ rest)) (one-add (position_or_len is_hash rest))
 
-pub shown-kept : (byte : ℕ) (bytes : List ℕ) (hash : Bool) → is_kept byte ≡ true → is_hash byte ≡ hash → shown (byte ∷ bytes) ≡ cond hash [] (byte ∷ shown bytes)
+pub shown-kept : (byte : ℕ) (bytes : List ℕ) (hash : Bool) → is_kept byte ≡ true → is_hash byte ≡ hash
+    → shown (byte ∷ bytes) ≡ cond hash [] (byte ∷ shown bytes)
 shown-kept byte bytes hash h is =
-    ap (λ b. take (position_or_len is_hash (cond b (byte ∷ filter is_kept bytes) (filter is_kept bytes))) (cond b (byte ∷ filter is_kept bytes) (filter is_kept bytes))) h
+    ap (λ b. take (position_or_len is_hash (cond b (byte ∷ filter is_kept bytes) (filter is_kept bytes)))
+        (cond b (byte ∷ filter is_kept bytes) (filter is_kept bytes))) h
     ∙ kept_first byte (filter is_kept bytes) hash is
 
 -- one more byte of a line is passed: it is kept, or it is dropped
@@ -111,7 +117,8 @@ kept_on line kept new whole i within so_far short is no_hash added =
     let b : ℕ = get_or line i 0 in
     let next : drop i line ≡ b ∷ drop (i + 1) line = drop-cons line i 0 within ∙ ap (λ k. b ∷ drop k line) (sym (add-one i)) in
     let here : shown (drop i line) ≡ b ∷ shown (drop (i + 1) line) = ap shown next ∙ shown-kept b (drop (i + 1) line) false is no_hash in (
-      ap (λ xs. xs ++ shown (drop (i + 1) line)) added ∙ append_assoc kept (b ∷ []) (shown (drop (i + 1) line)) ∙ ap (λ xs. kept ++ xs) (sym here) ∙ so_far,
+      ap (λ xs. xs ++ shown (drop (i + 1) line)) added ∙ append_assoc kept (b ∷ []) (shown (drop (i + 1) line))
+          ∙ ap (λ xs. kept ++ xs) (sym here) ∙ so_far,
       omega (arith, ap length added, length-append kept (b ∷ []), short),
     )
 
@@ -150,9 +157,11 @@ pub is_hash_byte : (byte : ℕ) → byte ≡ 35 → is_hash byte ≡ true
 is_hash_byte byte e = eq-eqb byte 35 e
 
 -- a loop that passes spaces
-pub space_passed : (bytes : List ℕ) → 1 ≤ length bytes → is_space (get_or bytes 0 0) ≡ true → words_in (take (length bytes - 1) (drop 1 bytes)) ≡ words_in bytes
+pub space_passed : (bytes : List ℕ) → 1 ≤ length bytes → is_space (get_or bytes 0 0) ≡ true
+    → words_in (take (length bytes - 1) (drop 1 bytes)) ≡ words_in bytes
 space_passed bytes some space =
-    let all : take (length bytes - 1) (drop 1 bytes) ≡ drop 1 bytes = take_all (length bytes - 1) (drop 1 bytes) (omega (arith, length-drop 1 bytes)) in
+    let all : take (length bytes - 1) (drop 1 bytes) ≡ drop 1 bytes =
+        take_all (length bytes - 1) (drop 1 bytes) (omega (arith, length-drop 1 bytes)) in
     let parts : bytes ≡ get_or bytes 0 0 ∷ drop 1 bytes = drop-cons bytes 0 0 (omega arith) in
     ap words_in all ∙ sym (ap words_in parts ∙ words_in-space (get_or bytes 0 0) (drop 1 bytes) space)
 

@@ -47,7 +47,9 @@ module _ (board : Board) (is : IsBoard board) (player : Colour) where
 
   line : (across : ℕ) → across < extent (other_of player) size → Connected IsOurs (behind across) (behind 0)
   line zero less = Stay (behind 0) (behind_ours 0 less)
-  line (suc across) less = Step (behind (suc across)) (behind across) (behind 0) (behind_ours (suc across) less) (near-across player _ across) (line across (omega arith))
+  line (suc across) less =
+      Step (behind (suc across)) (behind across) (behind 0) (behind_ours (suc across) less) (near-across player _ across)
+      (line across (omega arith))
 
   stone_ours : (cell : ℕ) → OnBoard size cell → has (stones_of board player) cell ≡ true → IsOurs (point_of cell)
   stone_ours cell on stone =
@@ -64,7 +66,8 @@ module _ (board : Board) (is : IsBoard board) (player : Colour) where
   FromVertex First = FromFirst
   FromVertex Last = Unit {0}
 
-  from_last : (cell : ℕ) → OnBoard size cell → IsLastLine size player cell → has (stones_of board player) cell ≡ true → Connected IsOurs (point_of cell) (behind 0)
+  from_last : (cell : ℕ) → OnBoard size cell → IsLastLine size player cell → has (stones_of board player) cell ≡ true
+      → Connected IsOurs (point_of cell) (behind 0)
   from_last cell on last stone =
       let across : ℕ = depth (other_of player) (point_of cell) in
       Step (point_of cell) (behind across) (behind 0) (stone_ours cell on stone)
@@ -73,7 +76,8 @@ module _ (board : Board) (is : IsBoard board) (player : Colour) where
 
   step_from : (from to : Vertex) → IsOwn board player from → Touches size player from to → FromVertex to → FromVertex from
   step_from (Of cell) (Of other) own touch (inl first) = inl first
-  step_from (Of cell) (Of other) own touch (inr path) = inr (Step _ (point_of other) _ (stone_ours cell touch.0 own) (touching-near cell other touch.2) path)
+  step_from (Of cell) (Of other) own touch (inr path) =
+      inr (Step _ (point_of other) _ (stone_ours cell touch.0 own) (touching-near cell other touch.2) path)
   step_from (Of cell) First own touch first = inl first
   step_from (Of cell) Last own touch _ = inr (from_last cell touch.0 touch.1 own)
   step_from First (Of cell) own touch (inl first) = first
@@ -93,7 +97,8 @@ module _ (board : Board) (is : IsBoard board) (player : Colour) where
   line_reaches : (edge : Side) → FromFirst → Reaches (owner board) player side (behind 0) edge
   line_reaches (First_of who) first = ⊎_elim
       (λ own. record { end = first.0; along = rw own first.1.0; path = connected-sym IsOurs first.0 (behind 0) first.1.1 })
-      (λ others. record { end = behind 0; along = rw others (depths-point_at player (extent player size) 0).1; path = line 0 (extent-positive (other_of player) size is.0) })
+      (λ others. record { end = behind 0; along = rw others (depths-point_at player (extent player size) 0).1; path =
+          line 0 (extent-positive (other_of player) size is.0) })
       (one_or_other who player)
   line_reaches Long first =
       let last : ℕ = extent (other_of player) size - 1 in
@@ -123,7 +128,8 @@ module _ (board : Board) (is : IsBoard board) (player : Colour) where
 
   -- a point of the player's along the long side is not before the last side
   long_behind : (x : Point) → IsOurs x → IsAlong Long side x → extent player size ≤ depth player x
-  long_behind x ours long = let across = across_less x ours in let sum = sum-depths player x in let whole = sum-extents player size in omega arith
+  long_behind x ours long = let across = across_less x ours in let sum = sum-depths player x in let whole = sum-extents player size in
+      omega arith
 
   abbrev ToLast : ℕ → Type 0
   ToLast cell = (inner : List Vertex) × Walk board player (Of cell) inner Last
@@ -133,7 +139,8 @@ module _ (board : Board) (is : IsBoard board) (player : Colour) where
     stone x ours before =
         let same : x ≡ point_of (cell_at x) = point_of-cell_at x (col_small size player x is.0 before (across_less x ours)) in
         let on : OnBoard size (cell_at x) = (on_board size player (cell_at x)).1 (rw (← same) (before, across_less x ours)) in
-        record { cell = cell_at x; same = same; on = on; own = stone_of-owner board player (cell_at x) full on (ap (owner board) (sym same) ∙ ours.same) }
+        record { cell = cell_at x; same = same; on = on; own =
+            stone_of-owner board player (cell_at x) full on (ap (owner board) (sym same) ∙ ours.same) }
 
     step_to : (x u : Point) (s : Stone x) (t : Stone u) → Near x u → ToLast t.cell → ToLast s.cell
     step_to x u s t near walk = ⊎_elim
@@ -154,7 +161,8 @@ module _ (board : Board) (is : IsBoard board) (player : Colour) where
     walk_to_last : (x y : Point) → Connected IsOurs x y → (s : Stone x) → extent player size ≤ depth player y → ToLast s.cell
     walk_to_last x y (Stay _ _) s behind = let before = stone-before x s in absurd (omega arith)
     walk_to_last x y (Step _ u _ ours near rest) s behind = ⊎_elim
-        (λ before. let t : Stone u = stone u (connected-first IsOurs u y rest) before in step_to x u s t near (walk_to_last u y rest t behind))
+        (λ before. let t : Stone u = stone u (connected-first IsOurs u y rest) before in
+            step_to x u s t near (walk_to_last u y rest t behind))
         (stone-last x u s near)
         (cases_lt (depth player u) (extent player size))
 
@@ -166,7 +174,8 @@ module _ (board : Board) (is : IsBoard board) (player : Colour) where
         let start : depth player first.end ≡ 0 = first.along in
         let some : 0 < extent player size = extent-positive player size is.0 in
         let s : Stone first.end = stone first.end (connected-first IsOurs _ _ path) (omega arith) in
-        let walk : ToLast s.cell = walk_to_last first.end long.end path s (long_behind long.end (connected-last IsOurs _ _ path) long.along) in
+        let walk : ToLast s.cell =
+            walk_to_last first.end long.end path s (long_behind long.end (connected-last IsOurs _ _ path) long.along) in
         inr (Of s.cell ∷ walk.0, ((s.on, (on_first_line player s.cell).1 (rw (← s.same) start)), s.own, walk.1))
 
 -- ---- the two laws
@@ -180,7 +189,8 @@ side_of_board size is = omega arith
 
 chain-winner : (board : Board) (player : Colour) → IsBoard board → HasChain board player → player ≡ winner board
 unfolding winner
-chain-winner board player is chain = meets-last _ (owner board) player (rw (side_of_board board.size is.0) at (chain-meets board is player chain))
+chain-winner board player is chain =
+    meets-last _ (owner board) player (rw (side_of_board board.size is.0) at (chain-meets board is player chain))
 
 winner-chain : (board : Board) → IsBoard board → IsFull board → HasChain board (winner board)
 unfolding winner

@@ -30,7 +30,8 @@ touching-near cell other (Below row col) = near_by _ _ (omega arith) (omega arit
 touching-near cell other (Above_right row col) = near_by _ _ (omega arith) (omega arith)
 touching-near cell other (Below_left row col) = near_by _ _ (omega arith) (omega arith)
 
-by_corners : (cell other : ℕ) (base : Point) → Which base (point_of cell) → Which base (point_of other) → (cell ≡ other) ⊎ CellsTouch cell other
+by_corners : (cell other : ℕ) (base : Point) → Which base (point_of cell) → Which base (point_of other) → (cell ≡ other)
+    ⊎ CellsTouch cell other
 by_corners cell other base (Base a b) (Base c d) = inl (omega arith)
 by_corners cell other base (Base a b) (Under c d) = inr (Below (omega arith) (omega arith))
 by_corners cell other base (Base a b) (Beside c d) = inr (Right (omega arith) (omega arith))
@@ -42,7 +43,8 @@ by_corners cell other base (Beside a b) (Under c d) = inr (Below_left (omega ari
 by_corners cell other base (Beside a b) (Beside c d) = inl (omega arith)
 
 pub near-touching : (cell other : ℕ) → Near (point_of cell) (point_of other) → (cell ≡ other) ⊎ CellsTouch cell other
-near-touching cell other near = by_corners cell other near.base (which near.base (point_of cell) near.first) (which near.base (point_of other) near.second)
+near-touching cell other near =
+    by_corners cell other near.base (which near.base (point_of cell) near.first) (which near.base (point_of other) near.second)
 
 -- ---- depths
 
@@ -60,7 +62,8 @@ abbrev pub point_at : Colour → ℕ → ℕ → Point
 point_at Black deep across = record { row = deep; col = across }
 point_at White deep across = record { row = across; col = deep }
 
-pub depths-point_at : (player : Colour) (deep across : ℕ) → (depth player (point_at player deep across) ≡ deep) × (depth (other_of player) (point_at player deep across) ≡ across)
+pub depths-point_at : (player : Colour) (deep across : ℕ) → (depth player (point_at player deep across) ≡ deep)
+    × (depth (other_of player) (point_at player deep across) ≡ across)
 depths-point_at Black deep across = (refl, refl)
 depths-point_at White deep across = (refl, refl)
 
@@ -84,15 +87,18 @@ pub on_first_line : (player : Colour) (cell : ℕ) → IsFirstLine player cell �
 on_first_line Black cell = ((λ first. first), (λ first. first))
 on_first_line White cell = ((λ first. first), (λ first. first))
 
-pub on_last_line : (size : Extent) (player : Colour) (cell : ℕ) → IsLastLine size player cell ↔ (depth player (point_of cell) + 1 ≡ extent player size)
+pub on_last_line : (size : Extent) (player : Colour) (cell : ℕ) → IsLastLine size player cell
+    ↔ (depth player (point_of cell) + 1 ≡ extent player size)
 on_last_line size Black cell = ((λ last. last), (λ last. last))
 on_last_line size White cell = ((λ last. last), (λ last. last))
 
-pub on_board : (size : Extent) (player : Colour) (cell : ℕ) → OnBoard size cell ↔ (depth player (point_of cell) < extent player size × depth (other_of player) (point_of cell) < extent (other_of player) size)
+pub on_board : (size : Extent) (player : Colour) (cell : ℕ) → OnBoard size cell
+    ↔ (depth player (point_of cell) < extent player size × depth (other_of player) (point_of cell) < extent (other_of player) size)
 on_board size Black cell = ((λ on. (on.row, on.col)), (λ on. record { row = on.0; col = on.1 }))
 on_board size White cell = ((λ on. (on.col, on.row)), (λ on. record { row = on.1; col = on.0 }))
 
-pub near-deeper : (player : Colour) (x : Point) (deep : ℕ) → depth player x + 1 ≡ deep → Near x (point_at player deep (depth (other_of player) x))
+pub near-deeper : (player : Colour) (x : Point) (deep : ℕ) → depth player x + 1 ≡ deep
+    → Near x (point_at player deep (depth (other_of player) x))
 near-deeper Black x deep next = near_by _ _ (omega arith) (omega arith)
 near-deeper White x deep next = near_by _ _ (omega arith) (omega arith)
 
@@ -100,6 +106,7 @@ pub near-depth : (player : Colour) (x y : Point) → Near x y → depth player y
 near-depth Black x y near = omega arith
 near-depth White x y near = omega arith
 
-pub col_small : (size : Extent) (player : Colour) (x : Point) → IsExtent size.rows size.cols → depth player x < extent player size → depth (other_of player) x < extent (other_of player) size → x.col < 11
+pub col_small : (size : Extent) (player : Colour) (x : Point) → IsExtent size.rows size.cols → depth player x < extent player size
+    → depth (other_of player) x < extent (other_of player) size → x.col < 11
 col_small size Black x is deep across = omega arith
 col_small size White x is deep across = omega arith

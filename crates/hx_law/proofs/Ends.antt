@@ -15,16 +15,19 @@ pub data Ends : Board → Type 0 where
 -- ---- whether a cell is empty
 
 module _ (board : Board) (cell : ℕ) where
-  decide : (row_of cell < board.size.rows) ⊎ (board.size.rows ≤ row_of cell) → (col_of cell < board.size.cols) ⊎ (board.size.cols ≤ col_of cell)
+  decide : (row_of cell < board.size.rows) ⊎ (board.size.rows ≤ row_of cell) → (col_of cell < board.size.cols)
+      ⊎ (board.size.cols ≤ col_of cell)
       → (black : Bool) → has board.black cell ≡ black → (white : Bool) → has board.white cell ≡ white → Dec (IsEmpty board cell)
-  decide (inl row) (inl col) false no_black false no_white = yes (record { on_board = record { row = row; col = col }; no_black = no_black; no_white = no_white })
+  decide (inl row) (inl col) false no_black false no_white =
+      yes (record { on_board = record { row = row; col = col }; no_black = no_black; no_white = no_white })
   decide (inl row) (inl col) false no_black true white = no (λ empty. false≢true (sym empty.no_white ∙ white))
   decide (inl row) (inl col) true black _ _ = no (λ empty. false≢true (sym empty.no_black ∙ black))
   decide (inl row) (inr beyond) _ _ _ _ = no (λ empty. let col : col_of cell < board.size.cols = empty.on_board.col in omega arith)
   decide (inr beyond) _ _ _ _ _ = no (λ empty. let row : row_of cell < board.size.rows = empty.on_board.row in omega arith)
 
   pub is_empty : Dec (IsEmpty board cell)
-  is_empty = decide (cases_lt (row_of cell) board.size.rows) (cases_lt (col_of cell) board.size.cols) (has board.black cell) refl (has board.white cell) refl
+  is_empty = decide (cases_lt (row_of cell) board.size.rows) (cases_lt (col_of cell) board.size.cols) (has board.black cell) refl
+      (has board.white cell) refl
 
 -- ---- the number of empty cells falls
 
@@ -53,7 +56,8 @@ module _ (board : Board) (who : Colour) (cell : ℕ) (empty : IsEmpty board cell
 
   not_more : (n : ℕ) → empties_below n after ≤ empties_below n board
   not_more zero = omega arith
-  not_more (suc n) = let here = one_if-le (is_empty after n) (is_empty board n) (λ e. ((empty-put board who cell n).0 e).0) in let rest = not_more n in omega arith
+  not_more (suc n) = let here = one_if-le (is_empty after n) (is_empty board n) (λ e. ((empty-put board who cell n).0 e).0) in let rest =
+      not_more n in omega arith
 
   fewer : (n : ℕ) → cell < n → empties_below n after < empties_below n board
   fewer zero less = absurd (omega arith)
@@ -79,7 +83,8 @@ empty-below board cell empty = let row : cell / 11 < board.size.rows = empty.on_
 ends_within : (n : ℕ) (board : Board) → empties_below (bound board) board < n → Ends board
 ends_within zero board less = absurd (omega arith)
 ends_within (suc n) board less = After board (λ who cell empty.
-    let fall : empties_below (bound board) (put board who cell) < empties_below (bound board) board = fewer board who cell empty (bound board) (empty-below board cell empty) in
+    let fall : empties_below (bound board) (put board who cell) < empties_below (bound board) board =
+        fewer board who cell empty (bound board) (empty-below board cell empty) in
     ends_within n (put board who cell) (rw (size-put board who cell) (omega arith)))
 
 pub ends : (board : Board) → Ends board

@@ -17,7 +17,8 @@ use Rattle.hx_law.proofs.Ends.{Ends, After, ends, is_empty, some_or_all}
 
 -- ---- free cells
 
-free-put : (region : ℕ → Bool) (board : Board) (who : Colour) (cell n : ℕ) → IsFree region (put board who cell) n ↔ (IsFree region board n × (n ≢ cell))
+free-put : (region : ℕ → Bool) (board : Board) (who : Colour) (cell n : ℕ) → IsFree region (put board who cell) n
+    ↔ (IsFree region board n × (n ≢ cell))
 free-put region board who cell n = (
   (λ free. let w = (empty-put board who cell n).0 free.empty in (record { inside = free.inside; empty = w.0 }, w.1)),
   (λ w. record { inside = w.0.inside; empty = (empty-put board who cell n).1 (w.0.empty, w.1) }),
@@ -31,7 +32,8 @@ is_free region board cell = decide (cases_Bool (region cell)) (is_empty board ce
     decide (inl inside) (no held) = no (λ free. held free.empty)
     decide (inr outside) _ = no (λ free. false≢true (sym outside ∙ free.inside))
 
-some_free_or_none : (region : ℕ → Bool) (board : Board) → ((cell : ℕ) × IsFree region board cell) ⊎ ((cell : ℕ) → ¬ IsFree region board cell)
+some_free_or_none : (region : ℕ → Bool) (board : Board) → ((cell : ℕ) × IsFree region board cell)
+    ⊎ ((cell : ℕ) → ¬ IsFree region board cell)
 some_free_or_none region board = ⊎_elim
     (λ w. inl (w.0, record { inside = w.1.1; empty = w.1.0 }))
     (λ all. inr (λ cell free. false≢true (sym (all cell free.empty) ∙ free.inside)))
@@ -55,7 +57,8 @@ module _ (player : Colour) where
     as_good_both who cell = record {
       keeps = record {
         same_size = size-put after who cell ∙ good.keeps.same_size ∙ sym (size-put before who cell);
-        own = λ n h. (stones-put after who player cell n).1 (⊎_elim inl (λ k. inr (good.keeps.own n k)) ((stones-put before who player cell n).0 h));
+        own = λ n h. (stones-put after who player cell n).1
+            (⊎_elim inl (λ k. inr (good.keeps.own n k)) ((stones-put before who player cell n).0 h));
       };
       free = λ n h. let w : IsFree region before n × (n ≢ cell) = (free-put region before who cell n).0 h in ⊎_elim
           (λ free. inl ((free-put larger after who cell n).1 (free, w.1)))
@@ -64,7 +67,8 @@ module _ (player : Colour) where
     }
 
     -- one stone less: the opponent's, or an own one that the board after has
-    as_good_less : (who : Colour) (cell : ℕ) → (who ≡ player → has (stones_of after player) cell ≡ true) → IsAsGood region larger (put before who cell) after
+    as_good_less : (who : Colour) (cell : ℕ) → (who ≡ player → has (stones_of after player) cell ≡ true)
+        → IsAsGood region larger (put before who cell) after
     as_good_less who cell there = record {
       keeps = record {
         same_size = good.keeps.same_size ∙ sym (size-put before who cell);
@@ -74,7 +78,8 @@ module _ (player : Colour) where
     }
 
     -- one stone more: the player's, or on a cell that was not free
-    pub as_good_more : (who : Colour) (cell : ℕ) → (who ≡ player) ⊎ ¬ IsFree region before cell → IsAsGood region larger before (put after who cell)
+    pub as_good_more : (who : Colour) (cell : ℕ) → (who ≡ player) ⊎ ¬ IsFree region before cell
+        → IsAsGood region larger before (put after who cell)
     as_good_more who cell reason = record {
       keeps = record {
         same_size = size-put after who cell ∙ good.keeps.same_size;
@@ -83,18 +88,22 @@ module _ (player : Colour) where
       free = λ n h. at n h (ℕ_discrete n cell) (good.free n h);
     }
       where
-        at : (n : ℕ) → IsFree region before n → Dec (n ≡ cell) → IsFree larger after n ⊎ (has (stones_of after player) n ≡ true) → IsFree larger (put after who cell) n ⊎ (has (stones_of (put after who cell) player) n ≡ true)
-        at n h (yes same) _ = ⊎_elim (λ own. inr ((stones-put after who player cell n).1 (inl (own, same)))) (λ held. absurd (held (rw (← same) h))) reason
+        at : (n : ℕ) → IsFree region before n → Dec (n ≡ cell) → IsFree larger after n ⊎ (has (stones_of after player) n ≡ true)
+            → IsFree larger (put after who cell) n ⊎ (has (stones_of (put after who cell) player) n ≡ true)
+        at n h (yes same) _ =
+            ⊎_elim (λ own. inr ((stones-put after who player cell n).1 (inl (own, same)))) (λ held. absurd (held (rw (← same) h))) reason
         at n h (no differ) (inl free) = inl ((free-put larger after who cell n).1 (free, differ))
         at n h (no differ) (inr own) = inr ((stones-put after who player cell n).1 (inr own))
 
-  module _ (Goal : Board → Type 0) (stays : (before after : Board) → KeepsStones player before after → Goal before → Goal after) (larger : ℕ → Bool) where
+  module _ (Goal : Board → Type 0) (stays : (before after : Board) → KeepsStones player before after → Goal before → Goal after)
+      (larger : ℕ → Bool) where
     abbrev InReach : Board → Colour → Type 0
     InReach board mover = Plays player larger Goal board mover
 
     -- the two claims, of the better board
     pub record Kept (after : Board) : Type 0 where
-      pub better : (region : ℕ → Bool) (before : Board) (mover : Colour) → IsAsGood region larger before after → Plays player region Goal before mover → Plays player larger Goal after mover
+      pub better : (region : ℕ → Bool) (before : Board) (mover : Colour) → IsAsGood region larger before after
+          → Plays player region Goal before mover → Plays player larger Goal after mover
       pub move_more : (mover : Colour) → mover ≡ other → Plays player larger Goal after mover → Plays player larger Goal after player
 
     goal_of_full : (after : Board) (mover : Colour) → ((cell : ℕ) → ¬ IsFree larger after cell) → InReach after mover → Goal after
@@ -106,7 +115,8 @@ module _ (player : Colour) where
       -- ---- with a move more the player makes the move that answers some cell of the opponent's, and the opponent has no stone there
 
       without : (cell : ℕ) → IsAsGood larger larger (put after other cell) after
-      without cell = as_good_less larger larger after after (as_good_itself larger after) other cell (λ e. absurd (other-differs player (sym e)))
+      without cell = as_good_less larger larger after after (as_good_itself larger after) other cell
+          (λ e. absurd (other-differs player (sym e)))
 
       make_answer : (some : ℕ) (mover : Colour) → mover ≡ player → InReach (put after other some) mover → InReach after player
       make_answer some mover own (By_goal _ _ goal) = By_goal after player (stays (put after other some) after (without some).keeps goal)
@@ -125,11 +135,15 @@ module _ (player : Colour) where
       -- ---- on the better board the player moves and answers as on the first
 
       module _ (region : ℕ → Bool) where
-        better : (before : Board) (mover : Colour) → IsAsGood region larger before after → Plays player region Goal before mover → InReach after mover
+        better : (before : Board) (mover : Colour) → IsAsGood region larger before after → Plays player region Goal before mover
+            → InReach after mover
         better before mover good (By_goal _ _ goal) = By_goal after mover (stays before after good.keeps goal)
         better before mover good (By_move _ _ cell own free win) = ⊎_elim
-            (λ here. By_move after mover cell own here ((next player cell here.empty).better region (put before player cell) other (as_good_both region larger before after good player cell) win))
-            (λ there. rw own (move_more other refl (better (put before player cell) other (as_good_less region larger before after good player cell (λ _. there)) win)))
+            (λ here. By_move after mover cell own here
+                ((next player cell here.empty).better region (put before player cell) other
+                (as_good_both region larger before after good player cell) win))
+            (λ there. rw own (move_more other refl
+                (better (put before player cell) other (as_good_less region larger before after good player cell (λ _. there)) win)))
             (good.free cell free)
         better before mover good (By_answers _ _ some others free all) = ⊎_elim
             (λ found. By_answers after mover found.0 others found.1 (λ cell here. answered cell here (is_free region before cell)))
@@ -141,14 +155,18 @@ module _ (player : Colour) where
 
             -- a cell that was not free on the first board is a move of the opponent's wasted
             answered : (cell : ℕ) → IsFree larger after cell → Dec (IsFree region before cell) → InReach (put after other cell) player
-            answered cell here (yes was) = (next other cell here.empty).better region (put before other cell) player (as_good_both region larger before after good other cell) (all cell was)
+            answered cell here (yes was) =
+                (next other cell here.empty).better region (put before other cell) player
+                (as_good_both region larger before after good other cell) (all cell was)
             answered cell here (no was_not) =
                 (next other cell here.empty).move_more other refl
-                ((next other cell here.empty).better region before other (as_good_more region larger before after good other cell (inr was_not)) (By_answers before other some refl free all))
+                ((next other cell here.empty).better region before other
+                    (as_good_more region larger before after good other cell (inr was_not)) (By_answers before other some refl free all))
 
     kept_of : (after : Board) → Ends after → Kept after
     kept_of after (After _ next) =
-        let later : (who : Colour) (cell : ℕ) → IsEmpty after cell → Kept (put after who cell) = λ who cell empty. kept_of (put after who cell) (next who cell empty) in
+        let later : (who : Colour) (cell : ℕ) → IsEmpty after cell → Kept (put after who cell) = λ who cell empty.
+            kept_of (put after who cell) (next who cell empty) in
         record { better = better after later; move_more = move_more after later }
 
     pub kept : (after : Board) → Kept after

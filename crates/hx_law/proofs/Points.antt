@@ -48,7 +48,8 @@ pub which : (t x : Point) → Corner t x → Which t x
 which t x c =
     ⊎_elim
     (λ lower. Under (omega arith) (omega arith))
-    (λ same_row. ⊎_elim (λ further. Beside (omega arith) (omega arith)) (λ same_col. Base (omega arith) (omega arith)) (cases_lt t.col x.col))
+    (λ same_row. ⊎_elim (λ further. Beside (omega arith) (omega arith)) (λ same_col. Base (omega arith) (omega arith))
+        (cases_lt t.col x.col))
     (cases_lt t.row x.row)
 
 -- two points that are corners of one small triangle
@@ -63,7 +64,8 @@ corners-near t x y c d = record { base = t; first = c; second = d }
 pub near-sym : (x y : Point) → Near x y → Near y x
 near-sym x y n = record { base = n.base; first = n.second; second = n.first }
 
-pub near_by : (x y : Point) → x.row + x.col ≤ min x.row y.row + min x.col y.col + 1 → y.row + y.col ≤ min x.row y.row + min x.col y.col + 1 → Near x y
+pub near_by : (x y : Point) → x.row + x.col ≤ min x.row y.row + min x.col y.col + 1 → y.row + y.col ≤ min x.row y.row + min x.col y.col + 1
+    → Near x y
 near_by x y c d = record {
   base = record { row = min x.row y.row; col = min x.col y.col };
   first = record { from_row = omega arith; from_col = omega arith; within = c };

@@ -18,7 +18,8 @@ majority White Black c = c
 majority White White c = White
 
 -- of any two of the three, one has it
-one_of_two : (a b c : Colour) → ((a ≡ majority a b c) ⊎ (b ≡ majority a b c)) × ((a ≡ majority a b c) ⊎ (c ≡ majority a b c)) × ((b ≡ majority a b c) ⊎ (c ≡ majority a b c))
+one_of_two : (a b c : Colour) → ((a ≡ majority a b c) ⊎ (b ≡ majority a b c)) × ((a ≡ majority a b c) ⊎ (c ≡ majority a b c))
+    × ((b ≡ majority a b c) ⊎ (c ≡ majority a b c))
 one_of_two Black Black c = (inl refl, inl refl, inl refl)
 one_of_two Black White Black = (inl refl, inl refl, inr refl)
 one_of_two Black White White = (inr refl, inr refl, inl refl)
@@ -39,7 +40,8 @@ module _ (colour : Point → Colour) where
   corners_of_two t x y (Under a b) (Under c d) = inl (same_point x y (omega arith) (omega arith))
   corners_of_two t x y (Under a b) (Beside c d) = inr (rw (same_point x (under t) a b, same_point y (beside t) c d) (one_of_two _ _ _).2)
   corners_of_two t x y (Beside a b) (Base c d) = inr (rw (same_point x (beside t) a b, same_point y t c d) (⊎_swap (one_of_two _ _ _).1))
-  corners_of_two t x y (Beside a b) (Under c d) = inr (rw (same_point x (beside t) a b, same_point y (under t) c d) (⊎_swap (one_of_two _ _ _).2))
+  corners_of_two t x y (Beside a b) (Under c d) =
+      inr (rw (same_point x (beside t) a b, same_point y (under t) c d) (⊎_swap (one_of_two _ _ _).2))
   corners_of_two t x y (Beside a b) (Beside c d) = inl (same_point x y (omega arith) (omega arith))
 
   -- of any two different corners of a small triangle, one has its colour
@@ -94,9 +96,12 @@ module _ (colour : Point → Colour) where
 
   -- two corners of a small triangle along a side are along that side
   choose_along : (edge : Side) (side : ℕ) (t : Point) → IsAlong edge side t → (x : Chosen t) × IsAlong edge (suc side) x.point
-  choose_along (First_of Black) side t along = choose_with _ t t (beside t) (corner_base t) (corner_beside t) (differ _ _ (λ e. omega arith)) along along
-  choose_along (First_of White) side t along = choose_with _ t t (under t) (corner_base t) (corner_under t) (differ _ _ (λ e. omega arith)) along along
-  choose_along Long side t along = choose_with _ t (under t) (beside t) (corner_under t) (corner_beside t) (differ _ _ (λ e. omega arith)) (omega arith) (omega arith)
+  choose_along (First_of Black) side t along =
+      choose_with _ t t (beside t) (corner_base t) (corner_beside t) (differ _ _ (λ e. omega arith)) along along
+  choose_along (First_of White) side t along =
+      choose_with _ t t (under t) (corner_base t) (corner_under t) (differ _ _ (λ e. omega arith)) along along
+  choose_along Long side t along =
+      choose_with _ t (under t) (beside t) (corner_under t) (corner_beside t) (differ _ _ (λ e. omega arith)) (omega arith) (omega arith)
 
   -- near corners of two small triangles, each with its triangle's colour
   record Bridge (t s : Point) : Type 0 where
@@ -110,9 +115,12 @@ module _ (colour : Point → Colour) where
     bridge_by x y z tx sx ty sz xy xz near = by (choose t x y tx ty xy) (choose s x z sx sz xz)
       where
         by : (colour x ≡ small t) ⊎ (colour y ≡ small t) → (colour x ≡ small s) ⊎ (colour z ≡ small s) → Bridge t s
-        by (inl e) _ = record { from = record { point = x; corner = tx; same = e }; to = record { point = x; corner = sx; same = e ∙ same }; near = corners-near t x x tx tx }
-        by (inr e) (inl f) = record { from = record { point = x; corner = tx; same = f ∙ sym same }; to = record { point = x; corner = sx; same = f }; near = corners-near t x x tx tx }
-        by (inr e) (inr f) = record { from = record { point = y; corner = ty; same = e }; to = record { point = z; corner = sz; same = f }; near = near }
+        by (inl e) _ = record { from = record { point = x; corner = tx; same = e }; to = record { point = x; corner = sx; same = e ∙ same };
+            near = corners-near t x x tx tx }
+        by (inr e) (inl f) = record { from = record { point = x; corner = tx; same = f ∙ sym same }; to =
+            record { point = x; corner = sx; same = f }; near = corners-near t x x tx tx }
+        by (inr e) (inr f) = record { from = record { point = y; corner = ty; same = e }; to = record { point = z; corner = sz; same = f };
+            near = near }
 
     -- the farthest row and column of the two
     shared : Point
@@ -122,10 +130,12 @@ module _ (colour : Point → Colour) where
     unfolding shared
     bridge_if near (yes row) col =
         bridge_by shared (under t) (under s) (search (arith, corner)) (search (arith, corner)) (corner_under t) (corner_under s)
-        (differ _ _ (λ e. omega arith)) (differ _ _ (λ e. omega arith)) (corners-near (under near.base) _ _ (search (arith, corner)) (search (arith, corner)))
+        (differ _ _ (λ e. omega arith)) (differ _ _ (λ e. omega arith))
+            (corners-near (under near.base) _ _ (search (arith, corner)) (search (arith, corner)))
     bridge_if near (no rows) (yes col) =
         bridge_by shared (beside t) (beside s) (search (arith, corner)) (search (arith, corner)) (corner_beside t) (corner_beside s)
-        (differ _ _ (λ e. omega arith)) (differ _ _ (λ e. omega arith)) (corners-near (beside near.base) _ _ (search (arith, corner)) (search (arith, corner)))
+        (differ _ _ (λ e. omega arith)) (differ _ _ (λ e. omega arith))
+            (corners-near (beside near.base) _ _ (search (arith, corner)) (search (arith, corner)))
     bridge_if near (no rows) (no cols) =
         bridge_by shared t s (search (arith, corner)) (search (arith, corner)) (corner_base t) (corner_base s)
         (differ _ _ (λ e. omega arith)) (differ _ _ (λ e. omega arith)) near
@@ -141,7 +151,8 @@ module _ (colour : Point → Colour) where
     IsSmall = IsOf small player side
 
     chosen_is : (t : Point) → IsSmall t → (x : Chosen t) → IsPoint x.point
-    chosen_is t is x = let inside : x.point.row + x.point.col ≤ t.row + t.col + 1 = x.corner.within in record { inside = omega arith; same = x.same ∙ is.same }
+    chosen_is t is x = let inside : x.point.row + x.point.col ≤ t.row + t.col + 1 = x.corner.within in
+        record { inside = omega arith; same = x.same ∙ is.same }
 
     -- a path of small triangles gives a path between any chosen corners
     raise_path : (t s : Point) → Connected IsSmall t s → (x : Chosen t) (y : Chosen s) → Connected IsPoint x.point y.point
@@ -169,7 +180,8 @@ module _ (colour : Point → Colour) where
     -- two different corners of the colour give it to their small triangle
     decide : (t x y : Point) → Corner t x → Corner t y → IsPoint x → IsPoint y → (x ≡ y) ⊎ IsSmall t
     decide t x y c d px py = ⊎_elim
-        (λ inside. ⊎_elim inl (λ one. inr (record { inside = inside; same = ⊎_elim (λ e. sym e ∙ px.same) (λ e. sym e ∙ py.same) one })) (corner_of_two colour t x y c d))
+        (λ inside. ⊎_elim inl (λ one. inr (record { inside = inside; same = ⊎_elim (λ e. sym e ∙ px.same) (λ e. sym e ∙ py.same) one }))
+            (corner_of_two colour t x y c d))
         (λ outside. inl (same_point x y (omega arith) (omega arith)))
         (cases_lt (t.row + t.col) side)
 
@@ -205,7 +217,8 @@ module _ (colour : Point → Colour) where
     along_or_start x edge r = ⊎_elim (λ same. inl (rw same r.along)) inr (start_of x r.end r.path)
 
     -- only in a triangle of one point a point is along all three sides
-    start : (x : Point) → 0 < side → IsAlong (First_of Black) (suc side) x ⊎ Around x → IsAlong (First_of White) (suc side) x ⊎ Around x → IsAlong Long (suc side) x ⊎ Around x → Around x
+    start : (x : Point) → 0 < side → IsAlong (First_of Black) (suc side) x ⊎ Around x → IsAlong (First_of White) (suc side) x ⊎ Around x
+        → IsAlong Long (suc side) x ⊎ Around x → Around x
     start x some (inr t) _ _ = t
     start x some (inl black) (inr t) _ = t
     start x some (inl black) (inl white) (inr t) = t
@@ -238,7 +251,9 @@ last_colour (suc n) colour = last_colour n (reduced colour)
 
 pub last-meets : (n : ℕ) (colour : Point → Colour) → Meets colour (last_colour n colour) (suc n)
 unfolding last_colour
-last-meets zero colour = record { centre = origin; reaches = λ edge. record { end = origin; along = along edge; path = Stay origin (record { inside = omega arith; same = refl }) } }
+last-meets zero colour =
+    record { centre = origin; reaches = λ edge.
+    record { end = origin; along = along edge; path = Stay origin (record { inside = omega arith; same = refl }) } }
   where
     along : (edge : Side) → IsAlong edge 1 origin
     along (First_of Black) = refl

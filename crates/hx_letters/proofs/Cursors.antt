@@ -61,7 +61,8 @@ word_taken (Some done) takes test = takes.1
 word_taken None takes test = absurd (false≢true (sym test))
 
 -- a given word that does not stand there
-pub word_missing : {word : List ℕ} {old : List (List ℕ)} (new : List (List ℕ)) (found : Option (Unit {0})) → Takes (λ _. word) (λ _. Unit {0}) old found new
+pub word_missing : {word : List ℕ} {old : List (List ℕ)} (new : List (List ℕ)) (found : Option (Unit {0}))
+    → Takes (λ _. word) (λ _. Unit {0}) old found new
     → false ≡ is_some found → (rest : List (List ℕ)) → old ≡ word ∷ rest → ⊥
 word_missing new (Some done) takes test = absurd (false≢true test)
 word_missing new None takes test = λ rest e. takes tt rest tt e

@@ -17,7 +17,8 @@ pub cut_rest : (mark : ℕ) (a b x y : List ℕ) → Lacks mark a → Lacks mark
 cut_rest mark [] [] x y la lb e = cc
 cut_rest mark [] (b ∷ bs) x y la lb e = let first : b ≡ mark = cc in absurd (lb.0 first)
 cut_rest mark (a ∷ more) [] x y la lb e = let first : a ≡ mark = cc in absurd (la.0 first)
-cut_rest mark (a ∷ more) (b ∷ bs) x y la lb e = let tails : more ++ mark ∷ x ≡ bs ++ mark ∷ y = cc in cut_rest mark more bs x y la.1 lb.1 tails
+cut_rest mark (a ∷ more) (b ∷ bs) x y la lb e = let tails : more ++ mark ∷ x ≡ bs ++ mark ∷ y = cc in
+    cut_rest mark more bs x y la.1 lb.1 tails
 
 pub Lacks-append_mark : (mark : ℕ) (a b : List ℕ) → Lacks mark (a ++ mark ∷ b) → ⊥
 Lacks-append_mark mark [] b lacks = lacks.0 refl

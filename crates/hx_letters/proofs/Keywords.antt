@@ -41,7 +41,8 @@ by_test mark byte bytes word words true is e before =
     }
 by_test mark byte bytes word words false is e before = by_parts mark byte bytes word words (split_at_marks mark bytes) refl e before
 
-first_word : (mark : ℕ) (bytes word : List ℕ) (words : List (List ℕ)) → split_at_marks mark bytes ≡ word ∷ words → BeginsWith mark bytes word
+first_word : (mark : ℕ) (bytes word : List ℕ) (words : List (List ℕ)) → split_at_marks mark bytes ≡ word ∷ words
+    → BeginsWith mark bytes word
 unfolding split_at_marks
 first_word mark [] word words e =
     let none : [] ≡ word = cc in
@@ -99,7 +100,8 @@ pub prefix_goes_on : (mark next : ℕ) (bytes word later : List ℕ) (words : Li
 prefix_goes_on mark next bytes word later words other is e =
     let found = first_word mark bytes word words e in
     no_end mark next found.after later other
-    (sym (drop-append_seam word found.after) ∙ ap (drop (length word)) (sym found.parts ∙ is) ∙ drop-append_seam word (next ∷ later)) found.ended
+    (sym (drop-append_seam word found.after) ∙ ap (drop (length word)) (sym found.parts ∙ is)
+        ∙ drop-append_seam word (next ∷ later)) found.ended
 
 -- a cursor that has a word left
 pub words_left-some_more : (more : Bool) (rest : List ℕ) → more ≡ true → words_left more rest ≡ split_at_marks 32 rest

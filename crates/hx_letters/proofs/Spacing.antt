@@ -53,7 +53,8 @@ spaced-cond false byte bytes parts is some before = spaced-in_first byte parts s
 pub spaced-words_in : (line : List ℕ) → spaced (words_in line) ≡ line
 unfolding split_at_marks spaced
 spaced-words_in [] = refl
-spaced-words_in (byte ∷ bytes) = spaced-cond (eqb byte 32) byte bytes (words_in bytes) refl (split_at_marks-some 32 bytes) (spaced-words_in bytes)
+spaced-words_in (byte ∷ bytes) =
+    spaced-cond (eqb byte 32) byte bytes (words_in bytes) refl (split_at_marks-some 32 bytes) (spaced-words_in bytes)
 
 -- a line whose words are known
 pub line_from_words : {line : List ℕ} {words all : List (List ℕ)} → words ≡ words_in line → words ≡ all → line ≡ spaced all

@@ -11,16 +11,20 @@ use Rattle.hx_lines.specs.Cutters.{Cutter, Loses, Stays, IsCut, TellsLines}
 use Rattle.hx_lines.proofs.LineLaws.{cut_tells_lines}
 
 -- the bytes that were cut off come behind those in front
-pub parts-lost : (before : Option (List ℕ)) (front held kept bytes : List ℕ) (left then_left : Option (List ℕ)) → before ≡ prepend (front ++ held) left
+pub parts-lost : (before : Option (List ℕ)) (front held kept bytes : List ℕ) (left then_left : Option (List ℕ))
+    → before ≡ prepend (front ++ held) left
     → Loses bytes held kept left then_left → before ≡ prepend ((front ++ bytes) ++ kept) then_left
 parts-lost before front held kept bytes left then_left parts loses =
     parts ∙ ap (prepend (front ++ held)) loses.took ∙ prepend-prepend (front ++ held) loses.read then_left
-    ∙ ap (λ xs. prepend xs then_left) (append_assoc front held loses.read ∙ ap (λ xs. front ++ xs) loses.moved ∙ sym (append_assoc front bytes kept))
+    ∙ ap (λ xs. prepend xs then_left)
+        (append_assoc front held loses.read ∙ ap (λ xs. front ++ xs) loses.moved ∙ sym (append_assoc front bytes kept))
 
-pub parts-stay : (before : Option (List ℕ)) (front : List ℕ) (old new : Cutter) (left then_left : Option (List ℕ)) → before ≡ prepend (front ++ old.held) left
+pub parts-stay : (before : Option (List ℕ)) (front : List ℕ) (old new : Cutter) (left then_left : Option (List ℕ))
+    → before ≡ prepend (front ++ old.held) left
     → Stays old new left then_left → before ≡ prepend (front ++ new.held) then_left
 parts-stay before front old new left then_left parts stays =
-    parts-lost before front old.held new.held [] left then_left parts stays.same ∙ ap (λ xs. prepend (xs ++ new.held) then_left) (append-nil front)
+    parts-lost before front old.held new.held [] left then_left parts stays.same
+        ∙ ap (λ xs. prepend (xs ++ new.held) then_left) (append-nil front)
 
 -- some bytes were read
 record Takes (left then_left : Option (List ℕ)) : Type 0 where
@@ -42,6 +46,8 @@ pub record TellsStream (old new : Cutter) (rest : List ℕ) (then_left : Option 
   pub is : IsCut old new (Some rest) (Some later) cut
   pub tells : TellsLines (lines_of (old.held ++ rest)) new.line (lines_of (new.held ++ later)) cut
 
-pub tells_stream : (old new : Cutter) (rest : List ℕ) (then_left : Option (List ℕ)) (cut : Cut) → IsCut old new (Some rest) then_left cut → TellsStream old new rest then_left cut
+pub tells_stream : (old new : Cutter) (rest : List ℕ) (then_left : Option (List ℕ)) (cut : Cut) → IsCut old new (Some rest) then_left cut
+    → TellsStream old new rest then_left cut
 tells_stream old new rest None cut is = absurd (some_not_none rest (cut_takes old new (Some rest) None cut is).took)
-tells_stream old new rest (Some later) cut is = record { later = later; left = refl; is = is; tells = cut_tells_lines old new rest later cut is }
+tells_stream old new rest (Some later) cut is =
+    record { later = later; left = refl; is = is; tells = cut_tells_lines old new rest later cut is }

@@ -36,7 +36,8 @@ same_front a b = cc
 
 -- the place that is named for one of the links
 pub place_of : (before : List Link) (places : List ℕ) (links : List Link) → links_at before places ≡ map (λ (l : Link). Some l) links
-    → (k : ℕ) (part : Link) → slice_get links k ≡ Some part → (place : ℕ) × ((slice_get places k ≡ Some place) × (slice_get before place ≡ Some part))
+    → (k : ℕ) (part : Link) → slice_get links k ≡ Some part → (place : ℕ)
+        × ((slice_get places k ≡ Some place) × (slice_get before place ≡ Some part))
 place_of before [] [] e k part h = cc
 place_of before [] (l ∷ ls) e k part h = cc
 place_of before (p ∷ ps) [] e k part h = cc
@@ -52,7 +53,8 @@ in_carriers (l ∷ ls) (suc place) part there n h = has-union_right l.carrier (c
 -- ---- steps
 
 -- steps give as many links as they are
-pub steps-length : (board : Board) (player : Colour) (before : List Link) (steps : List Step) (links : List Link) → AreRightSteps board player before steps links
+pub steps-length : (board : Board) (player : Colour) (before : List Link) (steps : List Step) (links : List Link)
+    → AreRightSteps board player before steps links
     → length links ≡ length before + length steps
 steps-length board player before [] links right = ap length right ∙ omega arith
 steps-length board player before (step ∷ steps) links right =

@@ -22,7 +22,8 @@ use Rattle.hx_link.specs.Steps.{IsLink, HasEnds, MeetAt, GivesAndStone, GivesAnd
 use Rattle.hx_link.specs.Named.{MeetIn, IsMade, IsMet, IsMiddle}
 
 -- two links share at most one end
-meets_once : (f s : Link) (x z y x' z' y' : Vertex) → HasEnds f x z → HasEnds s z y → x ≢ y → HasEnds f x' z' → HasEnds s z' y' → x' ≢ y' → (x ≡ x') × (z ≡ z') × (y ≡ y')
+meets_once : (f s : Link) (x z y x' z' y' : Vertex) → HasEnds f x z → HasEnds s z y → x ≢ y → HasEnds f x' z' → HasEnds s z' y' → x' ≢ y'
+    → (x ≡ x') × (z ≡ z') × (y ≡ y')
 meets_once f s x z y x' z' y' (inl a) (inl b) d (inl a') (inl b') d' = (cc, cc, cc)
 meets_once f s x z y x' z' y' (inl a) (inl b) d (inl a') (inr b') d' = (cc, cc, cc)
 meets_once f s x z y x' z' y' (inl a) (inl b) d (inr a') (inl b') d' = (cc, cc, cc)
@@ -40,11 +41,14 @@ meets_once f s x z y x' z' y' (inr a) (inr b) d (inl a') (inr b') d' = (cc, cc, 
 meets_once f s x z y x' z' y' (inr a) (inr b) d (inr a') (inl b') d' = (cc, cc, cc)
 meets_once f s x z y x' z' y' (inr a) (inr b) d (inr a') (inr b') d' = (cc, cc, cc)
 
-met_eq : (f f' s s' : Link) (x x' z z' y y' : Vertex) → f ≡ f' → s ≡ s' → x ≡ x' → z ≡ z' → y ≡ y' → (let m : Met = record { first = f; second = s; at = record { from = x; middle = z; to = y } } in m) ≡ record { first = f'; second = s'; at = record { from = x'; middle = z'; to = y' } }
+met_eq : (f f' s s' : Link) (x x' z z' y y' : Vertex) → f ≡ f' → s ≡ s' → x ≡ x' → z ≡ z' → y ≡ y'
+    → (let m : Met = record { first = f; second = s; at = record { from = x; middle = z; to = y } } in m) ≡ record { first = f'; second =
+    s'; at = record { from = x'; middle = z'; to = y' } }
 met_eq f f' s s' x x' z z' y y' a b d e g = cc
 
 module _ (before : List Link) (left right : ℕ) where
-  pub met-of : (x z y : Vertex) (f s : Link) → MeetAt before left right x z y f s → IsMet before left right record { first = f; second = s; at = record { from = x; middle = z; to = y } }
+  pub met-of : (x z y : Vertex) (f s : Link) → MeetAt before left right x z y f s
+      → IsMet before left right record { first = f; second = s; at = record { from = x; middle = z; to = y } }
   met-of x z y f s m = record {
     first_there = m.first_there;
     second_there = m.second_there;
@@ -72,7 +76,8 @@ module _ (before : List Link) (left right : ℕ) where
       let first : m.first ≡ n.first = same_Some m.first n.first (sym h.first_there ∙ k.first_there) in
       let second : m.second ≡ n.second = same_Some m.second n.second (sym h.second_there ∙ k.second_there) in
       let once : (m.at.from ≡ n.at.from) × (m.at.middle ≡ n.at.middle) × (m.at.to ≡ n.at.to) =
-      meets_once m.first m.second m.at.from m.at.middle m.at.to n.at.from n.at.middle n.at.to h.meet.first_ends h.meet.second_ends h.meet.other_ends_differ
+      meets_once m.first m.second m.at.from m.at.middle m.at.to n.at.from n.at.middle n.at.to h.meet.first_ends h.meet.second_ends
+          h.meet.other_ends_differ
       (rw first k.meet.first_ends) (rw second k.meet.second_ends) k.meet.other_ends_differ in
       met_eq m.first n.first m.second n.second m.at.from n.at.from m.at.middle n.at.middle m.at.to n.at.to first second once.0 once.1 once.2
 
@@ -83,7 +88,9 @@ module _ (before : List Link) (left right : ℕ) where
     pub no_cell : ((m : Met) → IsMet before left right m → ⊥) → GivesAndCell board player before left right link → ⊥
     no_cell none g = none _ (met-of g.from (Of g.cell) g.to g.first g.second g.meet)
 
-    pub stone-from : (m : Met) (carrier : ℕ) → carrier ≡ union m.first.carrier m.second.carrier → IsMet before left right m → IsOwn board player m.at.middle → IsMade board player Full m.at.from m.at.to carrier link → GivesAndStone board player before left right link × IsLink board player link
+    pub stone-from : (m : Met) (carrier : ℕ) → carrier ≡ union m.first.carrier m.second.carrier → IsMet before left right m
+        → IsOwn board player m.at.middle → IsMade board player Full m.at.from m.at.to carrier link
+        → GivesAndStone board player before left right link × IsLink board player link
     stone-from m carrier e h own is = (
       record {
         from = m.at.from;
@@ -100,9 +107,12 @@ module _ (before : List Link) (left right : ℕ) where
       is.link_ok,
     )
 
-    pub stone-to : (m : Met) (carrier : ℕ) → carrier ≡ union m.first.carrier m.second.carrier → IsMet before left right m → GivesAndStone board player before left right link → IsLink board player link → IsOwn board player m.at.middle × IsMade board player Full m.at.from m.at.to carrier link
+    pub stone-to : (m : Met) (carrier : ℕ) → carrier ≡ union m.first.carrier m.second.carrier → IsMet before left right m
+        → GivesAndStone board player before left right link → IsLink board player link → IsOwn board player m.at.middle
+        × IsMade board player Full m.at.from m.at.to carrier link
     stone-to m carrier e h g ok =
-        let same : m ≡ record { first = g.first; second = g.second; at = record { from = g.from; middle = g.middle; to = g.to } } = met-same m _ h (met-of g.from g.middle g.to g.first g.second g.meet) in (
+        let same : m ≡ record { first = g.first; second = g.second; at = record { from = g.from; middle = g.middle; to = g.to } } =
+            met-same m _ h (met-of g.from g.middle g.to g.first g.second g.meet) in (
           let P : Met → Type 0 = λ w. IsOwn board player w.at.middle in subst P (sym same) g.own,
           record {
             kind_is = g.kind;
@@ -112,7 +122,9 @@ module _ (before : List Link) (left right : ℕ) where
           },
         )
 
-    pub cell-from : (m : Met) (cell carrier : ℕ) → carrier ≡ insert (union m.first.carrier m.second.carrier) cell → IsMet before left right m → IsMiddle board m cell → IsMade board player Semi m.at.from m.at.to carrier link → GivesAndCell board player before left right link × IsLink board player link
+    pub cell-from : (m : Met) (cell carrier : ℕ) → carrier ≡ insert (union m.first.carrier m.second.carrier) cell
+        → IsMet before left right m → IsMiddle board m cell → IsMade board player Semi m.at.from m.at.to carrier link
+        → GivesAndCell board player before left right link × IsLink board player link
     cell-from m cell carrier e h mid is = (
       record {
         from = m.at.from;
@@ -120,7 +132,8 @@ module _ (before : List Link) (left right : ℕ) where
         to = m.at.to;
         first = m.first;
         second = m.second;
-        meet = let P : Vertex → Type 0 = λ v. MeetAt before left right m.at.from v m.at.to m.first m.second in subst P mid.is_cell (meet-of m h);
+        meet = let P : Vertex → Type 0 = λ v. MeetAt before left right m.at.from v m.at.to m.first m.second in
+            subst P mid.is_cell (meet-of m h);
         empty = mid.empty;
         outside_first = mid.outside_first;
         outside_second = mid.outside_second;
@@ -131,37 +144,52 @@ module _ (before : List Link) (left right : ℕ) where
       is.link_ok,
     )
 
-    pub cell-middle : (m : Met) → IsMet before left right m → GivesAndCell board player before left right link → (cell : ℕ) × IsMiddle board m cell
+    pub cell-middle : (m : Met) → IsMet before left right m → GivesAndCell board player before left right link → (cell : ℕ)
+        × IsMiddle board m cell
     cell-middle m h g =
-        let same : m ≡ record { first = g.first; second = g.second; at = record { from = g.from; middle = Of g.cell; to = g.to } } = met-same m _ h (met-of g.from (Of g.cell) g.to g.first g.second g.meet) in
-        (g.cell, let P : Met → Type 0 = λ w. IsMiddle board w g.cell in subst P (sym same) record { is_cell = refl; empty = g.empty; outside_first = g.outside_first; outside_second = g.outside_second })
+        let same : m ≡ record { first = g.first; second = g.second; at = record { from = g.from; middle = Of g.cell; to = g.to } } =
+            met-same m _ h (met-of g.from (Of g.cell) g.to g.first g.second g.meet) in
+        (g.cell, let P : Met → Type 0 = λ w. IsMiddle board w g.cell in
+            subst P (sym same) record { is_cell = refl; empty = g.empty; outside_first = g.outside_first; outside_second =
+            g.outside_second })
 
-    pub cell-to : (m : Met) (cell carrier : ℕ) → carrier ≡ insert (union m.first.carrier m.second.carrier) cell → IsMet before left right m → IsMiddle board m cell → GivesAndCell board player before left right link → IsLink board player link → IsMade board player Semi m.at.from m.at.to carrier link
+    pub cell-to : (m : Met) (cell carrier : ℕ) → carrier ≡ insert (union m.first.carrier m.second.carrier) cell → IsMet before left right m
+        → IsMiddle board m cell → GivesAndCell board player before left right link → IsLink board player link
+        → IsMade board player Semi m.at.from m.at.to carrier link
     cell-to m cell carrier e h mid g ok =
-        let same : m ≡ record { first = g.first; second = g.second; at = record { from = g.from; middle = Of g.cell; to = g.to } } = met-same m _ h (met-of g.from (Of g.cell) g.to g.first g.second g.meet) in
+        let same : m ≡ record { first = g.first; second = g.second; at = record { from = g.from; middle = Of g.cell; to = g.to } } =
+            met-same m _ h (met-of g.from (Of g.cell) g.to g.first g.second g.meet) in
         let here : Of g.cell ≡ Of cell = ap (λ (w : Met). w.at.middle) (sym same) ∙ mid.is_cell in
         let cells : g.cell ≡ cell = cc in
         record {
           kind_is = g.kind;
-          carrier_is = g.carrier ∙ (ap (λ (w : Met). insert (union w.first.carrier w.second.carrier) g.cell) (sym same) ∙ (ap (λ n. insert (union m.first.carrier m.second.carrier) n) cells ∙ sym e));
+          carrier_is = g.carrier
+              ∙ (ap (λ (w : Met). insert (union w.first.carrier w.second.carrier) g.cell) (sym same)
+              ∙ (ap (λ n. insert (union m.first.carrier m.second.carrier) n) cells ∙ sym e));
           ends = let P : Met → Type 0 = λ w. HasEnds link w.at.from w.at.to in subst P (sym same) g.ends;
           link_ok = ok;
         }
 
-  pub stone-made : (board : Board) (player : Colour) (m : Met) (carrier : ℕ) (o : Option Link) → carrier ≡ union m.first.carrier m.second.carrier → IsMet before left right m → IsOwn board player m.at.middle
+  pub stone-made : (board : Board) (player : Colour) (m : Met) (carrier : ℕ) (o : Option Link)
+      → carrier ≡ union m.first.carrier m.second.carrier → IsMet before left right m → IsOwn board player m.at.middle
       → Finds o (IsMade board player Full m.at.from m.at.to carrier)
       → Finds o (StepGives board player before (AndStone left right))
   stone-made board player m carrier None e h own none = λ link g. none link (stone-to board player link m carrier e h g.rule g.link_ok).1
-  stone-made board player m carrier (Some link) e h own is = let w = stone-from board player link m carrier e h own is in record { rule = w.0; link_ok = w.1 }
+  stone-made board player m carrier (Some link) e h own is = let w = stone-from board player link m carrier e h own is in
+      record { rule = w.0; link_ok = w.1 }
 
-  pub cell-made : (board : Board) (player : Colour) (m : Met) (cell carrier : ℕ) (o : Option Link) → carrier ≡ insert (union m.first.carrier m.second.carrier) cell → IsMet before left right m → IsMiddle board m cell
+  pub cell-made : (board : Board) (player : Colour) (m : Met) (cell carrier : ℕ) (o : Option Link)
+      → carrier ≡ insert (union m.first.carrier m.second.carrier) cell → IsMet before left right m → IsMiddle board m cell
       → Finds o (IsMade board player Semi m.at.from m.at.to carrier)
       → Finds o (StepGives board player before (AndCell left right))
-  cell-made board player m cell carrier None e h mid none = λ link g. none link (cell-to board player link m cell carrier e h mid g.rule g.link_ok)
-  cell-made board player m cell carrier (Some link) e h mid is = let w = cell-from board player link m cell carrier e h mid is in record { rule = w.0; link_ok = w.1 }
+  cell-made board player m cell carrier None e h mid none = λ link g.
+      none link (cell-to board player link m cell carrier e h mid g.rule g.link_ok)
+  cell-made board player m cell carrier (Some link) e h mid is = let w = cell-from board player link m cell carrier e h mid is in
+      record { rule = w.0; link_ok = w.1 }
 
 -- two links that are there and do not meet
-pub no_meeting : (before : List Link) (left right : ℕ) (f s : Link) → slice_get before left ≡ Some f → slice_get before right ≡ Some s → ((meeting : Meeting) → MeetIn f s meeting → ⊥) → (m : Met) → IsMet before left right m → ⊥
+pub no_meeting : (before : List Link) (left right : ℕ) (f s : Link) → slice_get before left ≡ Some f → slice_get before right ≡ Some s
+    → ((meeting : Meeting) → MeetIn f s meeting → ⊥) → (m : Met) → IsMet before left right m → ⊥
 no_meeting before left right f s there there' none m h =
     let first : f ≡ m.first = same_Some f m.first (sym there ∙ h.first_there) in
     let second : s ≡ m.second = same_Some s m.second (sym there' ∙ h.second_there) in

@@ -18,10 +18,12 @@ use Rattle.hx_link.specs.Named.{IsMade, IsMet, IsMiddle}
 use Rattle.hx_link.proofs.MeetingLaws.{met-of, stone-to, cell-to}
 use Rattle.hx_link.proofs.PartLaws.{same_links, ends_back}
 
-equal_links : (k k' : Kind) (a a' b b' : Vertex) (c c' : ℕ) → k ≡ k' → a ≡ a' → b ≡ b' → c ≡ c' → (let l : Link = record { kind = k; a = a; b = b; carrier = c } in l) ≡ record { kind = k'; a = a'; b = b'; carrier = c' }
+equal_links : (k k' : Kind) (a a' b b' : Vertex) (c c' : ℕ) → k ≡ k' → a ≡ a' → b ≡ b' → c ≡ c'
+    → (let l : Link = record { kind = k; a = a; b = b; carrier = c } in l) ≡ record { kind = k'; a = a'; b = b'; carrier = c' }
 equal_links k k' a a' b b' c c' e f g h = cc
 
-module _ (l m : Link) (x y : Vertex) (kinds : l.kind ≡ m.kind) (carriers : l.carrier ≡ m.carrier) (low : code_of l.a < code_of l.b) (low' : code_of m.a < code_of m.b) where
+module _ (l m : Link) (x y : Vertex) (kinds : l.kind ≡ m.kind) (carriers : l.carrier ≡ m.carrier) (low : code_of l.a < code_of l.b)
+    (low' : code_of m.a < code_of m.b) where
   crossed : l.a ≡ m.b → l.b ≡ m.a → l ≡ m
   crossed e f = absurd (omega (arith, ap code_of e, ap code_of f))
 
@@ -32,20 +34,28 @@ module _ (l m : Link) (x y : Vertex) (kinds : l.kind ≡ m.kind) (carriers : l.c
   same_link (inr e) (inr f) = equal_links l.kind m.kind l.a m.a l.b m.b l.carrier m.carrier kinds (e.0 ∙ sym f.0) (e.1 ∙ sym f.1) carriers
 
 module _ (board : Board) (player : Colour) (before : List Link) (l m : Link) where
-  same_made : (kind : Kind) (x y : Vertex) (carrier : ℕ) → IsMade board player kind x y carrier l → IsMade board player kind x y carrier m → l ≡ m
-  same_made kind x y carrier g h = same_link l m x y (g.kind_is ∙ sym h.kind_is) (g.carrier_is ∙ sym h.carrier_is) g.link_ok.lower_first h.link_ok.lower_first g.ends h.ends
+  same_made : (kind : Kind) (x y : Vertex) (carrier : ℕ) → IsMade board player kind x y carrier l → IsMade board player kind x y carrier m
+      → l ≡ m
+  same_made kind x y carrier g h =
+      same_link l m x y (g.kind_is ∙ sym h.kind_is)
+      (g.carrier_is ∙ sym h.carrier_is) g.link_ok.lower_first h.link_ok.lower_first g.ends h.ends
 
-  by_rule : (step : Step) → GivesByRule board player before step l → IsLink board player l → GivesByRule board player before step m → IsLink board player m → l ≡ m
-  by_rule (Base a b) g ok h ok' = same_link l m a b (g.kind ∙ sym h.kind) (g.carrier ∙ sym h.carrier) ok.lower_first ok'.lower_first g.ends h.ends
+  by_rule : (step : Step) → GivesByRule board player before step l → IsLink board player l → GivesByRule board player before step m
+      → IsLink board player m → l ≡ m
+  by_rule (Base a b) g ok h ok' =
+      same_link l m a b (g.kind ∙ sym h.kind) (g.carrier ∙ sym h.carrier) ok.lower_first ok'.lower_first g.ends h.ends
   by_rule (AndStone left right) g ok h ok' =
       let met : Met = record { first = g.first; second = g.second; at = record { from = g.from; middle = g.middle; to = g.to } } in
       let is : IsMet before left right met = met-of before left right g.from g.middle g.to g.first g.second g.meet in
-      same_made _ _ _ _ (stone-to before left right board player l met _ refl is g ok).1 (stone-to before left right board player m met _ refl is h ok').1
+      same_made _ _ _ _ (stone-to before left right board player l met _ refl is g ok).1
+          (stone-to before left right board player m met _ refl is h ok').1
   by_rule (AndCell left right) g ok h ok' =
       let met : Met = record { first = g.first; second = g.second; at = record { from = g.from; middle = Of g.cell; to = g.to } } in
       let is : IsMet before left right met = met-of before left right g.from (Of g.cell) g.to g.first g.second g.meet in
-      let mid : IsMiddle board met g.cell = record { is_cell = refl; empty = g.empty; outside_first = g.outside_first; outside_second = g.outside_second } in
-      same_made _ _ _ _ (cell-to before left right board player l met g.cell _ refl is mid g ok) (cell-to before left right board player m met g.cell _ refl is mid h ok')
+      let mid : IsMiddle board met g.cell =
+          record { is_cell = refl; empty = g.empty; outside_first = g.outside_first; outside_second = g.outside_second } in
+      same_made _ _ _ _ (cell-to before left right board player l met g.cell _ refl is mid g ok)
+          (cell-to before left right board player m met g.cell _ refl is mid h ok')
   by_rule (Or parts) g ok h ok' =
       let links : g.links ≡ h.links = same_links g.links h.links (sym g.there ∙ h.there) in
       let w = g.none_in_all 0 in

@@ -29,14 +29,17 @@ module _ (set : Standing) (kind : Kind) (a b : Vertex) where
         all = λ place is. all-contains Is places 0 place all (omega arith) is;
       }
 
-  module _ (right : IsRight set.player set.present) (rings : Rings) (hold : RingsHold set.present.links (IsLiveThere set.present.board set.player) rings) where
+  module _ (right : IsRight set.player set.present) (rings : Rings)
+      (hold : RingsHold set.present.links (IsLiveThere set.present.board set.player) rings) where
     -- from a live link on
-    chain_after : (left index : ℕ) → Is index → length set.present.links ≤ index + left → (places : List ℕ) × IsChainFrom set kind a b (index + 1) places
+    chain_after : (left index : ℕ) → Is index → length set.present.links ≤ index + left → (places : List ℕ)
+        × IsChainFrom set kind a b (index + 1) places
     chain_after zero index is few = absurd (omega (arith, few, slice_get_within set.present.links index is.link is.there))
     chain_after (suc left) index is few = ⊎_elim
         (λ low. ([], λ place le. later-none set right rings hold kind a b index is low place (omega (arith, le))))
         (λ high.
-        let next : IsFirstFrom set kind a b (index + 1) (get_or rings.next (30258 + index) 0 - 30258) = later-some set right rings hold kind a b index is _ high refl in
+        let next : IsFirstFrom set kind a b (index + 1) (get_or rings.next (30258 + index) 0 - 30258) =
+            later-some set right rings hold kind a b index is _ high refl in
         let rest = chain_after left _ next.is (omega (arith, few, next.not_below)) in
         (_ ∷ rest.0, (next, rest.1)))
         (cases_lt (get_or rings.next (30258 + index) 0) 30258)
@@ -46,7 +49,8 @@ module _ (set : Standing) (kind : Kind) (a b : Vertex) where
     chain-ends head of = ⊎_elim
         (λ low. ([], λ place le. first-none set right rings hold kind a b head of low place))
         (λ high.
-        let first : IsFirstFrom set kind a b 0 (get_or rings.next head 0 - 30258) = first-some set right rings hold kind a b head of _ high refl in
+        let first : IsFirstFrom set kind a b 0 (get_or rings.next head 0 - 30258) =
+            first-some set right rings hold kind a b head of _ high refl in
         let rest = chain_after (length set.present.links) _ first.is (omega arith) in
         (_ ∷ rest.0, (first, rest.1)))
         (cases_lt (get_or rings.next head 0) 30258)

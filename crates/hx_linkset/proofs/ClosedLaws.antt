@@ -12,7 +12,8 @@ use Rattle.hx_linkset.specs.Marks.{IsMarked, AreUnmarked, MarksMore, IsLastMarkB
 use Rattle.hx_linkset.specs.Derivations.{AreClosedFrom, AreMarkedUnder}
 use Rattle.hx_linkset.proofs.MarkLaws.{marked-inside}
 
-get-take : {A : Type 0} → (n : ℕ) (xs : List A) (place : ℕ) (x : A) → slice_get (take n xs) place ≡ Some x → (place < n) × (slice_get xs place ≡ Some x)
+get-take : {A : Type 0} → (n : ℕ) (xs : List A) (place : ℕ) (x : A) → slice_get (take n xs) place ≡ Some x → (place < n)
+    × (slice_get xs place ≡ Some x)
 get-take zero xs place x e = cc
 get-take (suc n) [] place x e = cc
 get-take (suc n) (y ∷ ys) zero x e = (omega arith, e)
@@ -20,7 +21,8 @@ get-take (suc n) (y ∷ ys) (suc place) x e = let w = get-take n ys place x e in
 
 module _ (player : Colour) (state : State) (r : IsRight player state) where
   -- what the step of a live link names stands before it and is live
-  pub part-before : (place : ℕ) (step : Step) → IsLiveAt state.board player state.links place → slice_get state.steps place ≡ Some step → (part : ℕ) → Names step part
+  pub part-before : (place : ℕ) (step : Step) → IsLiveAt state.board player state.links place → slice_get state.steps place ≡ Some step
+      → (part : ℕ) → Names step part
       → (part < place) × IsLiveAt state.board player state.links part
   part-before place step live there part named =
       let g : GivesFromLive state.board player (take place state.links) step live.0 = r.given place live.0 step live.1.0 there live.1.1 in
@@ -43,18 +45,21 @@ module _ (player : Colour) (state : State) (r : IsRight player state) where
       under = λ p h. ⊎_elim (λ k. absurd (none.none p k)) (λ k. (p, (k, omega arith))) (m.only p h);
     }
 
-  module _ (bound place : ℕ) (marks new : List ℕ) (c : AreClosedFrom player state bound marks) (at : IsLastMarkBelow marks bound place) (step : Step) (there : slice_get state.steps place ≡ Some step)
+  module _ (bound place : ℕ) (marks new : List ℕ) (c : AreClosedFrom player state bound marks) (at : IsLastMarkBelow marks bound place)
+      (step : Step) (there : slice_get state.steps place ≡ Some step)
       (m : MarksMore (Names step) marks new) where
     before : (part : ℕ) → Names step part → (part < place) × IsLiveAt state.board player state.links part
     before part k = part-before place step (c.live place at.marked) there part k
 
-    closed_at : (p : ℕ) (s : Step) → (p ≡ place) ⊎ (p ≡ place → ⊥) → place ≤ p → IsMarked new p → slice_get state.steps p ≡ Some s → (part : ℕ) → Names s part → IsMarked new part
+    closed_at : (p : ℕ) (s : Step) → (p ≡ place) ⊎ (p ≡ place → ⊥) → place ≤ p → IsMarked new p → slice_get state.steps p ≡ Some s
+        → (part : ℕ) → Names s part → IsMarked new part
     closed_at p s (inl e) le h here part k =
         let same : s ≡ step = same_Some s step (sym here ∙ (ap (λ q. slice_get state.steps q) e ∙ there)) in
         let P : Step → Type 0 = λ t. Names t part in
         m.each part (subst P same k)
     closed_at p s (inr ne) le h here part k = ⊎_elim
-        (λ was. ⊎_elim (λ lt. absurd (at.last p (omega arith) lt was)) (λ above. m.stay part (c.closed p s above was here part k)) (cases_lt p bound))
+        (λ was. ⊎_elim (λ lt. absurd (at.last p (omega arith) lt was)) (λ above. m.stay part (c.closed p s above was here part k))
+            (cases_lt p bound))
         (λ one. absurd (omega (arith, (before p one).0)))
         (m.only p h)
 
@@ -73,7 +78,8 @@ module _ (player : Colour) (state : State) (r : IsRight player state) where
           (m.only p h);
     }
 
-  pub closed-all : (bound : ℕ) (marks : List ℕ) → AreClosedFrom player state bound marks → ((place : ℕ) → place < bound → IsMarked marks place → ⊥) → AreClosedFrom player state 0 marks
+  pub closed-all : (bound : ℕ) (marks : List ℕ) → AreClosedFrom player state bound marks
+      → ((place : ℕ) → place < bound → IsMarked marks place → ⊥) → AreClosedFrom player state 0 marks
   closed-all bound marks c none = record {
     long = c.long;
     live = c.live;

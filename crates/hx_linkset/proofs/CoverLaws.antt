@@ -14,13 +14,16 @@ use Rattle.hx_linkset.proofs.HeadLaws.{live-same}
 use Rattle.hx_linkset.proofs.WalkLaws.{LinkAt}
 
 -- the link that was read is the node's
-pub read-at : (links : List Link) (Has : ℕ → Link → Type 0) (head node place : ℕ) (at : LinkAt links Has head node) (read : Link) → place ≡ node - 30258 → read ≡ get_or links place read → read ≡ at.link
+pub read-at : (links : List Link) (Has : ℕ → Link → Type 0) (head node place : ℕ) (at : LinkAt links Has head node) (read : Link)
+    → place ≡ node - 30258 → read ≡ get_or links place read → read ≡ at.link
 read-at links Has head node place at read is e =
     let places : place ≡ at.place = omega (arith, at.node_is, is) in
     e ∙ (ap (λ n. get_or links n read) places ∙ get_or_from_slice_get links at.place at.link read at.there)
 
-module _ (set : Standing) (is_board : IsBoard set.present.board) (link : Link) (a_some : IsSomeVertex link.a) (b_some : IsSomeVertex link.b) (node place : ℕ) (place_is : place ≡ node - 30258) where
-  pub covers-at : (at : LinkAt set.present.links (IsLiveThere set.present.board set.player) (head_of link) node) → IsSubset at.link.carrier link.carrier → Covers set place link
+module _ (set : Standing) (is_board : IsBoard set.present.board) (link : Link) (a_some : IsSomeVertex link.a) (b_some : IsSomeVertex link.b)
+    (node place : ℕ) (place_is : place ≡ node - 30258) where
+  pub covers-at : (at : LinkAt set.present.links (IsLiveThere set.present.board set.player) (head_of link) node)
+      → IsSubset at.link.carrier link.carrier → Covers set place link
   covers-at at inside =
       let same = live-same set.present.board is_board set.player at.link link.kind link.a link.b at.has a_some b_some at.in_ring in
       let places : at.place ≡ place = omega (arith, at.node_is, place_is) in

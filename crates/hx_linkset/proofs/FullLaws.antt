@@ -28,14 +28,17 @@ use Rattle.hx_linkset.proofs.RisingLists.{AreAllFrom, all-rising}
 -- these are all entries from an index on that have a property, in rising order of their indices
 abbrev AreFullFrom : (FullLink → Type 0) → ℕ → List FullLink → Type 0
 AreFullFrom Has from [] = (full : FullLink) → from ≤ full.index → Has full → ⊥
-AreFullFrom Has from (first ∷ rest) = (from ≤ first.index) × (Has first × (((full : FullLink) → from ≤ full.index → full.index < first.index → Has full → ⊥) × AreFullFrom Has (first.index + 1) rest))
+AreFullFrom Has from (first ∷ rest) = (from ≤ first.index)
+    × (Has first × (((full : FullLink) → from ≤ full.index → full.index < first.index → Has full → ⊥)
+    × AreFullFrom Has (first.index + 1) rest))
 
 module _ (Has : FullLink → Type 0) (one_at : (full other : FullLink) → full.index ≡ other.index → Has full → Has other → full ≡ other) where
   -- an entry with this index has the property
   abbrev HasAt : ℕ → Type 0
   HasAt n = (full : FullLink) × ((full.index ≡ n) × Has full)
 
-  indices-from : (fulls : List FullLink) (from : ℕ) → AreFullFrom Has from fulls → AreAllFrom HasAt from (map (λ (full : FullLink). full.index) fulls)
+  indices-from : (fulls : List FullLink) (from : ℕ) → AreFullFrom Has from fulls
+      → AreAllFrom HasAt from (map (λ (full : FullLink). full.index) fulls)
   indices-from [] from h = λ n le w. h w.0 (omega (arith, w.1.0, le)) w.1.1
   indices-from (first ∷ rest) from h = (
     h.0,
@@ -53,25 +56,30 @@ module _ (Has : FullLink → Type 0) (one_at : (full other : FullLink) → full.
   full-each (first ∷ rest) from h zero d lt = h.1.0
   full-each (first ∷ rest) from h (suc k) d lt = full-each rest (first.index + 1) h.1.1.1 k d (omega arith)
 
-  full-contains : (fulls : List FullLink) (from : ℕ) (full : FullLink) → AreFullFrom Has from fulls → from ≤ full.index → Has full → Contains fulls full
+  full-contains : (fulls : List FullLink) (from : ℕ) (full : FullLink) → AreFullFrom Has from fulls → from ≤ full.index → Has full
+      → Contains fulls full
   full-contains [] from full h le has = absurd (h full le has)
   full-contains (first ∷ rest) from full h le has = ⊎_elim
       (λ less. absurd (h.1.1.0 full le less has))
       (λ more. ⊎_elim
       (λ e. (0, omega arith, sym (one_at full first e has h.1.0)))
-      (λ other. let w = full-contains rest (first.index + 1) full h.1.1.1 (omega (arith, more, other)) has in (suc w.0, omega (arith, w.1), w.2))
+      (λ other. let w = full-contains rest (first.index + 1) full h.1.1.1 (omega (arith, more, other)) has in
+          (suc w.0, omega (arith, w.1), w.2))
       (cases_eq full.index first.index))
       (cases_lt full.index first.index)
 
   -- where none has the index before
-  full-later : (fulls : List FullLink) (from : ℕ) → ((full : FullLink) → full.index ≡ from → Has full → ⊥) → AreFullFrom Has (from + 1) fulls → AreFullFrom Has from fulls
-  full-later [] from none h = λ full le has. ⊎_elim (λ e. none full e has) (λ ne. h full (omega (arith, le, ne)) has) (cases_eq full.index from)
+  full-later : (fulls : List FullLink) (from : ℕ) → ((full : FullLink) → full.index ≡ from → Has full → ⊥)
+      → AreFullFrom Has (from + 1) fulls → AreFullFrom Has from fulls
+  full-later [] from none h = λ full le has.
+      ⊎_elim (λ e. none full e has) (λ ne. h full (omega (arith, le, ne)) has) (cases_eq full.index from)
   full-later (first ∷ rest) from none h = (
     omega (arith, h.0),
     (
       h.1.0,
       (
-        (λ full le less has. ⊎_elim (λ e. none full e has) (λ ne. h.1.1.0 full (omega (arith, le, ne)) less has) (cases_eq full.index from)),
+        (λ full le less has. ⊎_elim (λ e. none full e has) (λ ne. h.1.1.0 full (omega (arith, le, ne)) less has)
+            (cases_eq full.index from)),
         h.1.1.1,
       ),
     ),
@@ -80,7 +88,8 @@ module _ (Has : FullLink → Type 0) (one_at : (full other : FullLink) → full.
 same_full : (full other : FullLink) → full.index ≡ other.index → full.to ≡ other.to → full.carrier ≡ other.carrier → full ≡ other
 same_full full other = same_fields full.index other.index full.to other.to full.carrier other.carrier
   where
-    same_fields : (i i' : ℕ) (v v' : Vertex) (c c' : ℕ) → i ≡ i' → v ≡ v' → c ≡ c' → (let f : FullLink = record { index = i; to = v; carrier = c } in f) ≡ record { index = i'; to = v'; carrier = c' }
+    same_fields : (i i' : ℕ) (v v' : Vertex) (c c' : ℕ) → i ≡ i' → v ≡ v' → c ≡ c'
+        → (let f : FullLink = record { index = i; to = v; carrier = c } in f) ≡ record { index = i'; to = v'; carrier = c' }
     same_fields i i' v v' c c' e f g = cc
 
 module _ (set : Standing) (empties ends : ℕ) (empties_are : (cell : ℕ) → (has empties cell ≡ true) ↔ IsEmpty set.present.board cell)
@@ -99,7 +108,8 @@ module _ (set : Standing) (empties ends : ℕ) (empties_are : (cell : ℕ) → (
   one_at_index full other e h k =
       let same : h.link ≡ k.link = same_Some h.link k.link (sym h.there ∙ (ap (λ (n : ℕ). slice_get set.present.links n) e ∙ k.there)) in
       let P : Link → Type 0 = λ link. HasEnds link vertex other.to in
-      same_full full other e (other_end h.link full.to other.to h.ends (subst P (sym same) k.ends)) (h.carrier_is ∙ (ap (λ (link : Link). link.carrier) same ∙ sym k.carrier_is))
+      same_full full other e (other_end h.link full.to other.to h.ends (subst P (sym same) k.ends))
+          (h.carrier_is ∙ (ap (λ (link : Link). link.carrier) same ∙ sym k.carrier_is))
 
   vertex_end : (full : FullLink) → IsFullAt set vertex full → MayEnd vertex
   vertex_end full h = by_ends h.ends
@@ -118,19 +128,24 @@ module _ (set : Standing) (empties ends : ℕ) (empties_are : (cell : ℕ) → (
       of_ends : HasEnds link vertex full.to
       carrier_is : full.carrier ≡ link.carrier
 
-    seen-no : link.kind ≡ Full → nat_eq (code_of link.a) (code_of vertex) ≡ false → nat_eq (code_of link.b) (code_of vertex) ≡ false → (to : Vertex) → HasEnds link vertex to → ⊥
+    seen-no : link.kind ≡ Full → nat_eq (code_of link.a) (code_of vertex) ≡ false → nat_eq (code_of link.b) (code_of vertex) ≡ false
+        → (to : Vertex) → HasEnds link vertex to → ⊥
     seen-no full e f to (inl w) = false≢true (sym e ∙ eq-eqb (code_of link.a) (code_of vertex) (ap code_of w.0))
     seen-no full e f to (inr w) = false≢true (sym f ∙ eq-eqb (code_of link.b) (code_of vertex) (ap code_of w.1))
 
-    seen_cases : (kind : Kind) (p q : Bool) → link.kind ≡ kind → nat_eq (code_of link.a) (code_of vertex) ≡ p → nat_eq (code_of link.b) (code_of vertex) ≡ q
-        → ((seen_by kind p q place link ≡ []) × ((full : FullLink) → IsSeen full → ⊥)) ⊎ ((full : FullLink) × ((seen_by kind p q place link ≡ full ∷ []) × IsSeen full))
+    seen_cases : (kind : Kind) (p q : Bool) → link.kind ≡ kind → nat_eq (code_of link.a) (code_of vertex) ≡ p
+        → nat_eq (code_of link.b) (code_of vertex) ≡ q
+        → ((seen_by kind p q place link ≡ []) × ((full : FullLink) → IsSeen full → ⊥))
+            ⊎ ((full : FullLink) × ((seen_by kind p q place link ≡ full ∷ []) × IsSeen full))
     seen_cases Semi p q k e f = inl (refl, λ full seen. let no : Semi ≡ Full = sym k ∙ seen.kind_is in cc)
     seen_cases Full true q k e f =
         let same : link.a ≡ vertex = code-same link.a vertex (link_some k).0 some (eqb-true (code_of link.a) (code_of vertex) e) in
-        inr (record { index = place; to = link.b; carrier = link.carrier }, (refl, record { index_is = refl; kind_is = k; of_ends = inl (same, refl); carrier_is = refl }))
+        inr (record { index = place; to = link.b; carrier = link.carrier },
+            (refl, record { index_is = refl; kind_is = k; of_ends = inl (same, refl); carrier_is = refl }))
     seen_cases Full false true k e f =
         let same : link.b ≡ vertex = code-same link.b vertex (link_some k).1 some (eqb-true (code_of link.b) (code_of vertex) f) in
-        inr (record { index = place; to = link.a; carrier = link.carrier }, (refl, record { index_is = refl; kind_is = k; of_ends = inr (refl, same); carrier_is = refl }))
+        inr (record { index = place; to = link.a; carrier = link.carrier },
+            (refl, record { index_is = refl; kind_is = k; of_ends = inr (refl, same); carrier_is = refl }))
     seen_cases Full false false k e f = inl (refl, λ full seen. seen-no k e f full.to seen.of_ends)
 
     module _ (full : FullLink) (seen : IsSeen full) where
@@ -152,7 +167,8 @@ module _ (set : Standing) (empties ends : ℕ) (empties_are : (cell : ℕ) → (
       live_if : MayEnd vertex → is_live_from empties ends full ≡ true → IsLive set.present.board set.player link
       live_if from test =
           let inside = intersection-is_subset full.carrier empties (eqb-true _ _ (first_of_both _ (has ends (code_of full.to)) test)) in
-          let both = live_by seen.of_ends from ((ends_are full.to to_some).0 (second_of_both (nat_eq (intersection full.carrier empties) full.carrier) _ test)) in
+          let both = live_by seen.of_ends from
+              ((ends_are full.to to_some).0 (second_of_both (nat_eq (intersection full.carrier empties) full.carrier) _ test)) in
           record {
             empty = λ cell h. (empties_are cell).0 (inside cell (ap (λ (carrier : ℕ). has carrier cell) seen.carrier_is ∙ h));
             a_end = both.0;
@@ -161,7 +177,8 @@ module _ (set : Standing) (empties ends : ℕ) (empties_are : (cell : ℕ) → (
 
       live_only_if : IsLive set.present.board set.player link → is_live_from empties ends full ≡ true
       live_only_if live = and_from _ _
-          (eq-eqb _ _ (is_subset-intersection full.carrier empties (λ cell h. (empties_are cell).1 (live.empty cell (ap (λ (carrier : ℕ). has carrier cell) (sym seen.carrier_is) ∙ h)))))
+          (eq-eqb _ _ (is_subset-intersection full.carrier empties
+              (λ cell h. (empties_are cell).1 (live.empty cell (ap (λ (carrier : ℕ). has carrier cell) (sym seen.carrier_is) ∙ h)))))
           ((ends_are full.to to_some).1 (to_end seen.of_ends live))
 
     -- what is live of the link brings no entry, or one
@@ -178,11 +195,13 @@ module _ (set : Standing) (empties ends : ℕ) (empties_are : (cell : ℕ) → (
           let same : h.link ≡ link = same_Some h.link link (sym h.there ∙ (ap (λ (n : ℕ). slice_get set.present.links n) e ∙ there)) in
           let P : Link → Type 0 = λ l. HasEnds l vertex full.to in
           let Q : Link → Type 0 = λ l. IsLive set.present.board set.player l in (
-            record { index_is = e; kind_is = ap (λ (l : Link). l.kind) (sym same) ∙ h.kind_is; of_ends = subst P same h.ends; carrier_is = h.carrier_is ∙ ap (λ (l : Link). l.carrier) same },
+            record { index_is = e; kind_is = ap (λ (l : Link). l.kind) (sym same) ∙ h.kind_is; of_ends = subst P same h.ends; carrier_is =
+                h.carrier_is ∙ ap (λ (l : Link). l.carrier) same },
             subst Q same h.live,
           )
 
-      brings_seen : (full : FullLink) → IsSeen full → (b : Bool) → is_live_from empties ends full ≡ b → BringsNone (cond b (full ∷ []) []) ⊎ BringsOne (cond b (full ∷ []) [])
+      brings_seen : (full : FullLink) → IsSeen full → (b : Bool) → is_live_from empties ends full ≡ b → BringsNone (cond b (full ∷ []) [])
+          ⊎ BringsOne (cond b (full ∷ []) [])
       brings_seen full seen true test = inr (
         full,
         (
@@ -207,7 +226,8 @@ module _ (set : Standing) (empties ends : ℕ) (empties_are : (cell : ℕ) → (
             false≢true (sym test ∙ live_only_if full seen w.1),
       )
 
-      brings : BringsNone (live_from empties ends (seen_from (code_of vertex) place link)) ⊎ BringsOne (live_from empties ends (seen_from (code_of vertex) place link))
+      brings : BringsNone (live_from empties ends (seen_from (code_of vertex) place link))
+          ⊎ BringsOne (live_from empties ends (seen_from (code_of vertex) place link))
       brings =
           let P : List FullLink → Type 0 = λ fulls. BringsNone (live_from empties ends fulls) ⊎ BringsOne (live_from empties ends fulls) in
           ⊎_elim
@@ -217,24 +237,29 @@ module _ (set : Standing) (empties ends : ℕ) (empties_are : (cell : ℕ) → (
 
   -- ---- all links
 
-  module _ (link_some : (place : ℕ) (link : Link) → slice_get set.present.links place ≡ Some link → link.kind ≡ Full → IsSomeVertex link.a × IsSomeVertex link.b) (from : MayEnd vertex) where
+  module _ (link_some : (place : ℕ) (link : Link) → slice_get set.present.links place ≡ Some link → link.kind ≡ Full → IsSomeVertex link.a
+      × IsSomeVertex link.b) (from : MayEnd vertex) where
     fulls-from : (links : List Link) (place : ℕ) → ((k : ℕ) → slice_get set.present.links (place + k) ≡ slice_get links k)
         → AreFullFrom (IsFullAt set vertex) place (live_from empties ends (fulls_from (code_of vertex) place links))
     fulls-from [] place rest_is = λ full le h.
         let at : full.index ≡ place + (full.index - place) = omega arith in
-        let no : slice_get [] (full.index - place) ≡ Some h.link = sym (ap (λ (n : ℕ). slice_get set.present.links n) at ∙ rest_is (full.index - place)) ∙ h.there in
+        let no : slice_get [] (full.index - place) ≡ Some h.link =
+            sym (ap (λ (n : ℕ). slice_get set.present.links n) at ∙ rest_is (full.index - place)) ∙ h.there in
         cc
     fulls-from (link ∷ links) place rest_is =
         let next : (k : ℕ) → (place + 1) + k ≡ place + suc k = λ k. omega arith in
         let none_more : place ≡ place + 0 = omega arith in
         let there : slice_get set.present.links place ≡ Some link = ap (λ (n : ℕ). slice_get set.present.links n) none_more ∙ rest_is 0 in
         let rest = live_from empties ends (fulls_from (code_of vertex) (place + 1) links) in
-        let later : AreFullFrom (IsFullAt set vertex) (place + 1) rest = fulls-from links (place + 1) (λ k. ap (λ (n : ℕ). slice_get set.present.links n) (next k) ∙ rest_is (suc k)) in
-        let parts = filter-append (is_live_from empties ends) (seen_from (code_of vertex) place link) (fulls_from (code_of vertex) (place + 1) links) in
+        let later : AreFullFrom (IsFullAt set vertex) (place + 1) rest =
+            fulls-from links (place + 1) (λ k. ap (λ (n : ℕ). slice_get set.present.links n) (next k) ∙ rest_is (suc k)) in
+        let parts = filter-append (is_live_from empties ends) (seen_from (code_of vertex) place link)
+            (fulls_from (code_of vertex) (place + 1) links) in
         let P : List FullLink → Type 0 = λ fulls. AreFullFrom (IsFullAt set vertex) place fulls in
         let Q : ℕ → Type 0 = λ n. AreFullFrom (IsFullAt set vertex) (n + 1) rest in
         ⊎_elim
-        (λ none. subst P (sym (parts ∙ ap (λ (fulls : List FullLink). fulls ++ rest) none.0)) (full-later (IsFullAt set vertex) one_at_index rest place none.1 later))
+        (λ none. subst P (sym (parts ∙ ap (λ (fulls : List FullLink). fulls ++ rest) none.0))
+            (full-later (IsFullAt set vertex) one_at_index rest place none.1 later))
         (λ one. subst P (sym (parts ∙ ap (λ (fulls : List FullLink). fulls ++ rest) one.1.0)) (
           omega (arith, one.1.1.0),
           (one.1.1.1, ((λ full le less h. absurd (omega (arith, le, less, one.1.1.0))), subst Q (sym one.1.1.0) later)),
@@ -244,7 +269,8 @@ module _ (set : Standing) (empties ends : ℕ) (empties_are : (cell : ℕ) → (
     full-open : AreFullAt set vertex (live_from empties ends (fulls_of set.present.links vertex))
     full-open =
         let same : (k : ℕ) → 0 + k ≡ k = λ k. omega arith in
-        let all : AreFullFrom (IsFullAt set vertex) 0 (live_from empties ends (fulls_of set.present.links vertex)) = fulls-from set.present.links 0 (λ k. ap (λ (n : ℕ). slice_get set.present.links n) (same k)) in
+        let all : AreFullFrom (IsFullAt set vertex) 0 (live_from empties ends (fulls_of set.present.links vertex)) =
+            fulls-from set.present.links 0 (λ k. ap (λ (n : ℕ). slice_get set.present.links n) (same k)) in
         record {
           rising = all-rising (HasAt (IsFullAt set vertex) one_at_index) _ 0 (indices-from (IsFullAt set vertex) one_at_index _ 0 all);
           each = full-each (IsFullAt set vertex) one_at_index _ 0 all;
@@ -258,9 +284,11 @@ module _ (set : Standing) (empties ends : ℕ) (empties_are : (cell : ℕ) → (
     all = λ full h. absurd (false≢true (sym closed ∙ (ends_are vertex some).1 (vertex_end full h)));
   }
 
-  pub full-at : (lists : List (List FullLink)) → AreFullLists set.present.links lists → AreFullAt set vertex (live_at empties ends vertex (fulls_of set.present.links vertex))
+  pub full-at : (lists : List (List FullLink)) → AreFullLists set.present.links lists
+      → AreFullAt set vertex (live_at empties ends vertex (fulls_of set.present.links vertex))
   full-at lists are = by_test (has ends (code_of vertex)) refl
     where
-      by_test : (b : Bool) → has ends (code_of vertex) ≡ b → AreFullAt set vertex (cond b (live_from empties ends (fulls_of set.present.links vertex)) [])
+      by_test : (b : Bool) → has ends (code_of vertex) ≡ b
+          → AreFullAt set vertex (cond b (live_from empties ends (fulls_of set.present.links vertex)) [])
       by_test true is = full-open are.some ((ends_are vertex some).0 is)
       by_test false is = full-closed is

@@ -23,21 +23,27 @@ index_of full = full.index
 -- ---- a filter of entries
 
 module _ (p : FullLink → Bool) where
-  above-filter : (n : ℕ) (fulls : List FullLink) → All (λ (m : ℕ). n < m) (map index_of fulls) → All (λ (m : ℕ). n < m) (map index_of (filter p fulls))
+  above-filter : (n : ℕ) (fulls : List FullLink) → All (λ (m : ℕ). n < m) (map index_of fulls)
+      → All (λ (m : ℕ). n < m) (map index_of (filter p fulls))
   above-filter n [] h = h
   above-filter n (full ∷ fulls) h =
       let Above : List ℕ → Type 0 = λ ms. All (λ (m : ℕ). n < m) ms in
-      let rest : Above (map index_of (filter p fulls)) = above-filter n fulls (All-tail (λ (m : ℕ). n < m) full.index (map index_of fulls) h) in
+      let rest : Above (map index_of (filter p fulls)) =
+          above-filter n fulls (All-tail (λ (m : ℕ). n < m) full.index (map index_of fulls) h) in
       cond_both (p full) (full ∷ filter p fulls) (filter p fulls) (λ kept. Above (map index_of kept))
-      (λ _. All-cons (λ (m : ℕ). n < m) full.index (map index_of (filter p fulls)) (All-head (λ (m : ℕ). n < m) full.index (map index_of fulls) h) rest)
+      (λ _. All-cons (λ (m : ℕ). n < m) full.index (map index_of (filter p fulls))
+          (All-head (λ (m : ℕ). n < m) full.index (map index_of fulls) h) rest)
       (λ _. rest)
 
-  pairs-filter : (fulls : List FullLink) → AllPairs (λ (n m : ℕ). n < m) (map index_of fulls) → AllPairs (λ (n m : ℕ). n < m) (map index_of (filter p fulls))
+  pairs-filter : (fulls : List FullLink) → AllPairs (λ (n m : ℕ). n < m) (map index_of fulls)
+      → AllPairs (λ (n m : ℕ). n < m) (map index_of (filter p fulls))
   pairs-filter [] h = h
   pairs-filter (full ∷ fulls) h =
       let Rises : List ℕ → Type 0 = λ ms. AllPairs (λ (n m : ℕ). n < m) ms in
-      let rest : Rises (map index_of (filter p fulls)) = pairs-filter fulls (λ i j d lt within. h (suc i) (suc j) d (omega (arith, lt)) (omega (arith, within))) in
-      let head : All (λ (m : ℕ). full.index < m) (map index_of fulls) = λ k d within. h zero (suc k) d (omega arith) (omega (arith, within)) in
+      let rest : Rises (map index_of (filter p fulls)) =
+          pairs-filter fulls (λ i j d lt within. h (suc i) (suc j) d (omega (arith, lt)) (omega (arith, within))) in
+      let head : All (λ (m : ℕ). full.index < m) (map index_of fulls) = λ k d within.
+          h zero (suc k) d (omega arith) (omega (arith, within)) in
       cond_both (p full) (full ∷ filter p fulls) (filter p fulls) (λ kept. Rises (map index_of kept))
       (λ _. AllPairs-cons (λ (n m : ℕ). n < m) full.index (map index_of (filter p fulls)) (above-filter full.index fulls head) rest)
       (λ _. rest)
@@ -45,7 +51,8 @@ module _ (p : FullLink → Bool) where
   rising-filter : (fulls : List FullLink) → IsStrictlyIncreasing (map index_of fulls) → IsStrictlyIncreasing (map index_of (filter p fulls))
   rising-filter fulls h k within = pairs-filter fulls (AllPairs-from_increasing (map index_of fulls) h) k (k + 1) 0 (omega arith) within
 
-  contains-filter : (fulls : List FullLink) (full : FullLink) (k : ℕ) → p full ≡ true → k < length fulls → get_or fulls k full ≡ full → Contains (filter p fulls) full
+  contains-filter : (fulls : List FullLink) (full : FullLink) (k : ℕ) → p full ≡ true → k < length fulls → get_or fulls k full ≡ full
+      → Contains (filter p fulls) full
   contains-filter [] full k test lt e = absurd (omega arith)
   contains-filter (first ∷ rest) full zero test lt e =
       let Held : Bool → Type 0 = λ b. Contains (cond b (first ∷ filter p rest) (filter p rest)) full in
@@ -61,7 +68,8 @@ module _ (p : FullLink → Bool) where
     filter_filter [] = refl
     filter_filter (full ∷ fulls) = by_test (q full) ∙ ap (λ kept. cond (q full && p full) (full ∷ kept) kept) (filter_filter fulls)
       where
-        by_test : (b : Bool) → filter p (cond b (full ∷ filter q fulls) (filter q fulls)) ≡ cond (b && p full) (full ∷ filter p (filter q fulls)) (filter p (filter q fulls))
+        by_test : (b : Bool) → filter p (cond b (full ∷ filter q fulls) (filter q fulls)) ≡ cond (b && p full)
+            (full ∷ filter p (filter q fulls)) (filter p (filter q fulls))
         by_test true = refl
         by_test false = refl
 
@@ -77,14 +85,18 @@ module _ (full : FullLink) where
   live_if : (cells ends : ℕ) → IsSubset full.carrier cells → has ends (code_of full.to) ≡ true → is_live_from cells ends full ≡ true
   live_if cells ends inside leads = and_from _ _ (eq-eqb _ _ (is_subset-intersection full.carrier cells inside)) leads
 
-  live-both : (empties ends cells to : ℕ) → is_live_from (intersection empties cells) (intersection ends to) full ≡ (is_live_from empties ends full && is_live_from cells to full)
+  live-both : (empties ends cells to : ℕ)
+      → is_live_from (intersection empties cells)
+      (intersection ends to) full ≡ (is_live_from empties ends full && is_live_from cells to full)
   live-both empties ends cells to = same_test _ _
       (λ test.
       let inside = inside_if (intersection empties cells) (intersection ends to) test in
       let leads = leads_if (intersection empties cells) (intersection ends to) test in
       and_from _ _
-      (live_if empties ends (λ n h. has-intersection_left empties cells n (inside n h)) (has-intersection_left ends to (code_of full.to) leads))
-      (live_if cells to (λ n h. has-intersection_right empties cells n (inside n h)) (has-intersection_right ends to (code_of full.to) leads)))
+      (live_if empties ends (λ n h. has-intersection_left empties cells n (inside n h))
+          (has-intersection_left ends to (code_of full.to) leads))
+      (live_if cells to (λ n h. has-intersection_right empties cells n (inside n h))
+          (has-intersection_right ends to (code_of full.to) leads)))
       (λ test.
       let live = first_of_both (is_live_from empties ends full) (is_live_from cells to full) test in
       let held = second_of_both (is_live_from empties ends full) (is_live_from cells to full) test in
@@ -97,7 +109,8 @@ module _ (full : FullLink) where
 pub live_from-within : (empties ends cells to : ℕ) (fulls : List FullLink)
     → live_from (intersection empties cells) (intersection ends to) fulls ≡ filter (is_live_from cells to) (live_from empties ends fulls)
 live_from-within empties ends cells to fulls =
-    filter_agree (is_live_from (intersection empties cells) (intersection ends to)) (λ full. is_live_from empties ends full && is_live_from cells to full) (λ full. live-both full empties ends cells to) fulls
+    filter_agree (is_live_from (intersection empties cells) (intersection ends to))
+        (λ full. is_live_from empties ends full && is_live_from cells to full) (λ full. live-both full empties ends cells to) fulls
     ∙ sym (filter_filter (is_live_from cells to) (is_live_from empties ends) fulls)
 
 pub full-within : (set : Standing) (vertex : Vertex) (cells to : ℕ) (fulls : List FullLink) → AreFullAt set vertex fulls

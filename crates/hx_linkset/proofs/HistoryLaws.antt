@@ -26,11 +26,14 @@ take-front : (xs ys : List ℕ) → take (length xs) (xs ++ ys) ≡ xs
 take-front [] ys = refl
 take-front (x ∷ xs) ys = ap (λ (zs : List ℕ). x ∷ zs) (take-front xs ys)
 
-pub holds-now : (player : Colour) (board : Board) (links : List Link) (rings : Rings) (log : List ℕ) (plays : List Stage) → HasHistory player board links rings log plays → HoldsLive player board links rings log
+pub holds-now : (player : Colour) (board : Board) (links : List Link) (rings : Rings) (log : List ℕ) (plays : List Stage)
+    → HasHistory player board links rings log plays → HoldsLive player board links rings log
 holds-now player board links rings log [] h = h
 holds-now player board links rings log (p ∷ ps) h = h.0
 
-module _ (links : List Link) (before after : Board) (player : Colour) (old new : Rings) (log log' : List ℕ) (p : IsPassed links before after player (length links) old new log log') (fewer : (link : Link) → IsLive after player link → IsLive before player link) where
+module _ (links : List Link) (before after : Board) (player : Colour) (old new : Rings) (log log' : List ℕ)
+    (p : IsPassed links before after player (length links) old new log log')
+    (fewer : (link : Link) → IsLive after player link → IsLive before player link) where
   -- what the pass leaves is what is live after the play
   passed-live : HoldsLive player after links new log'
   passed-live = record {
@@ -76,7 +79,8 @@ module _ (links : List Link) (before after : Board) (player : Colour) (old new :
     all_dropped = rw (all_links, since-is) (dropped-reverse links before after player (length links) p.dropped p.all_dropped);
   }
 
-  pub history-played : (plays : List Stage) → HasHistory player before links old log plays → HasHistory player after links new log' (play ∷ plays)
+  pub history-played : (plays : List Stage) → HasHistory player before links old log plays
+      → HasHistory player after links new log' (play ∷ plays)
   history-played plays h = (passed-live, (can_undo, (has_dropped, earlier)))
     where
       rings_are : rings_before new links log' play ≡ old
@@ -93,7 +97,8 @@ abbrev pub LastFits : List Link → List Stage → Type 0
 LastFits links [] = Unit {0}
 LastFits links (play ∷ plays) = play.count ≤ length links
 
-module _ (links : List Link) (board : Board) (player : Colour) (rings : Rings) (log : List ℕ) (now : HoldsLive player board links rings log) (link : Link) (live : IsLive board player link) (small : head_of link < 30258) where
+module _ (links : List Link) (board : Board) (player : Colour) (rings : Rings) (log : List ℕ) (now : HoldsLive player board links rings log)
+    (link : Link) (live : IsLive board player link) (small : head_of link < 30258) where
   abbrev more : List Link
   more = links ++ link ∷ []
 
@@ -114,26 +119,33 @@ module _ (links : List Link) (board : Board) (player : Colour) (rings : Rings) (
     as_long = as_long;
     small = omega (arith, small, now.hold.next_long);
     before_inside = omega (arith, last_less, now.hold.next_long);
-    after_inside = omega (arith, linked-small links (IsLiveThere board player) _ (now.hold.rings_ok.next_linked head (inl small)), now.hold.next_long);
+    after_inside = omega (arith, linked-small links (IsLiveThere board player) _ (now.hold.rings_ok.next_linked head (inl small)),
+        now.hold.next_long);
   }
 
   again : cut (grown rings head) ≡ rings
-  again = cut-grown rings head as_long (omega (arith, small, now.hold.next_long)) (omega (arith, last_less, now.hold.next_long)) (now.hold.rings_ok.forth head (inl small))
+  again = cut-grown rings head as_long (omega (arith, small, now.hold.next_long)) (omega (arith, last_less, now.hold.next_long))
+      (now.hold.rings_ok.forth head (inl small))
 
   longer : length (set rings.next last (length rings.next) ++ head ∷ []) ≡ length rings.next + 1
-  longer = omega (arith, length-append (set rings.next last (length rings.next)) (head ∷ []), length-set rings.next last (length rings.next))
+  longer = omega (arith, length-append (set rings.next last (length rings.next)) (head ∷ []),
+      length-set rings.next last (length rings.next))
 
   longer' : length (set rings.previous head (length rings.next) ++ last ∷ []) ≡ length rings.next + 1
-  longer' = omega (arith, length-append (set rings.previous head (length rings.next)) (last ∷ []), length-set rings.previous head (length rings.next), as_long)
+  longer' = omega (arith, length-append (set rings.previous head (length rings.next)) (last ∷ []),
+      length-set rings.previous head (length rings.next), as_long)
 
   new-inside : IsInside (grown rings head) (length (grown rings head).next - 1)
   new-inside =
-      let at : length (set rings.next last (length rings.next)) ≡ length (grown rings head).next - 1 = omega (arith, longer, length-set rings.next last (length rings.next)) in
-      let at' : length (set rings.previous head (length rings.next)) ≡ length (grown rings head).next - 1 = omega (arith, longer, length-set rings.previous head (length rings.next), as_long) in
+      let at : length (set rings.next last (length rings.next)) ≡ length (grown rings head).next - 1 =
+          omega (arith, longer, length-set rings.next last (length rings.next)) in
+      let at' : length (set rings.previous head (length rings.next)) ≡ length (grown rings head).next - 1 =
+          omega (arith, longer, length-set rings.previous head (length rings.next), as_long) in
       record {
         as_long = longer' ∙ sym longer;
         small = omega (arith, longer);
-        before_inside = omega (arith, get_or_push (set rings.previous head (length rings.next)) last 0 _ at', longer, last_less, now.hold.next_long);
+        before_inside = omega
+            (arith, get_or_push (set rings.previous head (length rings.next)) last 0 _ at', longer, last_less, now.hold.next_long);
         after_inside = omega (arith, get_or_push (set rings.next last (length rings.next)) head 0 _ at, longer, small, now.hold.next_long);
       }
 
@@ -143,11 +155,13 @@ module _ (links : List Link) (board : Board) (player : Colour) (rings : Rings) (
     log_ok = log-more links (IsLiveThere board player) log link now.log_ok;
   }
 
-  pub history-added : (plays : List Stage) → LastFits links plays → HasHistory player board links rings log plays → HasHistory player board more (grown rings head) log plays
+  pub history-added : (plays : List Stage) → LastFits links plays → HasHistory player board links rings log plays
+      → HasHistory player board more (grown rings head) log plays
   history-added [] fits h = more-live
   history-added (p ∷ ps) fits h =
       let one : length more - p.count ≡ suc (length links - p.count) = omega (arith, length-append links (link ∷ []), fits) in
-      let cuts : cut_times (length more - p.count) (grown rings head) ≡ cut_times (length links - p.count) rings = ap (λ n. cut_times n (grown rings head)) one ∙ ap (λ (r : Rings). cut_times (length links - p.count) r) again in
+      let cuts : cut_times (length more - p.count) (grown rings head) ≡ cut_times (length links - p.count) rings =
+          ap (λ n. cut_times n (grown rings head)) one ∙ ap (λ (r : Rings). cut_times (length links - p.count) r) again in
       let front : take p.count more ≡ take p.count links = take-append-le p.count links (link ∷ []) fits in
       let C : Rings → Type 0 = λ r. CanCut (length links - p.count) r in
       let N : ℕ → Type 0 = λ n. CanCut n (grown rings head) in

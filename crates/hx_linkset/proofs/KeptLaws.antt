@@ -26,13 +26,16 @@ module _ (board : Board) (player colour : Colour) (cell : ℕ) where
   end_kept Last other h = tt
   end_kept (Of n) other h = (
     rw (size-put board colour cell) h.0,
-    false_from_ne_true _ (λ k. ⊎_elim (λ w. other w.0 (ap Of w.1)) (λ was. false≢true (sym h.1 ∙ was)) ((stones-put board colour (other_of player) cell n).0 k)),
+    false_from_ne_true _ (λ k.
+        ⊎_elim (λ w. other w.0 (ap Of w.1)) (λ was. false≢true (sym h.1 ∙ was)) ((stones-put board colour (other_of player) cell n).0 k)),
   )
 
   end_before : (vertex : Vertex) → IsEnd after player vertex → IsEnd board player vertex
   end_before First h = tt
   end_before Last h = tt
-  end_before (Of n) h = (rw (size-put board colour cell) at h.0, false_from_ne_true _ (λ k. false≢true (sym h.1 ∙ (stones-put board colour (other_of player) cell n).1 (inr k))))
+  end_before (Of n) h =
+      (rw (size-put board colour cell) at h.0,
+      false_from_ne_true _ (λ k. false≢true (sym h.1 ∙ (stones-put board colour (other_of player) cell n).1 (inr k))))
 
   end_is_other : (vertex : Vertex) → IsEnd after player vertex → colour ≡ other_of player → vertex ≢ Of cell
   end_is_other vertex h e same =
@@ -96,7 +99,8 @@ module _ (board : Board) (player colour : Colour) (cell : ℕ) where
         first = g.first;
         second = g.second;
         meet = g.meet;
-        empty = (empty-put board colour cell g.cell).1 (g.empty, not_here u.outside g.cell (rw g.carrier (has-insert_same (union g.first.carrier g.second.carrier) g.cell)));
+        empty = (empty-put board colour cell g.cell).1
+            (g.empty, not_here u.outside g.cell (rw g.carrier (has-insert_same (union g.first.carrier g.second.carrier) g.cell)));
         outside_first = g.outside_first;
         outside_second = g.outside_second;
         kind = g.kind;

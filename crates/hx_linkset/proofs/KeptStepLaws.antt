@@ -19,12 +19,14 @@ use Rattle.hx_linkset.proofs.ClosedLaws.{part-before}
 use Rattle.hx_linkset.proofs.RenamingLaws.{gives-renamed}
 
 -- right steps and one more
-steps_more : (board : Board) (player : Colour) (before : List Link) (steps : List Step) (links : List Link) (step : Step) (link : Link) → AreRightSteps board player before steps links
+steps_more : (board : Board) (player : Colour) (before : List Link) (steps : List Step) (links : List Link) (step : Step) (link : Link)
+    → AreRightSteps board player before steps links
     → StepGives board player links step link → AreRightSteps board player before (steps ++ step ∷ []) (links ++ link ∷ [])
 steps_more board player before [] links step link right gives =
     let P : List Link → Type 0 = λ ls. StepGives board player ls step link in
     (link, subst P right gives, ap (λ (ls : List Link). ls ++ link ∷ []) right)
-steps_more board player before (first ∷ steps) links step link right gives = (right.0, right.1, steps_more board player (before ++ right.0 ∷ []) steps links step link right.2 gives)
+steps_more board player before (first ∷ steps) links step link right gives =
+    (right.0, right.1, steps_more board player (before ++ right.0 ∷ []) steps links step link right.2 gives)
 
 -- one element of the first places is there in the whole list
 take-get : {A : Type 0} → (n : ℕ) (xs : List A) (place : ℕ) → place < n → slice_get (take n xs) place ≡ slice_get xs place
@@ -46,7 +48,8 @@ module _ (player : Colour) (state : State) (marks : List ℕ) where
     last = λ p h lt top. absurd (omega arith);
   }
 
-  module _ (r : IsRight player state) (c : AreClosedFrom player state 0 marks) (bound : ℕ) (steps : List Step) (names : List ℕ) (k : AreKeptBelow player state marks bound steps names) where
+  module _ (r : IsRight player state) (c : AreClosedFrom player state 0 marks) (bound : ℕ) (steps : List Step) (names : List ℕ)
+      (k : AreKeptBelow player state marks bound steps names) where
     module _ (place : ℕ) (at : IsFirstMarkFrom marks bound place) (step : Step) (there : slice_get state.steps place ≡ Some step) where
       -- the marked places up to this one are this one and those below the bound
       below : (p : ℕ) → IsMarked marks p → p < place → p < bound
@@ -72,15 +75,18 @@ module _ (player : Colour) (state : State) (marks : List ℕ) where
           → slice_get (k.links ++ live.0 ∷ []) (slice_index (set names place (length steps)) p) ≡ slice_get state.links p
       named_now p (inl e) h lt =
           let name : slice_index (set names place (length steps)) p ≡ length k.links =
-          ap (λ q. slice_index (set names place (length steps)) q) e ∙ (get_or-set_same names place (length steps) 0 in_names ∙ sym k.steps_of) in
-          ap (λ q. slice_get (k.links ++ live.0 ∷ []) q) name ∙ (get-push_last k.links live.0 ∙ (sym live.1.0 ∙ ap (λ q. slice_get state.links q) (sym e)))
+          ap (λ q. slice_index (set names place (length steps)) q) e
+              ∙ (get_or-set_same names place (length steps) 0 in_names ∙ sym k.steps_of) in
+          ap (λ q. slice_get (k.links ++ live.0 ∷ []) q) name
+              ∙ (get-push_last k.links live.0 ∙ (sym live.1.0 ∙ ap (λ q. slice_get state.links q) (sym e)))
       named_now p (inr ne) h lt =
           let was : IsLiveAt state.board player state.links p = c.live p h in
           let b : p < bound = below p h (omega arith) in
           ap (λ q. slice_get (k.links ++ live.0 ∷ []) q) (get_or-set_other names place p (length steps) 0 ne)
           ∙ (get-push_before k.links live.0 (slice_index names p) was.0 (k.gives p h b ∙ was.1.0) ∙ sym was.1.0)
 
-      pub kept-more : AreKeptBelow player state marks (place + 1) (steps ++ renamed (λ (p : ℕ). slice_index names p) step ∷ []) (set names place (length steps))
+      pub kept-more : AreKeptBelow player state marks (place + 1) (steps ++ renamed (λ (p : ℕ). slice_index names p) step ∷ [])
+          (set names place (length steps))
       kept-more = record {
         links = k.links ++ live.0 ∷ [];
         right = steps_more state.board player [] steps k.links _ live.0 k.right gives_next;
@@ -91,11 +97,14 @@ module _ (player : Colour) (state : State) (marks : List ℕ) where
         gives = λ p h lt. named_now p (cases_eq p place) h lt;
         last = λ p h lt top.
             let e : p ≡ place = omega (arith, top place at.marked (omega arith)) in
-            simp length-append (omega (arith, ap (λ q. slice_index (set names place (length steps)) q) e ∙ get_or-set_same names place (length steps) 0 in_names));
+            simp length-append (omega
+                (arith, ap (λ q. slice_index (set names place (length steps)) q) e
+                ∙ get_or-set_same names place (length steps) 0 in_names));
       }
 
     -- all marked links are kept once no mark is left
-    pub kept-all : ((place : ℕ) → bound ≤ place → IsMarked marks place → ⊥) → AreKeptBelow player state marks (length state.links) steps names
+    pub kept-all : ((place : ℕ) → bound ≤ place → IsMarked marks place → ⊥)
+        → AreKeptBelow player state marks (length state.links) steps names
     kept-all none = record {
       links = k.links;
       right = k.right;
@@ -110,7 +119,8 @@ module _ (player : Colour) (state : State) (marks : List ℕ) where
         inside : (p : ℕ) → IsMarked marks p → p < bound
         inside p h = ⊎_elim (λ l. l) (λ le. absurd (none p le h)) (cases_lt p bound)
 
-  module _ (named : List ℕ) (c : AreClosedFrom player state 0 marks) (u : AreMarkedUnder named marks) (steps : List Step) (names : List ℕ) (k : AreKeptBelow player state marks (length state.links) steps names) where
+  module _ (named : List ℕ) (c : AreClosedFrom player state 0 marks) (u : AreMarkedUnder named marks) (steps : List Step) (names : List ℕ)
+      (k : AreKeptBelow player state marks (length state.links) steps names) where
     held : (p : ℕ) → IsMarked marks p → p < length state.links
     held p h = omega (arith, marked-inside marks p h, c.long)
 
@@ -122,7 +132,8 @@ module _ (player : Colour) (state : State) (marks : List ℕ) where
         let same : top.0 ≡ place = same_Some top.0 place (sym top.1.0.1 ∙ (ap (λ q. slice_get named q) k0 ∙ first)) in
         omega (arith, top.1.1, same)
 
-    last_one : (ns : List ℕ) → ns ≡ named → length ns ≡ 1 → (new : ℕ) → slice_get (map (λ (p : ℕ). slice_index names p) ns) 0 ≡ Some new → suc new ≡ length steps
+    last_one : (ns : List ℕ) → ns ≡ named → length ns ≡ 1 → (new : ℕ) → slice_get (map (λ (p : ℕ). slice_index names p) ns) 0 ≡ Some new
+        → suc new ≡ length steps
     last_one [] e one new h = cc
     last_one (n ∷ ns) e one new h =
         let first : slice_get named 0 ≡ Some n = ap (λ (xs : List ℕ). slice_get xs 0) (sym e) in
@@ -130,7 +141,8 @@ module _ (player : Colour) (state : State) (marks : List ℕ) where
         let is : new ≡ slice_index names n =
         same_Some new (slice_index names n) (sym h ∙ get-map (λ (p : ℕ). slice_index names p) (n ∷ ns) 0 n refl) in
         let alone : length named ≡ 1 = ap (λ (xs : List ℕ). length xs) (sym e) ∙ one in
-        let last : suc (slice_index names n) ≡ length steps = k.last n marked (held n marked) (λ other g l. top_one alone n first other g) in
+        let last : suc (slice_index names n) ≡ length steps =
+            k.last n marked (held n marked) (λ other g l. top_one alone n first other g) in
         omega (arith, is, last)
 
     pub derived : IsDerived state.board player state.links named steps (map (λ (p : ℕ). slice_index names p) named)

@@ -24,7 +24,9 @@ use Rattle.hx_linkset.proofs.HistoryLaws.{holds-now}
 -- ---- the test of a play's count
 
 chosen : {A : Type 0} (x y : A) (a b : ℕ) → a ≡ b → (if a == b then x else y) ≡ x
-chosen x y a b same = ⊎_elim (λ (is : (eqb a b ≡ true) × (a ≡ b)). ap (λ c. if c then x else y) is.0) (λ (is : (eqb a b ≡ false) × (a ≢ b)). absurd (is.1 same)) (eqb_tells a b)
+chosen x y a b same =
+    ⊎_elim (λ (is : (eqb a b ≡ true) × (a ≡ b)). ap (λ c. if c then x else y) is.0)
+    (λ (is : (eqb a b ≡ false) × (a ≢ b)). absurd (is.1 same)) (eqb_tells a b)
 
 left_out : {A : Type 0} (x y : A) (a b : ℕ) → a ≢ b → (if a == b then x else y) ≡ y
 left_out x y a b differ = ap (λ c. if c then x else y) (ne_eqb a b differ)
@@ -39,7 +41,8 @@ by_count a b f g = ⊎_elim (λ (is : (eqb a b ≡ true) × (a ≡ b)). f is.1) 
 count-undone : (state : State) (play : Stage) → play.count ≤ length state.links → length (undone state play).links ≡ play.count
 count-undone state play le = length-take-le play.count state.links le
 
-pub board-before : (player : Colour) (now : Stage) (state : State) (plays : List Stage) → Stands player state plays → (stage_before now plays).position ≡ board_before now.count now.position (past_of state plays)
+pub board-before : (player : Colour) (now : Stage) (state : State) (plays : List Stage) → Stands player state plays
+    → (stage_before now plays).position ≡ board_before now.count now.position (past_of state plays)
 board-before player now state [] s = refl
 board-before player now state (play ∷ plays) s = by_count play.count now.count
     (λ same.
@@ -59,11 +62,14 @@ IsSince player links board log first = (first.logged ≤ length log) × HasDropp
 
 module _ (player : Colour) where
   -- since a stage at which all is as it is now, nothing was dropped
-  since-now : (now : Stage) (board : Board) (links : List Link) (log : List ℕ) → now.position ≡ board → now.logged ≡ length log → IsSince player links board log now
-  since-now now board links log at logs = (omega (arith, logs), dropped-none player links board now.position _ at (drop_all now.logged log (omega (arith, logs))))
+  since-now : (now : Stage) (board : Board) (links : List Link) (log : List ℕ) → now.position ≡ board → now.logged ≡ length log
+      → IsSince player links board log now
+  since-now now board links log at logs =
+      (omega (arith, logs), dropped-none player links board now.position _ at (drop_all now.logged log (omega (arith, logs))))
 
   -- since a stage before a play that came after the last link
-  since-play : (first play : Stage) (board : Board) (links : List Link) (log : List ℕ) → play.count ≡ length links → play.logged ≤ length log → HasDropped player (take play.count links) play.position board (drop play.logged log)
+  since-play : (first play : Stage) (board : Board) (links : List Link) (log : List ℕ) → play.count ≡ length links
+      → play.logged ≤ length log → HasDropped player (take play.count links) play.position board (drop play.logged log)
       → IsSince player (take play.count links) play.position (take play.logged log) first → IsSince player links board log first
   since-play first play board links log counts fits dropped earlier =
       let front : take play.count links ≡ links = take_all play.count links (omega (arith, counts)) in
@@ -72,13 +78,16 @@ module _ (player : Colour) where
       let L : List Link → Type 0 = λ ls. HasDropped player ls first.position play.position (drop first.logged older) in
       let M : List Link → Type 0 = λ ls. HasDropped player ls play.position board newer in
       let both : HasDropped player links first.position board (drop first.logged older ++ newer) =
-      dropped-both player links first.position play.position board (drop first.logged older) newer (subst L front earlier.1) (subst M front dropped) in
+      dropped-both player links first.position play.position board (drop first.logged older) newer (subst L front earlier.1)
+          (subst M front dropped) in
       let joined : drop first.logged log ≡ drop first.logged older ++ newer =
-      ap (λ (xs : List ℕ). drop first.logged xs) (sym (take-append-drop play.logged log)) ∙ drop-append-le first.logged older newer earlier.0 in
+      ap (λ (xs : List ℕ). drop first.logged xs) (sym (take-append-drop play.logged log))
+          ∙ drop-append-le first.logged older newer earlier.0 in
       let D : List ℕ → Type 0 = λ xs. HasDropped player links first.position board xs in
       (omega (arith, earlier.0, length-take-le play.logged log fits, fits), subst D (sym joined) both)
 
-  since-last : (now : Stage) (board : Board) (links : List Link) (rings : Rings) (log : List ℕ) (plays : List Stage) → now.position ≡ board → now.count ≡ length links → now.logged ≡ length log → HasHistory player board links rings log plays
+  since-last : (now : Stage) (board : Board) (links : List Link) (rings : Rings) (log : List ℕ) (plays : List Stage) → now.position ≡ board
+      → now.count ≡ length links → now.logged ≡ length log → HasHistory player board links rings log plays
       → IsSince player links board log (stage_before now plays)
   since-last now board links rings log [] at counts logs h = since-now now board links log at logs
   since-last now board links rings log (play ∷ plays) at counts logs h =
@@ -88,13 +97,17 @@ module _ (player : Colour) where
       let here : play.count ≡ length links = same ∙ counts in
       let le : play.count ≤ length links = omega (arith, here) in
       let earlier : IsSince player (take play.count links) play.position (take play.logged log) (stage_before play plays) =
-      since-last play play.position (take play.count links) _ (take play.logged log) plays refl (sym (length-take-le play.count links le)) (sym (length-take-le play.logged log h.1.0.fits)) h.1.1.1 in
-      subst Is (sym (chosen (stage_before play plays) now play.count now.count same)) (since-play (stage_before play plays) play board links log here h.1.0.fits h.1.1.0 earlier))
-      (λ differ. subst Is (sym (left_out (stage_before play plays) now play.count now.count differ)) (since-now now board links log at logs))
+      since-last play play.position (take play.count links) _ (take play.logged log) plays refl (sym (length-take-le play.count links le))
+          (sym (length-take-le play.logged log h.1.0.fits)) h.1.1.1 in
+      subst Is (sym (chosen (stage_before play plays) now play.count now.count same))
+          (since-play (stage_before play plays) play board links log here h.1.0.fits h.1.1.0 earlier))
+      (λ differ. subst Is (sym (left_out (stage_before play plays) now play.count now.count differ))
+          (since-now now board links log at logs))
 
 -- the log from the stage on that was before the last stones names exactly the links that they dropped
 module _ (player : Colour) (board : Board) (links : List Link) (steps : List Step) (plays : List Stage) (rings : Rings) (log : List ℕ)
-    (s : Stands player (record { board = board; links = links; steps = steps }) (reverse plays)) (h : HasHistory player board links rings log (reverse plays)) where
+    (s : Stands player (record { board = board; links = links; steps = steps }) (reverse plays))
+        (h : HasHistory player board links rings log (reverse plays)) where
   abbrev now : Stage
   now = record { position = board; count = length links; logged = length log }
 
@@ -131,5 +144,6 @@ module _ (player : Colour) (board : Board) (links : List Link) (steps : List Ste
         let P : Board → Type 0 = λ b. IsLive b player d.link in
         Contains-from_any eqb-true place (drop first.logged log)
         (⊎_elim (λ live. absurd (d.is_dead live)) (λ k. k)
-        (since.1.all_dropped.all place d.link d.there (slice_get_within links place d.link d.there) (subst P (sym board-first) d.was_live)));
+        (since.1.all_dropped.all place d.link d.there (slice_get_within links place d.link d.there)
+            (subst P (sym board-first) d.was_live)));
   }

@@ -23,11 +23,13 @@ use Rattle.hx_linkset.specs.States.{IsLive, Names, IsLiveAt}
 
 module _ (board : Board) (player : Colour) where
   -- the ends of a link, however they are named
-  ends_are : (link : Link) (x y : Vertex) → HasEnds link x y → IsEnd board player x → IsEnd board player y → IsEnd board player link.a × IsEnd board player link.b
+  ends_are : (link : Link) (x y : Vertex) → HasEnds link x y → IsEnd board player x → IsEnd board player y → IsEnd board player link.a
+      × IsEnd board player link.b
   ends_are link x y (inl e) h k = (rw e.0 h, rw e.1 k)
   ends_are link x y (inr e) h k = (rw e.0 k, rw e.1 h)
 
-  ends_of : (link : Link) (x y : Vertex) → HasEnds link x y → IsEnd board player link.a → IsEnd board player link.b → IsEnd board player x × IsEnd board player y
+  ends_of : (link : Link) (x y : Vertex) → HasEnds link x y → IsEnd board player link.a → IsEnd board player link.b → IsEnd board player x
+      × IsEnd board player y
   ends_of link x y (inl e) h k = (rw e.0 at h, rw e.1 at k)
   ends_of link x y (inr e) h k = (rw e.1 at k, rw e.0 at h)
 
@@ -36,9 +38,11 @@ module _ (board : Board) (player : Colour) where
   own_is_end p Last own = tt
   own_is_end p (Of cell) own = own_cell player p cell own
     where
-      own_cell : (who : Colour) → IsPosition board.size board.black board.white → (cell : ℕ) → has (stones_of board who) cell ≡ true → IsEnd board who (Of cell)
+      own_cell : (who : Colour) → IsPosition board.size board.black board.white → (cell : ℕ) → has (stones_of board who) cell ≡ true
+          → IsEnd board who (Of cell)
       own_cell Black p cell h = (p.black_inside cell h, p.apart cell h)
-      own_cell White p cell h = (p.white_inside cell h, false_from_ne_true (has board.black cell) (λ k. false≢true (sym (p.apart cell k) ∙ h)))
+      own_cell White p cell h =
+          (p.white_inside cell h, false_from_ne_true (has board.black cell) (λ k. false≢true (sym (p.apart cell k) ∙ h)))
 
   empty_is_end : (cell : ℕ) → IsEmpty board cell → IsEnd board player (Of cell)
   empty_is_end cell e = no_stone player
@@ -50,32 +54,42 @@ module _ (board : Board) (player : Colour) where
   module _ (before : List Link) (p : IsPosition board.size board.black board.white) where
     -- the two parts of an And
     meet_parts : (left right : ℕ) (from middle to : Vertex) (first second : Link) → MeetAt before left right from middle to first second
-        → IsEnd board player from → IsEnd board player to → IsEnd board player middle → ((n : ℕ) → has (union first.carrier second.carrier) n ≡ true → IsEmpty board n)
+        → IsEnd board player from → IsEnd board player to → IsEnd board player middle
+            → ((n : ℕ) → has (union first.carrier second.carrier) n ≡ true → IsEmpty board n)
         → IsLive board player first × IsLive board player second
     meet_parts left right from middle to first second meet from_end to_end middle_end empty = (
-      (let ends : IsEnd board player first.a × IsEnd board player first.b = ends_are first from middle meet.first_ends from_end middle_end in
+      (let ends : IsEnd board player first.a × IsEnd board player first.b =
+          ends_are first from middle meet.first_ends from_end middle_end in
           record { empty = λ n h. empty n (has-union_left first.carrier second.carrier n h); a_end = ends.0; b_end = ends.1 }),
-      (let ends : IsEnd board player second.a × IsEnd board player second.b = ends_are second middle to meet.second_ends middle_end to_end in
+      (let ends : IsEnd board player second.a × IsEnd board player second.b =
+          ends_are second middle to meet.second_ends middle_end to_end in
           record { empty = λ n h. empty n (has-union_right first.carrier second.carrier n h); a_end = ends.0; b_end = ends.1 }),
     )
 
-    parts_by_rule : (step : Step) (link : Link) → GivesByRule board player before step link → IsLive board player link → (place : ℕ) → Names step place → IsLiveAt board player before place
+    parts_by_rule : (step : Step) (link : Link) → GivesByRule board player before step link → IsLive board player link → (place : ℕ)
+        → Names step place → IsLiveAt board player before place
     parts_by_rule (Base a b) link g live place named = absurd named
     parts_by_rule (AndStone left right) link g live place named =
         let ends : IsEnd board player g.from × IsEnd board player g.to = ends_of link g.from g.to g.ends live.a_end live.b_end in
         let both : IsLive board player g.first × IsLive board player g.second =
-        meet_parts left right g.from g.middle g.to g.first g.second g.meet ends.0 ends.1 (own_is_end p g.middle g.own) (λ n h. live.empty n (rw g.carrier h)) in
-        ⊎_elim (λ e. (g.first, (ap (λ n. slice_get before n) e ∙ g.meet.first_there, both.0))) (λ e. (g.second, (ap (λ n. slice_get before n) e ∙ g.meet.second_there, both.1))) named
+        meet_parts left right g.from g.middle g.to g.first g.second g.meet ends.0 ends.1 (own_is_end p g.middle g.own)
+            (λ n h. live.empty n (rw g.carrier h)) in
+        ⊎_elim (λ e. (g.first, (ap (λ n. slice_get before n) e ∙ g.meet.first_there, both.0)))
+            (λ e. (g.second, (ap (λ n. slice_get before n) e ∙ g.meet.second_there, both.1))) named
     parts_by_rule (AndCell left right) link g live place named =
         let ends : IsEnd board player g.from × IsEnd board player g.to = ends_of link g.from g.to g.ends live.a_end live.b_end in
         let both : IsLive board player g.first × IsLive board player g.second =
         meet_parts left right g.from (Of g.cell) g.to g.first g.second g.meet ends.0 ends.1 (empty_is_end g.cell g.empty)
         (λ n h. live.empty n (rw g.carrier (has-insert_other (union g.first.carrier g.second.carrier) g.cell n h))) in
-        ⊎_elim (λ e. (g.first, (ap (λ n. slice_get before n) e ∙ g.meet.first_there, both.0))) (λ e. (g.second, (ap (λ n. slice_get before n) e ∙ g.meet.second_there, both.1))) named
+        ⊎_elim (λ e. (g.first, (ap (λ n. slice_get before n) e ∙ g.meet.first_there, both.0)))
+            (λ e. (g.second, (ap (λ n. slice_get before n) e ∙ g.meet.second_there, both.1))) named
     parts_by_rule (Or parts) link g live place named =
         let w = part_at before parts g.links g.there named.0 place named.1 in
-        let ends : IsEnd board player w.0.a × IsEnd board player w.0.b = ends_are w.0 link.a link.b (g.same_ends w.0 w.1.0) live.a_end live.b_end in
-        (w.0, (w.1.1, record { empty = λ n h. live.empty n (rw g.carrier (in_carriers g.links w.1.0.0 w.0 w.1.0.1 n h)); a_end = ends.0; b_end = ends.1 }))
+        let ends : IsEnd board player w.0.a × IsEnd board player w.0.b =
+            ends_are w.0 link.a link.b (g.same_ends w.0 w.1.0) live.a_end live.b_end in
+        (w.0, (w.1.1, record { empty = λ n h. live.empty n (rw g.carrier (in_carriers g.links w.1.0.0 w.0 w.1.0.1 n h)); a_end = ends.0;
+            b_end = ends.1 }))
 
-    pub parts_live : (step : Step) (link : Link) → StepGives board player before step link → IsLive board player link → (place : ℕ) → Names step place → IsLiveAt board player before place
+    pub parts_live : (step : Step) (link : Link) → StepGives board player before step link → IsLive board player link → (place : ℕ)
+        → Names step place → IsLiveAt board player before place
     parts_live step link g = parts_by_rule step link g.rule

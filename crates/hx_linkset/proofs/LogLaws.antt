@@ -31,14 +31,16 @@ module _ (links : List Link) (Has : ℕ → Link → Type 0) where
     pub log-less : (log : List ℕ) → LogHolds links Has log → LogHolds links Less log
     log-less log h = record { distinct = h.distinct; out = λ place there. less_out place (h.out place there) }
 
-    module _ (log : List ℕ) (h : LogHolds links Has log) (place : ℕ) (link : Link) (there : slice_get links place ≡ Some link) (has : Has place link) (lacks : Less place link → ⊥) where
+    module _ (log : List ℕ) (h : LogHolds links Has log) (place : ℕ) (link : Link) (there : slice_get links place ≡ Some link)
+        (has : Has place link) (lacks : Less place link → ⊥) where
       not_logged : list_any (eqb place) log ≡ false
       not_logged = false_from_ne_true _ (λ k. (h.out place k).lacks link there has)
 
       place_out : IsOut links Less place
       place_out = record {
         inside = slice_get_within links place link there;
-        lacks = λ l there' less_has. let same : l ≡ link = same_Some l link (sym there' ∙ there) in let P : Link → Type 0 = λ x. Less place x in lacks (subst P same less_has);
+        lacks = λ l there' less_has. let same : l ≡ link = same_Some l link (sym there' ∙ there) in let P : Link → Type 0 = λ x.
+            Less place x in lacks (subst P same less_has);
       }
 
       either : (q : ℕ) → (list_any (eqb q) log ≡ true) ⊎ (list_any (eqb q) (place ∷ []) ≡ true) → IsOut links Less q
@@ -56,14 +58,17 @@ module _ (links : List Link) (Has : ℕ → Link → Type 0) where
       }
 
 -- there is room for a link that is not out yet
-pub log-room_more : (links : List Link) (Has : ℕ → Link → Type 0) (log : List ℕ) → LogHolds links Has log → (place : ℕ) (link : Link) → slice_get links place ≡ Some link → Has place link → length log < length links
+pub log-room_more : (links : List Link) (Has : ℕ → Link → Type 0) (log : List ℕ) → LogHolds links Has log → (place : ℕ) (link : Link)
+    → slice_get links place ≡ Some link → Has place link → length log < length links
 log-room_more links Has log h place link there has =
     let Less : ℕ → Link → Type 0 = λ n l. ⊥ in
-    let more : LogHolds links Less (log ++ place ∷ []) = log-push links Has Less (λ n l no. absurd no) log h place link there has (λ no. no) in
+    let more : LogHolds links Less (log ++ place ∷ []) =
+        log-push links Has Less (λ n l no. absurd no) log h place link there has (λ no. no) in
     omega (arith, log-room links Less (log ++ place ∷ []) more, length-append log (place ∷ []))
 
 -- a link more that is held
-pub log-more : (links : List Link) (Has : ℕ → Link → Type 0) (log : List ℕ) (link : Link) → LogHolds links Has log → LogHolds (links ++ link ∷ []) Has log
+pub log-more : (links : List Link) (Has : ℕ → Link → Type 0) (log : List ℕ) (link : Link) → LogHolds links Has log
+    → LogHolds (links ++ link ∷ []) Has log
 log-more links Has log link h = record {
   distinct = h.distinct;
   out = λ place k. let o = h.out place k in record {

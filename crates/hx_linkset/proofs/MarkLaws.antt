@@ -20,7 +20,8 @@ module _ (marks : List ℕ) (place : ℕ) (inside : place < length marks) where
   mark_stays other (inl e) h = ap (λ p. slice_index (set marks place 1) p) e ∙ get_or-set_same marks place 1 0 inside
   mark_stays other (inr ne) h = get_or-set_other marks place other 1 0 ne ∙ h
 
-  only_mark : (other : ℕ) → (other ≡ place) ⊎ (other ≡ place → ⊥) → IsMarked (set marks place 1) other → IsMarked marks other ⊎ (other ≡ place)
+  only_mark : (other : ℕ) → (other ≡ place) ⊎ (other ≡ place → ⊥) → IsMarked (set marks place 1) other → IsMarked marks other
+      ⊎ (other ≡ place)
   only_mark other (inl e) h = inr e
   only_mark other (inr ne) h = inl (sym (get_or-set_other marks place other 1 0 ne) ∙ h)
 
@@ -32,7 +33,8 @@ module _ (marks : List ℕ) (place : ℕ) (inside : place < length marks) where
     only = λ p h. only_mark p (cases_eq p place) h;
   }
 
-mark-then : (A B : ℕ → Type 0) (old middle new : List ℕ) → MarksMore A old middle → MarksMore B middle new → MarksMore (λ p. A p ⊎ B p) old new
+mark-then : (A B : ℕ → Type 0) (old middle new : List ℕ) → MarksMore A old middle → MarksMore B middle new
+    → MarksMore (λ p. A p ⊎ B p) old new
 mark-then A B old middle new m n = record {
   long = n.long ∙ m.long;
   stay = λ p h. n.stay p (m.stay p h);
@@ -53,14 +55,16 @@ pub mark-both : (marks : List ℕ) (left right : ℕ) → left < length marks �
     → MarksMore (λ p. (p ≡ left) ⊎ (p ≡ right)) marks (set (set marks left 1) right 1)
 mark-both marks left right l r =
     let r' : right < length (set marks left 1) = omega (arith, length-set {A = ℕ}) in
-    mark-then (λ p. p ≡ left) (λ p. p ≡ right) marks (set marks left 1) (set (set marks left 1) right 1) (mark-one marks left l) (mark-one (set marks left 1) right r')
+    mark-then (λ p. p ≡ left) (λ p. p ≡ right) marks (set marks left 1) (set (set marks left 1) right 1) (mark-one marks left l)
+        (mark-one (set marks left 1) right r')
 
 module _ (places : List ℕ) (i : ℕ) (inside : i < length places) where
   stands_to : (p : ℕ) → StandsIn (take i places) p ⊎ (p ≡ get_or places i 0) → StandsIn (take (i + 1) places) p
   stands_to p (inl s) = let P : List ℕ → Type 0 = λ ps. StandsIn ps p in
       subst P (sym (take_more places i 0 inside)) (s.0, get-push_before (take i places) (get_or places i 0) s.0 p s.1)
   stands_to p (inr e) = let P : List ℕ → Type 0 = λ ps. StandsIn ps p in
-      subst P (sym (take_more places i 0 inside)) (length (take i places), get-push_last (take i places) (get_or places i 0) ∙ ap (λ q. Some q) (sym e))
+      subst P (sym (take_more places i 0 inside))
+          (length (take i places), get-push_last (take i places) (get_or places i 0) ∙ ap (λ q. Some q) (sym e))
 
   pub stands_from : (p : ℕ) → StandsIn (take (i + 1) places) p → StandsIn (take i places) p ⊎ (p ≡ get_or places i 0)
   stands_from p s =
@@ -68,10 +72,13 @@ module _ (places : List ℕ) (i : ℕ) (inside : i < length places) where
       let t : StandsIn (take i places ++ get_or places i 0 ∷ []) p = subst P (take_more places i 0 inside) s in
       ⊎_elim (λ w. inl (t.0, w)) (λ w. inr w.1) (get-push (take i places) (get_or places i 0) p t.0 t.1)
 
-  pub mark-next : (old marks : List ℕ) → get_or places i 0 < length marks → MarksMore (StandsIn (take i places)) old marks → MarksMore (StandsIn (take (i + 1) places)) old (set marks (get_or places i 0) 1)
+  pub mark-next : (old marks : List ℕ) → get_or places i 0 < length marks → MarksMore (StandsIn (take i places)) old marks
+      → MarksMore (StandsIn (take (i + 1) places)) old (set marks (get_or places i 0) 1)
   mark-next old marks lt m =
-      mark-as (λ p. StandsIn (take i places) p ⊎ (p ≡ get_or places i 0)) (StandsIn (take (i + 1) places)) old (set marks (get_or places i 0) 1) stands_to stands_from
-      (mark-then (StandsIn (take i places)) (λ p. p ≡ get_or places i 0) old marks (set marks (get_or places i 0) 1) m (mark-one marks (get_or places i 0) lt))
+      mark-as (λ p. StandsIn (take i places) p ⊎ (p ≡ get_or places i 0)) (StandsIn (take (i + 1) places)) old
+          (set marks (get_or places i 0) 1) stands_to stands_from
+      (mark-then (StandsIn (take i places)) (λ p. p ≡ get_or places i 0) old marks (set marks (get_or places i 0) 1) m
+          (mark-one marks (get_or places i 0) lt))
 
   pub stands-here : StandsIn places (get_or places i 0)
   stands-here = (i, slice_get-get_or places i 0 inside)
@@ -81,17 +88,20 @@ module _ (marks rest : List ℕ) (bound : ℕ) (is_rest : rest ≡ drop bound ma
   in_rest : (k : ℕ) → slice_index rest k ≡ slice_index marks (bound + k)
   in_rest k = ap (λ (xs : List ℕ). slice_index xs k) is_rest ∙ get_or-drop bound marks k 0
 
-  found_at : (place : ℕ) → bound ≤ place → IsMarked marks place → (k : ℕ) × ((bound + k ≡ place) × ((k < length rest) × Passes (is_byte 1) rest k))
+  found_at : (place : ℕ) → bound ≤ place → IsMarked marks place → (k : ℕ)
+      × ((bound + k ≡ place) × ((k < length rest) × Passes (is_byte 1) rest k))
   found_at place le h =
       let k : ℕ = place - bound in
       let e : bound + k ≡ place = omega arith in
       let long : length rest ≡ length marks - bound = ap (λ (xs : List ℕ). length xs) is_rest ∙ length-drop bound marks in
       (k, (e, (omega (arith, marked-inside marks place h), eq-eqb _ _ (in_rest k ∙ (ap (λ p. slice_index marks p) e ∙ h)))))
 
-  pub found-none : ((k : ℕ) → 0 ≤ k → k < length rest → Passes (is_byte 1) rest k → ⊥) → (place : ℕ) → bound ≤ place → IsMarked marks place → ⊥
+  pub found-none : ((k : ℕ) → 0 ≤ k → k < length rest → Passes (is_byte 1) rest k → ⊥) → (place : ℕ) → bound ≤ place → IsMarked marks place
+      → ⊥
   found-none none place le h = let w = found_at place le h in none w.0 (omega arith) w.1.1.0 w.1.1.1
 
-  pub found-first : (further : ℕ) → NoneBefore (Passes (is_byte 1) rest) 0 (length rest) further → Passes (is_byte 1) rest further → IsFirstMarkFrom marks bound (bound + further)
+  pub found-first : (further : ℕ) → NoneBefore (Passes (is_byte 1) rest) 0 (length rest) further → Passes (is_byte 1) rest further
+      → IsFirstMarkFrom marks bound (bound + further)
   found-first further none here = record {
     from = omega arith;
     marked = sym (in_rest further) ∙ eqb-true _ _ here;

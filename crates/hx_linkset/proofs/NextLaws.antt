@@ -20,13 +20,15 @@ use Rattle.hx_linkset.proofs.WalkLaws.{LinkAt, none_past, goes_up, walk-link}
 
 module _ (set : Standing) (right : IsRight set.player set.present) where
   -- a live link is one that there can be on the board
-  pub live-is_link : (place : ℕ) (link : Link) → slice_get set.present.links place ≡ Some link → IsLive set.present.board set.player link → IsLink set.present.board set.player link
+  pub live-is_link : (place : ℕ) (link : Link) → slice_get set.present.links place ≡ Some link → IsLive set.present.board set.player link
+      → IsLink set.present.board set.player link
   live-is_link place link there live =
       let step = get-there set.present.steps place (omega (arith, right.steps_of, slice_get_within set.present.links place link there)) in
       (right.given place link step.0 there step.1 live).gives.link_ok
 
   -- a live link's own head is that of its ends
-  pub head_between-link : (kind : Kind) (a b : Vertex) (place : ℕ) (is : IsLiveOf set kind a b place) → IsHeadBetween kind a b (head_of is.link)
+  pub head_between-link : (kind : Kind) (a b : Vertex) (place : ℕ) (is : IsLiveOf set kind a b place)
+      → IsHeadBetween kind a b (head_of is.link)
   head_between-link kind a b place is =
       let some = live-some set.present.board right.is_board set.player is.link is.live in
       let ok : IsLink set.present.board set.player is.link = live-is_link place is.link is.there is.live in
@@ -39,7 +41,8 @@ module _ (set : Standing) (right : IsRight set.player set.present) where
         head_is = ap (λ (k : Kind). head_for k is.link.a is.link.b) is.kind_is;
       }
 
-  module _ (rings : Rings) (hold : RingsHold set.present.links (IsLiveThere set.present.board set.player) rings) (kind : Kind) (a b : Vertex) (head : ℕ) (of : IsHeadBetween kind a b head) where
+  module _ (rings : Rings) (hold : RingsHold set.present.links (IsLiveThere set.present.board set.player) rings) (kind : Kind)
+      (a b : Vertex) (head : ℕ) (of : IsHeadBetween kind a b head) where
     abbrev Has : ℕ → Link → Type 0
     Has = IsLiveThere set.present.board set.player
 
@@ -54,7 +57,8 @@ module _ (set : Standing) (right : IsRight set.player set.present) where
 
     from_ring : (node place : ℕ) → place ≡ node - 30258 → LinkAt set.present.links Has head node → IsLiveOf set kind a b place
     from_ring node place e at =
-        let same = live-same set.present.board right.is_board set.player at.link kind of.low of.high at.has of.low_some of.high_some (at.in_ring ∙ of.head_is) in
+        let same = live-same set.present.board right.is_board set.player at.link kind of.low of.high at.has of.low_some of.high_some
+            (at.in_ring ∙ of.head_is) in
         let places : at.place ≡ place = omega (arith, at.node_is, e) in
         record {
           link = at.link;
@@ -70,7 +74,8 @@ module _ (set : Standing) (right : IsRight set.player set.present) where
 
       past : (place : ℕ) → node < 30258 + place → (after < 30258) ⊎ (30258 + place < after) → IsLiveOf set kind a b place → ⊥
       past place less before is = none_past set.present.links Has rings hold head head-low node (30258 + place) linked here
-          (inr (place, (is.link, (refl, (is.there, is.live))))) (head_at-link set.present.links place is.link is.there ∙ in_ring place is) less before
+          (inr (place, (is.link, (refl, (is.there, is.live)))))
+              (head_at-link set.present.links place is.link is.there ∙ in_ring place is) less before
 
       pub next-none : after < 30258 → (place : ℕ) → node < 30258 + place → IsLiveOf set kind a b place → ⊥
       next-none low place less = past place less (inl low)
@@ -82,10 +87,12 @@ module _ (set : Standing) (right : IsRight set.player set.present) where
         passed = λ place link there has e before wanted. wanted;
       } high
 
-      pub next-some : (bound place : ℕ) → 30258 ≤ after → place ≡ after - 30258 → node < 30258 + bound → (30258 ≤ node → 30258 + bound ≡ node + 1) → (node < 30258 → bound ≡ 0) → IsFirstFrom set kind a b bound place
+      pub next-some : (bound place : ℕ) → 30258 ≤ after → place ≡ after - 30258 → node < 30258 + bound
+          → (30258 ≤ node → 30258 + bound ≡ node + 1) → (node < 30258 → bound ≡ 0) → IsFirstFrom set kind a b bound place
       next-some bound place high e above at_node at_head = record {
         is = from_ring after place e (at_after high);
-        not_below = ⊎_elim (λ low. omega (arith, low, high)) (λ up. not_below up) (goes_up set.present.links Has rings hold head head-low node linked here);
+        not_below = ⊎_elim (λ low. omega (arith, low, high)) (λ up. not_below up)
+            (goes_up set.present.links Has rings hold head head-low node linked here);
         first = λ other le less. past other (omega (arith, le, above)) (inr (omega (arith, less, e, high)));
       }
         where
@@ -105,10 +112,13 @@ module _ (set : Standing) (right : IsRight set.player set.present) where
       low = head-low rings hold kind a b head of
 
       pub first-none : at_start < 30258 → (place : ℕ) → IsLiveOf set kind a b place → ⊥
-      first-none none place = next-none rings hold kind a b head of head (inl low) (head_at-low set.present.links head low) none place (omega (arith, low))
+      first-none none place =
+          next-none rings hold kind a b head of head (inl low) (head_at-low set.present.links head low) none place (omega (arith, low))
 
       pub first-some : (place : ℕ) → 30258 ≤ at_start → place ≡ at_start - 30258 → IsFirstFrom set kind a b 0 place
-      first-some place high e = next-some rings hold kind a b head of head (inl low) (head_at-low set.present.links head low) 0 place high e (omega (arith, low)) (λ le. absurd (omega (arith, le, low))) (λ k. refl)
+      first-some place high e =
+          next-some rings hold kind a b head of head (inl low) (head_at-low set.present.links head low) 0 place high e (omega (arith, low))
+          (λ le. absurd (omega (arith, le, low))) (λ k. refl)
 
     -- from a live link on
     module _ (kind : Kind) (a b : Vertex) (index : ℕ) (is : IsLiveOf set kind a b index) where
@@ -122,7 +132,11 @@ module _ (set : Standing) (right : IsRight set.player set.present) where
       of = head_between-link kind a b index is
 
       pub later-none : at_next < 30258 → (place : ℕ) → index < place → IsLiveOf set kind a b place → ⊥
-      later-none none place less = next-none rings hold kind a b (head_of is.link) of (30258 + index) linked (head_at-link set.present.links index is.link is.there) none place (omega (arith, less))
+      later-none none place less =
+          next-none rings hold kind a b (head_of is.link) of (30258 + index) linked
+          (head_at-link set.present.links index is.link is.there) none place (omega (arith, less))
 
       pub later-some : (place : ℕ) → 30258 ≤ at_next → place ≡ at_next - 30258 → IsFirstFrom set kind a b (index + 1) place
-      later-some place high e = next-some rings hold kind a b (head_of is.link) of (30258 + index) linked (head_at-link set.present.links index is.link is.there) (index + 1) place high e (omega arith) (λ le. omega arith) (λ k. absurd (omega (arith, k)))
+      later-some place high e =
+          next-some rings hold kind a b (head_of is.link) of (30258 + index) linked (head_at-link set.present.links index is.link is.there)
+          (index + 1) place high e (omega arith) (λ le. omega arith) (λ k. absurd (omega (arith, k)))

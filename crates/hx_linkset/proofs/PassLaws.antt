@@ -26,11 +26,13 @@ choice false x y e = refl
 not_below : (a b : ℕ) → b ≤ a → nat_lt a b ≡ false
 not_below a b le = grind (arith, nat_tests)
 
-pub head_at-link : (links : List Link) (place : ℕ) (link : Link) → slice_get links place ≡ Some link → head_at links (30258 + place) ≡ head_of link
+pub head_at-link : (links : List Link) (place : ℕ) (link : Link) → slice_get links place ≡ Some link
+    → head_at links (30258 + place) ≡ head_of link
 unfolding head_at
 head_at-link links place link e =
     choice (nat_lt (30258 + place) 30258) (30258 + place) _ (not_below (30258 + place) 30258 (omega arith))
-    ∙ ap (λ (o : Option Link). head_or o (30258 + place)) (ap (λ n. slice_get links n) (let same : 30258 + place - 30258 ≡ place = omega arith in same) ∙ e)
+    ∙ ap (λ (o : Option Link). head_or o (30258 + place))
+        (ap (λ n. slice_get links n) (let same : 30258 + place - 30258 ≡ place = omega arith in same) ∙ e)
 
 -- rings of the same linked nodes
 pub rings-same : (f g h : ℕ → ℕ) (P Q : ℕ → Type 0) → ((v : ℕ) → P v → Q v) → ((v : ℕ) → Q v → P v) → AreRings f g h P → AreRings f g h Q
@@ -51,7 +53,8 @@ module _ (links : List Link) (Has : ℕ → Link → Type 0) where
   linked-small v (inl lt) = omega arith
   linked-small v (inr w) = omega (arith, w.1.1.0, slice_get_within links w.0 w.1.0 w.1.1.1.0)
 
-  module _ (rings : Rings) (hold : RingsHold links Has rings) (place : ℕ) (link : Link) (there : slice_get links place ≡ Some link) (has : Has place link) (small : head_of link < 30258) where
+  module _ (rings : Rings) (hold : RingsHold links Has rings) (place : ℕ) (link : Link) (there : slice_get links place ≡ Some link)
+      (has : Has place link) (small : head_of link < 30258) where
     abbrev node : ℕ
     node = 30258 + place
 
@@ -85,12 +88,15 @@ module _ (links : List Link) (Has : ℕ → Link → Type 0) where
       previous_of_after = hold.rings_ok.back node linked;
     }
 
-    pub hold-unlinked : (Less : ℕ → Link → Type 0) → ((v : ℕ) → IsLinked links Less v → v ≢ node) → ((v : ℕ) → IsLinked links Less v → IsLinked links Has v) → ((v : ℕ) → v ≢ node → IsLinked links Has v → IsLinked links Less v) → RingsHold links Less (unlinked rings node)
+    pub hold-unlinked : (Less : ℕ → Link → Type 0) → ((v : ℕ) → IsLinked links Less v → v ≢ node)
+        → ((v : ℕ) → IsLinked links Less v → IsLinked links Has v) → ((v : ℕ) → v ≢ node → IsLinked links Has v → IsLinked links Less v)
+        → RingsHold links Less (unlinked rings node)
     hold-unlinked Less other was stays =
         let p : ℕ = get_or rings.previous node 0 in
         let n : ℕ = get_or rings.next node 0 in
         record {
-          rings_ok = rings-unlinked (head_at links) (λ v. get_or rings.next v 0) (λ v. get_or rings.previous v 0) (IsLinked links Has) hold.rings_ok node linked inner
+          rings_ok = rings-unlinked (head_at links) (λ v. get_or rings.next v 0) (λ v. get_or rings.previous v 0)
+              (IsLinked links Has) hold.rings_ok node linked inner
               (λ v. get_or (set rings.next p n) v 0) (λ v. get_or (set rings.previous n p) v 0) (IsLinked links Less) other was stays
               (get_or-set_same rings.next p n 0 (omega (arith, hold.next_long, before_less)))
               (λ v ne. get_or-set_other rings.next p v n 0 ne)
@@ -100,7 +106,8 @@ module _ (links : List Link) (Has : ℕ → Link → Type 0) where
           previous_long = length-set rings.previous n p ∙ hold.previous_long;
         }
 
-module _ (links : List Link) (before after : Board) (player : Colour) (bound : ℕ) (link : Link) (there : slice_get links bound ≡ Some link) where
+module _ (links : List Link) (before after : Board) (player : Colour) (bound : ℕ) (link : Link)
+    (there : slice_get links bound ≡ Some link) where
   abbrev Now : ℕ → Link → Type 0
   Now = IsKeptBelow before after player bound
 
@@ -121,7 +128,8 @@ module _ (links : List Link) (before after : Board) (player : Colour) (bound : �
   at_bound : (place : ℕ) (l : Link) → place ≡ bound → slice_get links place ≡ Some l → l ≡ link
   at_bound place l e at = same_Some l link (sym at ∙ (ap (λ n. slice_get links n) e ∙ there))
 
-  stays_if : (v : ℕ) → ((l : Link) → v ≡ 30258 + bound → l ≡ link → IsLive before player l → IsLive after player l) → IsLinked links Now v → IsLinked links Next v
+  stays_if : (v : ℕ) → ((l : Link) → v ≡ 30258 + bound → l ≡ link → IsLive before player l → IsLive after player l) → IsLinked links Now v
+      → IsLinked links Next v
   stays_if v kept (inl lt) = inl lt
   stays_if v kept (inr w) = inr (w.0, (w.1.0, (w.1.1.0, (w.1.1.1.0, (w.1.1.1.1.0, λ lt. by_case lt (cases_eq w.0 bound))))))
     where
@@ -136,13 +144,15 @@ module _ (links : List Link) (before after : Board) (player : Colour) (bound : �
       let P : Link → Type 0 = λ l. IsLive after player l in
       dead (subst P (at_bound w.0 w.1.0 here w.1.1.1.0) (w.1.1.1.1.1 (omega (arith, here))))
 
-  live_still : (IsLive before player link → IsLive after player link) → (l : Link) → l ≡ link → IsLive before player l → IsLive after player l
+  live_still : (IsLive before player link → IsLive after player link) → (l : Link) → l ≡ link → IsLive before player l
+      → IsLive after player l
   live_still kept l same live =
       let P : Link → Type 0 = λ x. IsLive before player x in
       let Q : Link → Type 0 = λ x. IsLive after player x in
       subst Q (sym same) (kept (subst P same live))
 
-  dropped-same : (dropped : List ℕ) → (IsLive before player link → IsLive after player link) → Dropped bound dropped → Dropped (bound + 1) dropped
+  dropped-same : (dropped : List ℕ) → (IsLive before player link → IsLive after player link) → Dropped bound dropped
+      → Dropped (bound + 1) dropped
   dropped-same dropped kept d = record {
     were_live = d.were_live;
     all = λ place l at lt live. ⊎_elim
@@ -165,7 +175,8 @@ module _ (links : List Link) (before after : Board) (player : Colour) (bound : �
 
   module _ (old new : Rings) (log log' : List ℕ) (p : IsPassed links before after player bound old new log log') where
     -- a link that is not live before, or is live after, stays as it is
-    pub passed-kept : (IsLive before player link → IsLive after player link) → IsPassed links before after player (bound + 1) old new log log'
+    pub passed-kept : (IsLive before player link → IsLive after player link)
+        → IsPassed links before after player (bound + 1) old new log log'
     passed-kept kept = record {
       hold = record {
         rings_ok = rings-same _ _ _ _ _ (λ v. stays_if v (λ l e same live. live_still kept l same live)) was p.hold.rings_ok;
@@ -188,22 +199,32 @@ module _ (links : List Link) (before after : Board) (player : Colour) (bound : �
       passed-inside = node-inside links Now new p.hold bound link there (live, λ lt. absurd (omega arith)) small
 
       -- a link that is live before and not after is taken out and logged
-      pub passed-dropped : (IsLive after player link → ⊥) → IsPassed links before after player (bound + 1) old (unlinked new (30258 + bound)) log (log' ++ bound ∷ [])
+      pub passed-dropped : (IsLive after player link → ⊥)
+          → IsPassed links before after player (bound + 1) old (unlinked new (30258 + bound)) log (log' ++ bound ∷ [])
       passed-dropped dead = record {
-        hold = hold-unlinked links Now new p.hold bound link there (live, λ lt. absurd (omega arith)) small Next (out dead) was (λ v ne. stays_if v (λ l e same live'. absurd (ne e)));
-        log_ok = log-push links Now Next less log' p.log_ok bound link there (live, λ lt. absurd (omega arith)) (λ next. dead (next.1 (omega arith)));
+        hold = hold-unlinked links Now new p.hold bound link there (live, λ lt. absurd (omega arith)) small Next (out dead) was
+            (λ v ne. stays_if v (λ l e same live'. absurd (ne e)));
+        log_ok = log-push links Now Next less log' p.log_ok bound link there (live, λ lt. absurd (omega arith))
+            (λ next. dead (next.1 (omega arith)));
         dropped = bound ∷ p.dropped;
-        logged = ap (λ (xs : List ℕ). xs ++ bound ∷ []) p.logged ∙ (append_assoc log (reverse p.dropped) (bound ∷ []) ∙ ap (λ (xs : List ℕ). log ++ xs) (sym (reverse-first bound p.dropped)));
+        logged = ap (λ (xs : List ℕ). xs ++ bound ∷ []) p.logged
+            ∙ (append_assoc log (reverse p.dropped) (bound ∷ []) ∙ ap (λ (xs : List ℕ). log ++ xs) (sym (reverse-first bound p.dropped)));
         can = (
-          inside-unlinked new (30258 + bound) passed-inside (node-between links Now new p.hold bound link there (live, λ lt. absurd (omega arith)) small),
+          inside-unlinked new (30258 + bound) passed-inside
+              (node-between links Now new p.hold bound link there (live, λ lt. absurd (omega arith)) small),
           let P : Rings → Type 0 = λ r. CanRelink r p.dropped in
-              subst P (sym (relinked-unlinked new (30258 + bound) (node-between links Now new p.hold bound link there (live, λ lt. absurd (omega arith)) small))) p.can,
+              subst P (sym (relinked-unlinked new (30258 + bound)
+                  (node-between links Now new p.hold bound link there (live, λ lt. absurd (omega arith)) small))) p.can,
         );
-        back = ap (λ (r : Rings). relinked_all r p.dropped) (relinked-unlinked new (30258 + bound) (node-between links Now new p.hold bound link there (live, λ lt. absurd (omega arith)) small)) ∙ p.back;
+        back = ap (λ (r : Rings). relinked_all r p.dropped)
+            (relinked-unlinked new (30258 + bound)
+            (node-between links Now new p.hold bound link there (live, λ lt. absurd (omega arith)) small)) ∙ p.back;
         all_dropped = dropped-more p.dropped live p.all_dropped;
       }
 
-pub passed-none : (links : List Link) (before after : Board) (player : Colour) (rings : Rings) (log : List ℕ) → RingsHold links (IsLiveThere before player) rings → LogHolds links (IsLiveThere before player) log → IsPassed links before after player 0 rings rings log log
+pub passed-none : (links : List Link) (before after : Board) (player : Colour) (rings : Rings) (log : List ℕ)
+    → RingsHold links (IsLiveThere before player) rings → LogHolds links (IsLiveThere before player) log
+    → IsPassed links before after player 0 rings rings log log
 passed-none links before after player rings log h logged = record {
   hold = record {
     rings_ok = rings-same _ _ _ _ _
@@ -220,8 +241,11 @@ passed-none links before after player rings log h logged = record {
   all_dropped = record { were_live = λ place k. absurd (false≢true k); all = λ place l at lt live. absurd (omega arith) };
 }
 
-pub passed-all : (links : List Link) (before after : Board) (player : Colour) (bound : ℕ) (old new : Rings) (log log' : List ℕ) → bound ≡ length links → IsPassed links before after player bound old new log log' → IsPassed links before after player (length links) old new log log'
-passed-all links before after player bound old new log log' e p = let P : ℕ → Type 0 = λ n. IsPassed links before after player n old new log log' in subst P e p
+pub passed-all : (links : List Link) (before after : Board) (player : Colour) (bound : ℕ) (old new : Rings) (log log' : List ℕ)
+    → bound ≡ length links → IsPassed links before after player bound old new log log'
+    → IsPassed links before after player (length links) old new log log'
+passed-all links before after player bound old new log log' e p = let P : ℕ → Type 0 = λ n.
+    IsPassed links before after player n old new log log' in subst P e p
 
 -- a link more
 choice-true : (b : Bool) (x y : ℕ) → b ≡ true → (if b then x else y) ≡ x
@@ -254,7 +278,8 @@ rings-heads f f' g h P same r = record {
   clear = λ v u k l e. r.clear v u k l (sym (same u l) ∙ (e ∙ same v k));
 }
 
-module _ (links : List Link) (board : Board) (player : Colour) (rings : Rings) (hold : RingsHold links (IsLiveThere board player) rings) (link : Link) (live : IsLive board player link) (small : head_of link < 30258) where
+module _ (links : List Link) (board : Board) (player : Colour) (rings : Rings) (hold : RingsHold links (IsLiveThere board player) rings)
+    (link : Link) (live : IsLive board player link) (small : head_of link < 30258) where
   abbrev more : List Link
   more = links ++ link ∷ []
 
@@ -269,7 +294,9 @@ module _ (links : List Link) (board : Board) (player : Colour) (rings : Rings) (
 
   heads_same : (v : ℕ) → IsLinked links (IsLiveThere board player) v → head_at more v ≡ head_at links v
   heads_same v (inl lt) = head_at-low more v lt ∙ sym (head_at-low links v lt)
-  heads_same v (inr w) = ap (head_at more) w.1.1.0 ∙ (head_at-link more w.0 w.1.0 (get-push_before links link w.0 w.1.0 w.1.1.1.0) ∙ (sym (head_at-link links w.0 w.1.0 w.1.1.1.0) ∙ ap (head_at links) (sym w.1.1.0)))
+  heads_same v (inr w) = ap (head_at more) w.1.1.0
+      ∙ (head_at-link more w.0 w.1.0 (get-push_before links link w.0 w.1.0 w.1.1.1.0)
+      ∙ (sym (head_at-link links w.0 w.1.0 w.1.1.1.0) ∙ ap (head_at links) (sym w.1.1.0)))
 
   end_is : end ≡ 30258 + length links
   end_is = hold.next_long
@@ -299,12 +326,14 @@ module _ (links : List Link) (board : Board) (player : Colour) (rings : Rings) (
       let last_other : last ≢ end = λ e. absurd (omega (arith, e, last_less)) in
       let h_other : h ≢ end = λ e. absurd (omega (arith, e, small, end_is)) in
       record {
-        rings_ok = rings-grown (head_at more) (λ v. get_or rings.next v 0) (λ v. get_or rings.previous v 0) (IsLinked links (IsLiveThere board player))
+        rings_ok = rings-grown (head_at more) (λ v. get_or rings.next v 0) (λ v. get_or rings.previous v 0)
+            (IsLinked links (IsLiveThere board player))
             (rings-heads _ _ _ _ _ heads_same hold.rings_ok) end h (inl small) (head_at-low more h small)
             (ap (head_at more) end_is ∙ head_at-link more (length links) link (get-push_last links link))
             (λ k. absurd (omega (arith, linked-small links (IsLiveThere board player) end k, end_is)))
             (λ v k. omega (arith, linked-small links (IsLiveThere board player) v k, end_is))
-            (λ v. get_or (set rings.next last end ++ h ∷ []) v 0) (λ v. get_or (set rings.previous h end ++ last ∷ []) v 0) (IsLinked more (IsLiveThere board player))
+            (λ v. get_or (set rings.next last end ++ h ∷ []) v 0) (λ v. get_or (set rings.previous h end ++ last ∷ []) v 0)
+                (IsLinked more (IsLiveThere board player))
             (inr (length links, (link, (end_is, (get-push_last links link, live))))) old new
             (get-push_other (set rings.next last end) h last (other_end last last_other) ∙ get_or-set_same rings.next last end 0 last_less)
             (get_or_push (set rings.next last end) h 0 end longer)
@@ -313,5 +342,6 @@ module _ (links : List Link) (board : Board) (player : Colour) (rings : Rings) (
             (get_or_push (set rings.previous h end) last 0 end longer')
             (λ v nh ne. get-push_other (set rings.previous h end) last v (other_end' v ne) ∙ get_or-set_other rings.previous h v end 0 nh);
         next_long = omega (arith, length-append (set rings.next last end) (h ∷ []), longer, end_is, length-append links (link ∷ []));
-        previous_long = omega (arith, length-append (set rings.previous h end) (last ∷ []), longer', end_is, length-append links (link ∷ []));
+        previous_long = omega
+            (arith, length-append (set rings.previous h end) (last ∷ []), longer', end_is, length-append links (link ∷ []));
       }

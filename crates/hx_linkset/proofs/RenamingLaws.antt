@@ -15,12 +15,14 @@ use Rattle.hx_linkset.specs.States.{Names}
 use Rattle.hx_linkset.specs.Derivations.{renamed}
 
 module _ (name : ℕ → ℕ) (before after : List Link) where
-  links_at-renamed : (parts : List ℕ) → ((k place : ℕ) → slice_get parts k ≡ Some place → slice_get after (name place) ≡ slice_get before place)
+  links_at-renamed : (parts : List ℕ)
+      → ((k place : ℕ) → slice_get parts k ≡ Some place → slice_get after (name place) ≡ slice_get before place)
       → links_at after (map name parts) ≡ links_at before parts
   links_at-renamed [] same = refl
   links_at-renamed (p ∷ ps) same = same_front (same 0 p refl) (links_at-renamed ps (λ k place h. same (suc k) place h))
 
-  meet-renamed : (left right : ℕ) (from middle to : Vertex) (first second : Link) → slice_get after (name left) ≡ slice_get before left → slice_get after (name right) ≡ slice_get before right
+  meet-renamed : (left right : ℕ) (from middle to : Vertex) (first second : Link) → slice_get after (name left) ≡ slice_get before left
+      → slice_get after (name right) ≡ slice_get before right
       → MeetAt before left right from middle to first second → MeetAt after (name left) (name right) from middle to first second
   meet-renamed left right from middle to first second l r m = record {
     first_there = l ∙ m.first_there;
@@ -33,7 +35,8 @@ module _ (name : ℕ → ℕ) (before after : List Link) where
     apart = m.apart;
   }
 
-  rule-renamed : (board : Board) (player : Colour) (step : Step) (link : Link) → ((place : ℕ) → Names step place → slice_get after (name place) ≡ slice_get before place)
+  rule-renamed : (board : Board) (player : Colour) (step : Step) (link : Link)
+      → ((place : ℕ) → Names step place → slice_get after (name place) ≡ slice_get before place)
       → GivesByRule board player before step link → GivesByRule board player after (renamed name step) link
   rule-renamed board player (Base a b) link same g = g
   rule-renamed board player (AndStone left right) link same g = record {
@@ -74,6 +77,7 @@ module _ (name : ℕ → ℕ) (before after : List Link) where
     carrier = g.carrier;
   }
 
-  pub gives-renamed : (board : Board) (player : Colour) (step : Step) (link : Link) → ((place : ℕ) → Names step place → slice_get after (name place) ≡ slice_get before place)
+  pub gives-renamed : (board : Board) (player : Colour) (step : Step) (link : Link)
+      → ((place : ℕ) → Names step place → slice_get after (name place) ≡ slice_get before place)
       → StepGives board player before step link → StepGives board player after (renamed name step) link
   gives-renamed board player step link same g = record { rule = rule-renamed board player step link same g.rule; link_ok = g.link_ok }

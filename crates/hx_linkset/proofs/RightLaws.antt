@@ -13,12 +13,14 @@ use Rattle.hx_board.proofs.ListLaws.{get-push}
 use Rattle.hx_linkset.proofs.GivenLaws.{given-from_live}
 use Rattle.hx_linkset.proofs.KeptLaws.{live-before, untouched-live, gives-played}
 
-module _ (player : Colour) (state : State) (step : Step) (link : Link) (r : IsRight player state) (g : GivesFromLive state.board player state.links step link) where
+module _ (player : Colour) (state : State) (step : Step) (link : Link) (r : IsRight player state)
+    (g : GivesFromLive state.board player state.links step link) where
   given_more : (place : ℕ) (l : Link) (s : Step)
       → (slice_get state.links place ≡ Some l) ⊎ ((place ≡ length state.links) × (l ≡ link))
       → (slice_get state.steps place ≡ Some s) ⊎ ((place ≡ length state.steps) × (s ≡ step))
       → IsLive state.board player l → GivesFromLive state.board player (take place (state.links ++ link ∷ [])) s l
-  given_more place l s (inl w) (inl w') live = let le : place ≤ length state.links = omega (arith, slice_get_within state.links place l w) in rw take-append-le (r.given place l s w w' live)
+  given_more place l s (inl w) (inl w') live = let le : place ≤ length state.links =
+      omega (arith, slice_get_within state.links place l w) in rw take-append-le (r.given place l s w w' live)
   given_more place l s (inl w) (inr w') live = absurd (omega (arith, r.steps_of, slice_get_within state.links place l w, w'.0))
   given_more place l s (inr w) (inl w') live = absurd (omega (arith, r.steps_of, w.0, slice_get_within state.steps place s w'))
   given_more place l s (inr w) (inr w') live =
@@ -30,10 +32,12 @@ module _ (player : Colour) (state : State) (step : Step) (link : Link) (r : IsRi
   right-added = record {
     is_board = r.is_board;
     steps_of = simp length-append (omega (arith, r.steps_of));
-    given = λ place l s there there'. given_more place l s (get-push state.links link l place there) (get-push state.steps step s place there');
+    given = λ place l s there there'.
+        given_more place l s (get-push state.links link l place there) (get-push state.steps step s place there');
   }
 
-pub right-played : (player : Colour) (state : State) (colour : Colour) (cell : ℕ) → IsEmpty state.board cell → IsRight player state → IsRight player (played state colour cell)
+pub right-played : (player : Colour) (state : State) (colour : Colour) (cell : ℕ) → IsEmpty state.board cell → IsRight player state
+    → IsRight player (played state colour cell)
 right-played player state colour cell e r =
     let is_board : IsBoard (put state.board colour cell) = board-put state.board colour cell r.is_board e in
     record {

@@ -7,7 +7,8 @@ use Rattle.std.proofs.Common.{◌≡◌, ◌≢◌, ℕ, ◌-◌, ◌<◌, ◌�
 use Rattle.hx_linkset.specs.Rings.{IsNotBetween, AreRings, Rings, unlinked, relinked, grown, cut, IsInside}
 
 -- with the node between gone, nothing comes between its neighbours
-clear-joined : (p i n u : ℕ) → u ≢ i → n ≢ i → p ≢ i → IsNotBetween p u i → IsNotBetween i u n → IsNotBetween p n i → IsNotBetween i p n → IsNotBetween p u n
+clear-joined : (p i n u : ℕ) → u ≢ i → n ≢ i → p ≢ i → IsNotBetween p u i → IsNotBetween i u n → IsNotBetween p n i → IsNotBetween i p n
+    → IsNotBetween p u n
 clear-joined p i n u ui ni pi a b c d = grind arith
 
 module _ (head_of next previous : ℕ → ℕ) (Linked : ℕ → Type 0) (r : AreRings head_of next previous Linked) where
@@ -37,8 +38,10 @@ module _ (head_of next previous : ℕ → ℕ) (Linked : ℕ → Type 0) (r : Ar
     pub before_other : p ≢ i
     before_other e = after_other (ap next (sym e) ∙ r.forth i there)
 
-    module _ (next' previous' : ℕ → ℕ) (Linked' : ℕ → Type 0) (other : (v : ℕ) → Linked' v → v ≢ i) (was : (v : ℕ) → Linked' v → Linked v) (stays : (v : ℕ) → v ≢ i → Linked v → Linked' v)
-        (next_at : next' p ≡ n) (next_rest : (v : ℕ) → v ≢ p → next' v ≡ next v) (previous_at : previous' n ≡ p) (previous_rest : (v : ℕ) → v ≢ n → previous' v ≡ previous v) where
+    module _ (next' previous' : ℕ → ℕ) (Linked' : ℕ → Type 0) (other : (v : ℕ) → Linked' v → v ≢ i) (was : (v : ℕ) → Linked' v → Linked v)
+        (stays : (v : ℕ) → v ≢ i → Linked v → Linked' v)
+        (next_at : next' p ≡ n) (next_rest : (v : ℕ) → v ≢ p → next' v ≡ next v) (previous_at : previous' n ≡ p)
+            (previous_rest : (v : ℕ) → v ≢ n → previous' v ≡ previous v) where
       next_other : (v : ℕ) → Linked v → v ≢ p → next v ≢ i
       next_other v h ne e = ne (sym (r.back v h) ∙ ap previous e)
 
@@ -48,12 +51,15 @@ module _ (head_of next previous : ℕ → ℕ) (Linked : ℕ → Type 0) (r : Ar
       next_is : (v : ℕ) → (v ≡ p) ⊎ (v ≢ p) → Linked' v → (Linked' (next' v)) × (head_of (next' v) ≡ head_of v) × (previous' (next' v) ≡ v)
       next_is v (inl e) h =
           let at : next' v ≡ n = ap next' e ∙ next_at in
-          ((let P : ℕ → Type 0 = λ w. Linked' w in subst P (sym at) (stays n after_other n_linked)), ap head_of at ∙ (r.same_head i there ∙ (sym p_head ∙ ap head_of (sym e))), ap previous' at ∙ (previous_at ∙ sym e))
+          ((let P : ℕ → Type 0 = λ w. Linked' w in subst P (sym at) (stays n after_other n_linked)), ap head_of at
+              ∙ (r.same_head i there ∙ (sym p_head ∙ ap head_of (sym e))), ap previous' at ∙ (previous_at ∙ sym e))
       next_is v (inr ne) h =
           let at : next' v ≡ next v = next_rest v ne in (
-            (let P : ℕ → Type 0 = λ w. Linked' w in subst P (sym at) (stays (next v) (next_other v (was v h) ne) (r.next_linked v (was v h)))),
+            (let P : ℕ → Type 0 = λ w. Linked' w in
+                subst P (sym at) (stays (next v) (next_other v (was v h) ne) (r.next_linked v (was v h)))),
             ap head_of at ∙ r.same_head v (was v h),
-            ap previous' at ∙ (previous_rest (next v) (λ e. other v h (sym (r.back v (was v h)) ∙ (ap previous e ∙ r.back i there))) ∙ r.back v (was v h)),
+            ap previous' at ∙ (previous_rest (next v) (λ e. other v h (sym (r.back v (was v h)) ∙ (ap previous e ∙ r.back i there)))
+                ∙ r.back v (was v h)),
           )
 
       previous_is : (v : ℕ) → (v ≡ n) ⊎ (v ≢ n) → Linked' v → (Linked' (previous' v)) × (next' (previous' v) ≡ v)
@@ -62,22 +68,27 @@ module _ (head_of next previous : ℕ → ℕ) (Linked : ℕ → Type 0) (r : Ar
           ((let P : ℕ → Type 0 = λ w. Linked' w in subst P (sym at) (stays p before_other p_linked)), ap next' at ∙ (next_at ∙ sym e))
       previous_is v (inr ne) h =
           let at : previous' v ≡ previous v = previous_rest v ne in (
-            (let P : ℕ → Type 0 = λ w. Linked' w in subst P (sym at) (stays (previous v) (previous_other v (was v h) ne) (r.previous_linked v (was v h)))),
-            ap next' at ∙ (next_rest (previous v) (λ e. other v h (sym (r.forth v (was v h)) ∙ (ap next e ∙ r.forth i there))) ∙ r.forth v (was v h)),
+            (let P : ℕ → Type 0 = λ w. Linked' w in
+                subst P (sym at) (stays (previous v) (previous_other v (was v h) ne) (r.previous_linked v (was v h)))),
+            ap next' at ∙ (next_rest (previous v) (λ e. other v h (sym (r.forth v (was v h)) ∙ (ap next e ∙ r.forth i there)))
+                ∙ r.forth v (was v h)),
           )
 
       clear_is : (v u : ℕ) → (v ≡ p) ⊎ (v ≢ p) → Linked' v → Linked' u → head_of u ≡ head_of v → IsNotBetween v u (next' v)
       clear_is v u (inl e) h k same =
           let u_head : head_of u ≡ head_of i = same ∙ (ap head_of e ∙ p_head) in
-          let a : IsNotBetween p u i = let P : ℕ → Type 0 = λ w. IsNotBetween p u w in subst P (r.forth i there) (r.clear p u p_linked (was u k) (u_head ∙ sym p_head)) in
+          let a : IsNotBetween p u i = let P : ℕ → Type 0 = λ w. IsNotBetween p u w in
+              subst P (r.forth i there) (r.clear p u p_linked (was u k) (u_head ∙ sym p_head)) in
           let b : IsNotBetween i u n = r.clear i u there (was u k) u_head in
-          let c : IsNotBetween p n i = let P : ℕ → Type 0 = λ w. IsNotBetween p n w in subst P (r.forth i there) (r.clear p n p_linked n_linked (r.same_head i there ∙ sym p_head)) in
+          let c : IsNotBetween p n i = let P : ℕ → Type 0 = λ w. IsNotBetween p n w in
+              subst P (r.forth i there) (r.clear p n p_linked n_linked (r.same_head i there ∙ sym p_head)) in
           let d : IsNotBetween i p n = r.clear i p there p_linked p_head in
           let joined : IsNotBetween p u n = clear-joined p i n u (other u k) after_other before_other a b c d in
           let P : ℕ → Type 0 = λ w. IsNotBetween w u (next' w) in
           let Q : ℕ → Type 0 = λ w. IsNotBetween p u w in
           subst P (sym e) (subst Q (sym next_at) joined)
-      clear_is v u (inr ne) h k same = let Q : ℕ → Type 0 = λ w. IsNotBetween v u w in subst Q (sym (next_rest v ne)) (r.clear v u (was v h) (was u k) same)
+      clear_is v u (inr ne) h k same = let Q : ℕ → Type 0 = λ w. IsNotBetween v u w in
+          subst Q (sym (next_rest v ne)) (r.clear v u (was v h) (was u k) same)
 
       -- the rings without the node
       pub rings-unlinked : AreRings head_of next' previous' Linked'
@@ -103,7 +114,8 @@ clear-new h i u le less = (λ lt. inl (omega arith), λ le'. (le, omega arith))
 clear-itself : (v w : ℕ) → v < w → IsNotBetween v w w
 clear-itself v w less = (λ lt. inr (omega arith), λ le. (omega arith, absurd (omega arith)))
 
-module _ (head_of next previous : ℕ → ℕ) (Linked : ℕ → Type 0) (r : AreRings head_of next previous Linked) (i h : ℕ) (h_linked : Linked h) (h_own : head_of h ≡ h) (i_head : head_of i ≡ h) (new : Linked i → ⊥) (last : (v : ℕ) → Linked v → v < i) where
+module _ (head_of next previous : ℕ → ℕ) (Linked : ℕ → Type 0) (r : AreRings head_of next previous Linked) (i h : ℕ) (h_linked : Linked h)
+    (h_own : head_of h ≡ h) (i_head : head_of i ≡ h) (new : Linked i → ⊥) (last : (v : ℕ) → Linked v → v < i) where
   abbrev tail : ℕ
   tail = previous h
 
@@ -125,42 +137,53 @@ module _ (head_of next previous : ℕ → ℕ) (Linked : ℕ → Type 0) (r : Ar
       let is_h : next v ≡ h = omega (arith, both.0, at_least, r.same_head v k, same) in
       sym (r.back v k) ∙ ap previous is_h
 
-  module _ (next' previous' : ℕ → ℕ) (Linked' : ℕ → Type 0) (there : Linked' i) (old : (v : ℕ) → v ≢ i → Linked' v → Linked v) (now : (v : ℕ) → Linked v → Linked' v)
+  module _ (next' previous' : ℕ → ℕ) (Linked' : ℕ → Type 0) (there : Linked' i) (old : (v : ℕ) → v ≢ i → Linked' v → Linked v)
+      (now : (v : ℕ) → Linked v → Linked' v)
       (next_tail : next' tail ≡ i) (next_new : next' i ≡ h) (next_rest : (v : ℕ) → v ≢ tail → v ≢ i → next' v ≡ next v)
-      (previous_head : previous' h ≡ i) (previous_new : previous' i ≡ tail) (previous_rest : (v : ℕ) → v ≢ h → v ≢ i → previous' v ≡ previous v) where
+      (previous_head : previous' h ≡ i) (previous_new : previous' i ≡ tail)
+          (previous_rest : (v : ℕ) → v ≢ h → v ≢ i → previous' v ≡ previous v) where
     not_new : (v : ℕ) → Linked v → v ≢ i
     not_new v k e = new (let P : ℕ → Type 0 = λ w. Linked w in subst P e k)
 
     head_of_new : (v : ℕ) → (v ≡ i) ⊎ (v ≢ i) → Linked' v → (Linked' (head_of v)) × (head_of (head_of v) ≡ head_of v) × (head_of v ≤ v)
     head_of_new v (inl e) k =
         let at : head_of v ≡ h = ap head_of e ∙ i_head in
-        ((let P : ℕ → Type 0 = λ w. Linked' w in subst P (sym at) (now h h_linked)), ap head_of at ∙ (h_own ∙ sym at), omega (arith, at, e, last h h_linked))
+        ((let P : ℕ → Type 0 = λ w. Linked' w in subst P (sym at) (now h h_linked)), ap head_of at ∙ (h_own ∙ sym at),
+            omega (arith, at, e, last h h_linked))
     head_of_new v (inr ne) k = (now (head_of v) (r.head_linked v (old v ne k)), r.head_own v (old v ne k), r.above v (old v ne k))
 
-    next_is' : (v : ℕ) → (v ≡ i) ⊎ (v ≢ i) → (v ≡ tail) ⊎ (v ≢ tail) → Linked' v → (Linked' (next' v)) × (head_of (next' v) ≡ head_of v) × (previous' (next' v) ≡ v)
+    next_is' : (v : ℕ) → (v ≡ i) ⊎ (v ≢ i) → (v ≡ tail) ⊎ (v ≢ tail) → Linked' v → (Linked' (next' v)) × (head_of (next' v) ≡ head_of v)
+        × (previous' (next' v) ≡ v)
     next_is' v (inl e) t k = let at : next' v ≡ h = ap next' e ∙ next_new in
-        ((let P : ℕ → Type 0 = λ w. Linked' w in subst P (sym at) (now h h_linked)), ap head_of at ∙ (h_own ∙ (sym i_head ∙ ap head_of (sym e))), ap previous' at ∙ (previous_head ∙ sym e))
+        ((let P : ℕ → Type 0 = λ w. Linked' w in subst P (sym at) (now h h_linked)), ap head_of at
+            ∙ (h_own ∙ (sym i_head ∙ ap head_of (sym e))), ap previous' at ∙ (previous_head ∙ sym e))
     next_is' v (inr ne) (inl e) k = let at : next' v ≡ i = ap next' e ∙ next_tail in
-        ((let P : ℕ → Type 0 = λ w. Linked' w in subst P (sym at) (there)), ap head_of at ∙ (i_head ∙ (sym tail_head ∙ ap head_of (sym e))), ap previous' at ∙ (previous_new ∙ sym e))
+        ((let P : ℕ → Type 0 = λ w. Linked' w in subst P (sym at) (there)), ap head_of at ∙ (i_head ∙ (sym tail_head ∙ ap head_of (sym e))),
+            ap previous' at ∙ (previous_new ∙ sym e))
     next_is' v (inr ne) (inr nt) k =
         let at : next' v ≡ next v = next_rest v nt ne in
         let was : Linked v = old v ne k in (
           (let P : ℕ → Type 0 = λ w. Linked' w in subst P (sym at) (now (next v) (r.next_linked v was))),
           ap head_of at ∙ r.same_head v was,
-          ap previous' at ∙ (previous_rest (next v) (λ e. nt (sym (r.back v was) ∙ ap previous e)) (not_new (next v) (r.next_linked v was)) ∙ r.back v was),
+          ap previous' at ∙ (previous_rest (next v) (λ e. nt (sym (r.back v was) ∙ ap previous e)) (not_new (next v) (r.next_linked v was))
+              ∙ r.back v was),
         )
 
     previous_is' : (v : ℕ) → (v ≡ i) ⊎ (v ≢ i) → (v ≡ h) ⊎ (v ≢ h) → Linked' v → (Linked' (previous' v)) × (next' (previous' v) ≡ v)
-    previous_is' v (inl e) t k = let at : previous' v ≡ tail = ap previous' e ∙ previous_new in ((let P : ℕ → Type 0 = λ w. Linked' w in subst P (sym at) (now tail tail_linked)), ap next' at ∙ (next_tail ∙ sym e))
-    previous_is' v (inr ne) (inl e) k = let at : previous' v ≡ i = ap previous' e ∙ previous_head in ((let P : ℕ → Type 0 = λ w. Linked' w in subst P (sym at) (there)), ap next' at ∙ (next_new ∙ sym e))
+    previous_is' v (inl e) t k = let at : previous' v ≡ tail = ap previous' e ∙ previous_new in
+        ((let P : ℕ → Type 0 = λ w. Linked' w in subst P (sym at) (now tail tail_linked)), ap next' at ∙ (next_tail ∙ sym e))
+    previous_is' v (inr ne) (inl e) k = let at : previous' v ≡ i = ap previous' e ∙ previous_head in
+        ((let P : ℕ → Type 0 = λ w. Linked' w in subst P (sym at) (there)), ap next' at ∙ (next_new ∙ sym e))
     previous_is' v (inr ne) (inr nh) k =
         let at : previous' v ≡ previous v = previous_rest v nh ne in
         let was : Linked v = old v ne k in (
           (let P : ℕ → Type 0 = λ w. Linked' w in subst P (sym at) (now (previous v) (r.previous_linked v was))),
-          ap next' at ∙ (next_rest (previous v) (λ e. nh (sym (r.forth v was) ∙ (ap next e ∙ r.forth h h_linked))) (not_new (previous v) (r.previous_linked v was)) ∙ r.forth v was),
+          ap next' at ∙ (next_rest (previous v) (λ e. nh (sym (r.forth v was) ∙ (ap next e ∙ r.forth h h_linked)))
+              (not_new (previous v) (r.previous_linked v was)) ∙ r.forth v was),
         )
 
-    clear_is' : (v u : ℕ) → (v ≡ i) ⊎ (v ≢ i) → (v ≡ tail) ⊎ (v ≢ tail) → (u ≡ i) ⊎ (u ≢ i) → Linked' v → Linked' u → head_of u ≡ head_of v → IsNotBetween v u (next' v)
+    clear_is' : (v u : ℕ) → (v ≡ i) ⊎ (v ≢ i) → (v ≡ tail) ⊎ (v ≢ tail) → (u ≡ i) ⊎ (u ≢ i) → Linked' v → Linked' u → head_of u ≡ head_of v
+        → IsNotBetween v u (next' v)
     clear_is' v u (inl e) t w k l same =
         let Q : ℕ → Type 0 = λ x. IsNotBetween v u x in
         let at : next' v ≡ h = ap next' e ∙ next_new in
@@ -168,8 +191,10 @@ module _ (head_of next previous : ℕ → ℕ) (Linked : ℕ → Type 0) (r : Ar
         subst Q (sym at) (new_clear v u e u_head w l)
       where
         new_clear : (v u : ℕ) → v ≡ i → head_of u ≡ h → (u ≡ i) ⊎ (u ≢ i) → Linked' u → IsNotBetween v u h
-        new_clear v u e u_head (inl f) l = (λ lt. inl (omega (arith, e, f)), λ le. (omega (arith, e, f, last h h_linked), omega (arith, e, f)))
-        new_clear v u e u_head (inr ne) l = let P : ℕ → Type 0 = λ x. IsNotBetween x u h in subst P (sym e) (clear-new h i u (omega (arith, r.above u (old u ne l), u_head)) (last u (old u ne l)))
+        new_clear v u e u_head (inl f) l =
+            (λ lt. inl (omega (arith, e, f)), λ le. (omega (arith, e, f, last h h_linked), omega (arith, e, f)))
+        new_clear v u e u_head (inr ne) l = let P : ℕ → Type 0 = λ x. IsNotBetween x u h in
+            subst P (sym e) (clear-new h i u (omega (arith, r.above u (old u ne l), u_head)) (last u (old u ne l)))
     clear_is' v u (inr ne) (inl e) (inl f) k l same =
         let Q : ℕ → Type 0 = λ x. IsNotBetween v u x in
         let P : ℕ → Type 0 = λ x. IsNotBetween v x i in
@@ -186,7 +211,8 @@ module _ (head_of next previous : ℕ → ℕ) (Linked : ℕ → Type 0) (r : Ar
         let v_head : head_of v ≡ h = sym same ∙ (ap head_of f ∙ i_head) in
         let Q : ℕ → Type 0 = λ x. IsNotBetween v u x in
         subst Q (sym at) (λ lt. inr (omega (arith, f, last (next v) (r.next_linked v was))), λ le. absurd (nt (leads_back v was v_head le)))
-    clear_is' v u (inr ne) (inr nt) (inr nu) k l same = let Q : ℕ → Type 0 = λ x. IsNotBetween v u x in subst Q (sym (next_rest v nt ne)) (r.clear v u (old v ne k) (old u nu l) same)
+    clear_is' v u (inr ne) (inr nt) (inr nu) k l same = let Q : ℕ → Type 0 = λ x. IsNotBetween v u x in
+        subst Q (sym (next_rest v nt ne)) (r.clear v u (old v ne k) (old u nu l) same)
 
     -- the rings with the node at the end of its ring
     pub rings-grown : AreRings head_of next' previous' Linked'
@@ -239,22 +265,28 @@ front-set xs k x y z n e lt =
     ∙ (take_all n (set (set xs k z) k y) (omega (arith, length-set {A = ℕ})) ∙ set-set xs k z y))
 
 -- a node that was put at an end is cut off again
-cut-at : (next previous : List ℕ) (p h i node before after : ℕ) → i ≡ length next → i ≡ length previous → node ≡ i → before ≡ p → after ≡ h → p < length next → h < length previous → get_or next p 0 ≡ h → get_or previous h 0 ≡ p
-    → (let r : Rings = record { next = take node (set (set next p i ++ h ∷ []) before after); previous = take node (set (set previous h i ++ p ∷ []) after before) } in r) ≡ record { next = next; previous = previous }
+cut-at : (next previous : List ℕ) (p h i node before after : ℕ) → i ≡ length next → i ≡ length previous → node ≡ i → before ≡ p → after ≡ h
+    → p < length next → h < length previous → get_or next p 0 ≡ h → get_or previous h 0 ≡ p
+    → (let r : Rings = record { next = take node (set (set next p i ++ h ∷ []) before after); previous =
+        take node (set (set previous h i ++ p ∷ []) after before) } in r) ≡ record { next = next; previous = previous }
 cut-at next previous p h i node before after e f is_node is_before is_after p_small h_small ends back =
     rw (is_node, is_before, is_after)
     (rings-eq _ _ _ _
     (front-set next p h h i i e p_small ∙ (ap (λ z. set next p z) (sym ends) ∙ set-get_or next p 0))
     (front-set previous h p p i i f h_small ∙ (ap (λ z. set previous h z) (sym back) ∙ set-get_or previous h 0)))
 
-pub cut-grown : (r : Rings) (h : ℕ) → length r.previous ≡ length r.next → h < length r.next → get_or r.previous h 0 < length r.next → get_or r.next (get_or r.previous h 0) 0 ≡ h → cut (grown r h) ≡ r
+pub cut-grown : (r : Rings) (h : ℕ) → length r.previous ≡ length r.next → h < length r.next → get_or r.previous h 0 < length r.next
+    → get_or r.next (get_or r.previous h 0) 0 ≡ h → cut (grown r h) ≡ r
 cut-grown r h same h_small p_small ends =
     let i : ℕ = length r.next in
     let p : ℕ = get_or r.previous h 0 in
     let node : length (set r.next p i ++ h ∷ []) - 1 ≡ i = omega (arith, length-append (set r.next p i) (h ∷ []), length-set {A = ℕ}) in
-    let long : length (set r.next p i) ≡ length (set r.next p i ++ h ∷ []) - 1 = omega (arith, length-append (set r.next p i) (h ∷ []), length-set {A = ℕ}) in
-    let long' : length (set r.previous h i) ≡ length (set r.next p i ++ h ∷ []) - 1 = omega (arith, length-append (set r.next p i) (h ∷ []), length-set {A = ℕ}) in
-    cut-at r.next r.previous p h i _ _ _ refl (sym same) node (get_or_push (set r.previous h i) p 0 _ long') (get_or_push (set r.next p i) h 0 _ long) p_small (omega arith) ends refl
+    let long : length (set r.next p i) ≡ length (set r.next p i ++ h ∷ []) - 1 =
+        omega (arith, length-append (set r.next p i) (h ∷ []), length-set {A = ℕ}) in
+    let long' : length (set r.previous h i) ≡ length (set r.next p i ++ h ∷ []) - 1 =
+        omega (arith, length-append (set r.next p i) (h ∷ []), length-set {A = ℕ}) in
+    cut-at r.next r.previous p h i _ _ _ refl (sym same) node (get_or_push (set r.previous h i) p 0 _ long')
+        (get_or_push (set r.next p i) h 0 _ long) p_small (omega arith) ends refl
 
 -- a node that was taken out keeps its entries
 pub inside-unlinked : (r : Rings) (i : ℕ) → IsInside r i → IsBetween r i → IsInside (unlinked r i) i

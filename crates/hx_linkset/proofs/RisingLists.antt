@@ -7,7 +7,8 @@ use Rattle.std.specs.List.Sorted.{IsStrictlyIncreasing}
 -- these are all numbers from one on that have a property, in rising order
 abbrev pub AreAllFrom : (ℕ → Type 0) → ℕ → List ℕ → Type 0
 AreAllFrom Has from [] = (n : ℕ) → from ≤ n → Has n → ⊥
-AreAllFrom Has from (first ∷ rest) = (from ≤ first) × (Has first × (((n : ℕ) → from ≤ n → n < first → Has n → ⊥) × AreAllFrom Has (first + 1) rest))
+AreAllFrom Has from (first ∷ rest) = (from ≤ first)
+    × (Has first × (((n : ℕ) → from ≤ n → n < first → Has n → ⊥) × AreAllFrom Has (first + 1) rest))
 
 module _ (Has : ℕ → Type 0) where
   all-from : (xs : List ℕ) (from k : ℕ) → AreAllFrom Has from xs → k < length xs → from ≤ get_or xs k 0
@@ -18,7 +19,8 @@ module _ (Has : ℕ → Type 0) where
   pub all-rising : (xs : List ℕ) (from : ℕ) → AreAllFrom Has from xs → IsStrictlyIncreasing xs
   all-rising [] from h k lt = absurd (omega arith)
   all-rising (x ∷ xs) from h zero lt = omega (arith, all-from xs (x + 1) 0 h.1.1.1 (omega arith))
-  all-rising (x ∷ xs) from h (suc k) lt = let one : suc k + 1 ≡ suc (k + 1) = omega arith in rw one (all-rising xs (x + 1) h.1.1.1 k (omega arith))
+  all-rising (x ∷ xs) from h (suc k) lt = let one : suc k + 1 ≡ suc (k + 1) = omega arith in
+      rw one (all-rising xs (x + 1) h.1.1.1 k (omega arith))
 
   pub all-each : (xs : List ℕ) (from : ℕ) → AreAllFrom Has from xs → All Has xs
   all-each [] from h k d lt = absurd (omega arith)

@@ -32,7 +32,8 @@ use Rattle.hx_nodes.specs.Lines.{wins_next, IsGathered, AreLines}
 use Rattle.hx_nodes.proofs.MoveNodes.{node_of}
 use Rattle.hx_nodes.proofs.LinkNodes.{sides-chain}
 
-module _ (set : Standing) (right : IsRight set.player set.present) (threats : List ℕ) (cells : ℕ) (under : List Line) (must : IsMust set threats cells under)
+module _ (set : Standing) (right : IsRight set.player set.present) (threats : List ℕ) (cells : ℕ) (under : List Line)
+    (must : IsMust set threats cells under)
     (steps : List Step) (places : List ℕ) (derived : IsDerived set.present.board set.player set.present.links threats steps places) where
   abbrev board : Board
   board = set.present.board
@@ -88,7 +89,8 @@ module _ (set : Standing) (right : IsRight set.player set.present) (threats : Li
       let named : slice_get threats k ≡ Some place = slice_get-get_or threats k place is.1 ∙ ap Some is.2 in
       let there : slice_get derived.links new ≡ Some link = derived.gives k place new named at ∙ held in
       let here : IsSomeAnd (slice_get derived.links new) (λ link. has link.carrier cell ≡ true) =
-      subst (λ (o : Option ℕ). IfSome o (λ p. IsSomeAnd (slice_get derived.links p) (λ link. has link.carrier cell ≡ true))) at (in_each k) in
+      subst (λ (o : Option ℕ).
+          IfSome o (λ p. IsSomeAnd (slice_get derived.links p) (λ link. has link.carrier cell ≡ true))) at (in_each k) in
       subst (λ (o : Option Link). IsSomeAnd o (λ link. has link.carrier cell ≡ true)) there here
 
   to_answer : (cell : ℕ) → (has cells cell ≡ true) ↔ IsToAnswer board derived.links places cell

@@ -15,7 +15,8 @@ use Rattle.hx_tree.specs.Trees.{headings_of}
 use Rattle.hx_nodes.proofs.FoundEntries.{found-heading}
 use Rattle.hx_nodes.proofs.MoveNodes.{node_of}
 
-pub fill_right : (nodes : List Node) (board final : Board) (mover : Colour) (found : Found) (steps : List FillStep) → IsBoard board → IsFirstFound nodes final mover found
+pub fill_right : (nodes : List Node) (board final : Board) (mover : Colour) (found : Found) (steps : List FillStep) → IsBoard board
+    → IsFirstFound nodes final mover found
     → steps ≢ [] → MayFillAll board found.winner steps × (filled_all board found.winner steps ≡ final)
     → IsRightNode (headings_of nodes) (node_of board mover found.winner (Fill steps found.index))
 fill_right nodes board final mover found steps valid is some right = record {

@@ -49,7 +49,8 @@ module _ (set : Standing) (right : IsRight set.player set.present) where
       let one = one_place places (derived.places_of) in
       let last : suc one.0 ≡ length steps = derived.last refl one.0 one.1 in
       let gives : slice_get derived.links one.0 ≡ Some is.link = derived.gives 0 place one.0 refl one.1 ∙ is.there in
-      let long : length derived.links ≡ length steps = omega (arith, steps-length set.present.board set.player [] steps derived.links derived.right) in
+      let long : length derived.links ≡ length steps =
+          omega (arith, steps-length set.present.board set.player [] steps derived.links derived.right) in
       let here : length derived.links - 1 ≡ one.0 = omega arith in
       record {
         board = right.is_board;
@@ -68,5 +69,7 @@ module _ (set : Standing) (right : IsRight set.player set.present) where
   pub decided_right : (headings : List Heading) (mover : Colour) (place : ℕ) (steps : List Step) (places : List ℕ) → Decides set mover place
       → length set.present.links ≤ MOST_LINKS → IsDerived set.present.board set.player set.present.links (place ∷ []) steps places
       → IsRightNode headings (node_of set.present.board mover set.player (Links steps))
-  decided_right headings mover place steps places (inl full) few derived = links_right headings mover Full place full steps places (inl full.kind_is) few derived
-  decided_right headings mover place steps places (inr semi) few derived = links_right headings mover Semi place semi.0 steps places (inr (sym semi.1)) few derived
+  decided_right headings mover place steps places (inl full) few derived =
+      links_right headings mover Full place full steps places (inl full.kind_is) few derived
+  decided_right headings mover place steps places (inr semi) few derived =
+      links_right headings mover Semi place semi.0 steps places (inr (sym semi.1)) few derived

@@ -5,7 +5,8 @@ use Rattle.hx_tree.specs.Entries.{IsOf}
 use Rattle.hx_book.specs.Puts.{Refusal, PutsLater}
 use Rattle.hx_nodes.specs.Stored.{IsOutOfSlots}
 
-pub refused-out : (slots : ℕ) (old : List Node) (node : Node) (refusal : Refusal) (new : List Node) → PutsLater slots old node (Err refusal) new
+pub refused-out : (slots : ℕ) (old : List Node) (node : Node) (refusal : Refusal) (new : List Node)
+    → PutsLater slots old node (Err refusal) new
     → IsOutOfSlots new slots refusal × IsOf node.heading.position node.heading.to_move refusal.node
 refused-out slots old node refusal new later =
     let refused = later.puts.0 in
@@ -22,6 +23,7 @@ refused-out slots old node refusal new later =
       },
     )
 
-pub refused-back : (slots : ℕ) (old : List Node) (node : Node) (refusal : Refusal) (new : List Node) → PutsLater slots old node (Err refusal) new
+pub refused-back : (slots : ℕ) (old : List Node) (node : Node) (refusal : Refusal) (new : List Node)
+    → PutsLater slots old node (Err refusal) new
     → refusal.node ≡ node
 refused-back slots old node refusal new later = later.puts.1

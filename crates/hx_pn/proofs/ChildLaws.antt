@@ -26,12 +26,14 @@ least_delta-more xs i d less each = ap least_delta (take_more xs i d less) ∙ l
 pub phi_sum-more : (xs : List Numbers) (i : ℕ) (d : Numbers) → i < length xs
     → sum_by (λ (x : Numbers). x.phi) (take (i + 1) xs) ≡ sum_by (λ (x : Numbers). x.phi) (take i xs) + (get_or xs i d).phi
 phi_sum-more xs i d less =
-    let whole = ap (sum_by (λ (x : Numbers). x.phi)) (take_more xs i d less) ∙ sum_by-append (λ (x : Numbers). x.phi) (take i xs) (get_or xs i d ∷ []) in
+    let whole = ap (sum_by (λ (x : Numbers). x.phi)) (take_more xs i d less)
+        ∙ sum_by-append (λ (x : Numbers). x.phi) (take i xs) (get_or xs i d ∷ []) in
     omega (arith, whole)
 
 -- ---- the best child
 
-second_delta-push : (xs : List Numbers) (x : Numbers) (place : ℕ) → place < length xs → IsNumbers x → second_delta (xs ++ x ∷ []) place ≡ min (second_delta xs place) x.delta
+second_delta-push : (xs : List Numbers) (x : Numbers) (place : ℕ) → place < length xs → IsNumbers x
+    → second_delta (xs ++ x ∷ []) place ≡ min (second_delta xs place) x.delta
 second_delta-push [] x place less is = absurd (omega arith)
 second_delta-push (y ∷ xs) x zero less is = least_delta-push xs x is
 second_delta-push (y ∷ xs) x (suc place) less is = let rest = second_delta-push xs x place (omega arith) is in omega (arith, rest)
@@ -73,7 +75,8 @@ first_is_best x best is place child second = record {
 }
 
 module _ (xs : List Numbers) (x : Numbers) (best : Best) (is : IsNumbers x) (before : IsBest xs best) where
-  pub new_is_best : (now : Best) → x.delta < best.child.delta → now.place ≡ length xs → now.child ≡ x → now.second ≡ best.child.delta → IsBest (xs ++ x ∷ []) now
+  pub new_is_best : (now : Best) → x.delta < best.child.delta → now.place ≡ length xs → now.child ≡ x → now.second ≡ best.child.delta
+      → IsBest (xs ++ x ∷ []) now
   new_is_best now less place child second = record {
     chosen = record {
       there = rw (place, child) (get-last xs x);
@@ -86,7 +89,8 @@ module _ (xs : List Numbers) (x : Numbers) (best : Best) (is : IsNumbers x) (bef
     second = second ∙ before.chosen.least ∙ sym (ap (second_delta (xs ++ x ∷ [])) place ∙ second_delta-last xs x);
   }
 
-  pub old_is_best : (now : Best) → best.child.delta ≤ x.delta → now.place ≡ best.place → now.child ≡ best.child → now.second ≡ min best.second x.delta → IsBest (xs ++ x ∷ []) now
+  pub old_is_best : (now : Best) → best.child.delta ≤ x.delta → now.place ≡ best.place → now.child ≡ best.child
+      → now.second ≡ min best.second x.delta → IsBest (xs ++ x ∷ []) now
   old_is_best now le place child second = record {
     chosen = record {
       there = rw (place, child) (get-before xs x best.child best.place before.chosen.there);
@@ -97,7 +101,8 @@ module _ (xs : List Numbers) (x : Numbers) (best : Best) (is : IsNumbers x) (bef
           (get-push xs x earlier other e);
     };
     second = second ∙ ap (λ (n : ℕ). min n x.delta) before.second
-        ∙ sym (ap (second_delta (xs ++ x ∷ [])) place ∙ second_delta-push xs x best.place (slice_get_within xs best.place best.child before.chosen.there) is);
+        ∙ sym (ap (second_delta (xs ++ x ∷ [])) place
+            ∙ second_delta-push xs x best.place (slice_get_within xs best.place best.child before.chosen.there) is);
   }
 
 -- ---- bounds
@@ -115,5 +120,6 @@ numbers_at (z ∷ xs) y (suc k) each e = numbers_at xs y k (λ j d less. each (s
 -- a child's phi is no more than the sum of all, unless the sum stops before
 pub phi-le-sum : (xs : List Numbers) (y : Numbers) (k : ℕ) → slice_get xs k ≡ Some y → y.phi ≤ sum_by (λ (x : Numbers). x.phi) xs
 phi-le-sum [] y k e = cc
-phi-le-sum (z ∷ xs) y zero e = let same : z ≡ y = cc in omega (arith, ap (λ (n : Numbers). n.phi) same, sum_by-cons (λ (x : Numbers). x.phi) z xs)
+phi-le-sum (z ∷ xs) y zero e = let same : z ≡ y = cc in
+    omega (arith, ap (λ (n : Numbers). n.phi) same, sum_by-cons (λ (x : Numbers). x.phi) z xs)
 phi-le-sum (z ∷ xs) y (suc k) e = omega (arith, phi-le-sum xs y k e, sum_by-cons (λ (x : Numbers). x.phi) z xs)

@@ -33,7 +33,8 @@ use Rattle.hx_proof.proofs.OrSoundness.{or_secures}
 
 -- ---- lists of links
 
-one_of_appended : (links : List Link) (link : Link) (k : ℕ) (part : Link) → slice_get (links ++ link ∷ []) k ≡ Some part → IsOneOf part links ⊎ (link ≡ part)
+one_of_appended : (links : List Link) (link : Link) (k : ℕ) (part : Link) → slice_get (links ++ link ∷ []) k ≡ Some part
+    → IsOneOf part links ⊎ (link ≡ part)
 one_of_appended [] link zero part h = inr cc
 one_of_appended [] link (suc k) part h = absurd cc
 one_of_appended (l ∷ ls) link zero part h = inl (zero, h)
@@ -42,11 +43,13 @@ one_of_appended (l ∷ ls) link (suc k) part h = ⊎_elim (λ w. inl (suc w.0, w
 module _ (board : Board) (player : Colour) where
   -- ---- what a step gives holds
 
-  between : (link : Link) (x y : Vertex) (mover : Colour) → HasEnds link x y → Secures player link.carrier link.a link.b board mover → Secures player link.carrier x y board mover
+  between : (link : Link) (x y : Vertex) (mover : Colour) → HasEnds link x y → Secures player link.carrier link.a link.b board mover
+      → Secures player link.carrier x y board mover
   between link x y mover (inl e) s = rw (← e.0, ← e.1) s
   between link x y mover (inr e) s = rw (← e.0, ← e.1) (secures-sym player link.carrier link.a link.b board mover s)
 
-  named : (link : Link) (carrier : ℕ) (x y : Vertex) (mover : Colour) → HasEnds link x y → Secures player carrier x y board mover → Secures player carrier link.a link.b board mover
+  named : (link : Link) (carrier : ℕ) (x y : Vertex) (mover : Colour) → HasEnds link x y → Secures player carrier x y board mover
+      → Secures player carrier link.a link.b board mover
   named link carrier x y mover (inl e) s = rw (e.0, e.1) s
   named link carrier x y mover (inr e) s = rw (e.0, e.1) (secures-sym player carrier x y board mover s)
 
@@ -54,7 +57,8 @@ module _ (board : Board) (player : Colour) where
   AllHold links = (part : Link) → IsOneOf part links → LinkHolds board player part
 
   module _ (before : List Link) (holds : AllHold before) where
-    full_secures : (place : ℕ) (link : Link) (x y : Vertex) → slice_get before place ≡ Some link → link.kind ≡ Full → HasEnds link x y → Secures player link.carrier x y board (other_of player)
+    full_secures : (place : ℕ) (link : Link) (x y : Vertex) → slice_get before place ≡ Some link → link.kind ≡ Full → HasEnds link x y
+        → Secures player link.carrier x y board (other_of player)
     full_secures place link x y there kind ends = between link x y (other_of player) ends (rw kind at (holds link (place, there)))
 
     base_holds : (a b : Vertex) (link : Link) → GivesBase board player a b link → LinkHolds board player link
@@ -70,7 +74,8 @@ module _ (board : Board) (player : Colour) where
     and_cell_holds : (left right : ℕ) (link : Link) → GivesAndCell board player before left right link → LinkHolds board player link
     and_cell_holds left right link g =
         rw (g.kind, g.carrier) (named link (insert (union g.first.carrier g.second.carrier) g.cell) g.from g.to player g.ends
-        (and_cell_secures player g.first.carrier g.second.carrier g.from g.to g.meet.apart g.cell board g.empty g.outside_first g.outside_second
+        (and_cell_secures player g.first.carrier g.second.carrier g.from g.to g.meet.apart g.cell board g.empty g.outside_first
+            g.outside_second
         (full_secures left g.first g.from (Of g.cell) g.meet.first_there g.meet.first_full g.meet.first_ends)
         (full_secures right g.second (Of g.cell) g.to g.meet.second_there g.meet.second_full g.meet.second_ends)))
 
@@ -80,7 +85,8 @@ module _ (board : Board) (player : Colour) where
         (or_secures player (carriers_of g.links) link.a link.b (λ c. (part : Link) × (IsOneOf part g.links × (part.carrier ≡ c)))
         (λ c w n h. in_carriers g.links w.1.0.0 w.0 w.1.0.1 n (rw w.1.1 h))
         board
-        (λ c w. rw (← w.1.1) (between w.0 link.a link.b player (g.same_ends w.0 w.1.0) (rw (g.semi w.0 w.1.0) at (holds w.0 (let at = place_of before places g.links g.there w.1.0.0 w.0 w.1.0.1 in (at.0, at.1.1))))))
+        (λ c w. rw (← w.1.1) (between w.0 link.a link.b player (g.same_ends w.0 w.1.0)
+            (rw (g.semi w.0 w.1.0) at (holds w.0 (let at = place_of before places g.links g.there w.1.0.0 w.0 w.1.0.1 in (at.0, at.1.1))))))
         (λ n. let w = g.none_in_all n in (w.0.carrier, ((w.0, (w.1.0, refl)), w.1.1))))
 
     step_holds : (step : Step) (link : Link) → GivesByRule board player before step link → LinkHolds board player link
@@ -89,7 +95,8 @@ module _ (board : Board) (player : Colour) where
     step_holds (AndCell left right) link g = and_cell_holds left right link g
     step_holds (Or parts) link g = or_holds parts link g
 
-  links_hold : (before : List Link) (steps : List Step) (links : List Link) → AllHold before → AreRightSteps board player before steps links → AllHold links
+  links_hold : (before : List Link) (steps : List Step) (links : List Link) → AllHold before → AreRightSteps board player before steps links
+      → AllHold links
   links_hold before [] links holds g = rw g holds
   links_hold before (step ∷ steps) links holds g =
       links_hold (before ++ g.0 ∷ []) steps links
@@ -101,8 +108,10 @@ module _ (board : Board) (player : Colour) where
 
   -- ---- a link holds with the move
 
-  with_the_move : (link : Link) (kind : Kind) → Secures player link.carrier link.a link.b board (mover_for player kind) → Secures player link.carrier link.a link.b board player
-  with_the_move link Full secured = in_reach_with_the_move player (IsJoined player link.a link.b) (joined_stays player link.a link.b) (has link.carrier) board secured
+  with_the_move : (link : Link) (kind : Kind) → Secures player link.carrier link.a link.b board (mover_for player kind)
+      → Secures player link.carrier link.a link.b board player
+  with_the_move link Full secured =
+      in_reach_with_the_move player (IsJoined player link.a link.b) (joined_stays player link.a link.b) (has link.carrier) board secured
   with_the_move link Semi secured = secured
 
   pub link_secures_with_the_move : (link : Link) → LinkHolds board player link → Secures player link.carrier link.a link.b board player
@@ -113,30 +122,41 @@ module _ (board : Board) (player : Colour) where
   pub who_secures_the_sides_wins : (carrier : ℕ) (mover : Colour) → Secures player carrier First Last board mover → Wins player board mover
   who_secures_the_sides_wins carrier mover secured =
       region_wins player (has carrier) board board mover
-      (record { keeps = (as_good_itself player (has carrier) board).keeps; free = λ n free. inl (record { inside = refl; empty = free.empty }) })
+      (record { keeps = (as_good_itself player (has carrier) board).keeps; free = λ n free.
+          inl (record { inside = refl; empty = free.empty }) })
       secured
 
   chain_link_wins : (link : Link) → LinkHolds board player link → IsChainLink link → Wins player board (mover_for player link.kind)
-  chain_link_wins link holds joins = who_secures_the_sides_wins link.carrier (mover_for player link.kind) (rw (joins.first, joins.last) at holds)
+  chain_link_wins link holds joins =
+      who_secures_the_sides_wins link.carrier (mover_for player link.kind) (rw (joins.first, joins.last) at holds)
 
   chain_link_wins_with_the_move : (link : Link) → LinkHolds board player link → IsChainLink link → Wins player board player
-  chain_link_wins_with_the_move link holds joins = who_secures_the_sides_wins link.carrier player (rw (joins.first, joins.last) at (link_secures_with_the_move link holds))
+  chain_link_wins_with_the_move link holds joins =
+      who_secures_the_sides_wins link.carrier player (rw (joins.first, joins.last) at (link_secures_with_the_move link holds))
 
-  chain_link_wins_in_time : (link : Link) → LinkHolds board player link → IsChainLink link → (mover : Colour) → (link.kind ≡ Full) ⊎ (mover ≡ player) → Wins player board mover
+  chain_link_wins_in_time : (link : Link) → LinkHolds board player link → IsChainLink link → (mover : Colour) → (link.kind ≡ Full)
+      ⊎ (mover ≡ player) → Wins player board mover
   chain_link_wins_in_time link holds joins mover (inl full) =
-      ⊎_elim (λ own. rw own (chain_link_wins_with_the_move link holds joins)) (λ others. rw others (rw full at (chain_link_wins link holds joins))) (one_or_other mover player)
+      ⊎_elim (λ own. rw own (chain_link_wins_with_the_move link holds joins))
+          (λ others. rw others (rw full at (chain_link_wins link holds joins))) (one_or_other mover player)
   chain_link_wins_in_time link holds joins mover (inr own) = rw own (chain_link_wins_with_the_move link holds joins)
 
   -- ---- right steps that end in a link between the sides
 
-  pub end_in_chain_link_wins : (kind : Kind) (steps : List Step) → EndInChainLink board player kind steps → Wins player board (mover_for player kind)
-  end_in_chain_link_wins kind steps end = rw end.same_kind at (chain_link_wins end.link (right_steps_give_what_holds steps end.links end.right end.link (_, end.is_last)) end.joins)
+  pub end_in_chain_link_wins : (kind : Kind) (steps : List Step) → EndInChainLink board player kind steps
+      → Wins player board (mover_for player kind)
+  end_in_chain_link_wins kind steps end =
+      rw end.same_kind at (chain_link_wins end.link
+      (right_steps_give_what_holds steps end.links end.right end.link (_, end.is_last)) end.joins)
 
-  pub end_in_chain_link_wins_with_the_move : (kind : Kind) (steps : List Step) → EndInChainLink board player kind steps → Wins player board player
-  end_in_chain_link_wins_with_the_move kind steps end = chain_link_wins_with_the_move end.link (right_steps_give_what_holds steps end.links end.right end.link (_, end.is_last)) end.joins
+  pub end_in_chain_link_wins_with_the_move : (kind : Kind) (steps : List Step) → EndInChainLink board player kind steps
+      → Wins player board player
+  end_in_chain_link_wins_with_the_move kind steps end =
+      chain_link_wins_with_the_move end.link (right_steps_give_what_holds steps end.links end.right end.link (_, end.is_last)) end.joins
 
 pub right_links_win : (heading : Heading) (steps : List Step) → AreRightLinks heading steps → HeadingWins heading
 right_links_win heading steps right =
     chain_link_wins_in_time heading.position heading.winner right.shown.last
-    (right_steps_give_what_holds heading.position heading.winner steps right.links right.steps_right.right right.shown.last (_, right.shown.is_last))
+    (right_steps_give_what_holds heading.position heading.winner steps right.links right.steps_right.right right.shown.last
+        (_, right.shown.is_last))
     right.shown.joins heading.to_move right.shown.in_time

@@ -12,5 +12,7 @@ put-swap board White Black a b = refl
 put-swap board White White a b = ap (λ (set : ℕ). record board { white = set }) (insert-swap board.white a b)
 
 -- a stone put after two others may be put before them
-pub put-before_two : (board : Board) (who whom : Colour) (a b n : ℕ) → put (put (put board who a) who b) whom n ≡ put (put (put board whom n) who a) who b
-put-before_two board who whom a b n = put-swap (put board who a) who whom b n ∙ ap (λ (z : Board). put z who b) (put-swap board who whom a n)
+pub put-before_two : (board : Board) (who whom : Colour) (a b n : ℕ)
+    → put (put (put board who a) who b) whom n ≡ put (put (put board whom n) who a) who b
+put-before_two board who whom a b n = put-swap (put board who a) who whom b n
+    ∙ ap (λ (z : Board). put z who b) (put-swap board who whom a n)

@@ -19,7 +19,8 @@ use Rattle.hx_proof.proofs.DeadSoundness.{wins_with_others_stone_on_dead}
 use Rattle.hx_proof.proofs.PairSoundness.{wins_without_pair}
 use Rattle.hx_proof.proofs.FillSoundness.{one_wins, wins_without_others_stone}
 
-module _ (board : Board) (mover : Colour) (is : IsBoard board) (better worse : ℕ) (better_empty : IsEmpty board better) (worse_empty : IsEmpty board worse) where
+module _ (board : Board) (mover : Colour) (is : IsBoard board) (better worse : ℕ) (better_empty : IsEmpty board better)
+    (worse_empty : IsEmpty board worse) where
   abbrev other : Colour
   other = other_of mover
 
@@ -40,24 +41,30 @@ module _ (board : Board) (mover : Colour) (is : IsBoard board) (better worse : �
       let with_stone : Wins other (put after_better other worse) other = extra_stone other after_better other worse win in
       let both : Wins other (put after_better (other_of other) worse) other =
       wins_with_others_stone_on_dead other after_better (put after_better other worse) other worse after_better_is dead refl with_stone in
-      wins_without_others_stone other after_worse after_worse_is better ((empty-put board mover worse better).1 (better_empty, differ)) other
+      wins_without_others_stone other after_worse after_worse_is better
+          ((empty-put board mover worse better).1 (better_empty, differ)) other
       (rw (other-other mover) (rw (other-other mover, put-swap board mover mover better worse) at both))
 
   wins_under_pair : (partner : ℕ) → IsPair after_better mover worse partner → Wins other after_better other → Wins other after_worse other
   wins_under_pair partner pair win = ⊎_elim
       (λ movers. absurd (not_both_win after_better after_better_is mover other
-      (wins_without_pair mover after_better (put (put after_better mover worse) mover partner) other worse partner after_better_is pair refl (with_both_more movers)) win))
+      (wins_without_pair mover after_better (put (put after_better mover worse) mover partner) other worse partner after_better_is pair refl
+          (with_both_more movers)) win))
       (λ others. others)
       (one_wins after_worse after_worse_is mover other)
     where
       with_both_more : Wins mover after_worse other → Wins mover (put (put after_better mover worse) mover partner) other
       with_both_more movers = extra_stone mover (put after_better mover worse) other partner
-          (subst (λ (z : Board). Wins mover z other) (put-swap board mover mover worse better) (extra_stone mover after_worse other better movers))
+          (subst (λ (z : Board). Wins mover z other) (put-swap board mover mover worse better)
+              (extra_stone mover after_worse other better movers))
 
-  wins_under_killed : (kill : Kill) → better ≢ worse → IsKilled after_better mover worse kill → Wins other after_better other → Wins other after_worse other
+  wins_under_killed : (kill : Kill) → better ≢ worse → IsKilled after_better mover worse kill → Wins other after_better other
+      → Wins other after_worse other
   wins_under_killed ByDead differ dead win = wins_under_dead differ dead win
   wins_under_killed (ByPair partner) differ pair win = wins_under_pair partner pair win
 
-pub wins_under : (board : Board) → IsBoard board → (mover : Colour) (better worse : ℕ) (kill : Kill) → IsDominated board mover better worse kill
+pub wins_under : (board : Board) → IsBoard board → (mover : Colour) (better worse : ℕ) (kill : Kill)
+    → IsDominated board mover better worse kill
     → Wins (other_of mover) (put board mover better) (other_of mover) → Wins (other_of mover) (put board mover worse) (other_of mover)
-wins_under board is mover better worse kill d win = wins_under_killed board mover is better worse d.better_empty d.worse_empty kill d.differ d.killed win
+wins_under board is mover better worse kill d win =
+    wins_under_killed board mover is better worse d.better_empty d.worse_empty kill d.differ d.killed win

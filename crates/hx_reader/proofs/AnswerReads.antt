@@ -64,7 +64,9 @@ pair_reads size cell words rest (Some line) first is = rw is.2 ((refl, (is.3, is
 pair_reads size cell words rest None first none = λ value fits e. no_pair value fits e
   where
     no_pair : (value : Line) → AnswersAt size cell value → words ≡ reason_words value → ⊥
-    no_pair (Under at better (ByPair partner)) fits e = none (Under at better (ByPair partner)) (better, partner, ap (λ (c : ℕ). Under c better (ByPair partner)) fits.0, fits.1.0, fits.1.1, rest_same first e)
+    no_pair (Under at better (ByPair partner)) fits e =
+        none (Under at better (ByPair partner))
+        (better, partner, ap (λ (c : ℕ). Under c better (ByPair partner)) fits.0, fits.1.0, fits.1.1, rest_same first e)
     no_pair (Child at child) fits e =
         let letters : first_letter (codes "pair" ∷ rest) ≡ first_letter (reason_words (Child at child)) = ap first_letter (sym first ∙ e) in
         absurd (omega (arith, letters))

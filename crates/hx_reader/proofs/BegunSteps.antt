@@ -76,7 +76,8 @@ module _ (begun : Begun) (order : IsInOrder begun) where
   pub step_due : kind_due begun ≡ Step_kind → length begun.steps.items < steps_told begun.head.opening
   step_due e = below _ _ (step_test _ _ _ e)
 
-  pub threat_due : kind_due begun ≡ Threat_kind → (steps_told begun.head.opening ≤ length begun.steps.items) × (length begun.threats.items < threats_told begun.head.opening)
+  pub threat_due : kind_due begun ≡ Threat_kind → (steps_told begun.head.opening ≤ length begun.steps.items)
+      × (length begun.threats.items < threats_told begun.head.opening)
   threat_due e = let tests = threat_test _ _ _ e in (past _ _ tests.0, below _ _ tests.1)
 
   pub answer_due : kind_due begun ≡ Answer_kind → (steps_told begun.head.opening ≤ length begun.steps.items)
@@ -134,12 +135,14 @@ kind_due-at begun order = ⊎_elim at_step after_steps (cases_lt (length begun.s
         rw (lt-ltb (length begun.steps.items) told_steps less)
         (sym (kind_among_step told_steps told_threats told_answers _ (omega (arith, count, none, nor, neither))))
 
-    at_threat : told_steps ≤ length begun.steps.items → length begun.threats.items < told_threats → kind_due begun ≡ kind_at begun.head.opening (length (entries_in begun))
+    at_threat : told_steps ≤ length begun.steps.items → length begun.threats.items < told_threats
+        → kind_due begun ≡ kind_at begun.head.opening (length (entries_in begun))
     at_threat past less =
         let nor : length begun.lines.items ≡ 0 = ap length (no_answers_before_threats begun order less) in
         let neither : length begun.fills.items ≡ 0 = ap length (no_fills_before_threats begun order less) in
         rw (le-ltb (length begun.steps.items) told_steps past, lt-ltb (length begun.threats.items) told_threats less)
-        (sym (kind_among_threat told_steps told_threats told_answers _ (omega (arith, count, past)) (omega (arith, count, nor, neither, less, order.steps))))
+        (sym (kind_among_threat told_steps told_threats told_answers _ (omega (arith, count, past))
+            (omega (arith, count, nor, neither, less, order.steps))))
 
     at_answer : told_steps ≤ length begun.steps.items → told_threats ≤ length begun.threats.items → length begun.lines.items < told_answers
         → kind_due begun ≡ kind_at begun.head.opening (length (entries_in begun))
@@ -189,7 +192,8 @@ module _ (old new : Begun) (order : IsInOrder old) (lacks : 0 < old.missing) whe
       ∙ ap (λ (front : List Entry). front ++ Threat_entry place ∷ []) (entries_same refl refl (sym nor) (sym neither))
   entries_now (Answer_entry line) added kind =
       let neither = no_fills_before_answers old order (answer_due old order (sym kind)).2 in
-      entries_same added.0 added.1 added.2 (added.3 ∙ neither) ∙ answers_more old.steps.items old.threats.items old.lines.items (line ∷ []) []
+      entries_same added.0 added.1 added.2 (added.3 ∙ neither)
+          ∙ answers_more old.steps.items old.threats.items old.lines.items (line ∷ []) []
       ∙ ap (λ (front : List Entry). front ++ Answer_entry line ∷ []) (entries_same refl refl refl (sym neither))
   entries_now (Fill_entry fill) added kind =
       entries_same added.0 added.1 added.2 added.3
@@ -204,7 +208,8 @@ module _ (old new : Begun) (order : IsInOrder old) (lacks : 0 < old.missing) whe
         → (0 < l → t ≡ threats_told old.head.opening)
         → (0 < f → s ≡ steps_told old.head.opening) → (0 < f → t ≡ threats_told old.head.opening)
         → (0 < f → l ≡ answers_told old.head.opening)
-        → s + t + l + f ≡ length old.steps.items + length old.threats.items + length old.lines.items + length old.fills.items + 1 → IsInOrder new
+        → s + t + l + f ≡ length old.steps.items + length old.threats.items + length old.lines.items + length old.fills.items + 1
+            → IsInOrder new
     in_order_by s t l f es et el ef ls lt ll lf ats aas aat fas fat fal all =
         let told_s = ap (λ (h : Head). steps_told h.opening) head in
         let told_t = ap (λ (h : Head). threats_told h.opening) head in
@@ -246,8 +251,10 @@ module _ (old new : Begun) (order : IsInOrder old) (lacks : 0 < old.missing) whe
     in_order_now (Answer_entry line) added kind =
         let due = answer_due old order (sym kind) in
         let f : length old.fills.items ≡ 0 = ap length (no_fills_before_answers old order due.2) in
-        in_order_by (length old.steps.items) (length old.threats.items) (length old.lines.items + 1) 0 (ap length added.0) (ap length added.1)
-        (ap length added.2 ∙ length-append old.lines.items (line ∷ [])) (ap length added.3 ∙ f) order.steps order.threats (omega arith) (omega arith)
+        in_order_by (length old.steps.items) (length old.threats.items) (length old.lines.items + 1) 0 (ap length added.0)
+            (ap length added.1)
+        (ap length added.2 ∙ length-append old.lines.items (line ∷ [])) (ap length added.3 ∙ f) order.steps order.threats (omega arith)
+            (omega arith)
         (λ h. omega (arith, order.steps, due)) (λ h. omega (arith, order.steps, due)) (λ h. omega (arith, order.threats, due))
         (λ h. absurd (omega arith)) (λ h. absurd (omega arith)) (λ h. absurd (omega arith)) (omega arith)
     in_order_now (Fill_entry fill) added kind =
@@ -257,7 +264,8 @@ module _ (old new : Begun) (order : IsInOrder old) (lacks : 0 < old.missing) whe
         order.steps order.threats order.answers
         (omega (arith, order.missing, order.steps, order.threats, order.answers, order.fills, lacks, due))
         (λ h. omega (arith, order.steps, due)) (λ h. omega (arith, order.steps, due)) (λ h. omega (arith, order.threats, due))
-        (λ h. omega (arith, order.steps, due)) (λ h. omega (arith, order.threats, due)) (λ h. omega (arith, order.answers, due)) (omega arith)
+        (λ h. omega (arith, order.steps, due)) (λ h. omega (arith, order.threats, due)) (λ h. omega (arith, order.answers, due))
+            (omega arith)
 
 -- the lists have room as before
 room_kept : (old new : Begun) → HasSameRoom old new → new.head ≡ old.head → HasRoomForAll old → HasRoomForAll new
@@ -278,7 +286,8 @@ room_for_due begun order room lacks (Threat_entry place) kind full =
 room_for_due begun order room lacks (Answer_entry line) kind full =
     absurd (omega (arith, (answer_due begun order (sym kind)).2, room.answers, full))
 room_for_due begun order room lacks (Fill_entry fill) kind full =
-    absurd (omega (arith, fill_due begun order (sym kind), order.missing, order.steps, order.threats, order.answers, order.fills, room.fills, full, lacks))
+    absurd (omega (arith, fill_due begun order (sym kind), order.missing, order.steps, order.threats, order.answers, order.fills,
+        room.fills, full, lacks))
 
 -- the lines with one entry more
 pub stands_with_entry : (old new : Begun) (entry : Entry) (nodes : List Node) (lines : List (List ℕ)) → IsWithEntry old entry new
@@ -347,7 +356,8 @@ whole_node begun nodes lines none stands =
     let f : length begun.fills.items ≡ fills_told begun.head.opening =
     omega (arith, order.steps, order.threats, order.answers, order.fills, order.missing, none) in
     let head : head_of (node_of begun) ≡ begun.head =
-    ap (λ o. let h : Head = record { heading = begun.head.heading; opening = o } in h) (opening_of-rule_for begun.head.opening _ _ _ _ s t l f) in
+    ap (λ o. let h : Head = record { heading = begun.head.heading; opening = o } in h)
+        (opening_of-rule_for begun.head.opening _ _ _ _ s t l f) in
     let entries : entries_of (node_of begun).rule ≡ entries_in begun = entries_of-rule_for begun.head.opening _ _ _ _ s t l f in (
       record { head = rw head stands.head; entries = rw entries stands.each },
       stands.same ∙ ap (λ (h : Head). stands.before ++ head_line h ∷ map entry_line (entries_in begun)) (sym head)

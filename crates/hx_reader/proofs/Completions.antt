@@ -67,7 +67,8 @@ with_node preamble nodes node lines rest is extent each fits room rest_is =
 
 -- a node on an empty board
 abbrev plain : Preamble → Node
-plain preamble = record { heading = record { position = record { size = preamble.size; black = 0; white = 0 }; to_move = Black; winner = Black }; rule = Chain }
+plain preamble = record { heading =
+    record { position = record { size = preamble.size; black = 0; white = 0 }; to_move = Black; winner = Black }; rule = Chain }
 
 plain_fits : (preamble : Preamble) → IsExtent preamble.size.rows preamble.size.cols → NodeFits preamble (plain preamble)
 plain_fits preamble extent = record {
@@ -88,7 +89,8 @@ Begins-in_node preamble nodes lines extent each room ends =
     ∙ ap (λ (ls : List (List ℕ)). front ++ ls) (sym (append_assoc ends.part ends.rest last))
     ∙ ap (λ (ls : List (List ℕ)). front ++ (ls ++ last)) (sym ends.parts) in (
       ends.rest ++ last,
-      subst AreTreeLines (sym same) (with_node preamble nodes ends.node front (node_lines ends.node ++ last) refl extent each ends.fits room refl),
+      subst AreTreeLines (sym same)
+          (with_node preamble nodes ends.node front (node_lines ends.node ++ last) refl extent each ends.fits room refl),
     )
 
 -- a text of this version on a board of one cell
@@ -121,7 +123,8 @@ Begins-stands (Between so_far) nodes lines stands = (
 )
 Begins-stands (Inside begun) nodes lines stands =
     let so = stands.begun_so.stands in
-    Begins-in_node begun.so_far.preamble nodes lines so.is_size so.each (omega (arith, so.room, so.count)) (inside_begins_node begun nodes lines stands)
+    Begins-in_node begun.so_far.preamble nodes lines so.is_size so.each (omega (arith, so.room, so.count))
+        (inside_begins_node begun nodes lines stands)
 Begins-stands (After preamble) nodes lines stands = (
   [],
   subst AreTreeLines (sym (append-nil lines))

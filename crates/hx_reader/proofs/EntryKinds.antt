@@ -104,7 +104,8 @@ kind_after_threats : (steps threats : ℕ) (lines : List Line) (fills : List Fil
 kind_after_threats steps threats lines fills k j entry place there =
     later (kind_in_front answer_entry Answer_kind lines (of_fills fills) j entry (λ (line : Line). refl) there)
   where
-    later : ((j < length lines) × (kind_of entry ≡ Answer_kind)) ⊎ ((i : ℕ) × (j ≡ length lines + i) × (slice_get (of_fills fills) i ≡ Some entry))
+    later : ((j < length lines) × (kind_of entry ≡ Answer_kind))
+        ⊎ ((i : ℕ) × (j ≡ length lines + i) × (slice_get (of_fills fills) i ≡ Some entry))
         → kind_of entry ≡ kind_among steps threats (length lines) k
     later (inl here) = here.1 ∙ sym (kind_among_answer steps threats (length lines) k (omega arith) (omega (arith, here.0)))
     later (inr after) =
@@ -126,7 +127,8 @@ kind_in_entries : (steps : List Step) (places : List ℕ) (lines : List Line) (f
     → slice_get (entries_for steps places lines fills) k ≡ Some entry
     → kind_of entry ≡ kind_among (length steps) (length places) (length lines) k
 kind_in_entries steps places lines fills k entry there =
-    found (kind_in_front step_entry Step_kind steps (of_threats places ++ (of_answers lines ++ of_fills fills)) k entry (λ (step : Step). refl)
+    found (kind_in_front step_entry Step_kind steps (of_threats places ++ (of_answers lines ++ of_fills fills)) k entry
+        (λ (step : Step). refl)
     (ap (λ (es : List Entry). slice_get es k) (sym (entries_for-parts steps places lines fills)) ∙ there))
   where
     found : ((k < length steps) × (kind_of entry ≡ Step_kind))

@@ -97,7 +97,8 @@ begins_0 : Begins ArePositionLines []
 begins_0 = begins_from (board_of one_by_one 0 0) Black [] _ one_fits refl
 
 begins_1 : Begins ArePositionLines lines_1
-begins_1 = begins_from (board_of one_by_one 0 0) Black lines_1 (size_line one_by_one ∷ stones_line Black 0 ∷ stones_line White 0 ∷ move_line Black ∷ []) one_fits refl
+begins_1 = begins_from (board_of one_by_one 0 0) Black lines_1
+    (size_line one_by_one ∷ stones_line Black 0 ∷ stones_line White 0 ∷ move_line Black ∷ []) one_fits refl
 
 begins_2 : (size : Extent) → IsExtent size.rows size.cols → Begins ArePositionLines (lines_2 size)
 begins_2 size extent =

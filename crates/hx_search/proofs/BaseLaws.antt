@@ -34,21 +34,25 @@ module _ (was now : Standing) (g : IsGrown was now) where
   pub below-on : (bound : ℕ) → AreBasesBelow was bound → AreBasesBelow now bound
   below-on bound s a is less = bases-on a (code_of a + 1) 123 (s a (vertex_back a is) less)
 
-  module _ (size : Extent) (is_size : size ≡ now.present.board.size) (extent : IsExtent size.rows size.cols) (code : ℕ) (v : Vertex) (at : IsVertexAt size code v) where
+  module _ (size : Extent) (is_size : size ≡ now.present.board.size) (extent : IsExtent size.rows size.cols) (code : ℕ) (v : Vertex)
+      (at : IsVertexAt size code v) where
     pub bases-more : (a : Vertex) (from : ℕ) → AreBasesOf was a from code → IsSettled now (Base a v) → AreBasesOf now a from (code + 1)
     bases-more a from before here =
         let P : Extent → Type 0 = λ s. (w : Vertex) → IsVertex s w → code_of w < code → from ≤ code_of w → IsSettled now (Base a w) in
         let Q : Extent → Type 0 = λ s. (w : Vertex) → IsVertex s w → code_of w < code + 1 → from ≤ code_of w → IsSettled now (Base a w) in
-        subst Q is_size (below-more size (λ w. from ≤ code_of w → IsSettled now (Base a w)) code (subst P (sym is_size) (bases-on a from code before)) extent v at (λ le. here))
+        subst Q is_size (below-more size (λ w. from ≤ code_of w → IsSettled now (Base a w)) code
+            (subst P (sym is_size) (bases-on a from code before)) extent v at (λ le. here))
 
     pub below-next : AreBasesBelow was code → AreBasesOf now v (code + 1) 123 → AreBasesBelow now (code + 1)
     below-next before here =
         let P : Extent → Type 0 = λ s. (w : Vertex) → IsVertex s w → code_of w < code → AreBasesOf now w (code_of w + 1) 123 in
         let Q : Extent → Type 0 = λ s. (w : Vertex) → IsVertex s w → code_of w < code + 1 → AreBasesOf now w (code_of w + 1) 123 in
         let R : ℕ → Type 0 = λ n. AreBasesOf now v (n + 1) 123 in
-        subst Q is_size (below-more size (λ w. AreBasesOf now w (code_of w + 1) 123) code (subst P (sym is_size) (below-on code before)) extent v at (subst R (sym at.is_code) here))
+        subst Q is_size (below-more size (λ w. AreBasesOf now w (code_of w + 1) 123) code
+            (subst P (sym is_size) (below-on code before)) extent v at (subst R (sym at.is_code) here))
 
-module _ (set : Standing) (size : Extent) (is_size : size ≡ set.present.board.size) (code : ℕ) (none : (v : Vertex) → IsVertexAt size code v → ⊥) where
+module _ (set : Standing) (size : Extent) (is_size : size ≡ set.present.board.size) (code : ℕ)
+    (none : (v : Vertex) → IsVertexAt size code v → ⊥) where
   none_there : (v : Vertex) → IsVertexAt set.present.board.size code v → ⊥
   none_there = let P : Extent → Type 0 = λ s. (v : Vertex) → IsVertexAt s code v → ⊥ in subst P is_size none
 
@@ -59,11 +63,13 @@ module _ (set : Standing) (size : Extent) (is_size : size ≡ set.present.board.
   below-none before = below-skip set.present.board.size (λ w. AreBasesOf set w (code_of w + 1) 123) code before none_there
 
 -- any two vertices
-module _ (set : Standing) (extent : IsExtent set.present.board.size.rows set.present.board.size.cols) (all : AreBasesBelow set 123) (a b : Vertex) where
+module _ (set : Standing) (extent : IsExtent set.present.board.size.rows set.present.board.size.cols) (all : AreBasesBelow set 123)
+    (a b : Vertex) where
   in_order : (link : Link) → Gives set (Base a b) link → Gives set (Base link.a link.b) link
   in_order link h =
       let g : GivesBase set.present.board set.player a b link = h.gives.rule in record {
-        gives = record { rule = record { joined = joined g.joined g.ends; kind = g.kind; carrier = g.carrier; ends = inl (refl, refl) }; link_ok = h.gives.link_ok };
+        gives = record { rule = record { joined = joined g.joined g.ends; kind = g.kind; carrier = g.carrier; ends = inl (refl, refl) };
+            link_ok = h.gives.link_ok };
         from_live = λ place k. absurd k;
       }
     where
@@ -82,4 +88,5 @@ module _ (set : Standing) (extent : IsExtent set.present.board.size.rows set.pre
       let ok = h.gives.link_ok in
       let va = end-vertex set.present.board set.player link.a ok.a_end in
       let vb = end-vertex set.present.board set.player link.b ok.b_end in
-      all link.a va (code-small link.a (some-vertex set.present.board.size extent link.a va)) link.b vb (code-small link.b (some-vertex set.present.board.size extent link.b vb)) (omega (arith, ok.lower_first)) link (in_order link h)
+      all link.a va (code-small link.a (some-vertex set.present.board.size extent link.a va)) link.b vb
+          (code-small link.b (some-vertex set.present.board.size extent link.b vb)) (omega (arith, ok.lower_first)) link (in_order link h)

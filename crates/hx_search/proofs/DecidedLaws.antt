@@ -11,4 +11,5 @@ use Rattle.hx_search.specs.Decided.{Decides}
 pub not_decided : (set : Standing) (to_move : Colour) → ((place : ℕ) → IsLiveOf set Full First Last place → ⊥)
     → (set.player ≡ to_move → (place : ℕ) → IsLiveOf set Semi First Last place → ⊥) → (place : ℕ) → Decides set to_move place → ⊥
 not_decided set to_move no_full no_semi place decides =
-    ⊎_elim (λ full. no_full place full) (λ (semi : IsLiveOf set Semi First Last place × (set.player ≡ to_move)). no_semi semi.1 place semi.0) decides
+    ⊎_elim (λ full. no_full place full)
+        (λ (semi : IsLiveOf set Semi First Last place × (set.player ≡ to_move)). no_semi semi.1 place semi.0) decides

@@ -32,21 +32,26 @@ use Rattle.hx_board.proofs.CountLaws.{count-small, count-less}
 -- what an empty difference leaves nothing of
 no_difference : (set other : ℕ) → difference set other ≡ 0 → IsSubset set other
 no_difference set other none n h =
-    true_from_ne_false (has other n) (λ lacks. false≢true (sym (ap (λ s. has s n) none ∙ has-empty n) ∙ has-difference_both set other n h lacks))
+    true_from_ne_false (has other n)
+        (λ lacks. false≢true (sym (ap (λ s. has s n) none ∙ has-empty n) ∙ has-difference_both set other n h lacks))
 
 -- ---- a live Semi link has a cell
 
-semi_cell : (board : Board) (player : Colour) (before : List Link) (step : Step) (link : Link) → GivesByRule board player before step link → link.kind ≡ Semi → (n : ℕ) × (has link.carrier n ≡ true)
+semi_cell : (board : Board) (player : Colour) (before : List Link) (step : Step) (link : Link) → GivesByRule board player before step link
+    → link.kind ≡ Semi → (n : ℕ) × (has link.carrier n ≡ true)
 semi_cell board player before (Base a b) link g semi = let e : Full ≡ Semi = sym g.kind ∙ semi in cc
 semi_cell board player before (AndStone left right) link g semi = let e : Full ≡ Semi = sym g.kind ∙ semi in cc
-semi_cell board player before (AndCell left right) link g semi = (g.cell, ap (λ s. has s g.cell) g.carrier ∙ has-insert_same (union g.first.carrier g.second.carrier) g.cell)
+semi_cell board player before (AndCell left right) link g semi =
+    (g.cell, ap (λ s. has s g.cell) g.carrier ∙ has-insert_same (union g.first.carrier g.second.carrier) g.cell)
 semi_cell board player before (Or parts) link g semi = let e : Full ≡ Semi = sym g.kind ∙ semi in cc
 
 module _ (set : Standing) (right : IsRight set.player set.present) (a b : Vertex) where
   some_cell : (place : ℕ) (is : IsLiveOf set Semi a b place) → (n : ℕ) × (has is.link.carrier n ≡ true)
   some_cell place is =
-      let step = get-there set.present.steps place (omega (arith, right.steps_of, slice_get_within set.present.links place is.link is.there)) in
-      semi_cell set.present.board set.player _ step.0 is.link (right.given place is.link step.0 is.there step.1 is.live).gives.rule is.kind_is
+      let step = get-there set.present.steps place
+          (omega (arith, right.steps_of, slice_get_within set.present.links place is.link is.there)) in
+      semi_cell set.present.board set.player _ step.0 is.link
+          (right.given place is.link step.0 is.there step.1 is.live).gives.rule is.kind_is
 
   small_cells : (place : ℕ) (is : IsLiveOf set Semi a b place) (n : ℕ) → has is.link.carrier n ≡ true → n < 121
   small_cells place is n h = on_board-small set.present.board.size n right.is_board.0 (is.live.empty n h).on_board
@@ -72,7 +77,8 @@ module _ (set : Standing) (right : IsRight set.player set.present) (a b : Vertex
     pub share-one : AllShare set a b carrier first
     share-one place le semi n h = ⊎_elim
         (λ less. absurd (is.first place (omega arith) less semi))
-        (λ more. let same : is.is.link ≡ semi.link = same_link place semi is.is.link (ap (λ k. slice_get set.present.links k) (placed le more) ∙ is.is.there) in
+        (λ more. let same : is.is.link ≡ semi.link =
+            same_link place semi is.is.link (ap (λ k. slice_get set.present.links k) (placed le more) ∙ is.is.there) in
         ap (λ (l : Link). has l.carrier n) (sym same) ∙ (ap (λ s. has s n) (sym e) ∙ h))
         (cases_lt place first)
       where
@@ -81,13 +87,15 @@ module _ (set : Standing) (right : IsRight set.player set.present) (a b : Vertex
 
   -- ---- one more
 
-  module _ (parts : List ℕ) (shared last next carrier : ℕ) (at : IsLiveOf set Semi a b last) (parts_ok : AreParts set a b parts shared) (all_share : AllShare set a b shared last) (is : IsFirstFrom set Semi a b (last + 1) next) (e : carrier ≡ is.is.link.carrier) where
+  module _ (parts : List ℕ) (shared last next carrier : ℕ) (at : IsLiveOf set Semi a b last) (parts_ok : AreParts set a b parts shared)
+      (all_share : AllShare set a b shared last) (is : IsFirstFrom set Semi a b (last + 1) next) (e : carrier ≡ is.is.link.carrier) where
     share_on : (keep : ℕ) → IsSubset keep shared → IsSubset keep carrier → AllShare set a b keep next
     share_on keep inside held place le semi n h = ⊎_elim
         (λ low. all_share place (omega (arith, low)) semi n (inside n h))
         (λ high. ⊎_elim
         (λ less. absurd (is.first place high less semi))
-        (λ more. let same : is.is.link ≡ semi.link = same_link place semi is.is.link (ap (λ k. slice_get set.present.links k) (placed le more) ∙ is.is.there) in
+        (λ more. let same : is.is.link ≡ semi.link =
+            same_link place semi is.is.link (ap (λ k. slice_get set.present.links k) (placed le more) ∙ is.is.there) in
         ap (λ (l : Link). has l.carrier n) (sym same) ∙ (ap (λ s. has s n) (sym e) ∙ held n h))
         (cases_lt place next))
         (cases_lt place (last + 1))
@@ -99,9 +107,11 @@ module _ (set : Standing) (right : IsRight set.player set.present) (a b : Vertex
     share-same none = share_on shared (λ n h. h) (no_difference shared carrier none)
 
     pub share-more : AllShare set a b (intersection shared carrier) next
-    share-more = share_on (intersection shared carrier) (λ n h. has-intersection_left shared carrier n h) (λ n h. has-intersection_right shared carrier n h)
+    share-more = share_on (intersection shared carrier) (λ n h. has-intersection_left shared carrier n h)
+        (λ n h. has-intersection_right shared carrier n h)
 
-    pub parts-more : (n : ℕ) → has (difference shared carrier) n ≡ true → AreParts set a b (parts ++ next ∷ []) (intersection shared carrier)
+    pub parts-more : (n : ℕ) → has (difference shared carrier) n ≡ true
+        → AreParts set a b (parts ++ next ∷ []) (intersection shared carrier)
     parts-more n gone =
         let member : has shared n ≡ true = has-difference_left shared carrier n gone in
         let small : n < 121 = small_cells last at n (all_share last (omega arith) at n member) in
@@ -119,7 +129,8 @@ module _ (set : Standing) (right : IsRight set.player set.present) (a b : Vertex
 
   -- ---- a cell is shared
 
-  pub not-forked : (shared last n : ℕ) → has shared n ≡ true → AllShare set a b shared last → ((place : ℕ) → last < place → IsLiveOf set Semi a b place → ⊥) → IsForked set a b → ⊥
+  pub not-forked : (shared last n : ℕ) → has shared n ≡ true → AllShare set a b shared last
+      → ((place : ℕ) → last < place → IsLiveOf set Semi a b place → ⊥) → IsForked set a b → ⊥
   not-forked shared last n member all_share none forked =
       let w = forked.none_in_all n in
       ⊎_elim
@@ -130,7 +141,8 @@ module _ (set : Standing) (right : IsRight set.player set.present) (a b : Vertex
 -- ---- none is shared
 
 -- the links at places at which there are links
-links_there : (held : List Link) (parts : List ℕ) → ((k place : ℕ) → slice_get parts k ≡ Some place → (link : Link) × (slice_get held place ≡ Some link))
+links_there : (held : List Link) (parts : List ℕ)
+    → ((k place : ℕ) → slice_get parts k ≡ Some place → (link : Link) × (slice_get held place ≡ Some link))
     → (links : List Link) × (links_at held parts ≡ map (λ (l : Link). Some l) links)
 links_there held [] there = ([], refl)
 links_there held (p ∷ ps) there =
@@ -138,23 +150,30 @@ links_there held (p ∷ ps) there =
     let rest = links_there held ps (λ k place e. there (suc k) place e) in
     (here.0 ∷ rest.0, same_front here.1 rest.1)
 
-carriers_lack : (links : List Link) (cell : ℕ) → ((part : Link) → IsOneOf part links → has part.carrier cell ≡ false) → has (carriers_of links) cell ≡ false
+carriers_lack : (links : List Link) (cell : ℕ) → ((part : Link) → IsOneOf part links → has part.carrier cell ≡ false)
+    → has (carriers_of links) cell ≡ false
 carriers_lack [] cell none = has-empty cell
 carriers_lack (l ∷ ls) cell none = has-union l.carrier (carriers_of ls) cell
-    ∙ or_from (has l.carrier cell) (has (carriers_of ls) cell) (none l (0, refl)) (carriers_lack ls cell (λ part h. none part (one_of_later part l ls h)))
+    ∙ or_from (has l.carrier cell) (has (carriers_of ls) cell) (none l (0, refl))
+        (carriers_lack ls cell (λ part h. none part (one_of_later part l ls h)))
 
-all_outside : (board : Board) (links : List Link) (v : Vertex) → ((part : Link) → IsOneOf part links → IsOutside board part.carrier v) → IsOutside board (carriers_of links) v
+all_outside : (board : Board) (links : List Link) (v : Vertex) → ((part : Link) → IsOneOf part links → IsOutside board part.carrier v)
+    → IsOutside board (carriers_of links) v
 all_outside board links (Of cell) outside = λ empty. carriers_lack links cell (λ part h. outside part h empty)
 all_outside board links First outside = tt
 all_outside board links Last outside = tt
 
-outside_of : (board : Board) (player : Colour) (part : Link) (x y : Vertex) → IsLink board player part → HasEnds part x y → IsOutside board part.carrier x × IsOutside board part.carrier y
+outside_of : (board : Board) (player : Colour) (part : Link) (x y : Vertex) → IsLink board player part → HasEnds part x y
+    → IsOutside board part.carrier x × IsOutside board part.carrier y
 outside_of board player part x y ok h =
     let P : Vertex → Type 0 = λ v. IsOutside board part.carrier v in
     ⊎_elim (λ e. (subst P e.0 ok.a_outside, subst P e.1 ok.b_outside)) (λ e. (subst P e.1 ok.b_outside, subst P e.0 ok.a_outside)) h
 
-module _ (set : Standing) (right : IsRight set.player set.present) (a b : Vertex) (parts : List ℕ) (shared : ℕ) (none : shared ≡ 0) (ok : AreParts set a b parts shared) where
-  lacks : (cell : ℕ) → (k : ℕ) × ((place : ℕ) × ((slice_get parts k ≡ Some place) × ((link : Link) × ((slice_get set.present.links place ≡ Some link) × (has link.carrier cell ≡ false)))))
+module _ (set : Standing) (right : IsRight set.player set.present) (a b : Vertex) (parts : List ℕ) (shared : ℕ) (none : shared ≡ 0)
+    (ok : AreParts set a b parts shared) where
+  lacks : (cell : ℕ) → (k : ℕ)
+      × ((place : ℕ) × ((slice_get parts k ≡ Some place)
+      × ((link : Link) × ((slice_get set.present.links place ≡ Some link) × (has link.carrier cell ≡ false)))))
   lacks cell = ok.lacking cell (ap (λ s. has s cell) none ∙ has-empty cell)
 
   abbrev first : ℕ
@@ -233,13 +252,18 @@ module _ (set : Standing) (right : IsRight set.player set.present) (a b : Vertex
   given_ok : IsLink set.present.board set.player given
   unfolding given
   given_ok =
-      let first_ok : IsLink set.present.board set.player first_is.link = live-is_link set right first first_is.link first_is.there first_is.live in
+      let first_ok : IsLink set.present.board set.player first_is.link =
+          live-is_link set right first first_is.link first_is.there first_is.live in
       record {
         lower_first = first_ok.lower_first;
         a_end = first_ok.a_end;
         b_end = first_ok.b_end;
-        a_outside = all_outside set.present.board found.0 first_is.link.a (λ part h. (outside_of set.present.board set.player part first_is.link.a first_is.link.b (part_ok part h) (part_ends part h)).0);
-        b_outside = all_outside set.present.board found.0 first_is.link.b (λ part h. (outside_of set.present.board set.player part first_is.link.a first_is.link.b (part_ok part h) (part_ends part h)).1);
+        a_outside = all_outside set.present.board found.0 first_is.link.a
+            (λ part h. (outside_of set.present.board set.player part first_is.link.a first_is.link.b (part_ok part h)
+            (part_ends part h)).0);
+        b_outside = all_outside set.present.board found.0 first_is.link.b
+            (λ part h. (outside_of set.present.board set.player part first_is.link.a first_is.link.b (part_ok part h)
+            (part_ends part h)).1);
       }
 
   pub fork-of : IsFork set a b parts

@@ -21,7 +21,8 @@ use Rattle.hx_search.specs.Closed.{IsSettled, IsGrown}
 use Rattle.hx_search.specs.Progress.{IsUnsettled}
 
 pub grown-itself : (set : Standing) → IsGrown set set
-grown-itself set = record { same_player = refl; same_board = refl; same_past = refl; longer = omega arith; links_stay = λ place link e. e; steps_stay = λ place step e. e }
+grown-itself set = record { same_player = refl; same_board = refl; same_past = refl; longer = omega arith; links_stay = λ place link e. e;
+    steps_stay = λ place step e. e }
 
 pub grown-on : (a b c : Standing) → IsGrown a b → IsGrown b c → IsGrown a c
 grown-on a b c g h = record {
@@ -34,11 +35,13 @@ grown-on a b c g h = record {
 }
 
 -- a place that was there holds what it held
-module _ (links more : List Link) (kept : (place : ℕ) (link : Link) → slice_get links place ≡ Some link → slice_get more place ≡ Some link) where
+module _ (links more : List Link)
+    (kept : (place : ℕ) (link : Link) → slice_get links place ≡ Some link → slice_get more place ≡ Some link) where
   held : (place : ℕ) (link : Link) → place < length links → slice_get more place ≡ Some link → slice_get links place ≡ Some link
   held place link lt h = let w = get-there links place lt in w.1 ∙ (sym (kept place w.0 w.1) ∙ h)
 
-  meets_held : (left right : ℕ) (from middle to : Vertex) (first second : Link) → left < length links → right < length links → MeetAt more left right from middle to first second → MeetAt links left right from middle to first second
+  meets_held : (left right : ℕ) (from middle to : Vertex) (first second : Link) → left < length links → right < length links
+      → MeetAt more left right from middle to first second → MeetAt links left right from middle to first second
   meets_held left right from middle to first second l r m = record {
     first_there = held left first l m.first_there;
     second_there = held right second r m.second_there;
@@ -50,7 +53,8 @@ module _ (links more : List Link) (kept : (place : ℕ) (link : Link) → slice_
     apart = m.apart;
   }
 
-  parts_held : (parts : List ℕ) (found : List Link) → ((k place : ℕ) → slice_get parts k ≡ Some place → place < length links) → links_at more parts ≡ map (λ (l : Link). Some l) found → links_at links parts ≡ map (λ (l : Link). Some l) found
+  parts_held : (parts : List ℕ) (found : List Link) → ((k place : ℕ) → slice_get parts k ≡ Some place → place < length links)
+      → links_at more parts ≡ map (λ (l : Link). Some l) found → links_at links parts ≡ map (λ (l : Link). Some l) found
   parts_held [] found below e = e
   parts_held (p ∷ ps) [] below e = cc
   parts_held (p ∷ ps) (l ∷ ls) below e =
@@ -59,36 +63,51 @@ module _ (links more : List Link) (kept : (place : ℕ) (link : Link) → slice_
       cc
 
   module _ (board : Board) (player : Colour) (link : Link) where
-    rule_held : (step : Step) → ((place : ℕ) → Names step place → place < length links) → GivesByRule board player more step link → GivesByRule board player links step link
+    rule_held : (step : Step) → ((place : ℕ) → Names step place → place < length links) → GivesByRule board player more step link
+        → GivesByRule board player links step link
     rule_held (Base a b) below g = g
-    rule_held (AndStone left right) below g = record { from = g.from; middle = g.middle; to = g.to; first = g.first; second = g.second; meet = meets_held left right g.from g.middle g.to g.first g.second (below left (inl refl)) (below right (inr refl)) g.meet; own = g.own; kind = g.kind; carrier = g.carrier; ends = g.ends }
-    rule_held (AndCell left right) below g = record { from = g.from; cell = g.cell; to = g.to; first = g.first; second = g.second; meet = meets_held left right g.from _ g.to g.first g.second (below left (inl refl)) (below right (inr refl)) g.meet; empty = g.empty; outside_first = g.outside_first; outside_second = g.outside_second; kind = g.kind; carrier = g.carrier; ends = g.ends }
-    rule_held (Or parts) below g = record { links = g.links; there = parts_held parts g.links (λ k place h. below place (k, h)) g.there; several = g.several; few = g.few; semi = g.semi; same_ends = g.same_ends; none_in_all = g.none_in_all; kind = g.kind; carrier = g.carrier }
+    rule_held (AndStone left right) below g =
+        record { from = g.from; middle = g.middle; to = g.to; first = g.first; second = g.second; meet =
+        meets_held left right g.from g.middle g.to g.first g.second (below left (inl refl)) (below right (inr refl)) g.meet; own =
+        g.own; kind = g.kind; carrier = g.carrier; ends = g.ends }
+    rule_held (AndCell left right) below g =
+        record { from = g.from; cell = g.cell; to = g.to; first = g.first; second = g.second; meet =
+        meets_held left right g.from _ g.to g.first g.second (below left (inl refl)) (below right (inr refl)) g.meet; empty = g.empty;
+        outside_first = g.outside_first; outside_second = g.outside_second; kind = g.kind; carrier = g.carrier; ends = g.ends }
+    rule_held (Or parts) below g =
+        record { links = g.links; there = parts_held parts g.links (λ k place h. below place (k, h)) g.there; several = g.several; few =
+        g.few; semi = g.semi; same_ends = g.same_ends; none_in_all = g.none_in_all; kind = g.kind; carrier = g.carrier }
 
-    gives_held : (step : Step) → ((place : ℕ) → Names step place → place < length links) → GivesFromLive board player more step link → GivesFromLive board player links step link
+    gives_held : (step : Step) → ((place : ℕ) → Names step place → place < length links) → GivesFromLive board player more step link
+        → GivesFromLive board player links step link
     gives_held step below g = record {
       gives = record { rule = rule_held step below g.gives.rule; link_ok = g.gives.link_ok };
       from_live = λ place h. let w = g.from_live place h in (w.0, (held place w.0 (below place h) w.1.0, w.1.1));
     }
 
 -- the step gives in the longer set what it gave before
-pub gives-before : (old new : Standing) (step : Step) (link : Link) → IsGrown old new → ((place : ℕ) → Names step place → place < length old.present.links) → Gives new step link → Gives old step link
+pub gives-before : (old new : Standing) (step : Step) (link : Link) → IsGrown old new
+    → ((place : ℕ) → Names step place → place < length old.present.links) → Gives new step link → Gives old step link
 gives-before old new step link g below h =
     let P : Board → Type 0 = λ b. GivesFromLive b new.player new.present.links step link in
     let Q : Colour → Type 0 = λ p. GivesFromLive old.present.board p new.present.links step link in
-    gives_held old.present.links new.present.links g.links_stay old.present.board old.player link step below (subst Q g.same_player (subst P g.same_board h))
+    gives_held old.present.links new.present.links g.links_stay old.present.board old.player link step below
+        (subst Q g.same_player (subst P g.same_board h))
 
 pub covers-on : (old new : Standing) (place : ℕ) (link : Link) → IsGrown old new → Covers old place link → Covers new place link
 covers-on old new place link g c = record {
   by = c.by;
   there = g.links_stay place c.by c.there;
-  live = (let P : Board → Type 0 = λ b. IsLive b new.player c.by in let Q : Colour → Type 0 = λ p. IsLive old.present.board p c.by in subst P (sym g.same_board) (subst Q (sym g.same_player) c.live));
+  live = (let P : Board → Type 0 = λ b. IsLive b new.player c.by in let Q : Colour → Type 0 = λ p. IsLive old.present.board p c.by in
+      subst P (sym g.same_board) (subst Q (sym g.same_player) c.live));
   cover = c.cover;
 }
 
 -- a settled step of places that were there stays settled
-pub settled-on : (old new : Standing) (step : Step) → IsGrown old new → ((place : ℕ) → Names step place → place < length old.present.links) → IsSettled old step → IsSettled new step
-settled-on old new step g below s link h = let w = s link (gives-before old new step link g below h) in (w.0, covers-on old new w.0 link g w.1)
+pub settled-on : (old new : Standing) (step : Step) → IsGrown old new → ((place : ℕ) → Names step place → place < length old.present.links)
+    → IsSettled old step → IsSettled new step
+settled-on old new step g below s link h = let w = s link (gives-before old new step link g below h) in
+    (w.0, covers-on old new w.0 link g w.1)
 
 module _ (old new : Standing) (step : Step) where
   pub new-grown : (place : ℕ) → IsNew old new step place → IsGrown old new
@@ -104,7 +123,8 @@ module _ (old new : Standing) (step : Step) where
   pub new-settled : (place : ℕ) → IsNew old new step place → IsSettled new step
   new-settled place n link h =
       let grown : IsGrown old new = new-grown place n in
-      let below : (p : ℕ) → Names step p → p < length old.present.links = λ p k. (let w = n.gives.from_live p k in slice_get_within old.present.links p w.0 w.1.0) in
+      let below : (p : ℕ) → Names step p → p < length old.present.links = λ p k.
+          (let w = n.gives.from_live p k in slice_get_within old.present.links p w.0 w.1.0) in
       let was : Gives old step link = gives-before old new step link grown below h in
       let same : n.link ≡ link = step-unique old.present.board old.player old.present.links n.link link step n.gives.gives was.gives in
       let covers : Covers (record old { present = added old.present n.link step }) (length old.present.links) n.link = record {
@@ -119,7 +139,8 @@ module _ (old new : Standing) (step : Step) where
 
   pub covered-settled : (place : ℕ) → IsCovered old new step place → IsSettled new step
   covered-settled place c = let P : Standing → Type 0 = λ s. IsSettled s step in subst P (sym c.same)
-      (λ link h. let same : c.link ≡ link = step-unique old.present.board old.player old.present.links c.link link step c.gives.gives h.gives in
+      (λ link h. let same : c.link ≡ link =
+          step-unique old.present.board old.player old.present.links c.link link step c.gives.gives h.gives in
       let Q : Link → Type 0 = λ l. Covers old place l in (place, subst Q same c.covers))
 
   pub full-unsettled : IsAtLimit old new step → IsUnsettled new step
@@ -143,7 +164,8 @@ module _ (old new : Standing) (g : IsGrown old new) (kind : Kind) (a b : Vertex)
       subst Q g.same_player (subst P g.same_board live)
 
   pub live_of-on : IsLiveOf old kind a b place → IsLiveOf new kind a b place
-  live_of-on is = record { link = is.link; there = g.links_stay place is.link is.there; live = live_on is.link is.live; kind_is = is.kind_is; ends = is.ends }
+  live_of-on is = record { link = is.link; there = g.links_stay place is.link is.there; live = live_on is.link is.live; kind_is =
+      is.kind_is; ends = is.ends }
 
   -- and at a place that was there it was one
   pub live_of-back : place < length old.present.links → IsLiveOf new kind a b place → IsLiveOf old kind a b place

@@ -21,18 +21,22 @@ use Rattle.hx_share.specs.Laws.{StoredIsFound, StoredWinnerIsFound, ExtendsOn, A
 -- ---- a longer list
 
 module _ (board : Board) (mover : Colour) where
-  first-append : (nodes more : List Node) (place : ℕ) → IsFirstEntry nodes board mover place → IsFirstEntry (nodes ++ more) board mover place
+  first-append : (nodes more : List Node) (place : ℕ) → IsFirstEntry nodes board mover place
+      → IsFirstEntry (nodes ++ more) board mover place
   first-append nodes more place is = record {
     entry = record { node = is.entry.node; there = get-append nodes more place is.entry.node is.entry.there; is_of = is.entry.is_of };
     first = λ earlier less entry. is.first earlier less (record {
       node = entry.node;
-      there = sym (get-append_before nodes more earlier (omega (arith, less, slice_get_within nodes place is.entry.node is.entry.there))) ∙ entry.there;
+      there = sym (get-append_before nodes more earlier (omega (arith, less, slice_get_within nodes place is.entry.node is.entry.there)))
+          ∙ entry.there;
       is_of = entry.is_of;
     });
   }
 
-  first-later : (stored later : List Node) (place : ℕ) → Extends later stored → IsFirstEntry stored board mover place → IsFirstEntry later board mover place
-  first-later stored later place more is = subst (λ (l : List Node). IsFirstEntry l board mover place) (sym more.1) (first-append stored more.0 place is)
+  first-later : (stored later : List Node) (place : ℕ) → Extends later stored → IsFirstEntry stored board mover place
+      → IsFirstEntry later board mover place
+  first-later stored later place more is =
+      subst (λ (l : List Node). IsFirstEntry l board mover place) (sym more.1) (first-append stored more.0 place is)
 
   -- there is one first entry
   first-once : (nodes : List Node) (one other : ℕ) → IsFirstEntry nodes board mover one → IsFirstEntry nodes board mover other → one ≡ other
@@ -44,7 +48,8 @@ module _ (board : Board) (mover : Colour) where
       (cases_lt other one))
       (cases_lt one other)
 
-  found-first : (nodes : List Node) (place : ℕ) (result : Option Found) → IsFirstEntry nodes board mover place → FindsFirst nodes board mover result
+  found-first : (nodes : List Node) (place : ℕ) (result : Option Found) → IsFirstEntry nodes board mover place
+      → FindsFirst nodes board mover result
       → IsSomeAnd result (λ found. found.index ≡ place)
   found-first nodes place None is none = absurd (none place is.entry)
   found-first nodes place (Some found) is finds = first-once nodes found.index place finds.first is
@@ -76,7 +81,8 @@ one-winner board mover one other wins never = ⊎_elim
     (λ (apart : one ≡ other_of other). absurd (never (subst (λ (c : Colour). Wins c board mover) apart wins)))
     (one_or_other one other)
 
-entry-wins : (nodes : List Node) (board : Board) (mover : Colour) (place : ℕ) → AllWin nodes → (entry : IsEntry nodes board mover place) → OnlyWinner entry.node.heading
+entry-wins : (nodes : List Node) (board : Board) (mover : Colour) (place : ℕ) → AllWin nodes → (entry : IsEntry nodes board mover place)
+    → OnlyWinner entry.node.heading
 entry-wins nodes board mover place wins entry = subst (λ (o : Option Node). IfSome o (λ n. OnlyWinner n.heading)) entry.there (wins place)
 
 pub agreed : (nodes others : List Node) → AllWin nodes → AllWin others → Agree nodes others

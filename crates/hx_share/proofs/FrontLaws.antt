@@ -19,7 +19,8 @@ begins (x ∷ xs) (y ∷ ys) more others same short =
     (t.0, (λ i. sym first i ∷ t.1 i))
 
 -- of two fronts of one list, the longer begins with the shorter
-pub extends-shorter : (whole one other : List Node) → Extends whole one → Extends whole other → length one ≤ length other → Extends other one
+pub extends-shorter : (whole one other : List Node) → Extends whole one → Extends whole other → length one ≤ length other
+    → Extends other one
 extends-shorter whole one other first second short = begins one other first.0 second.0 (sym first.1 ∙ second.1) short
 
 -- a front that begins with both
@@ -37,9 +38,11 @@ le-false a b gt = grind (arith, nat_tests)
 pub longer-begins : (whole one other : List Node) → Extends whole one → Extends whole other → IsLonger whole one other (longer one other)
 longer-begins whole one other first second = dite (dec_le (length one) (length other))
     (λ le. let is : longer one other ≡ other = ap (λ b. if b then other else one) (le-true (length one) (length other) le) in
-    subst (IsLonger whole one other) (sym is) (record { front = second; of_one = extends-shorter whole one other first second le; of_other = extends-itself other }))
+    subst (IsLonger whole one other) (sym is)
+        (record { front = second; of_one = extends-shorter whole one other first second le; of_other = extends-itself other }))
     (λ gt. let is : longer one other ≡ one = ap (λ b. if b then other else one) (le-false (length one) (length other) gt) in
-    subst (IsLonger whole one other) (sym is) (record { front = first; of_one = extends-itself one; of_other = extends-shorter whole other one second first (omega arith) }))
+    subst (IsLonger whole one other) (sym is)
+        (record { front = first; of_one = extends-itself one; of_other = extends-shorter whole other one second first (omega arith) }))
 
 pub longer-both : (one other : List Node) → AreFronts one other → IsLonger (longer one other) one other (longer one other)
 longer-both one other fronts = let t = longer-begins fronts.whole one other fronts.of_one fronts.of_other in

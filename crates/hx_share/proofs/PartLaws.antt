@@ -78,7 +78,8 @@ one-le Acting = omega arith
 
 holders-le_parts : (parts : List Part) → count_by holder_part parts ≤ count_by seat_part parts
 holders-le_parts [] = omega arith
-holders-le_parts (p ∷ parts) = omega (arith, count-first holder_part p parts, count-first seat_part p parts, one-le p.role, holders-le_parts parts)
+holders-le_parts (p ∷ parts) =
+    omega (arith, count-first holder_part p parts, count-first seat_part p parts, one-le p.role, holders-le_parts parts)
 
 pub holders-le : (v : View) → holders_of v ≤ seats_of v
 holders-le v = holders-le_parts v.parts
@@ -91,19 +92,24 @@ module _ (limits : Limits) where
   current-append nodes [] more current also = also
   current-append nodes (p ∷ parts) more current also = (current.0, current-append nodes parts more current.1 also)
 
-  pub current-first : (nodes : List Node) (parts : List Part) → AreCurrentParts limits nodes parts → AreCurrentParts limits nodes (take 1 parts)
+  pub current-first : (nodes : List Node) (parts : List Part) → AreCurrentParts limits nodes parts
+      → AreCurrentParts limits nodes (take 1 parts)
   current-first nodes [] current = current
   current-first nodes (p ∷ parts) current = (current.0, tt)
 
-  pub current-rest : (nodes : List Node) (parts : List Part) → AreCurrentParts limits nodes parts → AreCurrentParts limits nodes (drop 1 parts)
+  pub current-rest : (nodes : List Node) (parts : List Part) → AreCurrentParts limits nodes parts
+      → AreCurrentParts limits nodes (drop 1 parts)
   current-rest nodes [] current = current
   current-rest nodes (p ∷ parts) current = current.1
 
   -- a part without the book, which has seen a front
-  pub current-part : (nodes seen : List Node) (role : Role) → has_book role ≡ false → Extends nodes seen → IsCurrent limits nodes (part limits.slots role seen)
-  current-part nodes seen role idle front = record { same_slots = refl; front = front; whole = λ acts. let never : true ≡ false = sym acts ∙ idle in cc }
+  pub current-part : (nodes seen : List Node) (role : Role) → has_book role ≡ false → Extends nodes seen
+      → IsCurrent limits nodes (part limits.slots role seen)
+  current-part nodes seen role idle front =
+      record { same_slots = refl; front = front; whole = λ acts. let never : true ≡ false = sym acts ∙ idle in cc }
 
-  pub current-notes : (nodes : List Node) (parts : List Part) → AreCurrentParts limits nodes parts → AreCurrentParts limits nodes (map noted parts)
+  pub current-notes : (nodes : List Node) (parts : List Part) → AreCurrentParts limits nodes parts
+      → AreCurrentParts limits nodes (map noted parts)
   current-notes nodes [] current = tt
   current-notes nodes (p ∷ parts) current = (
     record { same_slots = current.0.same_slots; front = current.0.front; whole = λ acts. cc },

@@ -26,14 +26,16 @@ module _ (key : Limits) (room : ℕ) (same : room ≡ key.slots) (slots id : ℕ
       (sym (is ∙ λ k. alone (same k) Waiting seen))
       (takes-keep key slots id seen old new even next)
 
-  pub may-give : (seen nodes : List Node) (new : ℕ) → me ≡ acting room seen (Some (contents room nodes)) → Extends nodes seen → length nodes ≤ room → new ≡ 2 * length nodes
+  pub may-give : (seen nodes : List Node) (new : ℕ) → me ≡ acting room seen (Some (contents room nodes)) → Extends nodes seen
+      → length nodes ≤ room → new ≡ 2 * length nodes
       → Allows (IsOneList key) slots id me 0 (λ _. new) (λ _. gives_back (step slots 0 new 0 none) me new)
   may-give seen nodes new is grown few twice =
       subst (λ (m : Seated). Allows (IsOneList key) slots id m 0 (λ _. new) (λ _. gives_back (step slots 0 new 0 none) m new))
       (sym (is ∙ λ k. acting (same k) seen (Some (contents (same k) nodes))))
       (gives-keep key slots id seen nodes new grown (omega (arith, few, same)) twice)
 
-  pub may-settle : (role : Role) (told own : List Node) → me ≡ (view (part room Note told ∷ part room role own ∷ []), []) → has_book role ≡ false
+  pub may-settle : (role : Role) (told own : List Node) → me ≡ (view (part room Note told ∷ part room role own ∷ []), [])
+      → has_book role ≡ false
       → Allows (IsOneList key) slots id me 0 (λ n. n) (settles (step slots 0 0 0 none) me)
   may-settle role told own is idle =
       subst (λ (m : Seated). Allows (IsOneList key) slots id m 0 (λ n. n) (settles (step slots 0 0 0 none) m))
@@ -42,7 +44,8 @@ module _ (key : Limits) (room : ℕ) (same : room ≡ key.slots) (slots id : ℕ
 
 -- ---- what was told of a step
 
-pub taken-told : (room : ℕ) (me new : Seated) (seen : List Node) → me ≡ alone room Waiting seen → IsTaken (first_part me.0).slots (first_part me.0).seen new → IsTaken room seen new
+pub taken-told : (room : ℕ) (me new : Seated) (seen : List Node) → me ≡ alone room Waiting seen
+    → IsTaken (first_part me.0).slots (first_part me.0).seen new → IsTaken room seen new
 taken-told room me new seen is told = subst (λ (m : Seated). IsTaken (first_part m.0).slots (first_part m.0).seen new) is told
 
 -- the slot that is out with a seat
@@ -60,13 +63,16 @@ alone-keeps room role nodes count me is counted book =
 pub alone-seen : (room : ℕ) (role : Role) (nodes : List Node) (me : Seated) → me ≡ alone room role nodes → (first_part me.0).seen ≡ nodes
 alone-seen room role nodes me is = ap (λ (m : Seated). (first_part m.0).seen) is
 
-pub acting-seen : (room : ℕ) (nodes : List Node) (held : Option Contents) (me : Seated) → me ≡ acting room nodes held → (first_part me.0).seen ≡ nodes
+pub acting-seen : (room : ℕ) (nodes : List Node) (held : Option Contents) (me : Seated) → me ≡ acting room nodes held
+    → (first_part me.0).seen ≡ nodes
 acting-seen room nodes held me is = ap (λ (m : Seated). (first_part m.0).seen) is
 
 nothing-book : (room : ℕ) → room ≤ MOST_SLOTS → IsBook (contents room [])
-nothing-book room small = record { held = omega arith; small = small; right = λ k. tt; distinct = λ board mover one other first second. cc (first.there) }
+nothing-book room small =
+    record { held = omega arith; small = small; right = λ k. tt; distinct = λ board mover one other first second. cc (first.there) }
 
-pub new-keeps : (me : Seated) → me ≡ alone (first_part me.0).slots Waiting [] → (first_part me.0).slots ≤ MOST_SLOTS → ReaderKeeps Waiting me 0
+pub new-keeps : (me : Seated) → me ≡ alone (first_part me.0).slots Waiting [] → (first_part me.0).slots ≤ MOST_SLOTS
+    → ReaderKeeps Waiting me 0
 new-keeps me is small = alone-keeps (first_part me.0).slots Waiting [] 0 me is refl (nothing-book (first_part me.0).slots small)
 
 -- ---- seats that are dealt out
@@ -86,14 +92,17 @@ rest-parts count p me after is cut = cut ∙ (ap (λ (m : Seated). (all_but_firs
 
 pub first-parts : (count : ℕ) (p : Part) (me new : Seated) → 0 < count → me ≡ (view (replicate count p), []) → new ≡ (only_first me.0, [])
     → new ≡ (view (p ∷ []), [])
-first-parts count p me new some is cut = cut ∙ (ap (λ (m : Seated). (only_first m.0, [])) is ∙ λ k. (view (first-replicate count p some k), []))
+first-parts count p me new some is cut = cut
+    ∙ (ap (λ (m : Seated). (only_first m.0, [])) is ∙ λ k. (view (first-replicate count p some k), []))
 
-pub dealt-more : (count : ℕ) (r new : Reader) (seats after : List Reader) → seats ≡ replicate count r → new ≡ r → after ≡ seats ++ new ∷ [] → after ≡ replicate (count + 1) r
+pub dealt-more : (count : ℕ) (r new : Reader) (seats after : List Reader) → seats ≡ replicate count r → new ≡ r → after ≡ seats ++ new ∷ []
+    → after ≡ replicate (count + 1) r
 dealt-more count r new seats after were is pushed = pushed ∙ ((λ k. were k ++ is k ∷ []) ∙ replicate-append-replicate count 1 r)
 
 -- ---- seats that come back
 
 -- the parts of one seat more, which come first
-pub joined-parts : (me other after : Seated) (one : Reader) (done : List Reader) → me ≡ (view (map part_of done), []) → other ≡ (view (part_of one ∷ []), []) → after ≡ (joined me.0 other.0, me.1)
+pub joined-parts : (me other after : Seated) (one : Reader) (done : List Reader) → me ≡ (view (map part_of done), [])
+    → other ≡ (view (part_of one ∷ []), []) → after ≡ (joined me.0 other.0, me.1)
     → after ≡ (view (map part_of (one ∷ done)), [])
 joined-parts me other after one done were its joins = joins ∙ λ k. (joined (were k).0 (its k).0, (were k).1)

@@ -13,7 +13,8 @@ use Rattle.hx_book.specs.Entries.{Contents, contents, IsBook}
 use Rattle.hx_book.specs.Puts.{Refusal, Puts}
 
 -- what is right after a list is right after each list that begins with it
-pub right-later : (old new : List Node) (node : Node) → Extends new old → IsRightNode (headings_of old) node → IsRightNode (headings_of new) node
+pub right-later : (old new : List Node) (node : Node) → Extends new old → IsRightNode (headings_of old) node
+    → IsRightNode (headings_of new) node
 right-later old new node more right =
     subst (λ (before : List Heading). IsRightNode before node) (sym (ap headings_of more.1 ∙ headings_of-append old more.0))
     (right_node-append (headings_of old) (headings_of more.0) node right)
@@ -29,13 +30,16 @@ module _ (slots : ℕ) (old : List Node) (node : Node) (new : List Node) where
       puts
   puts-extend (Err refusal) puts = same-extends old new puts.0.same
 
-  pub puts-first : (result : Result ℕ Refusal) → Puts slots old node result new → IfOk result (λ place. IsFirstEntry new node.heading.position node.heading.to_move place)
+  pub puts-first : (result : Result ℕ Refusal) → Puts slots old node result new
+      → IfOk result (λ place. IsFirstEntry new node.heading.position node.heading.to_move place)
   puts-first (Ok place) puts = first-stored slots old new node place puts
   puts-first (Err refusal) puts = tt
 
-  pub puts-none : (result : Result ℕ Refusal) → Puts slots old node result new → IfErr result (λ refusal. HasNoEntry new node.heading.position node.heading.to_move)
+  pub puts-none : (result : Result ℕ Refusal) → Puts slots old node result new
+      → IfErr result (λ refusal. HasNoEntry new node.heading.position node.heading.to_move)
   puts-none (Ok place) puts = tt
-  puts-none (Err refusal) puts = subst (λ (l : List Node). HasNoEntry l node.heading.position node.heading.to_move) (sym puts.0.same) puts.0.none
+  puts-none (Err refusal) puts =
+      subst (λ (l : List Node). HasNoEntry l node.heading.position node.heading.to_move) (sym puts.0.same) puts.0.none
 
 -- a book as contracts see it, by the number of its slots
 pub book-at : (book : Contents) (room : ℕ) → IsBook book → book.slots ≡ room → IsBook (contents room book.nodes)

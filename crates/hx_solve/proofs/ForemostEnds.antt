@@ -40,7 +40,8 @@ foremost-new all before left best next split was less = record {
   same = was.same ∙ rw split (append_assoc left (next ∷ []) was.passed);
   one = (0, omega arith, refl);
   first = All-cons (λ (end : Ended). rank next ≤ rank end) next was.passed (omega arith)
-      (All-weaker (λ (end : Ended). rank best ≤ rank end) (λ (end : Ended). rank next ≤ rank end) (λ end more. omega (arith, less, more)) was.passed was.first);
+      (All-weaker (λ (end : Ended). rank best ≤ rank end) (λ (end : Ended). rank next ≤ rank end)
+          (λ end more. omega (arith, less, more)) was.passed was.first);
 }
 
 -- where none is left it is the foremost of all
@@ -62,4 +63,5 @@ after-spent Memory other spent after = absurd spent
 
 -- where want of a unit is the foremost end, all workers ended so
 pub all-spent : (end : Ended) (ends : List Ended) → EndsSpent end → IsBeforeAll end ends → All EndsSpent ends
-all-spent end ends spent before = All-weaker (λ (other : Ended). rank end ≤ rank other) EndsSpent (λ other after. after-spent end other spent after) ends before
+all-spent end ends spent before =
+    All-weaker (λ (other : Ended). rank end ≤ rank other) EndsSpent (λ other after. after-spent end other spent after) ends before

@@ -18,7 +18,8 @@ pub any-get : {A : Type 0} → (P : A → Type 0) (xs : List A) (place : ℕ) (x
 any-get P xs place x there has = (place, x, slice_get_within xs place x there, get_or_from_slice_get xs place x x there, has)
 
 -- what was found first is found first in a list that goes on
-pub found-later : (old new : List Node) (board : Board) (mover : Colour) (found : Found) → Extends new old → IsFirstFound old board mover found
+pub found-later : (old new : List Node) (board : Board) (mover : Colour) (found : Found) → Extends new old
+    → IsFirstFound old board mover found
     → IsFirstFound new board mover found
 found-later old new board mover found more first = rw more.1 later
   where

@@ -23,7 +23,8 @@ pub after-done : (book : BookOrigin) (counts : Origin) (board : Board) (mover : 
 after-done book counts board mover place done same is = subst (IsAfter book counts board mover) same is
 
 module _ (slots : ℕ) (board : Board) (mover : Colour) (books : List Reader) (counts : List Seat) (book : Reader) (seat : Seat) where
-  end-more : (end : Ended) → IsEndOfSome slots board mover books counts end → IsEndOfSome slots board mover (books ++ book ∷ []) (counts ++ seat ∷ []) end
+  end-more : (end : Ended) → IsEndOfSome slots board mover books counts end
+      → IsEndOfSome slots board mover (books ++ book ∷ []) (counts ++ seat ∷ []) end
   end-more end some = record {
     place = some.place;
     book = some.book;
@@ -48,7 +49,8 @@ module _ (slots : ℕ) (board : Board) (mover : Colour) (books : List Reader) (c
       → IsEnded book.seen slots seat board mover end
       → All (IsEndOfSome slots board mover (books ++ book ∷ []) (counts ++ seat ∷ [])) (ends ++ end ∷ [])
   ends-more ends end same all ended = All-push (IsEndOfSome slots board mover (books ++ book ∷ []) (counts ++ seat ∷ [])) ends end
-      (All-weaker (IsEndOfSome slots board mover books counts) (IsEndOfSome slots board mover (books ++ book ∷ []) (counts ++ seat ∷ [])) end-more ends all)
+      (All-weaker (IsEndOfSome slots board mover books counts)
+          (IsEndOfSome slots board mover (books ++ book ∷ []) (counts ++ seat ∷ [])) end-more ends all)
       (end-last end same ended)
 
 pub no_chain-more : (board : Board) (counts : List Seat) (seat : Seat) (ends : List Ended) (end : Ended) → AllFoundNoChain board counts ends

@@ -8,4 +8,5 @@ size-more fewer from size is same =
     let one_more : fewer + 1 ≡ suc fewer = omega arith in rw (is, same, one_more) (sym (sweep_size-suc fewer))
 
 pub size-small : (fewer from size : ℕ) → fewer < 9 → size ≡ sweep_size fewer → from ≡ fewer → 1 + (from + 1) * size ≤ 986410
-size-small fewer from size few is same = omega (arith, size-more fewer from size is same, sweep_size-below (fewer + 1) 9 (omega arith), sweep_size-nine)
+size-small fewer from size few is same =
+    omega (arith, size-more fewer from size is same, sweep_size-below (fewer + 1) 9 (omega arith), sweep_size-nine)

@@ -50,26 +50,31 @@ entry-solves nodes tree board mover index winner few found is = record {
     position : is.root.heading.position ≡ board
     position = ap (λ (h : Heading). h.position) same ∙ found.first.entry.is_of.same_position
 
-pub tree-solves : (nodes tree : List Node) (granted : ℕ) (board : Board) (mover : Colour) (settings : Settings) (ended : Ended) → length nodes ≤ MOST_SLOTS
+pub tree-solves : (nodes tree : List Node) (granted : ℕ) (board : Board) (mover : Colour) (settings : Settings) (ended : Ended)
+    → length nodes ≤ MOST_SLOTS
     → IsClosedEnd nodes granted board mover settings ended → IsTreeFrom nodes ended tree → IsSolution board mover tree
-tree-solves nodes tree granted board mover settings (Proved index winner) few says is = entry-solves nodes tree board mover index winner few says is
+tree-solves nodes tree granted board mover settings (Proved index winner) few says is =
+    entry-solves nodes tree board mover index winner few says is
 tree-solves nodes tree granted board mover settings (Spent taken) few says is = absurd is
 tree-solves nodes tree granted board mover settings (NoSlots refusal) few says is = absurd is
 tree-solves nodes tree granted board mover settings Memory few says is = absurd is
 
 pub entry-there : (nodes : List Node) (granted : ℕ) (board : Board) (mover : Colour) (settings : Settings) (ended : Ended)
     → IsClosedEnd nodes granted board mover settings ended → HasEntryFor nodes ended
-entry-there nodes granted board mover settings (Proved index winner) says = slice_get_within nodes index says.first.entry.node says.first.entry.there
+entry-there nodes granted board mover settings (Proved index winner) says =
+    slice_get_within nodes index says.first.entry.node says.first.entry.there
 entry-there nodes granted board mover settings (Spent taken) says = tt
 entry-there nodes granted board mover settings (NoSlots refusal) says = tt
 entry-there nodes granted board mover settings Memory says = tt
 
 pub cause-by : (nodes : List Node) (granted : ℕ) (board : Board) (mover : Colour) (settings : Settings) (ended : Ended) (why : Unsolved)
-    → IsBook (contents settings.slots nodes) → IsClosedEnd nodes granted board mover settings ended → SaysWhy ended why → HasCause settings why
+    → IsBook (contents settings.slots nodes) → IsClosedEnd nodes granted board mover settings ended → SaysWhy ended why
+        → HasCause settings why
 cause-by nodes granted board mover settings (Proved index winner) why book says is = subst (HasCause settings) (sym is) tt
 cause-by nodes granted board mover settings (Spent taken) why book says is = subst (HasCause settings) (sym is) says.0
 cause-by nodes granted board mover settings (NoSlots refusal) why book says is =
-    subst (HasCause settings) (sym is) (let room : FoundNoRoom settings.slots refusal = record { nodes = nodes; book = book; out_of_slots = says } in room)
+    subst (HasCause settings) (sym is)
+        (let room : FoundNoRoom settings.slots refusal = record { nodes = nodes; book = book; out_of_slots = says } in room)
 cause-by nodes granted board mover settings Memory why book says is = subst (HasCause settings) (sym is) tt
 
 -- a unit is wanting where the end says so
@@ -81,7 +86,8 @@ spent-by Memory why is lacks = absurd (subst LacksUnit is lacks)
 
 -- ---- by a full search
 
-pub sweep-solves : (board : Board) (mover : Colour) (tree : List Node) → empty_count board ≤ 9 → IsSweep board mover tree → IsSolution board mover tree
+pub sweep-solves : (board : Board) (mover : Colour) (tree : List Node) → empty_count board ≤ 9 → IsSweep board mover tree
+    → IsSolution board mover tree
 sweep-solves board mover tree few sweep = record {
   valid = sweep.valid;
   root = sweep.root;

@@ -24,9 +24,12 @@ use Rattle.hx_sweep.specs.Growth.{IsBegun, HasMoreNodes, IsProved}
 -- ---- lists that grow
 
 pub grown_none : (board : Board) (nodes : List Node) (limit : ℕ) → IsBegun board nodes → HasMoreNodes board.size limit nodes nodes
-grown_none board nodes limit begun = record { more = []; same = sym (append-nil nodes); few = omega arith; right = begun.right; of_size = begun.of_size; by_moves = begun.by_moves }
+grown_none board nodes limit begun =
+    record { more = []; same = sym (append-nil nodes); few = omega arith; right = begun.right; of_size = begun.of_size; by_moves =
+    begun.by_moves }
 
-pub grown_on : (size : Extent) (first second whole : ℕ) (before between after : List Node) → HasMoreNodes size first before between → HasMoreNodes size second between after
+pub grown_on : (size : Extent) (first second whole : ℕ) (before between after : List Node) → HasMoreNodes size first before between
+    → HasMoreNodes size second between after
     → first + second ≤ whole → HasMoreNodes size whole before after
 grown_on size first second whole before between after one two enough = record {
   more = one.more ++ two.more;
@@ -37,13 +40,17 @@ grown_on size first second whole before between after one two enough = record {
   by_moves = two.by_moves;
 }
 
-pub grown_less : (size : Extent) (limit whole : ℕ) (before after : List Node) → HasMoreNodes size limit before after → limit ≤ whole → HasMoreNodes size whole before after
-grown_less size limit whole before after grown enough = record { more = grown.more; same = grown.same; few = omega (arith, grown.few); right = grown.right; of_size = grown.of_size; by_moves = grown.by_moves }
+pub grown_less : (size : Extent) (limit whole : ℕ) (before after : List Node) → HasMoreNodes size limit before after → limit ≤ whole
+    → HasMoreNodes size whole before after
+grown_less size limit whole before after grown enough =
+    record { more = grown.more; same = grown.same; few = omega (arith, grown.few); right = grown.right; of_size = grown.of_size; by_moves =
+    grown.by_moves }
 
 -- ---- room for the nodes after a move
 
 -- the nodes after one move
-pub move_room : (board : Board) (cell : ℕ) → IsBoard board → IsEmpty board cell → sweep_size (empty_count board - 1) ≤ sweep_size (empty_count board) - 1
+pub move_room : (board : Board) (cell : ℕ) → IsBoard board → IsEmpty board cell
+    → sweep_size (empty_count board - 1) ≤ sweep_size (empty_count board) - 1
 move_room board cell valid empty = room (empty_count board) (some_empty-count board cell valid empty)
   where
     room : (count : ℕ) → 1 ≤ count → sweep_size (count - 1) ≤ sweep_size count - 1
@@ -60,36 +67,45 @@ moves_room (suc less) moves few =
     rw e (omega (arith, sweep_size-suc less, mul-le-mul_right (sweep_size less) few))
 
 -- after a stone one cell less is empty
-count_after : (board : Board) (stone : Colour) (cell : ℕ) → IsBoard board → IsEmpty board cell → empty_count (put board stone cell) ≡ empty_count board - 1
+count_after : (board : Board) (stone : Colour) (cell : ℕ) → IsBoard board → IsEmpty board cell
+    → empty_count (put board stone cell) ≡ empty_count board - 1
 count_after board stone cell valid empty = omega (arith, empty_count-put board stone cell valid empty)
 
-pub begun_after : (board : Board) (stone : Colour) (cell limit : ℕ) (before after : List Node) → IsBegun board before → HasMoreNodes board.size limit before after
-    → IsEmpty board cell → limit + sweep_size (empty_count board - 1) ≤ sweep_size (empty_count board) → IsBegun (put board stone cell) after
+pub begun_after : (board : Board) (stone : Colour) (cell limit : ℕ) (before after : List Node) → IsBegun board before
+    → HasMoreNodes board.size limit before after
+    → IsEmpty board cell → limit + sweep_size (empty_count board - 1) ≤ sweep_size (empty_count board)
+        → IsBegun (put board stone cell) after
 begun_after board stone cell limit before after begun grown empty enough = record {
   valid = board-put board stone cell begun.valid empty;
   right = grown.right;
   of_size = rw (size-put board stone cell) grown.of_size;
   by_moves = grown.by_moves;
-  room = rw (count_after board stone cell begun.valid empty) (omega (arith, ap length grown.same, length-append before grown.more, grown.few, begun.room));
+  room = rw (count_after board stone cell begun.valid empty)
+      (omega (arith, ap length grown.same, length-append before grown.more, grown.few, begun.room));
 }
 
-pub grown_after : (board : Board) (stone mover winner : Colour) (cell number : ℕ) (before after : List Node) → IsBoard board → IsEmpty board cell
-    → IsProved (put board stone cell) mover winner before after number → HasMoreNodes board.size (sweep_size (empty_count board - 1)) before after
+pub grown_after : (board : Board) (stone mover winner : Colour) (cell number : ℕ) (before after : List Node) → IsBoard board
+    → IsEmpty board cell
+    → IsProved (put board stone cell) mover winner before after number
+        → HasMoreNodes board.size (sweep_size (empty_count board - 1)) before after
 grown_after board stone mover winner cell number before after valid empty proved =
     rw (size-put board stone cell, count_after board stone cell valid empty) at proved.grown
 
 -- ---- the node of a position
 
-pub proved_leads : (board : Board) (mover winner : Colour) (before after : List Node) (number : ℕ) → IsProved board mover winner before after number
+pub proved_leads : (board : Board) (mover winner : Colour) (before after : List Node) (number : ℕ)
+    → IsProved board mover winner before after number
     → IsSomeAnd (slice_get (headings_of after) number) (IsHeading board mover winner)
 proved_leads board mover winner before after number proved = rw (proved.last, proved.place) (at_last proved.front)
   where
-    at_last : (front : List Node) → IsSomeAnd (slice_get (headings_of (front ++ proved.root ∷ [])) (length front)) (IsHeading board mover winner)
+    at_last : (front : List Node)
+        → IsSomeAnd (slice_get (headings_of (front ++ proved.root ∷ [])) (length front)) (IsHeading board mover winner)
     at_last [] = proved.heading
     at_last (first ∷ front) = at_last front
 
 pub proved_by : (board : Board) (mover winner : Colour) (rule : Rule) (before between after : List Node) (number : ℕ) → IsBoard board
-    → HasMoreNodes board.size (sweep_size (empty_count board) - 1) before between → IsRightRule (headings_of between) (heading_of board mover winner) rule
+    → HasMoreNodes board.size (sweep_size (empty_count board) - 1) before between
+        → IsRightRule (headings_of between) (heading_of board mover winner) rule
     → IsByMoves rule → after ≡ between ++ (record { heading = heading_of board mover winner; rule = rule }) ∷ [] → number ≡ length between
     → IsProved board mover winner before after number
 proved_by board mover winner rule before between after number valid grown right moves same place = record {

@@ -32,12 +32,14 @@ pub record IsAnswered (board : Board) (winner : Colour) : Type 0 where
   pub some_empty : IsEmpty board some
   pub all : (cell : ℕ) → IsEmpty board cell → Wins winner (put board (other_of winner) cell) winner
 
-pub answers_all : (board : Board) (winner mover : Colour) → mover ≡ other_of winner → ¬ HasChain board winner → Wins winner board mover → IsAnswered board winner
+pub answers_all : (board : Board) (winner mover : Colour) → mover ≡ other_of winner → ¬ HasChain board winner → Wins winner board mover
+    → IsAnswered board winner
 answers_all board winner mover others none (By_chain _ _ chain) = absurd (none chain)
 answers_all board winner mover others none (By_move _ _ _ own _ _) = absurd (other-differs winner (sym own ∙ others))
 answers_all board winner mover others none (By_answers _ _ some _ empty all) = record { some = some; some_empty = empty; all = all }
 
-pub not_all_refuted : (board : Board) (winner mover : Colour) → mover ≡ winner → IsBoard board → ¬ HasChain board winner → Wins winner board mover
+pub not_all_refuted : (board : Board) (winner mover : Colour) → mover ≡ winner → IsBoard board → ¬ HasChain board winner
+    → Wins winner board mover
     → ((cell : ℕ) → IsEmpty board cell → IsRefuted board winner cell) → ⊥
 not_all_refuted board winner mover own is none (By_chain _ _ chain) refuted = none chain
 not_all_refuted board winner mover own is none (By_move _ _ cell _ empty wins) refuted =

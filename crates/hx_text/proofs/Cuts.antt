@@ -79,4 +79,5 @@ text_injective a b la lb e = same (agree a b [] [] la lb (ap (λ (t : List ℕ).
 pub text_of-append : (a b : List (List ℕ)) → text_of (a ++ b) ≡ text_of a ++ text_of b
 unfolding text_of
 text_of-append [] b = refl
-text_of-append (line ∷ a) b = ap (λ (t : List ℕ). line ++ 10 ∷ t) (text_of-append a b) ∙ sym (append_assoc line (10 ∷ text_of a) (text_of b))
+text_of-append (line ∷ a) b = ap (λ (t : List ℕ). line ++ 10 ∷ t) (text_of-append a b)
+    ∙ sym (append_assoc line (10 ∷ text_of a) (text_of b))

@@ -37,7 +37,8 @@ pub few_fill_steps : (board : Board) (winner : Colour) (steps : List FillStep) �
     → length steps ≤ CELLS
 few_fill_steps board winner steps is may = omega (arith, no_more_than_empty board winner steps is may, empty_count-small board)
 
-pub fill_steps_fit : (size : Extent) (board : Board) (winner : Colour) (steps : List FillStep) → board.size ≡ size → MayFillAll board winner steps
+pub fill_steps_fit : (size : Extent) (board : Board) (winner : Colour) (steps : List FillStep) → board.size ≡ size
+    → MayFillAll board winner steps
     → EachEntryFits size (map fill_entry steps)
 fill_steps_fit size board winner [] same may = tt
 fill_steps_fit size board winner (step ∷ steps) same may = (

@@ -19,11 +19,14 @@ AllHigh-fill_words size (Pair a b) few fits =
     (IsHigh-test (codes "pair") refl, (IsHigh-cell_word a (omega (arith, on.row)), (IsHigh-cell_word b (omega (arith, also.row)), tt)))
 
 pub IsLine-fill_words : (size : Extent) (fill : FillStep) → size.rows ≤ 11 → FillFits size fill → IsLine (fill_words fill)
-IsLine-fill_words size (Other cell) few fits = IsLine-high (codes "other") (cell_word cell ∷ []) (AllHigh-fill_words size (Other cell) few fits)
-IsLine-fill_words size (Dead cell) few fits = IsLine-high (codes "dead") (cell_word cell ∷ []) (AllHigh-fill_words size (Dead cell) few fits)
+IsLine-fill_words size (Other cell) few fits =
+    IsLine-high (codes "other") (cell_word cell ∷ []) (AllHigh-fill_words size (Other cell) few fits)
+IsLine-fill_words size (Dead cell) few fits =
+    IsLine-high (codes "dead") (cell_word cell ∷ []) (AllHigh-fill_words size (Dead cell) few fits)
 IsLine-fill_words size (Pair a b) few fits =
     IsLine-high (codes "pair") (cell_word a ∷ cell_word b ∷ []) (AllHigh-fill_words size (Pair a b) few fits)
 
 pub words_in-fill_line : (size : Extent) (line : List ℕ) (fill : FillStep) → IsExtent size.rows size.cols → FillFits size fill
     → line ≡ fill_line fill → words_in line ≡ fill_words fill
-words_in-fill_line size line fill extent fits e = ap words_in e ∙ words_in-spaced (fill_words fill) (IsLine-fill_words size fill extent.1 fits)
+words_in-fill_line size line fill extent fits e = ap words_in e
+    ∙ words_in-spaced (fill_words fill) (IsLine-fill_words size fill extent.1 fits)

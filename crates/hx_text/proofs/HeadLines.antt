@@ -32,7 +32,8 @@ AllHigh-opening_words preamble (Fill fills child) few fits =
     (IsHigh-test (codes "fill") refl, (IsHigh-decimal fills (omega (arith, fits.0)), (IsHigh-decimal child fits.1, tt)))
 AllHigh-opening_words preamble (Turned child) few fits = (IsHigh-test (codes "turned") refl, (IsHigh-decimal child fits.1, tt))
 
-pub AllHigh-head_words : (preamble : Preamble) (head : Head) → preamble.size.rows ≤ 11 → OpeningFits preamble head.opening → AllHigh (head_words head)
+pub AllHigh-head_words : (preamble : Preamble) (head : Head) → preamble.size.rows ≤ 11 → OpeningFits preamble head.opening
+    → AllHigh (head_words head)
 unfolding is_high
 AllHigh-head_words preamble head few fits = (
   IsHigh-test (codes "node") refl,
@@ -48,14 +49,16 @@ AllHigh-head_words preamble head few fits = (
   ),
 )
 
-pub IsLine-head_words : (preamble : Preamble) (head : Head) → preamble.size.rows ≤ 11 → OpeningFits preamble head.opening → IsLine (head_words head)
+pub IsLine-head_words : (preamble : Preamble) (head : Head) → preamble.size.rows ≤ 11 → OpeningFits preamble head.opening
+    → IsLine (head_words head)
 IsLine-head_words preamble head few fits =
     IsLine-high (codes "node")
     (mask_word head.heading.position.black ∷ mask_word head.heading.position.white ∷ colour_word head.heading.to_move ∷
     colour_word head.heading.winner ∷ opening_words head.opening)
     (AllHigh-head_words preamble head few fits)
 
-pub words_in-head_line : (preamble : Preamble) (line : List ℕ) (head : Head) → IsExtent preamble.size.rows preamble.size.cols → HeadFits preamble head
+pub words_in-head_line : (preamble : Preamble) (line : List ℕ) (head : Head) → IsExtent preamble.size.rows preamble.size.cols
+    → HeadFits preamble head
     → line ≡ head_line head → words_in line ≡ head_words head
 words_in-head_line preamble line head extent fits e = ap words_in e
     ∙ words_in-spaced (head_words head) (IsLine-head_words preamble head extent.1 fits.opening)

@@ -50,7 +50,8 @@ size_words rows cols = codes "size" ∷ decimal rows ∷ decimal cols ∷ []
 
 pub AllHigh-size_words : (rows cols : ℕ) → IsNumber rows → IsNumber cols → AllHigh (size_words rows cols)
 unfolding is_high
-AllHigh-size_words rows cols few_rows few_cols = (IsHigh-test (codes "size") refl, (IsHigh-decimal rows few_rows, (IsHigh-decimal cols few_cols, tt)))
+AllHigh-size_words rows cols few_rows few_cols =
+    (IsHigh-test (codes "size") refl, (IsHigh-decimal rows few_rows, (IsHigh-decimal cols few_cols, tt)))
 
 pub IsLine-size_words : (rows cols : ℕ) → IsNumber rows → IsNumber cols → IsLine (size_words rows cols)
 IsLine-size_words rows cols few_rows few_cols =
@@ -59,7 +60,8 @@ IsLine-size_words rows cols few_rows few_cols =
 pub words_in-size_line : (line : List ℕ) (size : Extent) → IsExtent size.rows size.cols → line ≡ size_line size
     → words_in line ≡ size_words size.rows size.cols
 words_in-size_line line size extent e = ap words_in e
-    ∙ words_in-spaced (size_words size.rows size.cols) (IsLine-size_words size.rows size.cols (omega (arith, extent)) (omega (arith, extent)))
+    ∙ words_in-spaced (size_words size.rows size.cols)
+        (IsLine-size_words size.rows size.cols (omega (arith, extent)) (omega (arith, extent)))
 
 -- the last line
 

@@ -14,7 +14,8 @@ module _ (grammar : List (List ℕ) → Type 0) (lack : (lines : List (List ℕ)
   begun_lack lines begins = AllLack-front lines begins.0 (lack (lines ++ begins.0) begins.1)
 
   -- the lines before a fault do not go on with lines that begin a text
-  pub no_more : (line : ℕ) (fault : IsFaultyLine grammar bytes line) (before more : List (List ℕ)) (rest : List ℕ) → before ≡ fault.before ++ more
+  pub no_more : (line : ℕ) (fault : IsFaultyLine grammar bytes line) (before more : List (List ℕ)) (rest : List ℕ) → before ≡ fault.before
+      ++ more
       → fault.rest ≡ text_of more ++ rest → Begins grammar before → more ≡ []
   unfolding text_of
   no_more line fault before [] rest is left begins = refl

@@ -25,7 +25,8 @@ IsOut-joined : (old between new : Option (List ℕ)) (held holds last front back
 IsOut-joined old between new held holds last front back out then = record {
   gone = out.gone ++ then.gone;
   taken = append-then old between new out.gone then.gone out.taken then.taken;
-  same = append_assoc out.gone then.gone last ∙ ap (λ (t : List ℕ). out.gone ++ t) then.same ∙ back_held out.gone held holds front back out.same;
+  same = append_assoc out.gone then.gone last ∙ ap (λ (t : List ℕ). out.gone ++ t) then.same
+      ∙ back_held out.gone held holds front back out.same;
 }
 
 -- a front was spelled, and the spelling of the back was cut short
@@ -43,9 +44,12 @@ TakesFront-more old new held front back cut =
 
 -- a front was spelled, and then the back, or a part of it
 IsSpelled-joined : {T E : Type 0} (old between new : Option (List ℕ)) (held holds last front back : List ℕ) (result : Result T E)
-    → IsOut old between holds (held ++ front) → IsSpelled between holds new last result back → IsSpelled old held new last result (front ++ back)
-IsSpelled-joined old between new held holds last front back (Ok done) out then = IsOut-joined old between new held holds last front back out then
-IsSpelled-joined old between new held holds last front back (Err failed) out then = TakesFront-joined old between new held holds front back out then
+    → IsOut old between holds (held ++ front) → IsSpelled between holds new last result back
+        → IsSpelled old held new last result (front ++ back)
+IsSpelled-joined old between new held holds last front back (Ok done) out then =
+    IsOut-joined old between new held holds last front back out then
+IsSpelled-joined old between new held holds last front back (Err failed) out then =
+    TakesFront-joined old between new held holds front back out then
 
 -- of three pieces the first was cut short
 pub first_cut_short : {T E : Type 0} (old new : Option (List ℕ)) (held last a b c : List ℕ) (result : Result T E) → IsErr result
@@ -54,15 +58,18 @@ first_cut_short old new held last a b c result failed cut =
     MatchResult-from_err result _ _ failed (λ _. TakesFront-more old new held a (b ++ c) cut)
 
 -- the first was spelled, and the second cut short
-pub second_cut_short : {T E : Type 0} (old between new : Option (List ℕ)) (held holds last a b c : List ℕ) (result : Result T E) → IsErr result
+pub second_cut_short : {T E : Type 0} (old between new : Option (List ℕ)) (held holds last a b c : List ℕ) (result : Result T E)
+    → IsErr result
     → IsOut old between holds (held ++ a) → TakesFront between new (holds ++ b) → IsSpelled old held new last result (a ++ (b ++ c))
 second_cut_short old between new held holds last a b c result failed out cut =
     MatchResult-from_err result _ _ failed
     (λ _. TakesFront-joined old between new held holds a (b ++ c) out (TakesFront-more between new holds b c cut))
 
 -- the first two were spelled, and then the third, or a part of it
-pub three_spelled : {T E : Type 0} (old first second new : Option (List ℕ)) (held after_first after_second last a b c : List ℕ) (result : Result T E)
-    → IsOut old first after_first (held ++ a) → IsOut first second after_second (after_first ++ b) → IsSpelled second after_second new last result c
+pub three_spelled : {T E : Type 0} (old first second new : Option (List ℕ)) (held after_first after_second last a b c : List ℕ)
+    (result : Result T E)
+    → IsOut old first after_first (held ++ a) → IsOut first second after_second (after_first ++ b)
+        → IsSpelled second after_second new last result c
     → IsSpelled old held new last result (a ++ (b ++ c))
 three_spelled old first second new held after_first after_second last a b c result out then rest =
     IsSpelled-joined old first new held after_first last a (b ++ c) result out

@@ -73,7 +73,8 @@ short_step size (Or parts) few fits = omega (arith, fits.0, short_numbers parts 
 short_reason : (size : Extent) (line : Line) → size.rows ≤ 11 → ReasonFits size line → total (reason_words line) ≤ 17
 short_reason size (Child cell child) few fits = omega (arith, short_number child fits)
 short_reason size (Under cell better ByDead) few on = omega (arith, short_cell size better few on)
-short_reason size (Under cell better (ByPair partner)) few fits = omega (arith, short_cell size better few fits.0, short_cell size partner few fits.1)
+short_reason size (Under cell better (ByPair partner)) few fits =
+    omega (arith, short_cell size better few fits.0, short_cell size partner few fits.1)
 
 short_answer : (size : Extent) (line : Line) → size.rows ≤ 11 → AnswerFits size line → total (answer_words line) ≤ suc longest_line
 short_answer size line few fits = omega (arith, short_cell size (cell_of line) few fits.0, short_reason size line few fits.1)
@@ -103,16 +104,19 @@ short_entry size (Threat_entry place) few fits = line_of _ _ (omega (arith, shor
 short_entry size (Answer_entry line) few fits = line_of _ _ (short_answer size line few fits)
 short_entry size (Fill_entry fill) few fits = short_fill_line size fill few fits
 
-short_opening : (preamble : Preamble) (opening : Opening) → preamble.size.rows ≤ 11 → OpeningFits preamble opening → total (opening_words opening) ≤ 40
+short_opening : (preamble : Preamble) (opening : Opening) → preamble.size.rows ≤ 11 → OpeningFits preamble opening
+    → total (opening_words opening) ≤ 40
 short_opening preamble Chain few fits = omega arith
 short_opening preamble (Links steps) few fits = omega (arith, short_number steps (omega (arith, fits)))
 short_opening preamble (Move cell child) few fits = omega (arith, short_cell preamble.size cell few fits.0, short_number child fits.1)
 short_opening preamble (All_opening steps threats lines) few fits =
-    omega (arith, short_number steps (omega (arith, fits.0)), short_number threats (omega (arith, fits.1)), short_number lines (omega (arith, fits.2)))
+    omega (arith, short_number steps (omega (arith, fits.0)), short_number threats (omega (arith, fits.1)),
+        short_number lines (omega (arith, fits.2)))
 short_opening preamble (Fill fills child) few fits = omega (arith, short_number fills (omega (arith, fits.0)), short_number child fits.1)
 short_opening preamble (Turned child) few fits = omega (arith, short_number child fits.1)
 
-short_head : (preamble : Preamble) (head : Head) → preamble.size.rows ≤ 11 → OpeningFits preamble head.opening → length (spaced (head_words head)) ≤ longest_line
+short_head : (preamble : Preamble) (head : Head) → preamble.size.rows ≤ 11 → OpeningFits preamble head.opening
+    → length (spaced (head_words head)) ≤ longest_line
 short_head preamble head few fits =
     line_of _ _ (omega (
       arith,
@@ -137,7 +141,8 @@ pub AllShort-front : (before rest : List (List ℕ)) → AllShort (before ++ res
 AllShort-front [] rest all = tt
 AllShort-front (line ∷ before) rest all = (all.0, AllShort-front before rest all.1)
 
-pub AllShort-middle : (before : List (List ℕ)) (line : List ℕ) (rest : List (List ℕ)) → AllShort (before ++ line ∷ rest) → length line ≤ longest_line
+pub AllShort-middle : (before : List (List ℕ)) (line : List ℕ) (rest : List (List ℕ)) → AllShort (before ++ line ∷ rest)
+    → length line ≤ longest_line
 AllShort-middle [] line rest all = all.0
 AllShort-middle (first ∷ before) line rest all = AllShort-middle before line rest all.1
 
@@ -149,10 +154,12 @@ AllShort-node : (preamble : Preamble) (node : Node) → preamble.size.rows ≤ 1
 AllShort-node preamble node few fits =
     (short_head preamble (head_of node) few fits.head.opening, AllShort-entries preamble.size (entries_of node.rule) few fits.entries)
 
-AllShort-nodes : (preamble : Preamble) (nodes : List Node) → preamble.size.rows ≤ 11 → EachNodeFits preamble nodes → AllShort (flat_map node_lines nodes)
+AllShort-nodes : (preamble : Preamble) (nodes : List Node) → preamble.size.rows ≤ 11 → EachNodeFits preamble nodes
+    → AllShort (flat_map node_lines nodes)
 AllShort-nodes preamble [] few each = tt
 AllShort-nodes preamble (node ∷ nodes) few each =
-    AllShort-append (node_lines node) (flat_map node_lines nodes) (AllShort-node preamble node few each.0) (AllShort-nodes preamble nodes few each.1)
+    AllShort-append (node_lines node) (flat_map node_lines nodes) (AllShort-node preamble node few each.0)
+        (AllShort-nodes preamble nodes few each.1)
 
 short_title : (version : Version) → length (title_line version) ≤ longest_line
 short_title One = line_of _ _ (omega arith)
@@ -161,7 +168,8 @@ short_title Two = line_of _ _ (omega arith)
 AllShort-front_lines : (preamble : Preamble) → IsExtent preamble.size.rows preamble.size.cols → AllShort (front_lines preamble)
 AllShort-front_lines preamble extent = (
   short_title preamble.version,
-  (line_of _ _ (omega (arith, length-small preamble.size.rows (omega (arith, extent)), length-small preamble.size.cols (omega (arith, extent)))), tt),
+  (line_of _ _ (omega (arith, length-small preamble.size.rows (omega (arith, extent)),
+      length-small preamble.size.cols (omega (arith, extent)))), tt),
 )
 
 short_end : (count : ℕ) (winner : Colour) → IsNumber count → length (end_line count winner) ≤ longest_line

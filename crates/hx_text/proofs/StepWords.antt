@@ -51,7 +51,8 @@ IsLine-step_words size (Or parts) few fits = IsLine-high (codes "or") (map decim
 
 pub words_in-step_line : (size : Extent) (line : List ℕ) (step : Step) → IsExtent size.rows size.cols → StepFits size step
     → line ≡ step_line step → words_in line ≡ step_words step
-words_in-step_line size line step extent fits e = ap words_in e ∙ words_in-spaced (step_words step) (IsLine-step_words size step extent.1 fits)
+words_in-step_line size line step extent fits e = ap words_in e
+    ∙ words_in-spaced (step_words step) (IsLine-step_words size step extent.1 fits)
 
 -- ---- threats
 

@@ -48,22 +48,26 @@ use Rattle.hx_text.proofs.EntryLists.{step_entry, threat_entry, answer_entry, Ea
 use Rattle.hx_text.proofs.FillCounts.{few_fill_steps, fill_steps_fit}
 
 -- each cell of a list in order has its place below 121, so there are at most 121
-few_cells : (size : Extent) (cells : List ℕ) (Fact : ℕ → Type 0) → IsExtent size.rows size.cols → ((cell : ℕ) → Fact cell → OnBoard size cell)
+few_cells : (size : Extent) (cells : List ℕ) (Fact : ℕ → Type 0) → IsExtent size.rows size.cols
+    → ((cell : ℕ) → Fact cell → OnBoard size cell)
     → AreInOrder Fact cells → length cells ≤ CELLS
 few_cells size cells Fact extent on order =
     length-le_from_below 121 cells (sorted_from_strictly_increasing cells order.in_order)
     (λ k d less. on_board-small size (get_or cells k d) extent (on (get_or cells k d) (order.only k d less)))
 
 -- the better cell of a dominated move and the other cell of a pair are empty, so they are on the board
-kill_fits : (board : Board) (mover : Colour) (cell better : ℕ) (kill : Kill) → IsEmpty board better → IsKilled (put board mover better) mover cell kill
+kill_fits : (board : Board) (mover : Colour) (cell better : ℕ) (kill : Kill) → IsEmpty board better
+    → IsKilled (put board mover better) mover cell kill
     → ReasonFits board.size (Under cell better kill)
 kill_fits board mover cell better ByDead empty killed = empty.on_board
 kill_fits board mover cell better (ByPair partner) empty killed =
     let free : IsEmpty board partner = ((empty-put board mover better partner).0 killed.b_empty).0 in
     (empty.on_board, free.on_board)
 
-line_fits : (size : Extent) (before : List Heading) (heading : Heading) (links : List Link) (threats : List ℕ) (all : List Line) (line : Line)
-    → heading.position.size ≡ size → length before ≤ most_nodes → OnBoard size (cell_of line) → IsRightLine before heading links threats all line
+line_fits : (size : Extent) (before : List Heading) (heading : Heading) (links : List Link) (threats : List ℕ) (all : List Line)
+    (line : Line)
+    → heading.position.size ≡ size → length before ≤ most_nodes → OnBoard size (cell_of line)
+        → IsRightLine before heading links threats all line
     → AnswerFits size line
 line_fits size before heading links threats all (Child cell child) same few on right =
     let below : child < length before = holds-inside _ before child right in (on, omega arith)
@@ -82,7 +86,8 @@ lines_fit size before heading links threats all (line ∷ lines) same few on rig
 
 -- ---- steps
 
-base_fits : (board : Board) (player : Colour) (a b : Vertex) (link : Link) → IsLink board player link → HasEnds link a b → IsVertex board.size a × IsVertex board.size b
+base_fits : (board : Board) (player : Colour) (a b : Vertex) (link : Link) → IsLink board player link → HasEnds link a b
+    → IsVertex board.size a × IsVertex board.size b
 base_fits board player a b link ok (inl ends) =
     (rw ends.0 at (end-vertex board player link.a ok.a_end), rw ends.1 at (end-vertex board player link.b ok.b_end))
 base_fits board player a b link ok (inr ends) =
@@ -111,7 +116,8 @@ step_fits board player before (AndCell left right) link few gives =
     (omega arith, omega arith)
 step_fits board player before (Or parts) link few gives = (gives.rule.few, parts_fit before parts gives.rule.links few gives.rule.there)
 
-steps_fit : (board : Board) (player : Colour) (before : List Link) (steps : List Step) (links : List Link) → length before + length steps ≤ MOST_STEPS
+steps_fit : (board : Board) (player : Colour) (before : List Link) (steps : List Step) (links : List Link)
+    → length before + length steps ≤ MOST_STEPS
     → AreRightSteps board player before steps links → EachEntryFits board.size (map step_entry steps)
 steps_fit board player before [] links few right = tt
 steps_fit board player before (step ∷ steps) links few right = (
@@ -121,7 +127,8 @@ steps_fit board player before (step ∷ steps) links few right = (
 
 -- ---- threats
 
-threats_fit : (size : Extent) (links : List Link) (threats : List ℕ) → length links ≤ MOST_STEPS → ((k : ℕ) → IfSome (slice_get threats k) (IsThreat links))
+threats_fit : (size : Extent) (links : List Link) (threats : List ℕ) → length links ≤ MOST_STEPS
+    → ((k : ℕ) → IfSome (slice_get threats k) (IsThreat links))
     → EachEntryFits size (map threat_entry threats)
 threats_fit size links [] few each = tt
 threats_fit size links (place ∷ threats) few each =
@@ -131,19 +138,23 @@ threats_fit size links (place ∷ threats) few each =
 -- ---- rules
 
 -- the empty cells of a position of this size are on its board
-on_this : (size : Extent) (heading : Heading) → heading.position.size ≡ size → (cell : ℕ) → IsEmpty heading.position cell → OnBoard size cell
+on_this : (size : Extent) (heading : Heading) → heading.position.size ≡ size → (cell : ℕ) → IsEmpty heading.position cell
+    → OnBoard size cell
 on_this size heading same cell empty = rw same at empty.on_board
 
-opening_fits : (preamble : Preamble) (before : List Heading) (heading : Heading) (rule : Rule) → heading.position.size ≡ preamble.size → IsBoard heading.position
+opening_fits : (preamble : Preamble) (before : List Heading) (heading : Heading) (rule : Rule) → heading.position.size ≡ preamble.size
+    → IsBoard heading.position
     → length before ≤ most_nodes → ((child : ℕ) → rule ≡ Turned child → preamble.version ≡ Two) → IsRightRule before heading rule
     → OpeningFits preamble (opening_of rule)
 opening_fits preamble before heading Chain same is few two right = tt
 opening_fits preamble before heading (Links steps) same is few two right = right.steps_right.few
 opening_fits preamble before heading (Move cell child) same is few two right =
-    let below : child < length before = holds-inside _ before child right.leads in (on_this preamble.size heading same cell right.empty, omega arith)
+    let below : child < length before = holds-inside _ before child right.leads in
+        (on_this preamble.size heading same cell right.empty, omega arith)
 opening_fits preamble before heading (All steps threats lines) same is few two right =
     let extent : IsExtent preamble.size.rows preamble.size.cols = rw same at is.0 in
-    let count = few_cells preamble.size (cells_of lines) (IsToAnswer heading.position right.links threats) extent (λ cell is. on_this preamble.size heading same cell is.empty)
+    let count = few_cells preamble.size (cells_of lines) (IsToAnswer heading.position right.links threats) extent
+        (λ cell is. on_this preamble.size heading same cell is.empty)
     right.answered.cells in
     (right.steps_right.few, right.answered.threats_right.few, omega (arith, count, length-map lines cell_of))
 opening_fits preamble before heading (Fill fills child) same is few two right =
@@ -163,16 +174,19 @@ rule_fits size before heading (Move cell child) same few right = tt
 rule_fits size before heading (All steps threats lines) same few right =
     let each : EachEntryFits heading.position.size (map step_entry steps) =
     steps_fit heading.position heading.winner [] steps right.links (omega (arith, right.steps_right.few)) right.steps_right.right in
-    let count : length right.links ≡ length steps = omega (arith, steps-length heading.position heading.winner [] steps right.links right.steps_right.right) in
+    let count : length right.links ≡ length steps =
+        omega (arith, steps-length heading.position heading.winner [] steps right.links right.steps_right.right) in
     EachEntryFits-entries_for size steps threats lines [] (rw same at each)
     (threats_fit size right.links threats (omega (arith, count, right.steps_right.few)) right.answered.threats_right.each)
     (lines_fit size before heading right.links threats lines lines same few
-    (λ k d less. on_this size heading same (get_or (cells_of lines) k d) (right.answered.cells.only k d less).empty) right.answered.lines_right) tt
+    (λ k d less. on_this size heading same (get_or (cells_of lines) k d)
+        (right.answered.cells.only k d less).empty) right.answered.lines_right) tt
 rule_fits size before heading (Fill fills child) same few right =
     EachEntryFits-entries_for size [] [] [] fills tt tt tt (fill_steps_fit size heading.position heading.winner fills same right.right)
 rule_fits size before heading (Turned child) same few right = tt
 
-node_fits : (preamble : Preamble) (before : List Heading) (node : Option Node) → length before ≤ most_nodes → IfSome node (IsRightNode before)
+node_fits : (preamble : Preamble) (before : List Heading) (node : Option Node) → length before ≤ most_nodes
+    → IfSome node (IsRightNode before)
     → IfSome node (λ n. n.heading.position.size ≡ preamble.size)
     → (IsSomeAnd node IsTurnedNode → preamble.version ≡ Two) → IfSome node (NodeFits preamble)
 node_fits preamble before None few right same two = tt
@@ -185,7 +199,8 @@ node_fits preamble before (Some node) few right same two =
       entries = rule_fits preamble.size before node.heading node.rule same few right.rule;
     }
 
-each_from_places : (preamble : Preamble) (nodes : List Node) → ((k : ℕ) → IfSome (slice_get nodes k) (NodeFits preamble)) → EachNodeFits preamble nodes
+each_from_places : (preamble : Preamble) (nodes : List Node) → ((k : ℕ) → IfSome (slice_get nodes k) (NodeFits preamble))
+    → EachNodeFits preamble nodes
 each_from_places preamble [] fits = tt
 each_from_places preamble (node ∷ nodes) fits = (fits 0, each_from_places preamble nodes (λ k. fits (suc k)))
 
@@ -209,7 +224,8 @@ at_places P (node ∷ nodes) each (suc k) = at_places P nodes (λ j d less. each
 
 -- turned nodes fit in a text of the second version alone
 pub right_nodes_fit : (preamble : Preamble) (nodes : List Node) → AreRight nodes → length nodes ≤ most_nodes
-    → EachItem (λ node. node.heading.position.size ≡ preamble.size) nodes → (HasTurned nodes → preamble.version ≡ Two) → EachNodeFits preamble nodes
+    → EachItem (λ node. node.heading.position.size ≡ preamble.size) nodes → (HasTurned nodes → preamble.version ≡ Two)
+        → EachNodeFits preamble nodes
 right_nodes_fit preamble nodes right few same two =
     each_from_places preamble nodes
     (λ k. node_fits preamble (headings_of (take k nodes)) (slice_get nodes k) (few_before nodes k few) (right k)

@@ -58,8 +58,10 @@ written_text preamble nodes winner =
     ∙ ap (λ (t : List ℕ). text_of (front_lines preamble) ++ t) (text_of-nodes nodes)))
 
 -- what is written piece by piece is the text of the nodes, with the lines before them that were written
-pub written_with : (preamble : Preamble) (nodes : List Node) (winner : Colour) → IsExtent preamble.size.rows preamble.size.cols → EachNodeFits preamble nodes
-    → IsRootWinner nodes winner → IsNumber (length nodes) → (text : IsTreeText (written_tree preamble nodes winner) nodes) × (text.preamble ≡ preamble)
+pub written_with : (preamble : Preamble) (nodes : List Node) (winner : Colour) → IsExtent preamble.size.rows preamble.size.cols
+    → EachNodeFits preamble nodes
+    → IsRootWinner nodes winner → IsNumber (length nodes) → (text : IsTreeText (written_tree preamble nodes winner) nodes)
+        × (text.preamble ≡ preamble)
 written_with preamble nodes winner extent each root few = (
   record {
     preamble = preamble;
@@ -71,12 +73,14 @@ written_with preamble nodes winner extent each root few = (
   refl,
 )
 
-pub written_is_text : (preamble : Preamble) (nodes : List Node) (winner : Colour) → IsExtent preamble.size.rows preamble.size.cols → EachNodeFits preamble nodes
+pub written_is_text : (preamble : Preamble) (nodes : List Node) (winner : Colour) → IsExtent preamble.size.rows preamble.size.cols
+    → EachNodeFits preamble nodes
     → IsRootWinner nodes winner → IsNumber (length nodes) → IsTreeText (written_tree preamble nodes winner) nodes
 written_is_text preamble nodes winner extent each root few = (written_with preamble nodes winner extent each root few).0
 
 -- and it is read as what was written
-pub read_back : (preamble : Preamble) (nodes read : List Node) (winner : Colour) → IsExtent preamble.size.rows preamble.size.cols → EachNodeFits preamble nodes
+pub read_back : (preamble : Preamble) (nodes read : List Node) (winner : Colour) → IsExtent preamble.size.rows preamble.size.cols
+    → EachNodeFits preamble nodes
     → IsRootWinner nodes winner → IsNumber (length nodes) → IsTreeText (written_tree preamble nodes winner) read → read ≡ nodes
 read_back preamble nodes read winner extent each root few is =
     text_tells_nodes (written_tree preamble nodes winner) read nodes is (written_is_text preamble nodes winner extent each root few)

@@ -44,7 +44,8 @@ pub record AreTaken (cells : List ℕ) (count taken next : ℕ) : Type 0 where
   pub members : (cell : ℕ) → (has taken cell ≡ true) ↔ IsTaken cells count cell
 
 -- a list is in order for two facts alike, where both hold of the same cells
-pub same_kind : (Fact Other : ℕ → Type 0) (cells : List ℕ) → ((cell : ℕ) → Fact cell ↔ Other cell) → AreInOrder Fact cells → AreInOrder Other cells
+pub same_kind : (Fact Other : ℕ → Type 0) (cells : List ℕ) → ((cell : ℕ) → Fact cell ↔ Other cell) → AreInOrder Fact cells
+    → AreInOrder Other cells
 same_kind Fact Other cells same in_order = record {
   each = λ cell is. in_order.each cell ((same cell).1 is);
   only = λ k d less. (same _).0 (in_order.only k d less);
@@ -59,7 +60,8 @@ none_taken cells = record {
   members = λ cell. (λ member. absurd (false≢true (sym (has-empty cell) ∙ member)), λ taken. absurd (omega (arith, taken.before)));
 }
 
-module _ (cells : List ℕ) (count taken next cell : ℕ) (before : AreTaken cells count taken next) (at : (d : ℕ) → get_or cells count d ≡ cell) where
+module _ (cells : List ℕ) (count taken next cell : ℕ) (before : AreTaken cells count taken next)
+    (at : (d : ℕ) → get_or cells count d ≡ cell) where
   rise_more : next ≤ cell → (k : ℕ) → k + 1 < count + 1 → get_or cells k 0 < get_or cells (k + 1) 0
   rise_more rises k less =
       ⊎_elim
@@ -112,7 +114,8 @@ module _ (cells : List ℕ) (count taken next set : ℕ) (before : AreTaken cell
 
   taken_only : taken ≡ set → All (λ cell. has set cell ≡ true) cells
   taken_only same k d less =
-      rw same at ((before.members (get_or cells k d)).1 (record { place = k; before = omega arith; at = get_or_default cells k (get_or cells k d) d less }))
+      rw same at ((before.members (get_or cells k d)).1
+          (record { place = k; before = omega arith; at = get_or_default cells k (get_or cells k d) d less }))
 
   all_members : AreInOrder (λ cell. has set cell ≡ true) cells → (cell : ℕ) → has taken cell ≡ true → has set cell ≡ true
   all_members in_order cell member =

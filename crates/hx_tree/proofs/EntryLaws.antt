@@ -23,7 +23,8 @@ pub seen-now : (Fact : List Node → Type 0) (old new : List Node) → Extends n
 seen-now Fact old new grown fact = record { seen = new; after_old = grown; before_new = extends-itself new; fact = fact }
 
 -- what was seen is so of an earlier list and a later one too
-pub seen-within : (Fact : List Node → Type 0) (first old new last : List Node) → Extends old first → Extends last new → WasSeen Fact old new → WasSeen Fact first last
+pub seen-within : (Fact : List Node → Type 0) (first old new last : List Node) → Extends old first → Extends last new → WasSeen Fact old new
+    → WasSeen Fact first last
 seen-within Fact first old new last from to was = record {
   seen = was.seen;
   after_old = extends-on first old was.seen from was.after_old;
@@ -31,11 +32,13 @@ seen-within Fact first old new last from to was = record {
   fact = was.fact;
 }
 
-pub node-later : (new old : List Node) (place : ℕ) (node : Node) → Extends new old → slice_get old place ≡ Some node → slice_get new place ≡ Some node
+pub node-later : (new old : List Node) (place : ℕ) (node : Node) → Extends new old → slice_get old place ≡ Some node
+    → slice_get new place ≡ Some node
 node-later new old place node more there = rw more.1 (get-append old more.0 place node there)
 
 -- an entry stays one
-pub entry-later : (new old : List Node) (board : Board) (mover : Colour) (place : ℕ) → Extends new old → IsEntry old board mover place → IsEntry new board mover place
+pub entry-later : (new old : List Node) (board : Board) (mover : Colour) (place : ℕ) → Extends new old → IsEntry old board mover place
+    → IsEntry new board mover place
 entry-later new old board mover place more entry = record {
   node = entry.node;
   there = node-later new old place entry.node more entry.there;
@@ -45,8 +48,10 @@ entry-later new old board mover place more entry = record {
 -- ---- one node more
 
 module _ (nodes : List Node) (node : Node) where
-  pub entry-before : (board : Board) (mover : Colour) (place : ℕ) → IsEntry nodes board mover place → IsEntry (nodes ++ node ∷ []) board mover place
-  entry-before board mover place entry = record { node = entry.node; there = get-push_before nodes node place entry.node entry.there; is_of = entry.is_of }
+  pub entry-before : (board : Board) (mover : Colour) (place : ℕ) → IsEntry nodes board mover place
+      → IsEntry (nodes ++ node ∷ []) board mover place
+  entry-before board mover place entry =
+      record { node = entry.node; there = get-push_before nodes node place entry.node entry.there; is_of = entry.is_of }
 
   pub entry-last : IsEntry (nodes ++ node ∷ []) node.heading.position node.heading.to_move (length nodes)
   entry-last = record { node = node; there = get-push_last nodes node; is_of = record { same_position = refl; same_mover = refl } }
@@ -64,12 +69,15 @@ module _ (nodes : List Node) (node : Node) where
   new-only none board mover new place entry = none place (record {
     node = entry.node;
     there = entry.there;
-    is_of = record { same_position = entry.is_of.same_position ∙ sym new.same_position; same_mover = entry.is_of.same_mover ∙ sym new.same_mover };
+    is_of = record { same_position = entry.is_of.same_position ∙ sym new.same_position; same_mover = entry.is_of.same_mover
+        ∙ sym new.same_mover };
   })
 
-  pub distinct-more : AreDistinctEntries nodes → HasNoEntry nodes node.heading.position node.heading.to_move → AreDistinctEntries (nodes ++ node ∷ [])
+  pub distinct-more : AreDistinctEntries nodes → HasNoEntry nodes node.heading.position node.heading.to_move
+      → AreDistinctEntries (nodes ++ node ∷ [])
   distinct-more distinct none board mover one other first second = ⊎_elim
-      (λ a. ⊎_elim (λ b. distinct board mover one other a b) (λ b. absurd (new-only none board mover b.1 one a)) (entry-cases board mover other second))
+      (λ a. ⊎_elim (λ b. distinct board mover one other a b) (λ b. absurd (new-only none board mover b.1 one a))
+          (entry-cases board mover other second))
       (λ a. ⊎_elim (λ b. absurd (new-only none board mover a.1 other b)) (λ b. a.0 ∙ sym b.0) (entry-cases board mover other second))
       (entry-cases board mover one first)
 

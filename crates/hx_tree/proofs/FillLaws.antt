@@ -17,12 +17,14 @@ pub record ComesToSame (first : Board) (winner : Colour) (steps : List FillStep)
 pub no_step : (first : Board) (winner : Colour) (steps : List FillStep) → ComesToSame first winner steps 0 first
 no_step first winner steps = record { may = ((λ may. may), (λ may. may)); same = refl }
 
-module _ (first : Board) (winner : Colour) (steps : List FillStep) (count : ℕ) (board : Board) (before : ComesToSame first winner steps count board) where
+module _ (first : Board) (winner : Colour) (steps : List FillStep) (count : ℕ) (board : Board)
+    (before : ComesToSame first winner steps count board) where
   module _ (step : FillStep) (less : count < length steps) (is : step ≡ get_or steps count step) where
     here : drop count steps ≡ step ∷ drop (count + 1) steps
     here = drop_more steps count step less ∙ ap (λ (s : FillStep). s ∷ drop (count + 1) steps) (sym is)
 
-    may_here : (MayFill board winner step × MayFillAll (filled board winner step) winner (drop (count + 1) steps)) ↔ MayFillAll first winner steps
+    may_here : (MayFill board winner step × MayFillAll (filled board winner step) winner (drop (count + 1) steps))
+        ↔ MayFillAll first winner steps
     may_here = subst (λ (rest : List FillStep). MayFillAll board winner rest ↔ MayFillAll first winner steps) here before.may
 
     same_here : filled_all (filled board winner step) winner (drop (count + 1) steps) ≡ filled_all first winner steps

@@ -28,7 +28,8 @@ module _ (board : Board) (player : Colour) (is : IsBoard board) where
   pub board-filled : (step : FillStep) → MayFill board player step → IsBoard (filled board player step)
   board-filled (Other cell) empty = board-put board (other_of player) cell is empty
   board-filled (Dead cell) dead = board-put board player cell is dead.empty
-  board-filled (Pair a b) pair = board-put (put board player a) player b (board-put board player a is pair.a_empty) (second_empty board player a b pair)
+  board-filled (Pair a b) pair =
+      board-put (put board player a) player b (board-put board player a is pair.a_empty) (second_empty board player a b pair)
 
   pub empty_count-filled : (step : FillStep) → MayFill board player step → empty_count (filled board player step) < empty_count board
   empty_count-filled (Other cell) empty = omega (arith, empty_count-put board (other_of player) cell is empty)

@@ -35,10 +35,13 @@ module _ (lines : List Line) (k set : ℕ) (line : Line) (less : k < length line
   was_child : (n : ℕ) → has set n ≡ true → HasChild (take k lines ++ line ∷ []) n
   was_child n member = let was = (before n).0 member in (was.0, Contains-append_left (take k lines) (line ∷ []) (Child n was.0) was.1)
 
-  pub one_child_more : (cell child : ℕ) → line ≡ Child cell child → (n : ℕ) → (has (insert set cell) n ≡ true) ↔ HasChild (take (k + 1) lines) n
+  pub one_child_more : (cell child : ℕ) → line ≡ Child cell child → (n : ℕ) → (has (insert set cell) n ≡ true)
+      ↔ HasChild (take (k + 1) lines) n
   one_child_more cell child here n = rw up_to (
     (λ member. ⊎_elim
-        (λ (same : n ≡ cell). (child, subst (λ (l : Line). Contains (take k lines ++ line ∷ []) l) (here ∙ ap (λ (c : ℕ). Child c child) (sym same)) (Contains-push (take k lines) line)))
+        (λ (same : n ≡ cell).
+            (child, subst (λ (l : Line). Contains (take k lines ++ line ∷ []) l) (here ∙ ap (λ (c : ℕ). Child c child) (sym same))
+            (Contains-push (take k lines) line)))
         (was_child n)
         (has-insert_cases set cell n member)),
     (λ found. ⊎_elim
@@ -62,7 +65,8 @@ module _ (lines : List Line) (k set : ℕ) (line : Line) (less : k < length line
 
 module _ (board : Board) (links : List Link) (threats : List ℕ) (lines : List Line) (empties cells children : ℕ)
     (are_empty : (n : ℕ) → (has empties n ≡ true) ↔ IsEmpty board n) (are_threats : AreThreats links threats)
-    (are_to_answer : (n : ℕ) → (has cells n ≡ true) ↔ IsToAnswer board links threats n) (have_child : (n : ℕ) → (has children n ≡ true) ↔ HasChild lines n) where
+    (are_to_answer : (n : ℕ) → (has cells n ≡ true) ↔ IsToAnswer board links threats n)
+        (have_child : (n : ℕ) → (has children n ≡ true) ↔ HasChild lines n) where
   abbrev lost : ℕ
   lost = union (difference empties cells) children
 
@@ -81,7 +85,8 @@ module _ (board : Board) (links : List Link) (threats : List ℕ) (lines : List 
 
   lost-answered : (n : ℕ) → IsEmpty board n → (has lost n ≡ true) ↔ (HasChild lines n ⊎ IsOutsideThreat links threats n)
   lost-answered n empty = (
-    (λ member. ⊎_elim (λ left. inr (not_to_answer n left)) (λ child. inl ((have_child n).0 child)) (has-union_cases (difference empties cells) children n member)),
+    (λ member. ⊎_elim (λ left. inr (not_to_answer n left)) (λ child. inl ((have_child n).0 child))
+        (has-union_cases (difference empties cells) children n member)),
     (λ answered. ⊎_elim
         (λ child. has-union_right (difference empties cells) children n ((have_child n).1 child))
         (λ outside. has-union_left (difference empties cells) children n (outside-member n empty outside))
@@ -92,13 +97,17 @@ module _ (board : Board) (links : List Link) (threats : List ℕ) (lines : List 
     given-right : (line : Line) → IsRightGiven before heading lost line ↔ IsRightLine before heading links threats lines line
     given-right (Child cell child) = ((λ right. right), (λ right. right))
     given-right (Under cell better kill) = (
-      (λ given. record { dominated = given.1; answered = (lost-answered better (subst (λ (b : Board). IsEmpty b better) same given.1.better_empty)).0 given.0 }),
-      (λ right. ((lost-answered better (subst (λ (b : Board). IsEmpty b better) same right.dominated.better_empty)).1 right.answered, right.dominated)),
+      (λ given. record { dominated = given.1; answered =
+          (lost-answered better (subst (λ (b : Board). IsEmpty b better) same given.1.better_empty)).0 given.0 }),
+      (λ right. ((lost-answered better (subst (λ (b : Board). IsEmpty b better) same right.dominated.better_empty)).1 right.answered,
+          right.dominated)),
     )
 
-    of_some : (line : Option Line) → IfSome line (IsRightGiven before heading lost) ↔ IfSome line (IsRightLine before heading links threats lines)
+    of_some : (line : Option Line) → IfSome line (IsRightGiven before heading lost)
+        ↔ IfSome line (IsRightLine before heading links threats lines)
     of_some None = ((λ t. t), (λ t. t))
     of_some (Some line) = given-right line
 
-    pub all_given-right : ((k : ℕ) → IfSome (slice_get lines k) (IsRightGiven before heading lost)) ↔ ((k : ℕ) → IfSome (slice_get lines k) (IsRightLine before heading links threats lines))
+    pub all_given-right : ((k : ℕ) → IfSome (slice_get lines k) (IsRightGiven before heading lost))
+        ↔ ((k : ℕ) → IfSome (slice_get lines k) (IsRightLine before heading links threats lines))
     all_given-right = ((λ each k. (of_some (slice_get lines k)).0 (each k)), (λ each k. (of_some (slice_get lines k)).1 (each k)))

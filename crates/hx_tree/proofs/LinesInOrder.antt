@@ -24,7 +24,8 @@ use Rattle.hx_tree.proofs.RightNodeGrowth.{some_and-append}
 -- ---- one cell more in order
 
 module _ (Fact Next : ℕ → Type 0) (cells : List ℕ) (cell : ℕ) (before : AreInOrder Fact cells) (later : (n : ℕ) → Fact n → n < cell) where
-  pub in_order_more : ((n : ℕ) → Next n → (n ≡ cell) ⊎ Fact n) → ((n : ℕ) → Fact n → Next n) → Next cell → AreInOrder Next (cells ++ cell ∷ [])
+  pub in_order_more : ((n : ℕ) → Next n → (n ≡ cell) ⊎ Fact n) → ((n : ℕ) → Fact n → Next n) → Next cell
+      → AreInOrder Next (cells ++ cell ∷ [])
   in_order_more cases keeps here = record {
     each = λ n next. ⊎_elim
         (λ same. Contains-append_right cells (cell ∷ []) n (0, omega arith, sym same))
@@ -59,7 +60,8 @@ pub none_answered : (headings : List Heading) (heading : Heading) (left : ℕ)
 none_answered headings heading left is_left count = record {
   inside = λ cell member. (is_left cell).0 member;
   earlier = λ done cell is _. absurd (not_done done is);
-  in_order = record { each = λ cell is. absurd (not_done cell is); only = λ k d less. absurd (omega arith); in_order = λ k less. absurd (omega arith) };
+  in_order = record { each = λ cell is. absurd (not_done cell is); only = λ k d less. absurd (omega arith); in_order = λ k less.
+      absurd (omega arith) };
   lines_right = λ k. tt;
   count = omega arith;
 }
@@ -89,7 +91,8 @@ pub one_more_answered : (headings more : List Heading) (heading : Heading) (left
 one_more_answered headings more heading left lines cell child valid before least leads = record {
   inside = λ n member. before.inside n (has-remove_before left cell n member);
   earlier = λ done n is member. ⊎_elim
-      (λ same. rw same (later n member)) (λ gone. before.earlier done n (is.0, gone) (has-remove_before left cell n member)) (removed_cases left cell done is.1);
+      (λ same. rw same (later n member)) (λ gone. before.earlier done n (is.0, gone) (has-remove_before left cell n member))
+          (removed_cases left cell done is.1);
   in_order = rw (map-append cell_of lines (Child cell child ∷ []))
       (in_order_more (IsDone heading.position left) (IsDone heading.position (remove left cell)) (cells_of lines) cell before.in_order
       (λ n is. before.earlier n cell is least.member)
@@ -104,13 +107,18 @@ one_more_answered headings more heading left lines cell child valid before least
   where
     later : (n : ℕ) → has (remove left cell) n ≡ true → cell < n
     later n member = ⊎_elim
-        (λ less. absurd (false≢true (sym (least.first n less (before.inside n (has-remove_before left cell n member)).on_board) ∙ has-remove_before left cell n member)))
-        (λ more. ⊎_elim (λ less. less) (λ least_too. let same : n ≡ cell = omega arith in absurd (false≢true (sym (removed left cell) ∙ rw same at member))) (cases_lt cell n))
+        (λ less. absurd (false≢true
+            (sym (least.first n less (before.inside n (has-remove_before left cell n member)).on_board)
+            ∙ has-remove_before left cell n member)))
+        (λ more. ⊎_elim (λ less. less)
+            (λ least_too. let same : n ≡ cell = omega arith in absurd (false≢true (sym (removed left cell) ∙ rw same at member)))
+            (cases_lt cell n))
         (cases_lt n cell)
 
 -- while a cell is left, fewer are answered than were empty
 pub fewer_answered : (headings : List Heading) (heading : Heading) (left : ℕ) (lines : List Line) (cell : ℕ) → IsBoard heading.position
-    → AreAnsweredSoFar headings heading left lines → IsLeastOn heading.position.size left cell → length lines + 1 ≤ empty_count heading.position
+    → AreAnsweredSoFar headings heading left lines → IsLeastOn heading.position.size left cell
+        → length lines + 1 ≤ empty_count heading.position
 fewer_answered headings heading left lines cell valid before least =
     let small : cell < 121 = on_board-small heading.position.size cell valid.0 least.on_board in
     omega (arith, before.count, count_below-remove 128 left cell least.member (omega arith))
@@ -149,7 +157,8 @@ right_by_lines headings heading lines some mover empty in_order right = record {
   steps_right = record { few = omega arith; right = refl };
   answered = record {
     threats_right = record { few = omega arith; each = λ k. tt };
-    cells = same_kind (IsEmpty heading.position) (IsToAnswer heading.position [] []) (cells_of lines) (all_to_answer heading.position) in_order;
+    cells = same_kind (IsEmpty heading.position) (IsToAnswer heading.position [] []) (cells_of lines)
+        (all_to_answer heading.position) in_order;
     lines_right = λ k. child_line_right headings heading lines (slice_get lines k) (right k);
   };
 }

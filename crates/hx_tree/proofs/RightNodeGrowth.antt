@@ -21,19 +21,23 @@ use Rattle.hx_tree.specs.Trees.{headings_of}
 use Rattle.hx_tree.proofs.TreeGrowth.{headings_of-append}
 
 -- a fact of an earlier heading stays one
-pub some_and-append : (P : Heading → Type 0) (headings more : List Heading) (k : ℕ) → IsSomeAnd (slice_get headings k) P → IsSomeAnd (slice_get (headings ++ more) k) P
+pub some_and-append : (P : Heading → Type 0) (headings more : List Heading) (k : ℕ) → IsSomeAnd (slice_get headings k) P
+    → IsSomeAnd (slice_get (headings ++ more) k) P
 some_and-append P [] more k is = absurd is
 some_and-append P (first ∷ headings) more zero is = is
 some_and-append P (first ∷ headings) more (suc k) is = some_and-append P headings more k is
 
 module _ (before more : List Heading) (heading : Heading) where
   module _ (links : List Link) (threats : List ℕ) (lines : List Line) where
-    line-append : (line : Line) → IsRightLine before heading links threats lines line → IsRightLine (before ++ more) heading links threats lines line
+    line-append : (line : Line) → IsRightLine before heading links threats lines line
+        → IsRightLine (before ++ more) heading links threats lines line
     line-append (Child cell child) right =
-        some_and-append (IsHeading (put heading.position (other_of heading.winner) cell) heading.winner heading.winner) before more child right
+        some_and-append (IsHeading
+            (put heading.position (other_of heading.winner) cell) heading.winner heading.winner) before more child right
     line-append (Under cell better kill) right = right
 
-    found-append : (found : Option Line) → IfSome found (IsRightLine before heading links threats lines) → IfSome found (IsRightLine (before ++ more) heading links threats lines)
+    found-append : (found : Option Line) → IfSome found (IsRightLine before heading links threats lines)
+        → IfSome found (IsRightLine (before ++ more) heading links threats lines)
     found-append None right = right
     found-append (Some line) right = line-append line right
 
@@ -43,7 +47,8 @@ module _ (before more : List Heading) (heading : Heading) where
   rule-append (Move cell child) right = record {
     mover = right.mover;
     empty = right.empty;
-    leads = some_and-append (IsHeading (put heading.position heading.winner cell) (other_of heading.winner) heading.winner) before more child right.leads;
+    leads = some_and-append
+        (IsHeading (put heading.position heading.winner cell) (other_of heading.winner) heading.winner) before more child right.leads;
   }
   rule-append (All steps threats lines) right = record {
     mover = right.mover;
@@ -60,7 +65,8 @@ module _ (before more : List Heading) (heading : Heading) where
   rule-append (Fill steps child) right = record {
     some = right.some;
     right = right.right;
-    leads = some_and-append (IsHeading (filled_all heading.position heading.winner steps) heading.to_move heading.winner) before more child right.leads;
+    leads = some_and-append
+        (IsHeading (filled_all heading.position heading.winner steps) heading.to_move heading.winner) before more child right.leads;
   }
   rule-append (Turned child) right = some_and-append (IsTurnedHeading heading) before more child right
 
@@ -68,8 +74,10 @@ pub right_node-append : (before more : List Heading) (node : Node) → IsRightNo
 right_node-append before more node right = record { board = right.board; rule = rule-append before more node.heading node.rule right.rule }
 
 -- a node that is right after the first nodes of a list is right after all of them
-pub right_node-whole : (nodes : List Node) (count : ℕ) (node : Node) → IsRightNode (headings_of (take count nodes)) node → IsRightNode (headings_of nodes) node
+pub right_node-whole : (nodes : List Node) (count : ℕ) (node : Node) → IsRightNode (headings_of (take count nodes)) node
+    → IsRightNode (headings_of nodes) node
 right_node-whole nodes count node right =
     let whole : headings_of (take count nodes) ++ headings_of (drop count nodes) ≡ headings_of nodes =
     sym (headings_of-append (take count nodes) (drop count nodes)) ∙ ap headings_of (take-append-drop count nodes) in
-    subst (λ (before : List Heading). IsRightNode before node) whole (right_node-append (headings_of (take count nodes)) (headings_of (drop count nodes)) node right)
+    subst (λ (before : List Heading). IsRightNode before node) whole
+        (right_node-append (headings_of (take count nodes)) (headings_of (drop count nodes)) node right)

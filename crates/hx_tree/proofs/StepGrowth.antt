@@ -13,14 +13,17 @@ use Rattle.hx_tree.specs.Steps.{GiveLinks}
 
 module _ (board : Board) (player : Colour) where
   -- the steps before a place give these links, and then the step there gives one more
-  steps_more : (before : List Link) (steps : List Step) (links : List Link) (step : Step) (link : Link) → AreRightSteps board player before steps links
+  steps_more : (before : List Link) (steps : List Step) (links : List Link) (step : Step) (link : Link)
+      → AreRightSteps board player before steps links
       → StepGives board player links step link → AreRightSteps board player before (steps ++ step ∷ []) (links ++ link ∷ [])
   steps_more before [] links step link right gives =
       let P : List Link → Type 0 = λ ls. StepGives board player ls step link in
       (link, subst P right gives, ap (λ (ls : List Link). ls ++ link ∷ []) right)
-  steps_more before (first ∷ steps) links step link right gives = (right.0, right.1, steps_more (before ++ right.0 ∷ []) steps links step link right.2 gives)
+  steps_more before (first ∷ steps) links step link right gives =
+      (right.0, right.1, steps_more (before ++ right.0 ∷ []) steps links step link right.2 gives)
 
-  one_list : (before : List Link) (steps : List Step) (a b : List Link) → AreRightSteps board player before steps a → AreRightSteps board player before steps b → a ≡ b
+  one_list : (before : List Link) (steps : List Step) (a b : List Link) → AreRightSteps board player before steps a
+      → AreRightSteps board player before steps b → a ≡ b
   one_list before [] a b right other = right ∙ sym other
   one_list before (step ∷ steps) a b right other =
       let same : other.0 ≡ right.0 = step-unique board player before other.0 right.0 step other.1 right.1 in
@@ -44,12 +47,14 @@ module _ (board : Board) (player : Colour) where
   pub same_links : (steps : List Step) (a b : List Link) → GiveLinks board player steps a → GiveLinks board player steps b → a ≡ b
   same_links steps a b right other = one_list [] steps a b right.right other.right
 
-  module _ (steps : List Step) (place : ℕ) (step : Step) (links : List Link) (less : place < length steps) (is : step ≡ get_or steps place step)
+  module _ (steps : List Step) (place : ℕ) (step : Step) (links : List Link) (less : place < length steps)
+      (is : step ≡ get_or steps place step)
       (right : AreRightSteps board player [] (take place steps) links) where
     up_to : take (place + 1) steps ≡ take place steps ++ step ∷ []
     up_to = take-read steps place step less is
 
-    pub one_link_more : (link : Link) → StepGives board player links step link → AreRightSteps board player [] (take (place + 1) steps) (links ++ link ∷ [])
+    pub one_link_more : (link : Link) → StepGives board player links step link
+        → AreRightSteps board player [] (take (place + 1) steps) (links ++ link ∷ [])
     one_link_more link gives = rw up_to (steps_more [] (take place steps) links step link right gives)
 
     whole : steps ≡ take place steps ++ step ∷ drop (place + 1) steps
@@ -59,7 +64,8 @@ module _ (board : Board) (player : Colour) where
     pub no_links : ((link : Link) → StepGives board player links step link → ⊥) → (all : List Link) → GiveLinks board player steps all → ⊥
     no_links none all given =
         let P : List Step → Type 0 = λ ss. AreRightSteps board player [] ss all in
-        let on : GoesOn [] (take place steps) step = next_gives [] (take place steps) step (drop (place + 1) steps) all (subst P whole given.right) in
+        let on : GoesOn [] (take place steps) step =
+            next_gives [] (take place steps) step (drop (place + 1) steps) all (subst P whole given.right) in
         let same : on.links ≡ links = one_list [] (take place steps) on.links links on.right right in
         let Q : List Link → Type 0 = λ ls. StepGives board player ls step on.link in
         none on.link (subst Q same on.gives)

@@ -38,11 +38,14 @@ shared_or_outside links [] cell each = inl none
     none (suc k) = tt
 shared_or_outside links (place ∷ places) cell each =
     ⊎_elim
-    (λ here. ⊎_elim (λ rest. inl (shared here rest)) (λ later. inr (outside_later later)) (shared_or_outside links places cell (λ k. each (suc k))))
-    (λ without. inr (record { place = place; is_threat = (0, omega arith, refl); link = without.link; there = without.there; outside = without.outside }))
+    (λ here. ⊎_elim (λ rest. inl (shared here rest)) (λ later. inr (outside_later later))
+        (shared_or_outside links places cell (λ k. each (suc k))))
+    (λ without. inr (record { place = place; is_threat = (0, omega arith, refl); link = without.link; there = without.there; outside =
+        without.outside }))
     (in_or_outside links place cell (slice_get links place) refl (each zero))
   where
-    shared : IsSomeAnd (slice_get links place) (λ link. has link.carrier cell ≡ true) → IsInEachThreat links places cell → IsInEachThreat links (place ∷ places) cell
+    shared : IsSomeAnd (slice_get links place) (λ link. has link.carrier cell ≡ true) → IsInEachThreat links places cell
+        → IsInEachThreat links (place ∷ places) cell
     shared here rest zero = here
     shared here rest (suc k) = rest k
 
@@ -55,10 +58,12 @@ shared_or_outside links (place ∷ places) cell each =
       outside = later.outside;
     }
 
-pub outside-not_shared : (links : List Link) (threats : List ℕ) (cell : ℕ) → IsOutsideThreat links threats cell → ¬ IsInEachThreat links threats cell
+pub outside-not_shared : (links : List Link) (threats : List ℕ) (cell : ℕ) → IsOutsideThreat links threats cell
+    → ¬ IsInEachThreat links threats cell
 outside-not_shared links threats cell outside shared =
     let Q : Option Link → Type 0 = λ o. IsSomeAnd o (λ link. has link.carrier cell ≡ true) in
-    false≢true (sym outside.outside ∙ subst Q outside.there (of_contained (λ (place : ℕ). Q (slice_get links place)) threats outside.place shared outside.is_threat))
+    false≢true (sym outside.outside
+        ∙ subst Q outside.there (of_contained (λ (place : ℕ). Q (slice_get links place)) threats outside.place shared outside.is_threat))
 
 -- ---- threats one after the other
 
@@ -85,11 +90,13 @@ module _ (board : Board) (links : List Link) (threats : List ℕ) where
   at_place P k place less is holds = let Q : Option ℕ → Type 0 = λ o. IfSome o P in
       subst Q (sym (slice_get-get_or threats k place less ∙ ap Some is)) holds
 
-  from_place : (P : ℕ → Type 0) (k place : ℕ) → k < length threats → get_or threats k place ≡ place → IfSome (slice_get threats k) P → P place
+  from_place : (P : ℕ → Type 0) (k place : ℕ) → k < length threats → get_or threats k place ≡ place → IfSome (slice_get threats k) P
+      → P place
   from_place P k place less is holds = let Q : Option ℕ → Type 0 = λ o. IfSome o P in
       subst Q (slice_get-get_or threats k place less ∙ ap Some is) holds
 
-  more : (P : ℕ → Type 0) (count place : ℕ) → count < length threats → place ≡ get_or threats count place → ((k : ℕ) → k < count → IfSome (slice_get threats k) P) → P place
+  more : (P : ℕ → Type 0) (count place : ℕ) → count < length threats → place ≡ get_or threats count place
+      → ((k : ℕ) → k < count → IfSome (slice_get threats k) P) → P place
       → (k : ℕ) → k < count + 1 → IfSome (slice_get threats k) P
   more P count place less is before holds k within =
       ⊎_elim (before k)
@@ -97,7 +104,8 @@ module _ (board : Board) (links : List Link) (threats : List ℕ) where
       subst Q same (at_place P count place less (sym is) holds))
       (cases_lt k count)
 
-  module _ (count place carrier shared : ℕ) (less : count < length threats) (is : place ≡ get_or threats count place) (before : AreShared count shared) where
+  module _ (count place carrier shared : ℕ) (less : count < length threats) (is : place ≡ get_or threats count place)
+      (before : AreShared count shared) where
     pub one_more_shared : IsThreatOn links place carrier → AreShared (count + 1) (intersection shared carrier)
     one_more_shared threat =
         let Joins : Option Link → Type 0 = λ o. IsSomeAnd o (λ link. IsChainLink link) in
@@ -107,7 +115,8 @@ module _ (board : Board) (links : List Link) (threats : List ℕ) where
           cells = λ cell. (
             λ member.
                 let was = (before.cells cell).0 (has-intersection_left shared carrier cell member) in
-                let here : has threat.link.carrier cell ≡ true = ap (λ c. has c cell) threat.carrier_is ∙ has-intersection_right shared carrier cell member in
+                let here : has threat.link.carrier cell ≡ true = ap (λ c. has c cell) threat.carrier_is
+                    ∙ has-intersection_right shared carrier cell member in
                 (was.0, more (IsIn cell) count place less is was.1 (subst (In cell) (sym threat.there) here)),
             λ both.
                 let here : has threat.link.carrier cell ≡ true =
@@ -120,7 +129,8 @@ module _ (board : Board) (links : List Link) (threats : List ℕ) where
     pub no_threats : ¬ IsThreat links place → ¬ AreThreats links threats
     no_threats none are = none (from_place (IsThreat links) count place less (sym is) (are.each count))
 
-  past : (P : ℕ → Type 0) (count : ℕ) → length threats ≤ count → ((k : ℕ) → k < count → IfSome (slice_get threats k) P) → (k : ℕ) → IfSome (slice_get threats k) P
+  past : (P : ℕ → Type 0) (count : ℕ) → length threats ≤ count → ((k : ℕ) → k < count → IfSome (slice_get threats k) P) → (k : ℕ)
+      → IfSome (slice_get threats k) P
   past P count end each k =
       ⊎_elim (each k)
       (λ (from : count ≤ k). let Q : Option ℕ → Type 0 = λ o. IfSome o P in subst Q (sym (slice_get_past threats k (omega arith))) tt)

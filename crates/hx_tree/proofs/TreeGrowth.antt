@@ -31,21 +31,24 @@ right_at-last nodes node = (
 right_at-past : (nodes : List Node) (k : ℕ) → length nodes ≤ k → IsRightNodeAt nodes k
 right_at-past nodes k past = rw (slice_get_past nodes k past) tt
 
-right_at-from_last : (nodes : List Node) (node : Node) (k : ℕ) → length nodes ≤ k → IsRightNode (headings_of nodes) node → IsRightNodeAt (nodes ++ node ∷ []) k
+right_at-from_last : (nodes : List Node) (node : Node) (k : ℕ) → length nodes ≤ k → IsRightNode (headings_of nodes) node
+    → IsRightNodeAt (nodes ++ node ∷ []) k
 right_at-from_last nodes node k from next =
     ⊎_elim
     (λ past. right_at-past (nodes ++ node ∷ []) k (omega (arith, length-append nodes (node ∷ []))))
     (λ to. let last : k ≡ length nodes = omega arith in rw last ((right_at-last nodes node).1 next))
     (cases_lt (length nodes) k)
 
-pub one_more_right : (nodes : List Node) (node : Node) → AreRight nodes → IsRightNode (headings_of nodes) node → AreRight (nodes ++ node ∷ [])
+pub one_more_right : (nodes : List Node) (node : Node) → AreRight nodes → IsRightNode (headings_of nodes) node
+    → AreRight (nodes ++ node ∷ [])
 one_more_right nodes node right next k =
     ⊎_elim
     (λ before. (right_at-append nodes (node ∷ []) k before).1 (right k))
     (λ from. right_at-from_last nodes node k from next)
     (cases_lt k (length nodes))
 
-pub least_wrong-last : (nodes : List Node) (node : Node) → AreRight nodes → ¬ IsRightNode (headings_of nodes) node → IsLeastWrong (nodes ++ node ∷ []) (length nodes)
+pub least_wrong-last : (nodes : List Node) (node : Node) → AreRight nodes → ¬ IsRightNode (headings_of nodes) node
+    → IsLeastWrong (nodes ++ node ∷ []) (length nodes)
 least_wrong-last nodes node right wrong = record {
   within = omega (arith, length-append nodes (node ∷ []));
   wrong = λ last. wrong ((right_at-last nodes node).0 last);
@@ -57,7 +60,8 @@ pub least_wrong-append : (nodes more : List Node) (k : ℕ) → IsLeastWrong nod
 least_wrong-append nodes more k least = record {
   within = omega (arith, length-append nodes more, least.within);
   wrong = λ right. least.wrong ((right_at-append nodes more k least.within).0 right);
-  before = λ j less. let within : j < length nodes = omega (arith, least.within) in (right_at-append nodes more j within).1 (least.before j less);
+  before = λ j less. let within : j < length nodes = omega (arith, least.within) in
+      (right_at-append nodes more j within).1 (least.before j less);
 }
 
 pub valid_tree : (nodes : List Node) → nodes ≢ [] → AreRight nodes → IsValidTree nodes

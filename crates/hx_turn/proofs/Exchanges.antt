@@ -123,7 +123,8 @@ abbrev pub moved : ℕ → ℕ
 moved n = partner 1 (partner 2 (partner 4 (partner 8 (partner 16 (partner 32 (partner 64 n))))))
 
 pub partner-small : (half n : ℕ) → agree_below (λ k. ltb (partner half k) 128) (λ _. true) 128 ≡ true → n < 128 → partner half n < 128
-partner-small half n tried less = ltb-true (partner half n) 128 (agree_below_at (λ k. ltb (partner half k) 128) (λ _. true) 128 n tried less)
+partner-small half n tried less =
+    ltb-true (partner half n) 128 (agree_below_at (λ k. ltb (partner half k) 128) (λ _. true) 128 n tried less)
 
 each_moved : agree_below (λ k. eqb (moved k) (127 - k)) (λ _. true) 128 ≡ true
 each_moved = refl

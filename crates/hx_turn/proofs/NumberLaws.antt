@@ -11,7 +11,8 @@ use Rattle.hx_turn.proofs.TurnedStoneLaws.{is-turned_of, turned_of-twice}
 lesser-exchanged : (a b : ℕ) → lesser a b ≡ lesser b a
 lesser-exchanged a b = grind (arith, nat_tests)
 
-pub number-turned : (board turned : Board) (mover : Colour) → IsBoard board → IsTurned board turned → number_of turned mover ≡ number_of board mover
+pub number-turned : (board turned : Board) (mover : Colour) → IsBoard board → IsTurned board turned
+    → number_of turned mover ≡ number_of board mover
 number-turned board turned mover is turn =
     let there : ℕ = folded_number (turned_of board) mover in
     ap (λ (b : Board). number_of b mover) (is-turned_of board turned is turn)

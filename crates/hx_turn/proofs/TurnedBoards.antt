@@ -17,11 +17,14 @@ pub record Mirrors (size : Extent) (board turned : Board) : Type 0 where
   pub extent : IsExtent size.rows size.cols
   pub board_size : board.size ≡ size
   pub turned_size : turned.size ≡ size
-  pub there : (player : Colour) (cell : ℕ) → OnBoard size cell → has (stones_of board player) cell ≡ true → has (stones_of turned player) (turned_cell size cell) ≡ true
-  pub back : (player : Colour) (cell : ℕ) → OnBoard size cell → has (stones_of turned player) cell ≡ true → has (stones_of board player) (turned_cell size cell) ≡ true
+  pub there : (player : Colour) (cell : ℕ) → OnBoard size cell → has (stones_of board player) cell ≡ true
+      → has (stones_of turned player) (turned_cell size cell) ≡ true
+  pub back : (player : Colour) (cell : ℕ) → OnBoard size cell → has (stones_of turned player) cell ≡ true
+      → has (stones_of board player) (turned_cell size cell) ≡ true
 
 pub exchanged : (size : Extent) (board turned : Board) → Mirrors size board turned → Mirrors size turned board
-exchanged size board turned m = record { extent = m.extent; board_size = m.turned_size; turned_size = m.board_size; there = m.back; back = m.there }
+exchanged size board turned m =
+    record { extent = m.extent; board_size = m.turned_size; turned_size = m.board_size; there = m.back; back = m.there }
 
 pub turned-mirrors : (board turned : Board) → IsBoard board → IsTurned board turned → Mirrors board.size board turned
 turned-mirrors board turned is turn = record {
@@ -36,7 +39,8 @@ turned-mirrors board turned is turn = record {
 }
 
 -- a position's stones stand on its board, and no cell holds two
-pub stone-on_board : (board : Board) → IsBoard board → (player : Colour) (cell : ℕ) → has (stones_of board player) cell ≡ true → OnBoard board.size cell
+pub stone-on_board : (board : Board) → IsBoard board → (player : Colour) (cell : ℕ) → has (stones_of board player) cell ≡ true
+    → OnBoard board.size cell
 stone-on_board board is Black cell = is.1.black_inside cell
 stone-on_board board is White cell = is.1.white_inside cell
 
@@ -70,7 +74,8 @@ turned-is_board board turned is turn = (
 pub turned-back : (board turned : Board) → IsBoard board → IsTurned board turned → IsTurned turned board
 turned-back board turned is turn =
     mirrors-turned turned board
-    (let P : Extent → Type 0 = λ size. Mirrors size turned board in subst P (sym turn.same_size) (exchanged board.size board turned (turned-mirrors board turned is turn)))
+    (let P : Extent → Type 0 = λ size. Mirrors size turned board in
+        subst P (sym turn.same_size) (exchanged board.size board turned (turned-mirrors board turned is turn)))
     is
 
 -- a board has one turned board
@@ -96,13 +101,15 @@ module _ (size : Extent) (board turned : Board) (m : Mirrors size board turned) 
         no_white = free White here empty.no_white;
       }
     where
-      free : (player : Colour) → OnBoard size cell → has (stones_of board player) cell ≡ false → has (stones_of turned player) (turned_cell size cell) ≡ false
+      free : (player : Colour) → OnBoard size cell → has (stones_of board player) cell ≡ false
+          → has (stones_of turned player) (turned_cell size cell) ≡ false
       free player here lacks = false_from_ne_true _ (λ h.
           false≢true (sym lacks ∙ ap (λ (n : ℕ). has (stones_of board player) n) (sym (turned-turned size m.extent cell here))
           ∙ m.back player (turned_cell size cell) (on_board-turned size m.extent cell here) h))
 
   -- a stone more on a cell of the one and on the turned cell of the other
-  pub put-mirrors : (who : Colour) (cell : ℕ) → OnBoard size cell → Mirrors size (put board who cell) (put turned who (turned_cell size cell))
+  pub put-mirrors : (who : Colour) (cell : ℕ) → OnBoard size cell
+      → Mirrors size (put board who cell) (put turned who (turned_cell size cell))
   put-mirrors who cell here = record {
     extent = m.extent;
     board_size = size-put board who cell ∙ m.board_size;

@@ -66,10 +66,12 @@ module _ (size : Extent) (extent : IsExtent size.rows size.cols) where
         | Below_left below left ↦ Above_right (omega arith) (omega arith)
       ]
 
-  pub last_line-turned : (player : Colour) (cell : ℕ) → OnBoard size cell → IsFirstLine player cell → IsLastLine size player (turned_cell size cell)
+  pub last_line-turned : (player : Colour) (cell : ℕ) → OnBoard size cell → IsFirstLine player cell
+      → IsLastLine size player (turned_cell size cell)
   last_line-turned Black cell here first = let row = row-turned cell here in omega arith
   last_line-turned White cell here first = let col = col-turned cell here in omega arith
 
-  pub first_line-turned : (player : Colour) (cell : ℕ) → OnBoard size cell → IsLastLine size player cell → IsFirstLine player (turned_cell size cell)
+  pub first_line-turned : (player : Colour) (cell : ℕ) → OnBoard size cell → IsLastLine size player cell
+      → IsFirstLine player (turned_cell size cell)
   first_line-turned Black cell here last = let row = row-turned cell here in omega arith
   first_line-turned White cell here last = let col = col-turned cell here in omega arith

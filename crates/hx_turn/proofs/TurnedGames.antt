@@ -38,7 +38,9 @@ module _ (size : Extent) (player : Colour) where
       (answered board turned m (other_of player) cell free)
       (all (turned_cell size cell) (empty-turned size turned board (exchanged size board turned m) cell free)))
 
-pub keeps_winner : (board : Board) (mover player : Colour) (turned : Board) → IsBoard board → IsTurned board turned → KeepsWinner board mover player turned
+pub keeps_winner : (board : Board) (mover player : Colour) (turned : Board) → IsBoard board → IsTurned board turned
+    → KeepsWinner board mover player turned
 keeps_winner board mover player turned is turn =
     let m = turned-mirrors board turned is turn in
-    (wins-turned board.size player board turned mover m, wins-turned board.size player turned board mover (exchanged board.size board turned m))
+    (wins-turned board.size player board turned mover m,
+        wins-turned board.size player turned board mover (exchanged board.size board turned m))

@@ -38,7 +38,8 @@ module _ (list : List Node) where
   known_at (first ∷ headings) (other ∷ places) (suc k) known less = known_at headings places k known.1 (omega arith)
 
   -- a child of a node that is right after the known headings is one of them
-  pub child_known : (headings : List Heading) (node : Node) (child : ℕ) → IsRightNode headings node → Names node.rule child → child < length headings
+  pub child_known : (headings : List Heading) (node : Node) (child : ℕ) → IsRightNode headings node → Names node.rule child
+      → child < length headings
   child_known headings node child right names =
       let found = rule-size headings node.heading node.rule child right.rule names in
       slice_get_within headings child found.heading found.there
@@ -57,7 +58,8 @@ module _ (list : List Node) where
 
 -- what is known stays known in a list that grew
 module _ (new old : List Node) (grown : Extends new old) where
-  at-new : (place : ℕ) (heading : Heading) → slice_get (headings_of old) place ≡ Some heading → slice_get (headings_of new) place ≡ Some heading
+  at-new : (place : ℕ) (heading : Heading) → slice_get (headings_of old) place ≡ Some heading
+      → slice_get (headings_of new) place ≡ Some heading
   at-new place heading there =
       let more = extends-headings new old grown in
       rw more.1 (get-append (headings_of old) more.0 place heading there)
@@ -68,7 +70,8 @@ module _ (new old : List Node) (grown : Extends new old) where
   known_grown (first ∷ headings) [] known = absurd known
   known_grown (first ∷ headings) (other ∷ places) known = (at-new other first known.0, known_grown headings places known.1)
 
-same_heading : (heading : Heading) (board : Board) (mover winner : Colour) → heading.position ≡ board → heading.to_move ≡ mover → heading.winner ≡ winner
+same_heading : (heading : Heading) (board : Board) (mover winner : Colour) → heading.position ≡ board → heading.to_move ≡ mover
+    → heading.winner ≡ winner
     → heading ≡ record { position = board; to_move = mover; winner = winner }
 same_heading heading board mover winner position to_move won = rw (sym position, sym to_move, sym won) refl
 
@@ -78,20 +81,25 @@ pub found_known : (list : List Node) (board : Board) (mover : Colour) (found : F
 found_known list board mover found is =
     let node : Node = is.first.entry.node in
     get-map (λ (n : Node). n.heading) list found.index node is.first.entry.there
-    ∙ ap Some (same_heading node.heading board mover found.winner is.first.entry.is_of.same_position is.first.entry.is_of.same_mover (sym is.same_winner))
+    ∙ ap Some (same_heading node.heading board mover found.winner is.first.entry.is_of.same_position is.first.entry.is_of.same_mover
+        (sym is.same_winner))
 
-pub wider_known : (list : List Node) (board : Board) (mover : Colour) (wider : Wider) → IsWiderFound list board mover wider.found.winner wider
-    → slice_get (headings_of list) wider.found.index ≡ Some (record { position = wider.position; to_move = mover; winner = wider.found.winner })
+pub wider_known : (list : List Node) (board : Board) (mover : Colour) (wider : Wider)
+    → IsWiderFound list board mover wider.found.winner wider
+    → slice_get (headings_of list) wider.found.index ≡ Some
+        (record { position = wider.position; to_move = mover; winner = wider.found.winner })
 wider_known list board mover wider is =
     let node : Node = is.entry.node in
     get-map (λ (n : Node). n.heading) list wider.found.index node is.entry.there
-    ∙ ap Some (same_heading node.heading wider.position mover wider.found.winner (sym is.same_position) is.entry.is_wider.same_mover is.entry.is_wider.same_winner)
+    ∙ ap Some (same_heading node.heading wider.position mover wider.found.winner
+        (sym is.same_position) is.entry.is_wider.same_mover is.entry.is_wider.same_winner)
 
 -- it stays so in a list that grew
 pub wider_found-later : (new old : List Node) (board : Board) (mover : Colour) (wider : Wider) → Extends new old
     → IsWiderFound old board mover wider.found.winner wider → IsWiderFound new board mover wider.found.winner wider
 wider_found-later new old board mover wider grown is = record {
-  entry = record { node = is.entry.node; there = node-later new old wider.found.index is.entry.node grown is.entry.there; is_wider = is.entry.is_wider };
+  entry = record { node = is.entry.node; there = node-later new old wider.found.index is.entry.node grown is.entry.there; is_wider =
+      is.entry.is_wider };
   same_winner = is.same_winner;
   same_position = is.same_position;
 }

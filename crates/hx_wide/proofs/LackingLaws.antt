@@ -24,7 +24,8 @@ pub unserved_by_each-within : (first old new last : List Node) (board : Board) (
 unserved_by_each-within first old new last board mover from to was winner = seen-within _ first old new last from to (was winner)
 
 -- two looks, one after the other, the second for the other player
-pub unserved-twice : (old mid new : List Node) (board : Board) (mover player : Colour) → Extends mid old → Extends new mid → HasNoWider mid board mover player
+pub unserved-twice : (old mid new : List Node) (board : Board) (mover player : Colour) → Extends mid old → Extends new mid
+    → HasNoWider mid board mover player
     → HasNoWider new board mover (other_of player) → WasUnservedByEach old new board mover
 unserved-twice old mid new board mover player one two first second winner =
     let P : Colour → Type 0 = λ who. WasUnserved old new board mover who in
@@ -53,9 +54,11 @@ fill_lacks-nothing old new fills filled mover has (inr was) =
     absurd (was.fact has.0 (entry-later was.seen old filled mover has.0 was.after_old has.1))
 
 -- where each of the cells without a line was tried, the one that lacks an answer is unserved
-pub unserved_of : (first old mid new : List Node) (board : Board) (player : Colour) (cells tried : ℕ) (under : List Line) → Extends old first → Extends mid old
+pub unserved_of : (first old mid new : List Node) (board : Board) (player : Colour) (cells tried : ℕ) (under : List Line)
+    → Extends old first → Extends mid old
     → Extends new mid → ((cell : ℕ) → has cells cell ≡ true → ¬ HasLineFor under cell → has tried cell ≡ true)
-    → ((cell : ℕ) → has tried cell ≡ true → IsListedOrUnserved old mid (put board (other_of player) cell) player) → HasLacking mid new board player cells under
+    → ((cell : ℕ) → has tried cell ≡ true → IsListedOrUnserved old mid (put board (other_of player) cell) player)
+        → HasLacking mid new board player cells under
     → HasUnservedOf first new board player cells under
 unserved_of first old mid new board player cells tried under one two three all each lacking =
     let next : Board = put board (other_of player) lacking.cell in

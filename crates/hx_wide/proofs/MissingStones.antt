@@ -27,7 +27,8 @@ use Rattle.hx_wide.specs.Inner.{put_set}
 union-moved : (set left cell : ℕ) → has left cell ≡ true → union (insert set cell) (remove left cell) ≡ union set left
 union-moved set left cell member = same_set _ _ (λ n.
     has-union (insert set cell) (remove left cell) n
-    ∙ rw (has-insert set cell n, has-remove left cell n) (moved (eqb n cell) (has set n) (has left n) (λ same. ap (λ (x : ℕ). has left x) (eqb-true n cell same) ∙ member))
+    ∙ rw (has-insert set cell n, has-remove left cell n)
+        (moved (eqb n cell) (has set n) (has left n) (λ same. ap (λ (x : ℕ). has left x) (eqb-true n cell same) ∙ member))
     ∙ sym (has-union set left n))
   where
     moved : (same here there : Bool) → (same ≡ true → there ≡ true) → ((same || here) || (there && not same)) ≡ (here || there)
@@ -36,9 +37,12 @@ union-moved set left cell member = same_set _ _ (λ n.
     moved false false true h = refl
     moved false false false h = refl
 
-put_set-moved : (board : Board) (who : Colour) (left cell : ℕ) → has left cell ≡ true → put_set (put board who cell) who (remove left cell) ≡ put_set board who left
-put_set-moved board Black left cell member = ap (λ (black : ℕ). record { size = board.size; black = black; white = board.white }) (union-moved board.black left cell member)
-put_set-moved board White left cell member = ap (λ (white : ℕ). record { size = board.size; black = board.black; white = white }) (union-moved board.white left cell member)
+put_set-moved : (board : Board) (who : Colour) (left cell : ℕ) → has left cell ≡ true
+    → put_set (put board who cell) who (remove left cell) ≡ put_set board who left
+put_set-moved board Black left cell member =
+    ap (λ (black : ℕ). record { size = board.size; black = black; white = board.white }) (union-moved board.black left cell member)
+put_set-moved board White left cell member =
+    ap (λ (white : ℕ). record { size = board.size; black = board.black; white = white }) (union-moved board.white left cell member)
 
 put_set-none : (board : Board) (who : Colour) → put_set board who 0 ≡ board
 put_set-none board Black = ap (λ (black : ℕ). record { size = board.size; black = black; white = board.white }) (union-none board.black)
@@ -46,7 +50,8 @@ put_set-none board White = ap (λ (white : ℕ). record { size = board.size; bla
 
 -- ---- one step after the other
 
-may_fill-push : (steps : List FillStep) (board : Board) (winner : Colour) (cell : ℕ) → MayFillAll board winner steps → IsEmpty (filled_all board winner steps) cell
+may_fill-push : (steps : List FillStep) (board : Board) (winner : Colour) (cell : ℕ) → MayFillAll board winner steps
+    → IsEmpty (filled_all board winner steps) cell
     → MayFillAll board winner (steps ++ Other cell ∷ [])
 may_fill-push [] board winner cell may empty = (empty, tt)
 may_fill-push (step ∷ rest) board winner cell may empty = (may.0, may_fill-push rest (filled board winner step) winner cell may.1 empty)
@@ -80,13 +85,16 @@ module _ (board : Board) (winner : Colour) (cells : ℕ) where
         same = rw (filled-push steps board winner cell) (put_set-moved mid (other_of winner) left cell member ∙ is.same);
       }
 
-  pub none_left : (left : ℕ) (steps : List FillStep) → IsFilling board winner cells left steps → ((n : ℕ) → OnBoard board.size n → has left n ≡ false)
+  pub none_left : (left : ℕ) (steps : List FillStep) → IsFilling board winner cells left steps
+      → ((n : ℕ) → OnBoard board.size n → has left n ≡ false)
       → LeadTo board winner steps (put_set board (other_of winner) cells)
   none_left left steps is none =
       let mid : Board = filled_all board winner steps in
       let on_board : (n : ℕ) → has left n ≡ true → OnBoard board.size n =
       λ n member. subst (λ (size : Extent). OnBoard size n) (size-filled_all board winner steps) (is.empty n member).on_board in
-      let zero : left ≡ 0 = same_set left 0 (λ n. false_from_ne_true _ (λ member. false≢true (sym (none n (on_board n member)) ∙ member)) ∙ sym (has-empty n)) in
+      let zero : left ≡ 0 =
+          same_set left 0 (λ n. false_from_ne_true _ (λ member. false≢true (sym (none n (on_board n member)) ∙ member))
+          ∙ sym (has-empty n)) in
       record {
         right = is.right;
         same = sym (put_set-none mid (other_of winner)) ∙ ap (put_set mid (other_of winner)) (sym zero) ∙ is.same;
@@ -107,7 +115,8 @@ put_set-size : (board : Board) (who : Colour) (cells : ℕ) → (put_set board w
 put_set-size board Black cells = refl
 put_set-size board White cells = refl
 
-put_set-own : (board : Board) (winner : Colour) (cells : ℕ) → stones_of (put_set board (other_of winner) cells) winner ≡ stones_of board winner
+put_set-own : (board : Board) (winner : Colour) (cells : ℕ)
+    → stones_of (put_set board (other_of winner) cells) winner ≡ stones_of board winner
 put_set-own board Black cells = refl
 put_set-own board White cells = refl
 
@@ -115,9 +124,11 @@ put_set-others : (board : Board) (who : Colour) (cells : ℕ) → stones_of (put
 put_set-others board Black cells = refl
 put_set-others board White cells = refl
 
-module _ (board there : Board) (winner : Colour) (is : IsBoard there) (size : there.size ≡ board.size) (own : stones_of there winner ≡ stones_of board winner)
+module _ (board there : Board) (winner : Colour) (is : IsBoard there) (size : there.size ≡ board.size)
+    (own : stones_of there winner ≡ stones_of board winner)
     (inside : IsSubset (stones_of board (other_of winner)) (stones_of there (other_of winner)))
-    (here_empties there_empties : ℕ) (here : (n : ℕ) → (has here_empties n ≡ true) ↔ IsEmpty board n) (after : (n : ℕ) → (has there_empties n ≡ true) ↔ IsEmpty there n) where
+    (here_empties there_empties : ℕ) (here : (n : ℕ) → (has here_empties n ≡ true) ↔ IsEmpty board n)
+        (after : (n : ℕ) → (has there_empties n ≡ true) ↔ IsEmpty there n) where
   pub missing_empty : (n : ℕ) → has (difference here_empties there_empties) n ≡ true → IsEmpty board n
   missing_empty n member = (here n).0 (has-difference_left here_empties there_empties n member)
 
@@ -126,7 +137,9 @@ module _ (board there : Board) (winner : Colour) (is : IsBoard there) (size : th
       let empty : IsEmpty board n = missing_empty n member in
       let on : OnBoard there.size n = subst (λ (s : Extent). OnBoard s n) (sym size) empty.on_board in
       let not_own : has (stones_of there winner) n ≡ false = ap (λ (s : ℕ). has s n) own ∙ no_stone board winner n empty in
-      true_from_ne_false _ (λ none. false≢true (sym (has-difference_right here_empties there_empties n member) ∙ (after n).1 (empty_of there winner n on not_own none)))
+      true_from_ne_false _ (λ none.
+          false≢true (sym (has-difference_right here_empties there_empties n member)
+          ∙ (after n).1 (empty_of there winner n on not_own none)))
 
   is_missing : (n : ℕ) → has (stones_of there (other_of winner)) n ≡ true → has (stones_of board (other_of winner)) n ≡ false
       → has (difference here_empties there_empties) n ≡ true
@@ -139,13 +152,15 @@ module _ (board there : Board) (winner : Colour) (is : IsBoard there) (size : th
 
   others : union (stones_of board (other_of winner)) (difference here_empties there_empties) ≡ stones_of there (other_of winner)
   others = same_set _ _ (λ n. same_test _ _
-      (λ member. ⊎_elim (inside n) (was_missing n) (has-union_cases (stones_of board (other_of winner)) (difference here_empties there_empties) n member))
+      (λ member. ⊎_elim (inside n) (was_missing n)
+          (has-union_cases (stones_of board (other_of winner)) (difference here_empties there_empties) n member))
       (λ stone. by_member (stones_of board (other_of winner)) n
       (λ member. has-union_left (stones_of board (other_of winner)) (difference here_empties there_empties) n member)
       (λ lacks. has-union_right (stones_of board (other_of winner)) (difference here_empties there_empties) n (is_missing n stone lacks))))
 
   pub put_missing : put_set board (other_of winner) (difference here_empties there_empties) ≡ there
-  put_missing = same_board _ _ (put_set-size board (other_of winner) (difference here_empties there_empties) ∙ sym size) (stones Black) (stones White)
+  put_missing = same_board _ _ (put_set-size board (other_of winner) (difference here_empties there_empties) ∙ sym size) (stones Black)
+      (stones White)
     where
       P : Colour → Type 0
       P who = stones_of (put_set board (other_of winner) (difference here_empties there_empties)) who ≡ stones_of there who
@@ -157,18 +172,22 @@ module _ (board there : Board) (winner : Colour) (is : IsBoard there) (size : th
           (one_or_other player winner)
 
 -- what was found of a board is what its missing stones lead to
-pub wider_missing : (list : List Node) (board : Board) (mover : Colour) (wider : Wider) → IsWiderFound list board mover wider.found.winner wider → IsBoard wider.position
-    → (here_empties there_empties : ℕ) → ((n : ℕ) → (has here_empties n ≡ true) ↔ IsEmpty board n) → ((n : ℕ) → (has there_empties n ≡ true) ↔ IsEmpty wider.position n)
+pub wider_missing : (list : List Node) (board : Board) (mover : Colour) (wider : Wider)
+    → IsWiderFound list board mover wider.found.winner wider → IsBoard wider.position
+    → (here_empties there_empties : ℕ) → ((n : ℕ) → (has here_empties n ≡ true) ↔ IsEmpty board n)
+        → ((n : ℕ) → (has there_empties n ≡ true) ↔ IsEmpty wider.position n)
     → put_set board (other_of wider.found.winner) (difference here_empties there_empties) ≡ wider.position
 wider_missing list board mover wider found is here_empties there_empties here after =
     let winner : Colour = wider.found.winner in
     put_missing board wider.position winner is
     (ap (λ (b : Board). b.size) found.same_position ∙ found.entry.is_wider.same_size)
     (ap (λ (b : Board). stones_of b winner) found.same_position ∙ found.entry.is_wider.same_stones)
-    (subst (λ (b : Board). IsSubset (stones_of board (other_of winner)) (stones_of b (other_of winner))) (sym found.same_position) found.entry.is_wider.has_opponents)
+    (subst (λ (b : Board). IsSubset (stones_of board (other_of winner)) (stones_of b (other_of winner)))
+        (sym found.same_position) found.entry.is_wider.has_opponents)
     here_empties there_empties here after
 
 -- no step leads nowhere else
-pub no_step : (board : Board) (winner : Colour) (steps : List FillStep) (final : Board) → LeadTo board winner steps final → length steps ≡ 0 → board ≡ final
+pub no_step : (board : Board) (winner : Colour) (steps : List FillStep) (final : Board) → LeadTo board winner steps final → length steps ≡ 0
+    → board ≡ final
 no_step board winner [] final lead none = lead.same
 no_step board winner (step ∷ rest) final lead none = absurd (omega arith)

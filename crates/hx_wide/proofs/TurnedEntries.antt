@@ -33,7 +33,8 @@ module _ (board other there wide : Board) (player : Colour) (is : IsBoard board)
 
   pub carried-back : IsSubset (stones_of other player) (stones_of there player) → IsSubset (stones_of board player) (stones_of wide player)
   carried-back inside n member =
-      let at : OnBoard other.size n × (has (stones_of other player) (turned_cell other.size n) ≡ true) = ((turned-back board other is turn).stones player n).0 member in
+      let at : OnBoard other.size n × (has (stones_of other player) (turned_cell other.size n) ≡ true) =
+          ((turned-back board other is turn).stones player n).0 member in
       let P : Extent → Type 0 = λ s. OnBoard s n × (has (stones_of there player) (turned_cell s n) ≡ true) in
       (back.stones player n).1 (subst P (sym size) (at.0, inside (turned_cell other.size n) at.1))
 
@@ -42,23 +43,27 @@ module _ (board other there wide : Board) (player : Colour) (is : IsBoard board)
     where
       both : (n : ℕ) (b : Bool) → has (stones_of board player) n ≡ b → has (stones_of wide player) n ≡ b
       both n true e = carried-back (λ m member. ap (λ (s : ℕ). has s m) same ∙ member) n e
-      both n false e = false_from_ne_true _ (λ member. false≢true (sym e ∙ carried (λ m k. ap (λ (s : ℕ). has s m) (sym same) ∙ k) n member))
+      both n false e = false_from_ne_true _
+          (λ member. false≢true (sym e ∙ carried (λ m k. ap (λ (s : ℕ). has s m) (sym same) ∙ k) n member))
 
 -- a heading of the wide position serves the board, where the one of the position that it was turned from serves the turned board
 pub turned_wider : (board other wide : Board) (mover winner : Colour) (from to : Heading) → IsBoard board → IsTurned board other
-    → IsTurned from.position wide → IsWider from other mover winner → to.position ≡ wide → to.to_move ≡ mover → to.winner ≡ winner → IsWider to board mover winner
+    → IsTurned from.position wide → IsWider from other mover winner → to.position ≡ wide → to.to_move ≡ mover → to.winner ≡ winner
+        → IsWider to board mover winner
 turned_wider board other wide mover winner from to is turn back wider same same_mover same_winner = record {
   same_size = ap (λ (b : Board). b.size) same ∙ back.same_size ∙ wider.same_size ∙ turn.same_size;
   same_mover = same_mover;
   same_winner = same_winner;
-  same_stones = ap (λ (b : Board). stones_of b winner) same ∙ same-turned board other from.position wide winner is turn back wider.same_size wider.same_stones;
+  same_stones = ap (λ (b : Board). stones_of b winner) same
+      ∙ same-turned board other from.position wide winner is turn back wider.same_size wider.same_stones;
   has_opponents = subst (λ (b : Board). IsSubset (stones_of board (other_of winner)) (stones_of b (other_of winner))) (sym same)
       (carried-back board other from.position wide (other_of winner) is turn back wider.same_size wider.has_opponents);
 }
 
 -- ---- the entry that was found for the turned board
 
-module _ (old : List Node) (board other : Board) (mover : Colour) (wider : Wider) (found : IsWiderFound old other mover wider.found.winner wider) where
+module _ (old : List Node) (board other : Board) (mover : Colour) (wider : Wider)
+    (found : IsWiderFound old other mover wider.found.winner wider) where
   pub own_entry : IsEntry old wider.position mover wider.found.index
   own_entry = record {
     node = found.entry.node;
@@ -75,7 +80,8 @@ module _ (old : List Node) (board other : Board) (mover : Colour) (wider : Wider
       (entry-later new old wider.position mover wider.found.index grown own_entry))
 
   -- where the wide position has an entry, and yet the board was not served, the two entries clash
-  pub clash : (mid new : List Node) (wide : Board) → IsBoard board → IsTurned board other → IsTurned wider.position wide → Extends mid old → Extends new mid
+  pub clash : (mid new : List Node) (wide : Board) → IsBoard board → IsTurned board other → IsTurned wider.position wide → Extends mid old
+      → Extends new mid
       → HasEntry mid wide mover → WasUnservedByEach mid new board mover → HasClash new mover
   clash mid new wide is turn back before after has_entry unserved =
       let winner : Colour = wider.found.winner in

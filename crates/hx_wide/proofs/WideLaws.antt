@@ -28,7 +28,9 @@ module _ (list : List Node) (slots : ℕ) (board : Board) (mover : Colour) where
             same_mover = has.1.is_of.same_mover;
             same_winner = refl;
             same_stones = ap (λ (b : Board). stones_of b node.heading.winner) same;
-            has_opponents = subst (λ (b : Board). IsSubset (stones_of b (other_of node.heading.winner)) (stones_of node.heading.position (other_of node.heading.winner))) same (λ n member. member);
+            has_opponents = subst
+                (λ (b : Board). IsSubset (stones_of b (other_of node.heading.winner))
+                (stones_of node.heading.position (other_of node.heading.winner))) same (λ n member. member);
           };
         };
       }
@@ -45,7 +47,8 @@ module _ (list : List Node) (slots : ℕ) (board : Board) (mover : Colour) where
   stored_wide Missing is = tt
   stored_wide Memory is = tt
 
-  pub some_refusal : (stored : Option Stored) → IfSome stored (TellsStored list slots board mover) → IfSome stored (IsTrueRefusal list slots)
+  pub some_refusal : (stored : Option Stored) → IfSome stored (TellsStored list slots board mover)
+      → IfSome stored (IsTrueRefusal list slots)
   some_refusal None is = tt
   some_refusal (Some stored) is = stored_refusal stored is
 
@@ -56,7 +59,8 @@ module _ (list : List Node) (slots : ℕ) (board : Board) (mover : Colour) where
   end_stored Missing is = absurd is
   end_stored Memory is = tt
 
-pub end_answered : (list : List Node) (slots : ℕ) (Cause : Type 0) (stored : Stored) → EndsStores list slots stored → MissingFor Cause stored
+pub end_answered : (list : List Node) (slots : ℕ) (Cause : Type 0) (stored : Stored) → EndsStores list slots stored
+    → MissingFor Cause stored
 end_answered list slots Cause Done is = absurd is
 end_answered list slots Cause (Refused refusal) is = tt
 end_answered list slots Cause Missing is = absurd is

@@ -15,14 +15,16 @@ SeedAndOptions-seed words m n a b p q =
     let same : q.word ≡ p.word = cc in
     IsSeed-one p.word m n p.is_seed (subst P same q.is_seed)
 
-pub SeedAndOptions-settings : (words : List (List ℕ)) (m n : ℕ) (a b : Settings) → SeedAndOptions m a words → SeedAndOptions n b words → a ≡ b
+pub SeedAndOptions-settings : (words : List (List ℕ)) (m n : ℕ) (a b : Settings) → SeedAndOptions m a words → SeedAndOptions n b words
+    → a ≡ b
 SeedAndOptions-settings words m n a b p q =
     let P : List (List ℕ) → Type 0 = λ ws. AreOptions ws b in
     let same : q.options ≡ p.options = cc in
     AreOptions-one p.options a b p.are_options (subst P same q.are_options)
 
 -- the settings stay within the limits of a search
-pub SeedAndOptions-limits : (words : List (List ℕ)) (seed : ℕ) (settings : Settings) → SeedAndOptions seed settings words → AreSettings settings
+pub SeedAndOptions-limits : (words : List (List ℕ)) (seed : ℕ) (settings : Settings) → SeedAndOptions seed settings words
+    → AreSettings settings
 SeedAndOptions-limits words seed settings is = AreOptions-settings is.options settings is.are_options
 
 -- words are no seed and options where those after the first are no options

@@ -11,7 +11,8 @@ pub without_lowest-left-requires : goal.without_lowest-left-requires
 without_lowest-left-requires c = some_member _ _ c.in-Some.ensures.first
 
 pub joined_with-requires : goal.joined_with-requires
-joined_with-requires c = code-vertex _ c.in-Some.next (c.requires _ (c.loop-next.invariant.inside _ c.in-Some.ensures.first.member)) c.in-Some.ensures.some
+joined_with-requires c =
+    code-vertex _ c.in-Some.next (c.requires _ (c.loop-next.invariant.inside _ c.in-Some.ensures.first.member)) c.in-Some.ensures.some
 
 pub loop-next-smaller : goal.loop-next-smaller
 loop-next-smaller c = rw (c.without_lowest-left.ensures _ c.in-Some.ensures.first) (remove-lt _ _ c.in-Some.ensures.first.member)

@@ -11,7 +11,8 @@ pub loop-cell-preserved-then-is_empty : goal.loop-cell-preserved-then-is_empty
 loop-cell-preserved-then-is_empty c = record {
   grown = grown-looks _ _ _ _ c.in-Some.cell _ _ c.loop-cell.invariant.grown c.in_ok-empties.ensures.looks;
   empties = c.in_ok-empties.ensures.empties;
-  round = rw c.without-left.ensures.set (round_looks _ _ _ c.loop-cell.left c.in-Some.cell _ _ _ _ c.loop-cell.invariant.round c.in_ok-empties.ensures.looks);
+  round = rw c.without-left.ensures.set
+      (round_looks _ _ _ c.loop-cell.left c.in-Some.cell _ _ _ _ c.loop-cell.invariant.round c.in_ok-empties.ensures.looks);
 }
 
 pub loop-cell-smaller : goal.loop-cell-smaller
@@ -22,7 +23,8 @@ loop-cell-preserved c = record {
   grown = c.loop-cell.invariant.grown;
   empties = c.loop-cell.invariant.empties;
   round = rw c.without-left.ensures.set (round_passes _ _ _ c.loop-cell.left c.in-Some.cell _ _
-      (λ empty. false≢true (sym c.if-is_empty.false ∙ (c.has-is_empty.ensures ∙ (c.loop-cell.invariant.empties c.in-Some.cell).1 empty))) c.loop-cell.invariant.round);
+      (λ empty. false≢true (sym c.if-is_empty.false ∙ (c.has-is_empty.ensures ∙ (c.loop-cell.invariant.empties c.in-Some.cell).1 empty)))
+          c.loop-cell.invariant.round);
 }
 
 pub returns : goal.returns

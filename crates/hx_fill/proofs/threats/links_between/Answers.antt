@@ -11,7 +11,8 @@ loop-place-preserved c =
     let split = rw c.in-Some.ensures.steps at c.loop-place.invariant.split in
     rw (c.push_reserved.ensures.items, c.reserve.ensures.items) (record {
       each = All-push (IsBetween c.args.set.now) c.loop-place.links.items link c.loop-place.invariant.each (record {
-        live = next_live c.args.set.now c.live-place-items.result c.loop-place.links.items c.in-Some.place c.next.new.self c.live-place-items.ensures.each
+        live = next_live c.args.set.now c.live-place-items.result c.loop-place.links.items c.in-Some.place c.next.new.self
+            c.live-place-items.ensures.each
             (split ∙ c.into_iter-place-iterator.ensures.into_iter_gives);
         carrier = c.carrier-carrier.ensures.held;
       });
@@ -21,5 +22,6 @@ loop-place-preserved c =
 pub returns : goal.returns
 returns c =
     let split = rw c.in-None.ensures.steps.0 at c.loop-place.invariant.split in
-    between_sorted c.args.set.now c.loop-place.links.items c.sort_by_key.new.self.items c.live-place-items.result c.loop-place.invariant.each
+    between_sorted c.args.set.now c.loop-place.links.items c.sort_by_key.new.self.items c.live-place-items.result
+        c.loop-place.invariant.each
     (split ∙ c.into_iter-place-iterator.ensures.into_iter_gives) c.live-place-items.ensures.all c.sort_by_key.ensures.permutation

@@ -6,7 +6,8 @@ use Rattle.hx_htp.proofs.texts.put_names.Goals as goal
 
 pub loop-name-preserved : goal.loop-name-preserved
 loop-name-preserved c = record {
-  text = put_name _ _ _ _ _ ProtocolVersion _ _ _ c.loop-name.invariant.text c.put-in-loop-name.ensures c.put-in-loop-name-2.ensures c.loop-name-test.true
+  text = put_name _ _ _ _ _ ProtocolVersion _ _ _ c.loop-name.invariant.text c.put-in-loop-name.ensures c.put-in-loop-name-2.ensures
+      c.loop-name-test.true
       c.word-in-loop-name.ensures.word;
   short = omega (
     arith,

@@ -18,7 +18,8 @@ Lacks-take mark bytes k within none =
     λ e. none i (omega arith) before (eq-eqb (get_or bytes i 0) mark (sym (get_or-take k bytes i 0 before) ∙ e)))
 
 -- the bytes around the mark at a place
-parts_at : (mark : ℕ) (bytes : List ℕ) (k : ℕ) → k < length bytes → get_or bytes k 0 ≡ mark → bytes ≡ take k bytes ++ mark ∷ drop (k + 1) bytes
+parts_at : (mark : ℕ) (bytes : List ℕ) (k : ℕ) → k < length bytes → get_or bytes k 0 ≡ mark → bytes ≡ take k bytes
+    ++ mark ∷ drop (k + 1) bytes
 parts_at mark bytes k within is =
     sym (take-append-drop k bytes)
     ∙ ap (λ (t : List ℕ). take k bytes ++ t)

@@ -21,5 +21,6 @@ returns c =
     let low = c.in_ok-low.ensures in
     rw (c.of.ensures, c.from.ensures, c.from-2.ensures) (
       omega (arith, high.0, low.0),
-      whole_mask c.args.word.now c.in_ok-high.high c.in_ok-low.low low.0 (sym c.split_at.ensures.front ∙ high.1) (sym c.split_at.ensures.back ∙ low.1),
+      whole_mask c.args.word.now c.in_ok-high.high c.in_ok-low.low low.0 (sym c.split_at.ensures.front ∙ high.1)
+          (sym c.split_at.ensures.back ∙ low.1),
     )

@@ -10,7 +10,8 @@ returns-then-not-is_ascii_digit c = λ value is.
     grind (arith, digit, other)
 
 pub loop-byte-preserved : goal.loop-byte-preserved
-loop-byte-preserved c = rw c.from.ensures (read_digit _ _ _ c.loop-byte-test.true c.if-not-is_ascii_digit.ensures.cases c.loop-byte.invariant)
+loop-byte-preserved c =
+    rw c.from.ensures (read_digit _ _ _ c.loop-byte-test.true c.if-not-is_ascii_digit.ensures.cases c.loop-byte.invariant)
 
 pub overflow_mul-value : goal.overflow_mul-value
 overflow_mul-value c =

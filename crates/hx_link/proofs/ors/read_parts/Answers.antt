@@ -8,7 +8,9 @@ pub returns-in_default : goal.returns-in_default
 returns-in_default c = no_semi _ _ c.loop-place.place-index _ _ c.loop-place-test.true c.in_default.ensures
 
 pub loop-place-preserved : goal.loop-place-preserved
-loop-place-preserved c = parts_next _ _ c.loop-place.place-index _ _ _ _ _ c.in-Some.carrier _ _ c.loop-place-test.true c.meet-in_all.ensures.set c.union-in_some.ensures.set c.loop-place.invariant c.in-Some.ensures
+loop-place-preserved c =
+    parts_next _ _ c.loop-place.place-index _ _ _ _ _ c.in-Some.carrier _ _ c.loop-place-test.true c.meet-in_all.ensures.set
+    c.union-in_some.ensures.set c.loop-place.invariant c.in-Some.ensures
 
 pub returns : goal.returns
 returns c = parts_all _ _ c.loop-place.place-index _ _ _ _ _ c.loop-place-test.false c.loop-place.invariant

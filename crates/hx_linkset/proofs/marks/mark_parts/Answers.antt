@@ -4,7 +4,8 @@ use Rattle.hx_linkset.specs.States.{Names}
 use Rattle.hx_linkset.proofs.marks.mark_parts.Goals as goal
 
 pub mark_all-requires : goal.mark_all-requires
-mark_all-requires c = λ place s. let P : Step → Type 0 = λ st. Names st place in c.requires place (subst P (sym c.in-Or.is) (rw c.items.ensures at s))
+mark_all-requires c = λ place s. let P : Step → Type 0 = λ st. Names st place in
+    c.requires place (subst P (sym c.in-Or.is) (rw c.items.ensures at s))
 
 pub mark_both-requires : goal.mark_both-requires
 mark_both-requires c =

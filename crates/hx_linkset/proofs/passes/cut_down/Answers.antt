@@ -13,7 +13,11 @@ loop-left-preserved c =
     record {
       least = omega arith;
       most = omega (arith, c.loop-left.invariant.most);
-      long = ap (λ (r : Rings). length r.next) c.cut.ensures ∙ (length-cut c.loop-left.chains ∙ (let long : length c.loop-left.chains.next - 1 ≡ 30258 + (c.loop-left.left - 1) = omega (arith, c.loop-left.invariant.long) in long));
+      long = ap (λ (r : Rings). length r.next) c.cut.ensures
+          ∙ (length-cut c.loop-left.chains
+          ∙ (let long : length c.loop-left.chains.next - 1 ≡ 30258 + (c.loop-left.left - 1) =
+          omega (arith, c.loop-left.invariant.long) in long));
       can = subst P (sym c.cut.ensures) can.1;
-      same = ap (λ (r : Rings). cut_times less r) c.cut.ensures ∙ (ap (λ n. cut_times n c.loop-left.chains) (sym one) ∙ c.loop-left.invariant.same);
+      same = ap (λ (r : Rings). cut_times less r) c.cut.ensures
+          ∙ (ap (λ n. cut_times n c.loop-left.chains) (sym one) ∙ c.loop-left.invariant.same);
     }

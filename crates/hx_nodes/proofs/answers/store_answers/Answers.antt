@@ -17,5 +17,7 @@ store-requires g c =
     let empty : IsEmpty c.position.result.now c.in-Some._some = (c.empties.ensures c.in-Some._some).0 c.in-Some.ensures.member in
     let lines = rw c.in-Ok-Some.field-0-is at c.in-Ok-Some.ensures.lines in
     rw (c.other.ensures, c.new.ensures, c.position.ensures, c.colour-winner.ensures)
-    (all_right c.args.set.now c.keeps.ensures.right _ _ _ c.requires _ _ derived (headings_of (g.P.Proofs.sight c.lines_for.new.proofs).list) c.in-Ok-Some.lines
-    c.in-Some._some (rw c.position.ensures at empty) c.keeps.ensures.few (rw (c.position.ensures, c.colour-winner.ensures, c.items.ensures) at lines))
+    (all_right c.args.set.now c.keeps.ensures.right _ _ _ c.requires _ _ derived
+        (headings_of (g.P.Proofs.sight c.lines_for.new.proofs).list) c.in-Ok-Some.lines
+    c.in-Some._some (rw c.position.ensures at empty) c.keeps.ensures.few
+        (rw (c.position.ensures, c.colour-winner.ensures, c.items.ensures) at lines))

@@ -7,7 +7,8 @@ use Rattle.hx_nodes.proofs.lines.lines_for.Given as goal
 abbrev pub invariant-loop-cell : goal.invariant-loop-cell
 invariant-loop-cell g l = record {
   grew : Grows (g.P.Proofs.sight l.fn.proofs) (g.P.Proofs.sight l.proofs);
-  gathered : AreGathered (headings_of (g.P.Proofs.sight l.proofs).list) (wins_next l.fn.position l.fn.winner) l.fn.cells l.left l.fn.under l.lines.items;
+  gathered : AreGathered (headings_of (g.P.Proofs.sight l.proofs).list)
+      (wins_next l.fn.position l.fn.winner) l.fn.cells l.left l.fn.under l.lines.items;
 }
 
 abbrev pub decreases-loop-cell : goal.decreases-loop-cell

@@ -8,4 +8,5 @@ use Rattle.hx_reader.proofs.node_steps.settled.Goals as goal
 pub returns : goal.returns
 returns c =
     settled_whole c.args.begun _ _ (omega arith)
-    (ap (λ (r : Rule). let n : Node = record { heading = c.args.begun.head.heading; rule = r } in n) c.rule_of-rule.ensures) c.with_node.ensures
+    (ap (λ (r : Rule). let n : Node = record { heading = c.args.begun.head.heading; rule = r } in n) c.rule_of-rule.ensures)
+        c.with_node.ensures

@@ -22,7 +22,8 @@ deal-requires-clause-len g c =
 pub returns : goal.returns
 returns g c =
     let parts = c.take_apart-parts.result in let book = c.close-book.ensures in
-    let ended = contained-closed c.args.settings.now c.args.position.now c.args.to_move c.in_ok-shared.shared.made.slots c.in_ok-counts.counts
+    let ended = contained-closed c.args.settings.now c.args.position.now c.args.to_move c.in_ok-shared.shared.made.slots
+        c.in_ok-counts.counts
     parts.books.items parts.counts.items parts.ends.items c.foremost-ended.result c.close-book.result c.close-totals.result.granted
     c.in_ok-shared.ensures.limits.0 (ap (λ (l : Limits). l.budget) c.in_ok-counts.ensures.limits) c.take_apart-parts.ensures.counts
     c.take_apart-parts.ensures.ends c.foremost-ended.ensures.one
@@ -30,7 +31,8 @@ returns g c =
       book = c.keeps.ensures.book;
       slots = book.slots ∙ c.in_ok-shared.ensures.limits.0;
       ended = ended;
-      no_chain = no_chain-closed c.args.position.now c.args.to_move c.args.settings.now parts.counts.items parts.ends.items c.foremost-ended.result
+      no_chain = no_chain-closed c.args.position.now c.args.to_move c.args.settings.now parts.counts.items parts.ends.items
+          c.foremost-ended.result
           c.close-book.result.nodes c.close-totals.result.granted c.take_apart-parts.ensures.no_chain c.foremost-ended.ensures.first ended
           c.close-totals.ensures.granted.0;
     }

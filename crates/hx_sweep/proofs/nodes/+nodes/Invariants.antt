@@ -26,7 +26,8 @@ abbrev pub invariant-answers-loop-cell : goal.invariant-answers-loop-cell
 invariant-answers-loop-cell l = record {
   kept : l.position ≡ l.fn.position;
   answered : AreAnsweredSoFar (headings_of l.nodes.items) (heading_of l.fn.position (other_of l.winner) l.winner) l.left l.lines.items;
-  grown : HasMoreNodes l.fn.position.size (length l.lines.items * sweep_size (empty_count l.fn.position - 1)) l.fn.nodes.items l.nodes.items;
+  grown : HasMoreNodes l.fn.position.size
+      (length l.lines.items * sweep_size (empty_count l.fn.position - 1)) l.fn.nodes.items l.nodes.items;
 }
 
 abbrev pub decreases-answers-loop-cell : goal.decreases-answers-loop-cell

@@ -18,7 +18,8 @@ begun board valid few = record {
   room = omega (arith, sweep_size-below (empty_count board) 9 few, sweep_size-nine);
 }
 
-sweep_of : (board : Board) (mover winner : Colour) (nodes : List Node) (number : ℕ) → IsProved board mover winner [] nodes number → IsSweep board mover nodes
+sweep_of : (board : Board) (mover winner : Colour) (nodes : List Node) (number : ℕ) → IsProved board mover winner [] nodes number
+    → IsSweep board mover nodes
 sweep_of board mover winner nodes number proved = record {
   valid = record { some = λ none. not_empty (sym none ∙ proved.last); right = proved.grown.right };
   root = proved.root;
@@ -34,7 +35,8 @@ sweep_of board mover winner nodes number proved = record {
     not_empty e = let counts = ap length e in absurd (omega (arith, length-append proved.front (proved.root ∷ [])))
 
 pub prove-requires-clause-begun : goal.prove-requires-clause-begun
-prove-requires-clause-begun c = rw (c.new-nodes.ensures.items, c.winner-won_by.ensures.kept) (begun c.args.position.now c.size-size.ensures.valid c.requires)
+prove-requires-clause-begun c =
+    rw (c.new-nodes.ensures.items, c.winner-won_by.ensures.kept) (begun c.args.position.now c.size-size.ensures.valid c.requires)
 
 pub returns : goal.returns
 returns c = sweep_of _ _ _ _ _ (rw (c.new-nodes.ensures.items, c.winner-won_by.ensures.kept) at c.in_ok-prove.ensures.proved)

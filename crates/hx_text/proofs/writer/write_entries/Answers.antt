@@ -10,7 +10,8 @@ pub returns-in_err-write_steps : goal.returns-in_err-write_steps
 returns-in_err-write_steps g c = record {
   bytes =
       rw entries_spelled
-      (first_cut_short _ _ _ _ _ (each_line threat_line c.args.threats.now) (each_line answer_line c.args.lines.now) _ c.from_residual.ensures.0
+      (first_cut_short _ _ _ _ _ (each_line threat_line c.args.threats.now)
+          (each_line answer_line c.args.lines.now) _ c.from_residual.ensures.0
       c.in_err-write_steps.ensures.bytes);
   cause = search rules;
 }
@@ -28,6 +29,7 @@ pub returns : goal.returns
 returns g c = record {
   bytes =
       rw entries_spelled
-      (three_spelled _ _ _ _ _ _ _ _ _ _ _ _ c.in_ok-write_steps.ensures.bytes c.in_ok-write_threats.ensures.bytes c.write_answers.ensures.bytes);
+      (three_spelled _ _ _ _ _ _ _ _ _ _ _ _ c.in_ok-write_steps.ensures.bytes c.in_ok-write_threats.ensures.bytes
+          c.write_answers.ensures.bytes);
   cause = search rules;
 }

@@ -8,7 +8,8 @@ use Rattle.hx_tree.specs.Answers.{cell_of, cells_of}
 use Rattle.hx_tree.proofs.CellOrder.{none_taken, one_more_taken, out_of_order, all_taken}
 use Rattle.hx_tree.proofs.answers.are_lines_of.Goals as goal
 
-cell_at : (lines : List Line) (k : ℕ) (line : Line) (cell : ℕ) → k < length lines → line ≡ get_or lines k line → cell ≡ cell_of line → (d : ℕ) → get_or (cells_of lines) k d ≡ cell
+cell_at : (lines : List Line) (k : ℕ) (line : Line) (cell : ℕ) → k < length lines → line ≡ get_or lines k line → cell ≡ cell_of line
+    → (d : ℕ) → get_or (cells_of lines) k d ≡ cell
 cell_at lines k line cell less is same d = get_or-map cell_of lines k line d less ∙ ap cell_of (sym is) ∙ sym same
 
 pub loop-line-init : goal.loop-line-init
@@ -16,17 +17,21 @@ loop-line-init c = rw c.empty-answered.ensures (none_taken (cells_of c.args.line
 
 pub returns-then-index-first_free : goal.returns-then-index-first_free
 returns-then-index-first_free c =
-    let at = cell_at c.args.lines.now c.loop-line.line-index c.line-item.result c.cell-cell.result c.loop-line-test.true c.line-item.is c.cell-cell.ensures in
-    let wrong = out_of_order (cells_of c.args.lines.now) _ _ _ _ c.loop-line.invariant at _ (omega (arith, length-map c.args.lines.now cell_of)) (omega (arith, c.index.ensures.value)) in
+    let at = cell_at c.args.lines.now c.loop-line.line-index c.line-item.result c.cell-cell.result c.loop-line-test.true c.line-item.is
+        c.cell-cell.ensures in
+    let wrong = out_of_order (cells_of c.args.lines.now) _ _ _ _ c.loop-line.invariant at _
+        (omega (arith, length-map c.args.lines.now cell_of)) (omega (arith, c.index.ensures.value)) in
     (λ never. absurd (false≢true never), λ in_order. absurd (wrong in_order))
 
 pub loop-line-preserved : goal.loop-line-preserved
 loop-line-preserved c =
-    let at = cell_at c.args.lines.now c.loop-line.line-index c.line-item.result c.cell-cell.result c.loop-line-test.true c.line-item.is c.cell-cell.ensures in
+    let at = cell_at c.args.lines.now c.loop-line.line-index c.line-item.result c.cell-cell.result c.loop-line-test.true c.line-item.is
+        c.cell-cell.ensures in
     rw (c.with-answered.ensures.set, c.index-first_free.ensures.value)
     (one_more_taken (cells_of c.args.lines.now) _ _ _ _ c.loop-line.invariant at (omega (arith, c.index.ensures.value)))
 
 pub returns : goal.returns
 returns c =
-    let same = all_taken (cells_of c.args.lines.now) _ _ _ c.args.cells c.loop-line.invariant (omega (arith, length-map c.args.lines.now cell_of)) in
+    let same = all_taken (cells_of c.args.lines.now) _ _ _ c.args.cells c.loop-line.invariant
+        (omega (arith, length-map c.args.lines.now cell_of)) in
     (λ yes. same.0 (eqb-true _ _ (sym c.eq.ensures ∙ yes)), λ in_order. c.eq.ensures ∙ eq-eqb _ _ (same.1 in_order))

@@ -8,15 +8,18 @@ use Rattle.hx_tree.proofs.answers.cells_with_child.Goals as goal
 use Rattle.hx_tree.proofs.answers.cells_with_child.Goals.{in-Child, in-Under}
 
 pub loop-line-init : goal.loop-line-init
-loop-line-init c = λ n. rw c.empty-answered.ensures ((λ h. absurd (false≢true (sym (has-empty n) ∙ h))), (λ h. absurd (omega (arith, h.1.1))))
+loop-line-init c = λ n.
+    rw c.empty-answered.ensures ((λ h. absurd (false≢true (sym (has-empty n) ∙ h))), (λ h. absurd (omega (arith, h.1.1))))
 
 pub loop-line-preserved : goal.loop-line-preserved
 loop-line-preserved c = elim c.match-line.branch [
   | in-Child w ↦ rw (w.answered-is, w.with-answered.ensures.set)
-      (one_child_more c.args.lines.now c.loop-line.line-index c.loop-line.answered c.line-item.result c.loop-line-test.true c.line-item.is c.loop-line.invariant
+      (one_child_more c.args.lines.now c.loop-line.line-index c.loop-line.answered c.line-item.result c.loop-line-test.true c.line-item.is
+          c.loop-line.invariant
       w.in-Child.cell w.in-Child.child w.in-Child.is)
   | in-Under w ↦ rw w.answered-is
-      (no_child_more c.args.lines.now c.loop-line.line-index c.loop-line.answered c.line-item.result c.loop-line-test.true c.line-item.is c.loop-line.invariant
+      (no_child_more c.args.lines.now c.loop-line.line-index c.loop-line.answered c.line-item.result c.loop-line-test.true c.line-item.is
+          c.loop-line.invariant
       w.in-Under.cell w.in-Under.better w.in-Under.kill w.in-Under.is)
 ]
 

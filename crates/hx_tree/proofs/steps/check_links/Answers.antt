@@ -7,13 +7,16 @@ use Rattle.hx_tree.specs.Steps.{GiveLinks, AreRightLinks, ShowWin}
 use Rattle.hx_tree.proofs.StepGrowth.{same_links}
 use Rattle.hx_tree.proofs.steps.check_links.Goals as goal
 
-right_links : (heading : Heading) (steps : List Step) (links : List Link) (answer : Bool) → GiveLinks heading.position heading.winner steps links
+right_links : (heading : Heading) (steps : List Step) (links : List Link) (answer : Bool)
+    → GiveLinks heading.position heading.winner steps links
     → IsTrue answer ↔ ShowWin heading links → IsTrue answer ↔ AreRightLinks heading steps
 right_links heading steps links answer given shows = (
   λ yes. record { links = links; steps_right = given; shown = shows.0 yes },
-  λ right. shows.1 (subst (ShowWin heading) (same_links heading.position heading.winner steps right.links links right.steps_right given) right.shown),
+  λ right. shows.1 (subst (ShowWin heading)
+      (same_links heading.position heading.winner steps right.links links right.steps_right given) right.shown),
 )
 
 pub returns-in-Some-clause-right : goal.returns-in-Some-clause-right
 returns-in-Some-clause-right c =
-    right_links c.args.heading.now c.args.steps.now c.in-Some.links.items _ (rw c.in-Some.is at c.in_ok-links.ensures.links) (rw c.as_slice.ensures.value at c.shows_win.ensures)
+    right_links c.args.heading.now c.args.steps.now c.in-Some.links.items _ (rw c.in-Some.is at c.in_ok-links.ensures.links)
+        (rw c.as_slice.ensures.value at c.shows_win.ensures)

@@ -12,6 +12,7 @@ returns c =
           let P : Board → Type 0 = λ board. IsTurned c.args.position.now board in
           subst P same is),
       (λ turn.
-          let same : c.turned-expected.result ≡ c.args.other.now = turned-one c.args.position.now c.turned-expected.result c.args.other.now is turn in
+          let same : c.turned-expected.result ≡ c.args.other.now =
+              turned-one c.args.position.now c.turned-expected.result c.args.other.now is turn in
           search rules),
     )

@@ -39,7 +39,8 @@ returns-clause-missing g c =
       under = found.under;
       must = c.in-Ok.ensures.must;
       by_order = c.in-Ok.ensures.order;
-      unserved = unserved_of old ended mid new set.present.board set.player found.cells c.without_lines-cells.result found.under grown c.store_each.ensures.grew.seen
+      unserved = unserved_of old ended mid new set.present.board set.player found.cells c.without_lines-cells.result found.under grown
+          c.store_each.ensures.grew.seen
           c.store_answers.ensures.grew.seen (rw c.items.ensures at c.without_lines-cells.ensures.kept)
           (rw (c.position-2.ensures, c.colour-2.ensures) at c.in_default-store_each.ensures.tried) lacking;
     })))

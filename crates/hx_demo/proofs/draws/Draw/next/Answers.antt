@@ -14,7 +14,8 @@ pub unwrap-requires : goal.unwrap-requires
 unwrap-requires c =
     let board : Board = record { size = c.board_size.result; black = c.stones-black.result; white = c.stones-white.result } in
     found-some c.from_masks.result board c.args.self.now
-    (two_parts _ _ board _ _ c.board_size.ensures c.cells_in_order-left.ensures c.stones-black.ensures.cells c.stones-black.ensures.rest c.stones-black.ensures.further c.stones-white.ensures.cells)
+    (two_parts _ _ board _ _ c.board_size.ensures c.cells_in_order-left.ensures c.stones-black.ensures.cells c.stones-black.ensures.rest
+        c.stones-black.ensures.further c.stones-white.ensures.cells)
     c.from_masks.ensures
 
 found : (c : goal.After-unwrap) → c.unwrap.result ≡ with_stones (black_cells c.args.self.now) (white_cells c.args.self.now)
@@ -22,7 +23,8 @@ found c =
     let board : Board = record { size = c.board_size.result; black = c.stones-black.result; white = c.stones-white.result } in
     let answer = rw c.unwrap.ensures at c.from_masks.ensures in
     answer.1
-    ∙ two_parts _ _ board _ _ c.board_size.ensures c.cells_in_order-left.ensures c.stones-black.ensures.cells c.stones-black.ensures.rest c.stones-black.ensures.further c.stones-white.ensures.cells
+    ∙ two_parts _ _ board _ _ c.board_size.ensures c.cells_in_order-left.ensures c.stones-black.ensures.cells c.stones-black.ensures.rest
+        c.stones-black.ensures.further c.stones-white.ensures.cells
 
 pub returns-clause-drawn : goal.returns-clause-drawn
 returns-clause-drawn c = found c ∙ sym (drawn_position-parts c.args.self.now)
@@ -37,4 +39,5 @@ pub returns-clause-empty : goal.returns-clause-empty
 returns-clause-empty c = ap empty_count (found c) ∙ drawn-empty c.args.self.now
 
 pub returns-clause-further : goal.returns-clause-further
-returns-clause-further c = c.stones-white.ensures.further ∙ ap (words_later 8) c.stones-black.ensures.further ∙ sym (words_later-add 8 8 c.args.self.now)
+returns-clause-further c = c.stones-white.ensures.further ∙ ap (words_later 8) c.stones-black.ensures.further
+    ∙ sym (words_later-add 8 8 c.args.self.now)

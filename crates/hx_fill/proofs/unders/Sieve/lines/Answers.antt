@@ -5,7 +5,8 @@ use Rattle.hx_fill.proofs.UnderLaws.{lines_none, lines_more, lines_all, least_be
 use Rattle.hx_fill.proofs.unders.Sieve.lines.Goals as goal
 
 pub loop-cell-init : goal.loop-cell-init
-loop-cell-init c = rw (c.new-lines.ensures.items, c.minus-left.ensures.set) (lines_none c.args.self.now.choices (difference c.args.self.now.cells c.args.self.now.without_line))
+loop-cell-init c = rw (c.new-lines.ensures.items, c.minus-left.ensures.set)
+    (lines_none c.args.self.now.choices (difference c.args.self.now.cells c.args.self.now.without_line))
 
 pub loop-cell-smaller : goal.loop-cell-smaller
 loop-cell-smaller c = rw c.without-left.ensures.set (remove-lt c.loop-cell.left c.in-Some.cell c.in-Some.ensures.member)
@@ -18,9 +19,13 @@ loop-cell-preserved c =
     (c.requires.on_board n (has-difference_left c.args.self.now.cells c.args.self.now.without_line n (so_far.left_inside n h))) h differ in
     let given = c.requires.given c.in-Some.cell (so_far.left_inside c.in-Some.cell c.in-Some.ensures.member) in
     rw (c.without-left.ensures.set, c.in_ok-add_line.ensures given.0 given.1)
-    (lines_more c.args.self.now.choices (difference c.args.self.now.cells c.args.self.now.without_line) c.loop-cell.left c.in-Some.cell _ so_far c.in-Some.ensures.member above
+    (lines_more c.args.self.now.choices
+        (difference c.args.self.now.cells c.args.self.now.without_line) c.loop-cell.left c.in-Some.cell _ so_far c.in-Some.ensures.member
+        above
     given.0.cell given.0.kill given.1)
 
 pub returns : goal.returns
-returns c = rw c.new.ensures (lines_all c.args.self.now.choices (difference c.args.self.now.cells c.args.self.now.without_line) c.loop-cell.left _
-    (λ n h. c.in_default.ensures n (c.requires.on_board n (has-difference_left c.args.self.now.cells c.args.self.now.without_line n h))) c.loop-cell.invariant)
+returns c = rw c.new.ensures
+    (lines_all c.args.self.now.choices (difference c.args.self.now.cells c.args.self.now.without_line) c.loop-cell.left _
+    (λ n h. c.in_default.ensures n
+        (c.requires.on_board n (has-difference_left c.args.self.now.cells c.args.self.now.without_line n h))) c.loop-cell.invariant)

@@ -35,5 +35,6 @@ returns-else-mark-ne32-clause-takes c =
       sym c.self.view_is ∙ words_left-some_more _ _ c.if-not-self.false
           ∙ prefix_then 32 c.self.inside.rest.now c.args.expected.now c.in-Some.later.now c.requires
           (parts ∙ ap (λ (t : List ℕ). c.args.expected.now ++ t) next)
-          ∙ ap (λ (words : List (List ℕ)). c.args.expected.now ∷ words) (sym (words_left-some_more _ c.in-Some.later.now c.if-not-self.false)),
+          ∙ ap (λ (words : List (List ℕ)). c.args.expected.now ∷ words)
+              (sym (words_left-some_more _ c.in-Some.later.now c.if-not-self.false)),
     )

@@ -6,7 +6,8 @@ use Rattle.hx_letters.proofs.Masks.{length-hex}
 use Rattle.hx_letters.proofs.Keywords.{front_is_first, first_fits}
 use Rattle.hx_letters.proofs.words.Words.mask.Goals as goal
 
-front : (more : Bool) (bytes word : List ℕ) (value : ℕ) (words : List (List ℕ)) → word ≡ take 32 bytes → words_left more bytes ≡ hex 32 value ∷ words
+front : (more : Bool) (bytes word : List ℕ) (value : ℕ) (words : List (List ℕ)) → word ≡ take 32 bytes
+    → words_left more bytes ≡ hex 32 value ∷ words
     → word ≡ hex 32 value
 front more bytes word value words is e =
     is ∙ ap (λ (k : ℕ). take k bytes) (sym (length-hex 32 value)) ∙ front_is_first more bytes (hex 32 value) words e
@@ -26,7 +27,8 @@ returns-in_default-mask c = λ value words small e.
     (front c.self.inside.more c.self.inside.rest.now c.in-Some.word.now value words c.in-Some.ensures.cases.1 (c.self.view_is ∙ e))
 
 pub keyword-requires : goal.keyword-requires
-keyword-requires c = rw c.in-Some-mask.ensures.1 (Lacks-high 32 (hex 32 c.in-Some-mask.mask) (omega arith) (IsHigh-hex 32 c.in-Some-mask.mask))
+keyword-requires c = rw c.in-Some-mask.ensures.1
+    (Lacks-high 32 (hex 32 c.in-Some-mask.mask) (omega arith) (IsHigh-hex 32 c.in-Some-mask.mask))
 
 pub returns-in-None : goal.returns-in-None
 returns-in-None c = λ value words small e.

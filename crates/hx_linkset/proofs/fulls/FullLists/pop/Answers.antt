@@ -8,5 +8,6 @@ returns c =
     let old = c.index_mut.result.now in
     let long : vec_len old ≡ length old.items = search rules in
     let inside : c.args.code < length c.self.inside.lists.items = omega (arith, c.self.invariant, c.requires) in
-    contents-written c.self.inside.lists.items c.args.self.now c.args.code old c.pop-last.new.self without_last c.self.view_is inside c.index_mut.ensures.value
+    contents-written c.self.inside.lists.items c.args.self.now c.args.code old c.pop-last.new.self without_last c.self.view_is inside
+        c.index_mut.ensures.value
     (c.pop-last.ensures.rest ∙ ap (λ (n : ℕ). take (n - 1) old.items) long)

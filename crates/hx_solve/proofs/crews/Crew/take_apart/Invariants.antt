@@ -14,7 +14,8 @@ invariant-loop-place l = record {
   left : All (IsAfter l.self.shared.now.made l.self.counts.now l.self.position l.self.to_move) l.places.items;
   same_book : All (λ s. s.made ≡ l.self.shared.now.made) l.parts.books.items;
   same_counts : All (λ s. s.made ≡ l.self.counts.now) l.parts.counts.items;
-  some_ends : All (IsEndOfSome l.self.shared.now.made.slots l.self.position l.self.to_move l.parts.books.items l.parts.counts.items) l.parts.ends.items;
+  some_ends : All (IsEndOfSome l.self.shared.now.made.slots l.self.position l.self.to_move l.parts.books.items l.parts.counts.items)
+      l.parts.ends.items;
   no_chain : AllFoundNoChain l.self.position l.parts.counts.items l.parts.ends.items;
 }
 

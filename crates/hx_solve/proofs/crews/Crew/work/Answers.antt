@@ -13,5 +13,6 @@ returns g c =
       ended = search rules;
       no_chain = λ spent some.
           (c.work-ended.ensures.tried (subst EndsSpent back.ended spent)
-          (subst (λ (s : Seat). (own c.args.seats.counts).granted < (own s).granted) back.counts (omega (arith, some, c.requires.seats.nothing.granted)))).no_chain;
+          (subst (λ (s : Seat). (own c.args.seats.counts).granted < (own s).granted) back.counts
+              (omega (arith, some, c.requires.seats.nothing.granted)))).no_chain;
     }
