@@ -6,7 +6,8 @@ use Rattle.hx_settings.specs.declared.settings.Settings.{Settings}
 use Rattle.hx_words.specs.declared.commands.Command.{Command}
 use Rattle.hx_words.specs.declared.commands.Command.TheVariants.{Check, Solve, Htp, Demo}
 use Rattle.hx_words.specs.Commands.{Asks}
-use Rattle.hx_words.proofs.CommandWords.{check_is_not_solve, check_is_not_htp, check_is_not_demo, solve_is_not_htp, solve_is_not_demo, htp_is_not_demo, Asks-one}
+use Rattle.hx_words.proofs.CommandWords.{check_is_not_solve, check_is_not_htp, check_is_not_demo, solve_is_not_htp, solve_is_not_demo}
+use Rattle.hx_words.proofs.CommandWords.{htp_is_not_demo, Asks-one}
 use Rattle.hx_check.specs.Judgements.{IsCheckRun}
 use Rattle.hx_check.specs.Promises.{KeepsPromises as ChecksAsPromised}
 use Rattle.hx_app.specs.declared.finishes.Finish.{Finish}

@@ -1,6 +1,7 @@
 -- The nodes that are kept, from the first node up. A marked node has its children before it, all of them kept under new
 -- numbers; so with these numbers it is right after what was kept. At the end the last one has the root's heading.
-use Rattle.std.proofs.Common.{◌≡◌, ◌≢◌, ℕ, zero, suc, ◌+◌, ◌<◌, ◌≤◌, List, [], ◌∷◌, ◌++◌, length, take, set, refl, sym, ap, ◌∙◌, subst, Option, Some, None, Bool, true, false, ⊎_elim, arith, length-append}
+use Rattle.std.proofs.Common.{◌≡◌, ◌≢◌, ℕ, zero, suc, ◌+◌, ◌<◌, ◌≤◌, List, [], ◌∷◌, ◌++◌, length, take, set, refl, sym, ap, ◌∙◌, subst}
+use Rattle.std.proofs.Common.{Option, Some, None, Bool, true, false, ⊎_elim, arith, length-append}
 use Rattle.std.specs.Prelude.{slice_get, slice_index, slice_index_or, Result, Ok, Err, OnOk, is_err}
 use Rattle.std.proofs.lemmas.Bool.{cases_eq, false≢true}
 use Rattle.std.proofs.lemmas.List.{length-set, get_or-set_same, get_or-set_other, length-map}

@@ -1,6 +1,7 @@
 -- What a mark more changes: the marked places are those of before and the new one. So after a mark on each child of some lines
 -- the marked ones are those of before and these.
-use Rattle.std.proofs.Common.{◌≡◌, ℕ, ◌+◌, ◌<◌, List, [], ◌∷◌, ◌++◌, length, take, get_or, refl, sym, ◌∙◌, subst, inl, inr, Bool, ◌⊎◌, ⊎_elim, arith}
+use Rattle.std.proofs.Common.{◌≡◌, ℕ, ◌+◌, ◌<◌, List, [], ◌∷◌, ◌++◌, length, take, get_or, refl, sym, ◌∙◌, subst, inl, inr, Bool, ◌⊎◌}
+use Rattle.std.proofs.Common.{⊎_elim, arith}
 use Rattle.std.proofs.lemmas.Option.{slice_get_read, slice_get_within}
 use Rattle.hx_board.proofs.ListLaws.{get-push, get-push_before, get-push_last, take-read}
 use Rattle.hx_tree.specs.declared.nodes.Line.{Line}

@@ -1,5 +1,6 @@
 -- A node with new numbers for its children is right after headings that hold those of its children at the new numbers.
-use Rattle.std.proofs.Common.{◌≡◌, ℕ, zero, suc, add-one, ◌+◌, ◌<◌, List, [], ◌∷◌, map, length, get_or, set, refl, sym, ap, ◌∙◌, Option, Some, None, inl, inr, ⊎_elim}
+use Rattle.std.proofs.Common.{◌≡◌, ℕ, zero, suc, add-one, ◌+◌, ◌<◌, List, [], ◌∷◌, map, length, get_or, set, refl, sym, ap, ◌∙◌, Option}
+use Rattle.std.proofs.Common.{Some, None, inl, inr, ⊎_elim}
 use Rattle.std.proofs.lemmas.Option.{get_or_from_slice_get, slice_get_read, slice_get_within}
 use Rattle.std.specs.Prelude.{slice_get, IfSome, Contains}
 use Rattle.hx_board.proofs.ListLaws.{get-map, get-map_none}

@@ -1,6 +1,7 @@
 -- A line that is too long comes first or not at all: the lines of a tree's text are short, so where a line is too long, each other
 -- way to read the input has gone wrong before, or not yet.
-use Rattle.std.proofs.Common.{◌≡◌, ℕ, suc, zero, ◌<◌, ◌≤◌, List, [], ◌∷◌, ◌++◌, length, get_or, sym, ap, ◌∙◌, subst, arith, append_assoc, length-append}
+use Rattle.std.proofs.Common.{◌≡◌, ℕ, suc, zero, ◌<◌, ◌≤◌, List, [], ◌∷◌, ◌++◌, length, get_or, sym, ap, ◌∙◌, subst, arith, append_assoc}
+use Rattle.std.proofs.Common.{length-append}
 use Rattle.std.proofs.lemmas.List.{append-nil, nil_from_length}
 use Rattle.hx_lines.specs.Lines.{HasLf, lines_of}
 use Rattle.hx_lines.specs.Cutters.{BeginLong}

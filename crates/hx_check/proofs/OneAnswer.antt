@@ -1,6 +1,7 @@
 -- At most one answer of `check` with status 1 fits an input, with one number. Nodes that ended in the first lines are not more
 -- than those that ended in more lines; so where a node is wrong, no line after it is at fault with right nodes before it.
-use Rattle.std.proofs.Common.{◌≡◌, ◌≢◌, ℕ, ◌<◌, ◌≤◌, List, [], ◌∷◌, ◌++◌, length, refl, sym, ap, ◌∙◌, subst, arith, ⊎_elim, append_assoc, length-append}
+use Rattle.std.proofs.Common.{◌≡◌, ◌≢◌, ℕ, ◌<◌, ◌≤◌, List, [], ◌∷◌, ◌++◌, length, refl, sym, ap, ◌∙◌, subst, arith, ⊎_elim, append_assoc}
+use Rattle.std.proofs.Common.{length-append}
 use Rattle.std.proofs.lemmas.Bool.{cases_lt}
 use Rattle.std.proofs.lemmas.List.{append-nil, append_cancel_left, nil_from_length}
 use Rattle.std.proofs.lemmas.Grind.{flat_map-append}
@@ -12,7 +13,8 @@ use Rattle.hx_tree.proofs.TreeGrowth.{least_wrong-append}
 use Rattle.hx_text.specs.declared.versions.Preamble.{Preamble}
 use Rattle.hx_text.specs.Grammars.{Begins}
 use Rattle.hx_text.specs.PositionTexts.{size_line}
-use Rattle.hx_text.specs.TreeTexts.{AreTreeLines, AreTreeLinesOf, EachNodeFits, NodeFits, title_line, front_lines, head_of, head_line, node_lines, end_line}
+use Rattle.hx_text.specs.TreeTexts.{AreTreeLines, AreTreeLinesOf, EachNodeFits, NodeFits, title_line, front_lines, head_of, head_line}
+use Rattle.hx_text.specs.TreeTexts.{node_lines, end_line}
 use Rattle.hx_text.proofs.Cuts.{Agree, Second_goes_on, First_goes_on, agree}
 use Rattle.hx_text.proofs.Alignment.{preamble_injective}
 use Rattle.hx_text.proofs.NodeInjective.{head_not_end, node_cancel}

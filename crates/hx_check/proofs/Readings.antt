@@ -1,6 +1,7 @@
 -- An input is read in one way alone, so at most one of the answers fits it. Two ways to cut the same bytes into lines
 -- agree as far as both go, and the lines of a text tell its nodes.
-use Rattle.std.proofs.Common.{◌≡◌, ℕ, ◌<◌, ◌≤◌, List, [], ◌∷◌, ◌++◌, length, map, refl, sym, ap, ◌∙◌, subst, arith, append_assoc, length-append}
+use Rattle.std.proofs.Common.{◌≡◌, ℕ, ◌<◌, ◌≤◌, List, [], ◌∷◌, ◌++◌, length, map, refl, sym, ap, ◌∙◌, subst, arith, append_assoc}
+use Rattle.std.proofs.Common.{length-append}
 use Rattle.std.proofs.lemmas.List.{append-nil}
 use Rattle.std.specs.Prelude.{flat_map}
 use Rattle.hx_board.specs.declared.colours.Colour.{Colour}
@@ -12,7 +13,8 @@ use Rattle.hx_letters.specs.Words.{IsNumber}
 use Rattle.hx_text.specs.declared.versions.Preamble.{Preamble}
 use Rattle.hx_text.specs.Grammars.{text_of, IsFaultyLine}
 use Rattle.hx_text.specs.Entries.{entry_line, entries_of}
-use Rattle.hx_text.specs.TreeTexts.{AreTreeLines, AreTreeLinesOf, IsTreeText, EachNodeFits, NodeFits, front_lines, head_of, head_line, node_lines, end_line, tree_lines}
+use Rattle.hx_text.specs.TreeTexts.{AreTreeLines, AreTreeLinesOf, IsTreeText, EachNodeFits, NodeFits, front_lines, head_of, head_line}
+use Rattle.hx_text.specs.TreeTexts.{node_lines, end_line, tree_lines}
 use Rattle.hx_text.specs.Lengths.{most_nodes}
 use Rattle.hx_check.specs.Judging.{EndedIn, Before_size, Among_nodes, Inside_node, After_end, IsNoText, IsNoNode, IsTooManyNodes}
 use Rattle.hx_text.proofs.Alignment.{aligned}

@@ -1,5 +1,6 @@
 -- What each event leaves of the fields of the state.
-use Rattle.std.proofs.Common.{◌≡◌, ◌≢◌, ℕ, ◌+◌, ◌<◌, ◌≤◌, Bool, true, false, List, [], ◌∷◌, ◌++◌, length, set, get_or, refl, inr, sym, ap, ◌∙◌, subst, arith, length-append}
+use Rattle.std.proofs.Common.{◌≡◌, ◌≢◌, ℕ, ◌+◌, ◌<◌, ◌≤◌, Bool, true, false, List, [], ◌∷◌, ◌++◌, length, set, get_or, refl, inr, sym, ap}
+use Rattle.std.proofs.Common.{◌∙◌, subst, arith, length-append}
 use Rattle.std.specs.Prelude.{replicate, slice_index, take, if◌then◌else◌}
 use Rattle.std.proofs.lemmas.Bool.{lt-ltb, le-ltb}
 use Rattle.hx_tree.specs.declared.nodes.Node.{Node}
@@ -7,7 +8,8 @@ use Rattle.hx_tree.specs.Entries.{HasNoEntry}
 use Rattle.hx_tree.specs.Rules.{IsRightNode}
 use Rattle.hx_tree.specs.Trees.{headings_of}
 use Rattle.hx_tree.proofs.RightNodeGrowth.{right_node-whole}
-use Rattle.hx_count.specs.Machine.{Account, CountsState, account, changed_at, with_unit, with_refusal, with_account, granted_to_all, losses_at, has_units, counts_step, worker_of, IsAllowed}
+use Rattle.hx_count.specs.Machine.{Account, CountsState, account, changed_at, with_unit, with_refusal, with_account, granted_to_all}
+use Rattle.hx_count.specs.Machine.{losses_at, has_units, counts_step, worker_of, IsAllowed}
 use Rattle.hx_count.specs.declared.events.CountEvent.{CountEvent}
 use Rattle.hx_count.specs.declared.events.CountEvent.TheVariants.{Spend as SpendUnit}
 use Rattle.hx_count.proofs.MachineLaws.{losses-le}

@@ -1,5 +1,6 @@
 -- What the words are at the end, where one seat has the parts of all workers.
-use Rattle.std.proofs.Common.{◌≡◌, ℕ, zero, suc, ◌+◌, ◌*◌, ◌<◌, ◌≤◌, true, cond, List, [], ◌∷◌, length, map, drop, min, refl, sym, ap, ◌∙◌, subst, arith, length-drop}
+use Rattle.std.proofs.Common.{◌≡◌, ℕ, zero, suc, ◌+◌, ◌*◌, ◌<◌, ◌≤◌, true, cond, List, [], ◌∷◌, length, map, drop, min, refl, sym, ap, ◌∙◌}
+use Rattle.std.proofs.Common.{subst, arith, length-drop}
 use Rattle.std.specs.Prelude.{slice_index}
 use Rattle.std.specs.List.{sum_by, sum, All, Any}
 use Rattle.std.proofs.lemmas.List.Sums.{sum_by-cons, get_or-le-sum_by}
@@ -11,11 +12,13 @@ use Rattle.hx_count.specs.declared.events.TheConstants.{MOST_HELD}
 use Rattle.hx_count.specs.declared.views.Limits.{Limits}
 use Rattle.hx_count.specs.declared.views.Part.{Part}
 use Rattle.hx_count.specs.declared.views.View.{View}
-use Rattle.hx_count.specs.Machine.{CountsState, Account, no_account, account_of, granted_to_all, refused_of_all, losses_at, held_in_all, held_by_all}
+use Rattle.hx_count.specs.Machine.{CountsState, Account, no_account, account_of, granted_to_all, refused_of_all, losses_at, held_in_all}
+use Rattle.hx_count.specs.Machine.{held_by_all}
 use Rattle.hx_count.specs.Histories.{GoesOn}
 use Rattle.hx_count.specs.Counted.{Seated, start_of, state_after, IsHistory, view, times_in, AreCurrentParts, Counted}
 use Rattle.hx_count.specs.Seats.{Origin, Seat, own, part_of, AreTotals}
-use Rattle.hx_count.proofs.MachineLaws.{goes_on-account, history-bounded, history-workers, held-losses, held-le, run-budget, history-in_budget}
+use Rattle.hx_count.proofs.MachineLaws.{goes_on-account, history-bounded, history-workers, held-losses, held-le, run-budget}
+use Rattle.hx_count.proofs.MachineLaws.{history-in_budget}
 use Rattle.hx_count.proofs.Sums.{upto, upto-same, sum-upto, sum_by-upto}
 use Rattle.hx_count.proofs.Terms.{term-le}
 use Rattle.hx_count.proofs.PartLaws.{times-first}

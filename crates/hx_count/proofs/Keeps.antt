@@ -1,5 +1,6 @@
 -- Each step of the counts keeps their rule.
-use Rattle.std.proofs.Common.{◌≡◌, ◌≢◌, ℕ, ◌+◌, ◌-◌, ◌%◌, ◌^◌, ◌<◌, ◌≤◌, true, false, List, [], ◌∷◌, ◌++◌, length, get_or, set, min, refl, sym, ap, ◌∙◌, subst, ⊎_elim, arith, length-set, get_or-set_same, get_or-set_other}
+use Rattle.std.proofs.Common.{◌≡◌, ◌≢◌, ℕ, ◌+◌, ◌-◌, ◌%◌, ◌^◌, ◌<◌, ◌≤◌, true, false, List, [], ◌∷◌, ◌++◌, length, get_or, set, min, refl}
+use Rattle.std.proofs.Common.{sym, ap, ◌∙◌, subst, ⊎_elim, arith, length-set, get_or-set_same, get_or-set_other}
 use Rattle.std.specs.Prelude.{slice_index}
 use Rattle.std.specs.List.{sum_by}
 use Rattle.std.proofs.lemmas.List.Sums.{sum_by-cons, sum_by-append}
@@ -16,11 +17,19 @@ use Rattle.hx_count.specs.declared.events.CountEvent.TheVariants.{Spend, Hold, R
 use Rattle.hx_count.specs.declared.views.Limits.{Limits}
 use Rattle.hx_count.specs.declared.views.Part.{Part}
 use Rattle.hx_count.specs.declared.views.View.{View}
-use Rattle.hx_count.specs.Machine.{CountsState, Account, account_of, granted_to_all, refused_of_all, losses_at, held_in_all, has_units, counts_step, worker_of, IsAllowed}
-use Rattle.hx_count.specs.Counted.{start_of, state_after, IsHistory, part, view, times_in, IsCurrent, AreCurrentParts, Counted, Seated, IsNext, IsSpend, IsLook, spends, holds, releases, looks, all_but_first, only_first, joined, no_parts, first_view, new_parts, AreSmall}
-use Rattle.hx_count.proofs.MachineLaws.{run-append, allowed-append, run-budget, goes_on-account, granted-unit, granted-refusal, refused-unit, refused-refusal, losses-spend, granted-hold, refused-hold, granted-release, refused-release, losses-hold_here, losses-hold_elsewhere, losses-release_here, losses-release_elsewhere, history-bounded, history-workers, losses-le, losses-own, refused-le, start-granted, start-refused, start-losses}
+use Rattle.hx_count.specs.Machine.{CountsState, Account, account_of, granted_to_all, refused_of_all, losses_at, held_in_all, has_units}
+use Rattle.hx_count.specs.Machine.{counts_step, worker_of, IsAllowed}
+use Rattle.hx_count.specs.Counted.{start_of, state_after, IsHistory, part, view, times_in, IsCurrent, AreCurrentParts, Counted, Seated}
+use Rattle.hx_count.specs.Counted.{IsNext, IsSpend, IsLook, spends, holds, releases, looks, all_but_first, only_first, joined, no_parts}
+use Rattle.hx_count.specs.Counted.{first_view, new_parts, AreSmall}
+use Rattle.hx_count.proofs.MachineLaws.{run-append, allowed-append, run-budget, goes_on-account, granted-unit, granted-refusal}
+use Rattle.hx_count.proofs.MachineLaws.{refused-unit, refused-refusal, losses-spend, granted-hold, refused-hold, granted-release}
+use Rattle.hx_count.proofs.MachineLaws.{refused-release, losses-hold_here, losses-hold_elsewhere, losses-release_here}
+use Rattle.hx_count.proofs.MachineLaws.{losses-release_elsewhere, history-bounded, history-workers, losses-le, losses-own, refused-le}
+use Rattle.hx_count.proofs.MachineLaws.{start-granted, start-refused, start-losses}
 use Rattle.hx_count.proofs.Terms.{sum-set, term-le, others-none}
-use Rattle.hx_count.proofs.PartLaws.{times-single, times-append, times-cut, current-append, current-first, current-rest, goes_on-now, current-more, times-among, times-after, current-new}
+use Rattle.hx_count.proofs.PartLaws.{times-single, times-append, times-cut, current-append, current-first, current-rest, goes_on-now}
+use Rattle.hx_count.proofs.PartLaws.{current-more, times-among, times-after, current-new}
 use Rattle.hx_count.proofs.Workers.{same-one}
 
 abbrev Words : Type 0

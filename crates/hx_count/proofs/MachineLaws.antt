@@ -1,5 +1,6 @@
 -- What each event of the counts machine changes, and what it leaves as it was.
-use Rattle.std.proofs.Common.{◌≡◌, ◌≢◌, ℕ, zero, suc, ◌+◌, ◌-◌, ◌*◌, ◌<◌, ◌≤◌, Bool, true, false, cond, List, [], ◌∷◌, ◌++◌, length, replicate, get_or, refl, sym, ap, ◌∙◌, subst, arith, ⊎_elim, true≢false}
+use Rattle.std.proofs.Common.{◌≡◌, ◌≢◌, ℕ, zero, suc, ◌+◌, ◌-◌, ◌*◌, ◌<◌, ◌≤◌, Bool, true, false, cond, List, [], ◌∷◌, ◌++◌, length}
+use Rattle.std.proofs.Common.{replicate, get_or, refl, sym, ap, ◌∙◌, subst, arith, ⊎_elim, true≢false}
 use Rattle.std.specs.Prelude.{slice_index}
 use Rattle.std.specs.List.{sum_by, sum}
 use Rattle.std.proofs.lemmas.List.{get_or_past, get_or-replicate, length-replicate}
@@ -10,9 +11,13 @@ use native.Mathlib.Decide.{ℕ_discrete, dec_lt}
 use Rattle.hx_count.specs.declared.events.CountEvent.{CountEvent}
 use Rattle.hx_count.specs.declared.events.TheConstants.{MOST_HELD}
 use Rattle.hx_count.specs.declared.events.CountEvent.TheVariants.{Spend, Hold, Release, Look}
-use Rattle.hx_count.specs.Machine.{Account, CountsState, no_account, account, counts_start, account_of, granted_to_all, refused_of_all, losses_at, held_in_all, held_by_all, HasNothing, has_units, changed_at, with_unit, with_refusal, holding, releasing, with_account, counts_step, counts_run, worker_of, IsAllowed, AreAllowed, AreBounded, IsInBudget}
+use Rattle.hx_count.specs.Machine.{Account, CountsState, no_account, account, counts_start, account_of, granted_to_all, refused_of_all}
+use Rattle.hx_count.specs.Machine.{losses_at, held_in_all, held_by_all, HasNothing, has_units, changed_at, with_unit, with_refusal, holding}
+use Rattle.hx_count.specs.Machine.{releasing, with_account, counts_step, counts_run, worker_of, IsAllowed, AreAllowed, AreBounded}
+use Rattle.hx_count.specs.Machine.{IsInBudget}
 use Rattle.hx_count.specs.Histories.{AreOthers, GoesOn}
-use Rattle.hx_count.proofs.Changes.{length-changed, changed-here, changed-elsewhere, changed-back, sum_by-changed, sum_by-changed-le, sum_by-unchanged}
+use Rattle.hx_count.proofs.Changes.{length-changed, changed-here, changed-elsewhere, changed-back, sum_by-changed, sum_by-changed-le}
+use Rattle.hx_count.proofs.Changes.{sum_by-unchanged}
 use Rattle.hx_count.proofs.Sums.{upto, sum-upto, sum_by-same, upto-sum_by}
 
 abbrev one_if : Bool → ℕ

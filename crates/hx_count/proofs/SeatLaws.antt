@@ -1,5 +1,6 @@
 -- What a seat is after each of its steps.
-use Rattle.std.proofs.Common.{◌≡◌, ℕ, ◌+◌, ◌-◌, ◌%◌, ◌^◌, ◌<◌, ◌≤◌, Bool, true, false, List, [], ◌∷◌, ◌++◌, length, refl, sym, ap, ◌∙◌, subst, arith, Ok, Err}
+use Rattle.std.proofs.Common.{◌≡◌, ℕ, ◌+◌, ◌-◌, ◌%◌, ◌^◌, ◌<◌, ◌≤◌, Bool, true, false, List, [], ◌∷◌, ◌++◌, length, refl, sym, ap, ◌∙◌}
+use Rattle.std.proofs.Common.{subst, arith, Ok, Err}
 use Rattle.std.specs.Prelude.{slice_index}
 use Rattle.std.proofs.lemmas.Bool.{lt-ltb, le-ltb}
 use mathlib.Core.Option.{none}
@@ -11,11 +12,14 @@ use Rattle.hx_count.specs.declared.events.CountEvent.TheVariants.{Spend, Hold, R
 use Rattle.hx_count.specs.declared.views.Limits.{Limits}
 use Rattle.hx_count.specs.declared.views.Part.{Part}
 use Rattle.hx_count.specs.declared.views.View.{View}
-use Rattle.hx_count.specs.Machine.{CountsState, Account, account_of, granted_to_all, losses_at, held_in_all, has_units, with_unit, with_refusal, holding, releasing, counts_step, counts_run, IsAllowed, AreAllowed}
+use Rattle.hx_count.specs.Machine.{CountsState, Account, account_of, granted_to_all, losses_at, held_in_all, has_units, with_unit}
+use Rattle.hx_count.specs.Machine.{with_refusal, holding, releasing, counts_step, counts_run, IsAllowed, AreAllowed}
 use Rattle.hx_count.specs.Histories.{GoesOn}
-use Rattle.hx_count.specs.Counted.{start_of, state_after, IsHistory, part, view, Counted, Seated, IsNext, IsSpend, IsLook, spends, holds, releases, looks}
+use Rattle.hx_count.specs.Counted.{start_of, state_after, IsHistory, part, view, Counted, Seated, IsNext, IsSpend, IsLook, spends, holds}
+use Rattle.hx_count.specs.Counted.{releases, looks}
 use Rattle.hx_count.specs.Seats.{Seat, own, state_seen, seat_of, first_part, SeatKeeps, Adds, Spends}
-use Rattle.hx_count.proofs.MachineLaws.{run-append, run-budget, goes_on-account, spend-unit, spend-refusal, hold-own, release-own, held-holding, held-releasing, losses-own, granted-own, refused-own, history-in_budget}
+use Rattle.hx_count.proofs.MachineLaws.{run-append, run-budget, goes_on-account, spend-unit, spend-refusal, hold-own, release-own}
+use Rattle.hx_count.proofs.MachineLaws.{held-holding, held-releasing, losses-own, granted-own, refused-own, history-in_budget}
 use Rattle.hx_count.proofs.Changes.{changed-here}
 use Rattle.hx_count.proofs.Keeps.{spends-keep, holds-keep, releases-keep, looks-keep}
 

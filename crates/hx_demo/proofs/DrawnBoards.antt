@@ -1,6 +1,7 @@
 -- The position that sixteen words draw: its stones are those of the first eight words and, from what these leave, of the next
 -- eight. Put one by one, each of them comes to an empty cell.
-use Rattle.std.proofs.Common.{◌≡◌, ℕ, suc, ◌+◌, ◌<◌, ◌≤◌, List, [], ◌∷◌, ◌++◌, length, take, drop, refl, sym, ap, ◌∙◌, inl, inr, arith, lit≤, subst}
+use Rattle.std.proofs.Common.{◌≡◌, ℕ, suc, ◌+◌, ◌<◌, ◌≤◌, List, [], ◌∷◌, ◌++◌, length, take, drop, refl, sym, ap, ◌∙◌, inl, inr, arith}
+use Rattle.std.proofs.Common.{lit≤, subst}
 use Rattle.std.proofs.lemmas.List.{take_at, drop_at, length-append}
 use Rattle.std.specs.Option.{SomeIff, IsSome}
 use Rattle.std.specs.declared.option.Option.{Option}
@@ -20,7 +21,8 @@ use Rattle.hx_demo.specs.Generators.{next_words, words_later}
 use Rattle.hx_demo.specs.DrawnPositions.{board_size, cells_in_order, drawn_from, set_of, drawn_position}
 use Rattle.hx_demo.specs.CellsLeft.{left_after}
 use Rattle.hx_demo.proofs.WordLaws.{next_words-add, length-next_words}
-use Rattle.hx_demo.proofs.DrawnLists.{IsIn, AreDistinct, in-left, in-right, distinct-left, distinct-right, drawn_from-append, length-drawn_from, length-left_after, drawn-in, drawn-distinct}
+use Rattle.hx_demo.proofs.DrawnLists.{IsIn, AreDistinct, in-left, in-right, distinct-left, distinct-right, drawn_from-append}
+use Rattle.hx_demo.proofs.DrawnLists.{length-drawn_from, length-left_after, drawn-in, drawn-distinct}
 use Rattle.hx_demo.proofs.BoardCells.{in_order-on_board, in_order-distinct}
 use Rattle.hx_demo.proofs.DrawnSets.{set_of-lacks, count-set_of}
 

@@ -11,7 +11,8 @@ use Rattle.hx_board.specs.Cells.{IsExtent, OnBoard}
 use Rattle.hx_board.specs.Positions.{Board, IsEmpty, put}
 use Rattle.hx_board.specs.Graph.{Joined}
 use Rattle.hx_board.specs.VertexSets.{code_of, IsVertexCode, IsSetOf}
-use Rattle.hx_board.proofs.SetLaws.{has-empty, has-remove_before, has-intersection_left, has-intersection_right, has-intersection_both, first_of_both, removed, removed_cases, removed_still, has-remove_other, by_member}
+use Rattle.hx_board.proofs.SetLaws.{has-empty, has-remove_before, has-intersection_left, has-intersection_right, has-intersection_both}
+use Rattle.hx_board.proofs.SetLaws.{first_of_both, removed, removed_cases, removed_still, has-remove_other, by_member}
 use Rattle.hx_board.proofs.CellLaws.{on_board-small}
 use Rattle.hx_board.proofs.FloodLaws.{same_vertex}
 use Rattle.hx_board.proofs.StoneLaws.{empty-put}

@@ -1,16 +1,19 @@
 -- Lines for dominated cells, one for each cell that got a better one. They are pushed cell by cell, so they come in cell order.
-use Rattle.std.proofs.Common.{◌≡◌, ◌≢◌, ℕ, ◌<◌, true, false, zero, suc, List, [], ◌∷◌, ◌++◌, map, length, get_or, refl, sym, ap, ◌∙◌, subst, Some, None, ⊎_elim, arith}
+use Rattle.std.proofs.Common.{◌≡◌, ◌≢◌, ℕ, ◌<◌, true, false, zero, suc, List, [], ◌∷◌, ◌++◌, map, length, get_or, refl, sym, ap, ◌∙◌, subst}
+use Rattle.std.proofs.Common.{Some, None, ⊎_elim, arith}
 use Rattle.std.specs.Prelude.{Contains}
 use Rattle.std.specs.declared.option.Option.{Option}
 use Rattle.std.proofs.lemmas.Bool.{false≢true, cases_lt, false_from_ne_true}
 use Rattle.std.proofs.lemmas.List.{map-append, length-map}
-use Rattle.std.proofs.lemmas.List.Elements.{All-nil, All-push, All-map, All-weaker, All-contains, Contains-push, Contains-push_cases, Contains-append_left, Contains-get_or}
+use Rattle.std.proofs.lemmas.List.Elements.{All-nil, All-push, All-map, All-weaker, All-contains, Contains-push, Contains-push_cases}
+use Rattle.std.proofs.lemmas.List.Elements.{Contains-append_left, Contains-get_or}
 use Rattle.std.proofs.lemmas.Option.{same_Some}
 use Rattle.hx_board.specs.declared.colours.Colour.{Colour}
 use Rattle.hx_board.specs.Sets.{has, remove, difference}
 use Rattle.hx_board.specs.Cells.{Extent, OnBoard, IsLeastOn}
 use Rattle.hx_board.specs.Positions.{Board}
-use Rattle.hx_board.proofs.SetLaws.{has-empty, has-remove_before, has-difference_left, has-difference_right, has-difference_both, removed, removed_cases, by_member}
+use Rattle.hx_board.proofs.SetLaws.{has-empty, has-remove_before, has-difference_left, has-difference_right, has-difference_both, removed}
+use Rattle.hx_board.proofs.SetLaws.{removed_cases, by_member}
 use Rattle.hx_inferior.specs.declared.dominations.Kill.{Kill}
 use Rattle.hx_inferior.specs.Inferior.{IsDominated}
 use Rattle.hx_tree.specs.declared.nodes.Line.{Line}
@@ -18,7 +21,8 @@ use Rattle.hx_tree.specs.declared.nodes.Line.TheVariants.{Child, Under}
 use Rattle.hx_tree.specs.Answers.{cell_of, cells_of}
 use Rattle.hx_tree.proofs.CellOrder.{increasing-push}
 use Rattle.hx_fill.specs.declared.choices.Better.{Better}
-use Rattle.hx_fill.specs.Unders.{IsUnderLine, HasLineFor, IsBetterIn, AreUnder, ComesBefore, AreByOrder, better_for, HasBetter, IsSifted, AreGiven, AddsLine, IsLineFor, AreLinesFor}
+use Rattle.hx_fill.specs.Unders.{IsUnderLine, HasLineFor, IsBetterIn, AreUnder, ComesBefore, AreByOrder, better_for, HasBetter, IsSifted}
+use Rattle.hx_fill.specs.Unders.{AreGiven, AddsLine, IsLineFor, AreLinesFor}
 
 -- an element of a mapped list is that of some element
 mapped_from : (lines : List Line) (n : ℕ) → HasLineFor lines n → (line : Line) × (Contains lines line) × (cell_of line ≡ n)

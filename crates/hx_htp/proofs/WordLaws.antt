@@ -1,6 +1,8 @@
 -- The words of bytes, taken from the front. The parts between spaces are the bytes up to the first space, and then the
 -- parts of what is behind it.
-use Rattle.std.proofs.Common.{◌≡◌, ℕ, zero, suc, ◌+◌, Bool, true, false, cond, not, List, [], ◌∷◌, ◌++◌, take, drop, length, refl, sym, ap, ◌∙◌, arith, subst, ◌≤◌, ◌<◌, get_or, drop-cons, add-one, append_assoc, append-nil, length-append, ◌-◌, length-drop, eqb}
+use Rattle.std.proofs.Common.{◌≡◌, ℕ, zero, suc, ◌+◌, Bool, true, false, cond, not, List, [], ◌∷◌, ◌++◌, take, drop, length, refl, sym, ap}
+use Rattle.std.proofs.Common.{◌∙◌, arith, subst, ◌≤◌, ◌<◌, get_or, drop-cons, add-one, append_assoc, append-nil, length-append, ◌-◌}
+use Rattle.std.proofs.Common.{length-drop, eqb}
 use Rattle.std.proofs.lemmas.List.Sums.{position_or_len_is}
 use Rattle.std.proofs.lemmas.List.{take_all}
 use Rattle.std.proofs.lemmas.Bool.{eq-eqb, eqb-true, false_from_ne_true}

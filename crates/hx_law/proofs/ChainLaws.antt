@@ -16,7 +16,9 @@ use Rattle.hx_board.specs.Graph.{IsLastLine, IsOwn, Touches, Walk, HasChain}
 use Rattle.hx_law.specs.Laws.{NeverBoth, AlwaysOne}
 use Rattle.hx_board.proofs.ColourLaws.{one_or_other, other-differs}
 use Rattle.hx_law.proofs.Points.{Point, Near, Connected, Stay, Step, connected-first, connected-last, connected-trans, connected-sym}
-use Rattle.hx_law.proofs.Depths.{point_of, cell_at, point_of-cell_at, touching-near, near-touching, depth, extent, point_at, depths-point_at, sum-depths, sum-extents, extent-positive, near-across, near-deeper, near-depth, on_first_line, on_last_line, on_board, col_small}
+use Rattle.hx_law.proofs.Depths.{point_of, cell_at, point_of-cell_at, touching-near, near-touching, depth, extent, point_at}
+use Rattle.hx_law.proofs.Depths.{depths-point_at, sum-depths, sum-extents, extent-positive, near-across, near-deeper, near-depth}
+use Rattle.hx_law.proofs.Depths.{on_first_line, on_last_line, on_board, col_small}
 use Rattle.hx_law.proofs.Triangle.{Side, First_of, Long, IsAlong, IsOf, Reaches, Meets, last_colour, last-meets, meets-last}
 use Rattle.hx_law.proofs.BoardInTriangle.{owner, owner-behind, owner-of_stone, stone_of-owner}
 

@@ -4,7 +4,8 @@ use Rattle.std.proofs.Common.{◌≡◌, ℕ, suc, ◌+◌, ◌<◌, ◌≤◌, 
 use Rattle.hx_board.specs.declared.colours.Colour.{Colour}
 use Rattle.hx_board.specs.declared.colours.Colour.TheVariants.{Black, White}
 use Rattle.hx_board.specs.Colours.{other_of}
-use Rattle.hx_board.specs.Cells.{Extent, IsExtent, OnBoard, row_of, col_of, index_of, CellsTouch, Left, Right, Above, Below, Above_right, Below_left}
+use Rattle.hx_board.specs.Cells.{Extent, IsExtent, OnBoard, row_of, col_of, index_of, CellsTouch, Left, Right, Above, Below, Above_right}
+use Rattle.hx_board.specs.Cells.{Below_left}
 use Rattle.hx_board.specs.Graph.{IsFirstLine, IsLastLine}
 use Rattle.hx_law.proofs.Points.{Point, same_point, Which, Base, Under, Beside, which, Near, near_by}
 

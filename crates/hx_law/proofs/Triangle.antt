@@ -8,7 +8,8 @@ use Rattle.std.proofs.Math.Logic.{⊎_swap}
 use Rattle.hx_board.specs.declared.colours.Colour.{Colour}
 use Rattle.hx_board.specs.declared.colours.Colour.TheVariants.{Black, White}
 use Rattle.hx_law.proofs.Depths.{depth}
-use Rattle.hx_law.proofs.Points.{Point, under, beside, same_point, Corner, corner, differ, corner_base, corner_under, corner_beside, Which, Base, Under, Beside, which, Near, corners-near, sharing-near, Connected, Stay, Step, connected-first}
+use Rattle.hx_law.proofs.Points.{Point, under, beside, same_point, Corner, corner, differ, corner_base, corner_under, corner_beside, Which}
+use Rattle.hx_law.proofs.Points.{Base, Under, Beside, which, Near, corners-near, sharing-near, Connected, Stay, Step, connected-first}
 
 -- the colour that two of the three have
 abbrev majority : Colour → Colour → Colour → Colour

@@ -1,5 +1,6 @@
 -- The first word of some bytes is a given one exactly where they begin with it, and then end or have a mark next.
-use Rattle.std.proofs.Common.{◌≡◌, ◌≢◌, ℕ, List, [], ◌∷◌, ◌++◌, length, length-append, ◌≤◌, take, drop, refl, sym, ap, ◌∙◌, ◌⊎◌, inl, inr, arith, Bool, true, false, eqb, cond}
+use Rattle.std.proofs.Common.{◌≡◌, ◌≢◌, ℕ, List, [], ◌∷◌, ◌++◌, length, length-append, ◌≤◌, take, drop, refl, sym, ap, ◌∙◌, ◌⊎◌, inl, inr}
+use Rattle.std.proofs.Common.{arith, Bool, true, false, eqb, cond}
 use Rattle.std.specs.Prelude.{nat_eq}
 use Rattle.std.specs.Cmp.Lexicographic.{pointwise, same_text, other_text}
 use Rattle.std.proofs.lemmas.Bool.{false≢true, eqb-true}

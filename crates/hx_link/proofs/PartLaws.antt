@@ -5,7 +5,8 @@
 -- first part are those of the result, since all parts have the same ends (`ends_along`).
 use Rattle.std.proofs.lemmas.List.{take_more, take_all}
 use Rattle.std.proofs.lemmas.Option.{slice_get-get_or, same_Some}
-use Rattle.std.proofs.Common.{◌≡◌, ◌≢◌, ℕ, zero, suc, ◌≤◌, ◌<◌, ◌+◌, take, get_or, Bool, true, false, ◌||◌, List, [], ◌∷◌, ◌++◌, map, length, refl, sym, ap, ◌∙◌, inl, inr, Some, None, Option, ◌⊎◌, ⊎_elim, subst}
+use Rattle.std.proofs.Common.{◌≡◌, ◌≢◌, ℕ, zero, suc, ◌≤◌, ◌<◌, ◌+◌, take, get_or, Bool, true, false, ◌||◌, List, [], ◌∷◌, ◌++◌, map}
+use Rattle.std.proofs.Common.{length, refl, sym, ap, ◌∙◌, inl, inr, Some, None, Option, ◌⊎◌, ⊎_elim, subst}
 use Rattle.std.specs.Prelude.{slice_get}
 use Rattle.hx_board.specs.Finds.{Finds}
 use Rattle.std.proofs.lemmas.Bool.{false≢true, false_from_ne_true}
@@ -14,7 +15,8 @@ use Rattle.hx_board.specs.declared.vertices.Vertex.{Vertex}
 use Rattle.hx_board.specs.Sets.{has, union, intersection}
 use Rattle.hx_board.specs.Positions.{Board}
 use Rattle.hx_board.proofs.ListLaws.{get-push, get-push_before, get-push_last}
-use Rattle.hx_board.proofs.SetLaws.{has-empty, has-union, has-intersection_left, has-intersection_right, same_set, has_not-intersection, or_false}
+use Rattle.hx_board.proofs.SetLaws.{has-empty, has-union, has-intersection_left, has-intersection_right, same_set, has_not-intersection}
+use Rattle.hx_board.proofs.SetLaws.{or_false}
 use Rattle.hx_link.specs.declared.links.Kind.TheVariants.{Full}
 use Rattle.hx_link.specs.declared.links.Link.{Link}
 use Rattle.hx_link.specs.declared.parts.TheConstants.{MOST_PARTS}

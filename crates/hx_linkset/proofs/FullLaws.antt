@@ -3,7 +3,8 @@
 -- The plan: of the links from a place on, the entries that are live are exactly those of the live Full links at the vertex
 -- whose place is not below (`AreFullFrom`). One link before these brings one entry in front of them or none, and is the only
 -- link at its place.
-use Rattle.std.proofs.Common.{◌≡◌, ℕ, zero, suc, ◌+◌, ◌<◌, ◌≤◌, ◌-◌, Bool, true, false, cond, List, [], ◌∷◌, ◌++◌, map, refl, sym, ap, ◌∙◌, subst, inl, inr, Some, ◌⊎◌, ⊎_elim, ◌↔◌, arith, eq-eqb, eqb-true}
+use Rattle.std.proofs.Common.{◌≡◌, ℕ, zero, suc, ◌+◌, ◌<◌, ◌≤◌, ◌-◌, Bool, true, false, cond, List, [], ◌∷◌, ◌++◌, map, refl, sym, ap, ◌∙◌}
+use Rattle.std.proofs.Common.{subst, inl, inr, Some, ◌⊎◌, ⊎_elim, ◌↔◌, arith, eq-eqb, eqb-true}
 use Rattle.std.proofs.lemmas.Bool.{cases_lt, cases_eq, false≢true, and_from}
 use Rattle.std.proofs.lemmas.List.Elements.{filter-append}
 use Rattle.std.proofs.lemmas.Option.{same_Some}
@@ -20,7 +21,8 @@ use Rattle.hx_link.specs.declared.links.Link.{Link}
 use Rattle.hx_link.specs.Steps.{IsEnd, HasEnds}
 use Rattle.hx_linkset.specs.declared.fulls.FullLink.{FullLink}
 use Rattle.hx_linkset.specs.States.{Standing, IsLive}
-use Rattle.hx_linkset.specs.Fulls.{IsFullAt, AreFullAt, seen_by, seen_from, fulls_from, fulls_of, AreFullLists, is_live_from, live_from, live_at}
+use Rattle.hx_linkset.specs.Fulls.{IsFullAt, AreFullAt, seen_by, seen_from, fulls_from, fulls_of, AreFullLists, is_live_from, live_from}
+use Rattle.hx_linkset.specs.Fulls.{live_at}
 use Rattle.hx_linkset.proofs.RisingLists.{AreAllFrom, all-rising}
 
 -- ---- all that have a property, in rising order of their indices

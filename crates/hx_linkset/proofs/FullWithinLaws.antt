@@ -2,7 +2,8 @@
 --
 -- The plan: to hold them is a test of each entry, so a list of them is the list of all, filtered; and to be live and held is to be
 -- live on the empty cells and open ends that are held.
-use Rattle.std.proofs.Common.{◌≡◌, ℕ, zero, suc, ◌+◌, ◌<◌, Bool, true, false, ◌&&◌, cond, List, [], ◌∷◌, map, length, get_or, refl, sym, ap, ◌∙◌, subst, arith, eq-eqb, eqb-true}
+use Rattle.std.proofs.Common.{◌≡◌, ℕ, zero, suc, ◌+◌, ◌<◌, Bool, true, false, ◌&&◌, cond, List, [], ◌∷◌, map, length, get_or, refl, sym, ap}
+use Rattle.std.proofs.Common.{◌∙◌, subst, arith, eq-eqb, eqb-true}
 use Rattle.std.proofs.lemmas.Bool.{cond_both, and_from}
 use Rattle.std.proofs.lemmas.List.Elements.{All-filter, filter_agree, filter_passes, All-cons, All-head, All-tail}
 use Rattle.std.proofs.lemmas.List.Kept.{AllPairs-cons, AllPairs-from_increasing}
@@ -12,7 +13,8 @@ use Rattle.std.specs.List.Sorted.{IsStrictlyIncreasing}
 use Rattle.hx_board.specs.declared.vertices.Vertex.{Vertex}
 use Rattle.hx_board.specs.Sets.{has, intersection, IsSubset}
 use Rattle.hx_board.specs.VertexSets.{code_of}
-use Rattle.hx_board.proofs.SetLaws.{same_test, first_of_both, second_of_both, has-intersection_left, has-intersection_right, has-intersection_both, intersection-is_subset, is_subset-intersection}
+use Rattle.hx_board.proofs.SetLaws.{same_test, first_of_both, second_of_both, has-intersection_left, has-intersection_right}
+use Rattle.hx_board.proofs.SetLaws.{has-intersection_both, intersection-is_subset, is_subset-intersection}
 use Rattle.hx_linkset.specs.declared.fulls.FullLink.{FullLink}
 use Rattle.hx_linkset.specs.States.{Standing}
 use Rattle.hx_linkset.specs.Fulls.{IsFullAt, AreFullAt, AreFullWithin, is_live_from, live_from}

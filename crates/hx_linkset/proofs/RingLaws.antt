@@ -1,9 +1,11 @@
 -- The laws of rings. What is pointwise comes first: rings without a node, and with a node at the end of a ring, are rings.
 -- Then the two lists: to put back undoes to take out, and to cut undoes to grow, exactly, so that undoing needs no law of
 -- rings at all.
-use Rattle.std.proofs.lemmas.List.{get_or_push, length-set, get_or-set_other, set-set, set-get_or, set-append_left, take_all, take-append-le, length-take}
+use Rattle.std.proofs.lemmas.List.{get_or_push, length-set, get_or-set_other, set-set, set-get_or, set-append_left, take_all}
+use Rattle.std.proofs.lemmas.List.{take-append-le, length-take}
 use Rattle.std.proofs.lemmas.Bool.{cases_eq}
-use Rattle.std.proofs.Common.{◌≡◌, ◌≢◌, ℕ, ◌-◌, ◌<◌, ◌≤◌, List, [], ◌∷◌, ◌++◌, length, take, set, get_or, refl, sym, ap, ◌∙◌, subst, inl, inr, ◌⊎◌, arith, length-append}
+use Rattle.std.proofs.Common.{◌≡◌, ◌≢◌, ℕ, ◌-◌, ◌<◌, ◌≤◌, List, [], ◌∷◌, ◌++◌, length, take, set, get_or, refl, sym, ap, ◌∙◌, subst, inl}
+use Rattle.std.proofs.Common.{inr, ◌⊎◌, arith, length-append}
 use Rattle.hx_linkset.specs.Rings.{IsNotBetween, AreRings, Rings, unlinked, relinked, grown, cut, IsInside}
 
 -- with the node between gone, nothing comes between its neighbours

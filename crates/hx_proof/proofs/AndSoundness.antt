@@ -20,7 +20,8 @@ use Rattle.hx_law.proofs.Ends.{Ends, After, ends}
 use Rattle.hx_board.proofs.KeptStones.{own_stays, joined_stays}
 use Rattle.hx_board.specs.Sets.{ShareNone}
 use Rattle.hx_proof.specs.Local.{IsJoined, Secures}
-use Rattle.hx_proof.proofs.LocalGame.{Goal, Stays, in_reach_in_more_room, in_reach_with_the_move, in_reach_after_stone_outside, in_reach_beside_reached}
+use Rattle.hx_proof.proofs.LocalGame.{Goal, Stays, in_reach_in_more_room, in_reach_with_the_move, in_reach_after_stone_outside}
+use Rattle.hx_proof.proofs.LocalGame.{in_reach_beside_reached}
 
 -- two regions that share no cell, and both together
 record AreParts (first second whole : ℕ → Bool) : Type 0 where

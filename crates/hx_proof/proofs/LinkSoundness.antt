@@ -20,7 +20,8 @@ use Rattle.hx_link.specs.declared.links.Kind.TheVariants.{Full, Semi}
 use Rattle.hx_link.specs.declared.links.Link.{Link}
 use Rattle.hx_link.specs.declared.steps.Step.{Step}
 use Rattle.hx_link.specs.declared.steps.Step.TheVariants.{Base, AndStone, AndCell, Or}
-use Rattle.hx_link.specs.Steps.{HasEnds, GivesBase, GivesAndStone, GivesAndCell, GivesOr, GivesByRule, IsOneOf, carriers_of, AreRightSteps, IsChainLink}
+use Rattle.hx_link.specs.Steps.{HasEnds, GivesBase, GivesAndStone, GivesAndCell, GivesOr, GivesByRule, IsOneOf, carriers_of, AreRightSteps}
+use Rattle.hx_link.specs.Steps.{IsChainLink}
 use Rattle.hx_link.proofs.LinkLaws.{place_of, in_carriers}
 use Rattle.hx_tree.specs.declared.nodes.Heading.{Heading}
 use Rattle.hx_tree.specs.Steps.{AreRightLinks}

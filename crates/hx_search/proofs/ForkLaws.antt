@@ -1,7 +1,8 @@
 -- Parts for an Or. Each of them lacks a cell that those before it share, so they are few (`parts-more`); what is shared, all
 -- live Semi links of the two ends have (`share-more`). Where a cell is shared in the end, the ends are not forked
 -- (`not-forked`); where none is, each cell is lacking in some part, and then the Or of the parts gives a link (`fork-of`).
-use Rattle.std.proofs.Common.{◌≡◌, ◌≢◌, ℕ, zero, suc, ◌<◌, ◌≤◌, ◌+◌, true, false, ◌||◌, List, [], ◌∷◌, ◌++◌, map, length, refl, sym, ap, ◌∙◌, subst, Some, ◌⊎◌, ⊎_elim, arith, length-append}
+use Rattle.std.proofs.Common.{◌≡◌, ◌≢◌, ℕ, zero, suc, ◌<◌, ◌≤◌, ◌+◌, true, false, ◌||◌, List, [], ◌∷◌, ◌++◌, map, length, refl, sym, ap}
+use Rattle.std.proofs.Common.{◌∙◌, subst, Some, ◌⊎◌, ⊎_elim, arith, length-append}
 use Rattle.std.specs.Prelude.{slice_get}
 use Rattle.std.proofs.lemmas.Bool.{false≢true, cases_lt, true_from_ne_false, or_from}
 use Rattle.std.proofs.lemmas.Option.{slice_get_within, same_Some}
@@ -11,7 +12,8 @@ use Rattle.hx_board.specs.declared.vertices.Vertex.TheVariants.{Of, First, Last}
 use Rattle.hx_board.specs.Positions.{Board}
 use Rattle.hx_board.specs.Sets.{has, union, intersection, difference, IsSubset}
 use Rattle.hx_board.proofs.CellLaws.{on_board-small}
-use Rattle.hx_board.proofs.SetLaws.{has-empty, has-union, has-insert_same, has-intersection_left, has-intersection_right, has-difference_left, has-difference_right, has-difference_both, has_not-intersection}
+use Rattle.hx_board.proofs.SetLaws.{has-empty, has-union, has-insert_same, has-intersection_left, has-intersection_right}
+use Rattle.hx_board.proofs.SetLaws.{has-difference_left, has-difference_right, has-difference_both, has_not-intersection}
 use Rattle.hx_link.specs.declared.links.Kind.TheVariants.{Full, Semi}
 use Rattle.hx_link.specs.declared.links.Link.{Link}
 use Rattle.hx_link.specs.declared.steps.Step.{Step}

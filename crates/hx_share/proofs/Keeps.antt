@@ -1,5 +1,6 @@
 -- Each step of the shared book keeps its rule.
-use Rattle.std.proofs.Common.{◌≡◌, ◌≢◌, ℕ, ◌+◌, ◌*◌, ◌%◌, ◌≤◌, eqb, false, List, [], ◌∷◌, ◌++◌, length, get_or, set, refl, sym, ap, ◌∙◌, subst, ⊎_elim, arith, length-set, get_or-set_same, Option, Some, None}
+use Rattle.std.proofs.Common.{◌≡◌, ◌≢◌, ℕ, ◌+◌, ◌*◌, ◌%◌, ◌≤◌, eqb, false, List, [], ◌∷◌, ◌++◌, length, get_or, set, refl, sym, ap, ◌∙◌}
+use Rattle.std.proofs.Common.{subst, ⊎_elim, arith, length-set, get_or-set_same, Option, Some, None}
 use Rattle.std.specs.List.{sum_by}
 use Rattle.std.proofs.lemmas.List.Sums.{sum_by-cons, sum_by-append}
 use mathlib.Core.Option.{none, some, some-ne-none}
@@ -16,11 +17,15 @@ use Rattle.hx_share.specs.declared.views.Role.{Role}
 use Rattle.hx_share.specs.declared.views.Role.TheVariants.{Note, Waiting, Acting}
 use Rattle.hx_share.specs.declared.views.View.{View}
 use Rattle.hx_share.specs.Fronts.{longer}
-use Rattle.hx_share.specs.OneList.{part, view, AreSmall, has_book, seats_of, holders_of, AreCurrentParts, AreCurrent, IsOneList, first_view, Seated, alone, acting, takes_book, gives_back, settles, all_but_first, only_first, itself, notes_of, joined, no_parts}
+use Rattle.hx_share.specs.OneList.{part, view, AreSmall, has_book, seats_of, holders_of, AreCurrentParts, AreCurrent, IsOneList, first_view}
+use Rattle.hx_share.specs.OneList.{Seated, alone, acting, takes_book, gives_back, settles, all_but_first, only_first, itself, notes_of}
+use Rattle.hx_share.specs.OneList.{joined, no_parts}
 use Rattle.hx_count.proofs.Terms.{sum-set, others-none}
 use Rattle.hx_tree.proofs.EntryLaws.{extends-itself}
 use Rattle.hx_share.proofs.FrontLaws.{longer-begins}
-use Rattle.hx_share.proofs.PartLaws.{seat_part, holder_part, count-one, count-two, count-append, count-cut, count-replicate, count-replicate_none, seats-notes, holders-notes, current-append, current-first, current-rest, current-part, current-notes, current-new, current-more}
+use Rattle.hx_share.proofs.PartLaws.{seat_part, holder_part, count-one, count-two, count-append, count-cut, count-replicate}
+use Rattle.hx_share.proofs.PartLaws.{count-replicate_none, seats-notes, holders-notes, current-append, current-first, current-rest}
+use Rattle.hx_share.proofs.PartLaws.{current-part, current-notes, current-new, current-more}
 
 abbrev Table : Type 0
 Table = State (Option Contents) View

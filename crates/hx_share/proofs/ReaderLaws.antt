@@ -1,5 +1,6 @@
 -- What a seat is before and after each of its steps, and seats that are dealt out and come back.
-use Rattle.std.proofs.Common.{◌≡◌, ℕ, zero, suc, ◌+◌, ◌-◌, ◌*◌, ◌%◌, ◌<◌, ◌≤◌, eqb, false, List, [], ◌∷◌, ◌++◌, length, map, take, drop, replicate, refl, sym, ap, ◌∙◌, subst, arith, Option, Some}
+use Rattle.std.proofs.Common.{◌≡◌, ℕ, zero, suc, ◌+◌, ◌-◌, ◌*◌, ◌%◌, ◌<◌, ◌≤◌, eqb, false, List, [], ◌∷◌, ◌++◌, length, map, take, drop}
+use Rattle.std.proofs.Common.{replicate, refl, sym, ap, ◌∙◌, subst, arith, Option, Some}
 use Rattle.std.proofs.lemmas.List.{replicate-append-replicate}
 use mathlib.Core.Option.{none}
 use prog.Atomic.{either}
@@ -12,7 +13,8 @@ use Rattle.hx_share.specs.declared.views.Limits.{Limits}
 use Rattle.hx_share.specs.declared.views.Role.{Role}
 use Rattle.hx_share.specs.declared.views.Role.TheVariants.{Note, Waiting}
 use Rattle.hx_share.specs.declared.views.Part.{Part}
-use Rattle.hx_share.specs.OneList.{part, view, has_book, IsOneList, Seated, alone, acting, first_part, IsTaken, takes_book, gives_back, settles, all_but_first, only_first, joined}
+use Rattle.hx_share.specs.OneList.{part, view, has_book, IsOneList, Seated, alone, acting, first_part, IsTaken, takes_book, gives_back}
+use Rattle.hx_share.specs.OneList.{settles, all_but_first, only_first, joined}
 use Rattle.hx_share.specs.Readers.{Reader, part_of, ReaderKeeps}
 use Rattle.hx_share.proofs.Keeps.{takes-keep, gives-keep, settles-keep}
 

@@ -12,7 +12,8 @@ use Rattle.hx_tree.specs.declared.nodes.Line.{Line}
 use Rattle.hx_tree.specs.declared.nodes.Line.TheVariants.{Child, Under}
 use Rattle.hx_tree.specs.Answers.{cell_of}
 use Rattle.hx_text.specs.declared.entries.Entry.{Entry}
-use Rattle.hx_text.specs.declared.entries.Entry.TheVariants.{Step as Step_entry, Threat as Threat_entry, Answer as Answer_entry, Fill as Fill_entry}
+use Rattle.hx_text.specs.declared.entries.Entry.TheVariants.{Step as Step_entry, Threat as Threat_entry, Answer as Answer_entry}
+use Rattle.hx_text.specs.declared.entries.Entry.TheVariants.{Fill as Fill_entry}
 use Rattle.hx_letters.specs.Words.{cell_word, IsNumber, vertex_word}
 use Rattle.hx_text.specs.StepTexts.{step_words, step_line, threat_line, StepFits, AreNumbers}
 use Rattle.hx_text.specs.FillTexts.{fill_words, fill_line, FillFits}

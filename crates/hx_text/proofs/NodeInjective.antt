@@ -17,7 +17,8 @@ use Rattle.hx_tree.specs.declared.nodes.Rule.TheVariants.{Chain, Links, Move, Al
 use Rattle.hx_tree.specs.declared.nodes.Node.{Node}
 use Rattle.hx_tree.specs.Headings.{heading_of}
 use Rattle.hx_text.specs.declared.heads.Opening.{Opening}
-use Rattle.hx_text.specs.declared.heads.Opening.TheVariants.{Chain as Chain_opening, Links as Links_opening, Move as Move_opening, All as All_opening, Fill as Fill_opening, Turned as Turned_opening}
+use Rattle.hx_text.specs.declared.heads.Opening.TheVariants.{Chain as Chain_opening, Links as Links_opening, Move as Move_opening}
+use Rattle.hx_text.specs.declared.heads.Opening.TheVariants.{All as All_opening, Fill as Fill_opening, Turned as Turned_opening}
 use Rattle.hx_text.specs.declared.heads.Head.{Head}
 use Rattle.hx_text.specs.declared.entries.Entry.{Entry}
 use Rattle.hx_text.specs.declared.versions.Preamble.{Preamble}

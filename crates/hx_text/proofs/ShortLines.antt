@@ -1,6 +1,7 @@
 -- The lines of a tree's text are short. A line is no longer than its words with a space after each, and each word but those of
 -- an Or is short and stands among few.
-use Rattle.std.proofs.Common.{ℕ, suc, zero, ◌+◌, ◌*◌, ◌/◌, ◌<◌, ◌≤◌, List, [], ◌∷◌, ◌++◌, length, map, get_or, sym, subst, arith, length-append}
+use Rattle.std.proofs.Common.{ℕ, suc, zero, ◌+◌, ◌*◌, ◌/◌, ◌<◌, ◌≤◌, List, [], ◌∷◌, ◌++◌, length, map, get_or, sym, subst, arith}
+use Rattle.std.proofs.Common.{length-append}
 use Rattle.std.specs.Prelude.{flat_map}
 use Rattle.std.specs.Fmt.{decimal}
 use Rattle.std.proofs.lemmas.Fmt.{length-decimal-le}
@@ -19,7 +20,8 @@ use Rattle.hx_tree.specs.declared.nodes.Line.TheVariants.{Child, Under}
 use Rattle.hx_tree.specs.declared.nodes.Node.{Node}
 use Rattle.hx_tree.specs.Answers.{cell_of}
 use Rattle.hx_text.specs.declared.entries.Entry.{Entry}
-use Rattle.hx_text.specs.declared.entries.Entry.TheVariants.{Step as Step_entry, Threat as Threat_entry, Answer as Answer_entry, Fill as Fill_entry}
+use Rattle.hx_text.specs.declared.entries.Entry.TheVariants.{Step as Step_entry, Threat as Threat_entry, Answer as Answer_entry}
+use Rattle.hx_text.specs.declared.entries.Entry.TheVariants.{Fill as Fill_entry}
 use Rattle.hx_text.specs.declared.heads.Opening.{Opening}
 use Rattle.hx_text.specs.declared.heads.Opening.TheVariants.{Chain, Links, Move, All as All_opening, Fill, Turned}
 use Rattle.hx_text.specs.declared.heads.Head.{Head}
@@ -30,7 +32,8 @@ use Rattle.hx_letters.specs.Words.{spaced, cell_word, IsNumber, vertex_word}
 use Rattle.hx_text.specs.StepTexts.{step_words, AreNumbers, StepFits}
 use Rattle.hx_text.specs.FillTexts.{fill_words, FillFits}
 use Rattle.hx_text.specs.Entries.{reason_words, answer_words, ReasonFits, AnswerFits, entry_line, EntryFits, EachEntryFits, entries_of}
-use Rattle.hx_text.specs.TreeTexts.{AreTreeLines, EachNodeFits, NodeFits, OpeningFits, head_of, head_words, opening_words, node_lines, front_lines, tree_lines, title_line, end_line}
+use Rattle.hx_text.specs.TreeTexts.{AreTreeLines, EachNodeFits, NodeFits, OpeningFits, head_of, head_words, opening_words, node_lines}
+use Rattle.hx_text.specs.TreeTexts.{front_lines, tree_lines, title_line, end_line}
 use Rattle.hx_text.specs.Lengths.{longest_line, AreShortLines}
 use Rattle.hx_letters.proofs.Masks.{length-hex}
 use Rattle.hx_letters.proofs.WordLengths.{length-colour_word, length-small}

@@ -6,7 +6,8 @@ use Rattle.hx_board.specs.declared.colours.Colour.{Colour}
 use Rattle.hx_board.specs.Cells.{Extent, IsExtent}
 use Rattle.hx_tree.specs.declared.nodes.Node.{Node}
 use Rattle.hx_text.specs.declared.entries.Entry.{Entry}
-use Rattle.hx_text.specs.declared.entries.Entry.TheVariants.{Step as Step_entry, Threat as Threat_entry, Answer as Answer_entry, Fill as Fill_entry}
+use Rattle.hx_text.specs.declared.entries.Entry.TheVariants.{Step as Step_entry, Threat as Threat_entry, Answer as Answer_entry}
+use Rattle.hx_text.specs.declared.entries.Entry.TheVariants.{Fill as Fill_entry}
 use Rattle.hx_text.specs.declared.versions.Preamble.{Preamble}
 use Rattle.hx_letters.specs.Words.{IsNumber}
 use Rattle.hx_letters.specs.Marks.{Lacks}
@@ -14,7 +15,8 @@ use Rattle.hx_text.specs.Grammars.{Begins}
 use Rattle.hx_text.specs.StepTexts.{step_words}
 use Rattle.hx_text.specs.FillTexts.{fill_words}
 use Rattle.hx_text.specs.Entries.{answer_words, entry_line, EntryFits, EachEntryFits, entries_of}
-use Rattle.hx_text.specs.TreeTexts.{AreTreeLines, EachNodeFits, NodeFits, head_of, head_words, node_lines, front_lines, tree_lines, end_line}
+use Rattle.hx_text.specs.TreeTexts.{AreTreeLines, EachNodeFits, NodeFits, head_of, head_words, node_lines, front_lines, tree_lines}
+use Rattle.hx_text.specs.TreeTexts.{end_line}
 use Rattle.hx_text.proofs.Cuts.{AllLack, Lacks-middle, AllLack-append, AllLack-front}
 use Rattle.hx_letters.proofs.HighBytes.{Lacks-spaced}
 use Rattle.hx_text.proofs.LineWords.{title_words, AllHigh-title_words, size_words, AllHigh-size_words, end_words, AllHigh-end_words}

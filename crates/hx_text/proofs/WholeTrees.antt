@@ -9,7 +9,8 @@ use Rattle.hx_text.specs.declared.versions.Preamble.{Preamble}
 use Rattle.hx_letters.specs.Words.{IsNumber}
 use Rattle.hx_text.specs.Grammars.{text_of}
 use Rattle.hx_text.specs.Entries.{entry_line, entries_of}
-use Rattle.hx_text.specs.TreeTexts.{AreTreeLinesOf, IsTreeText, EachNodeFits, IsRootWinner, node_lines, front_lines, end_line, tree_lines, written_tree}
+use Rattle.hx_text.specs.TreeTexts.{AreTreeLinesOf, IsTreeText, EachNodeFits, IsRootWinner, node_lines, front_lines, end_line, tree_lines}
+use Rattle.hx_text.specs.TreeTexts.{written_tree}
 use Rattle.hx_letters.proofs.Ends.{push-some}
 use Rattle.hx_text.proofs.Cuts.{text_injective, text_of-append}
 use Rattle.hx_text.proofs.TreeLacks.{AllLack-tree_lines}

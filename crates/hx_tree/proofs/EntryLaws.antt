@@ -1,6 +1,8 @@
--- A list of nodes as a book of proofs. What a list has that goes on from another. With one node more: which entries it has then, and that no two are of one position and
+-- A list of nodes as a book of proofs. What a list has that goes on from another. With one node more: which entries it has
+-- then, and that no two are of one position and
 -- mover. What was stored is the first entry of its position and mover.
-use Rattle.std.proofs.Common.{◌≡◌, ℕ, List, [], ◌∷◌, ◌++◌, length, append-nil, append_assoc, refl, sym, ap, ◌∙◌, subst, ◌⊎◌, inl, inr, ⊎_elim, arith}
+use Rattle.std.proofs.Common.{◌≡◌, ℕ, List, [], ◌∷◌, ◌++◌, length, append-nil, append_assoc, refl, sym, ap, ◌∙◌, subst, ◌⊎◌, inl, inr}
+use Rattle.std.proofs.Common.{⊎_elim, arith}
 use Rattle.std.specs.Prelude.{slice_get}
 use Rattle.std.specs.declared.option.Option.TheVariants.{Some}
 use Rattle.hx_board.specs.declared.colours.Colour.{Colour}

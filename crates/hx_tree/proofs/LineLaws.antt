@@ -1,14 +1,16 @@
 -- The lines of a node. The cells that lines answer by a child are gathered line by line. A move to an empty cell that is not
 -- to be answered leaves a threat whole; so a better cell is answered exactly where it is one of these or has a child, and
 -- lines that are right given these cells are right.
-use Rattle.std.proofs.Common.{◌≡◌, ℕ, ◌+◌, ◌<◌, true, List, [], ◌∷◌, ◌++◌, length, take, get_or, sym, ap, ◌∙◌, subst, ◌↔◌, ◌⊎◌, inl, inr, ⊎_elim, Option, Some, None}
+use Rattle.std.proofs.Common.{◌≡◌, ℕ, ◌+◌, ◌<◌, true, List, [], ◌∷◌, ◌++◌, length, take, get_or, sym, ap, ◌∙◌, subst, ◌↔◌, ◌⊎◌, inl, inr}
+use Rattle.std.proofs.Common.{⊎_elim, Option, Some, None}
 use Rattle.std.specs.Prelude.{slice_get, IfSome, Contains}
 use Rattle.std.proofs.lemmas.Bool.{false≢true, cases_Bool}
 use Rattle.std.proofs.lemmas.List.Elements.{Contains-push, Contains-push_cases, Contains-append_left}
 use Rattle.hx_board.proofs.ListLaws.{take-read}
 use Rattle.hx_board.specs.Sets.{has, insert, union, difference}
 use Rattle.hx_board.specs.Positions.{Board, IsEmpty}
-use Rattle.hx_board.proofs.SetLaws.{has-insert_cases, has-insert_same, has-insert_other, has-union_cases, has-union_left, has-union_right, has-difference_left, has-difference_right, has-difference_both}
+use Rattle.hx_board.proofs.SetLaws.{has-insert_cases, has-insert_same, has-insert_other, has-union_cases, has-union_left, has-union_right}
+use Rattle.hx_board.proofs.SetLaws.{has-difference_left, has-difference_right, has-difference_both}
 use Rattle.hx_inferior.specs.declared.dominations.Kill.{Kill}
 use Rattle.hx_link.specs.declared.links.Link.{Link}
 use Rattle.hx_tree.specs.declared.nodes.Heading.{Heading}

@@ -1,5 +1,6 @@
 -- The turned board as one value is the turned board, and with a stone more it is the one of the board with that stone.
-use Rattle.std.proofs.Common.{◌≡◌, ℕ, zero, suc, ◌<◌, Bool, true, false, if◌then◌else◌, refl, sym, ap, ◌∙◌, subst, ◌⊎◌, inl, inr, ⊎_elim, arith, ◌↔◌}
+use Rattle.std.proofs.Common.{◌≡◌, ℕ, zero, suc, ◌<◌, Bool, true, false, if◌then◌else◌, refl, sym, ap, ◌∙◌, subst, ◌⊎◌, inl, inr, ⊎_elim}
+use Rattle.std.proofs.Common.{arith, ◌↔◌}
 use Rattle.std.proofs.lemmas.Bool.{false≢true, cases_eq}
 use Rattle.hx_board.specs.declared.colours.Colour.{Colour}
 use Rattle.hx_board.specs.declared.colours.Colour.TheVariants.{Black, White}
@@ -13,7 +14,8 @@ use Rattle.hx_board.proofs.StoneLaws.{size-put, board-put}
 use Rattle.hx_turn.specs.Turned.{turned_cell, IsTurned}
 use Rattle.hx_turn.specs.TurnedStones.{turned_cells, turned_of}
 use Rattle.hx_turn.proofs.TurnedCells.{on_board-turned, turned-turned}
-use Rattle.hx_turn.proofs.TurnedBoards.{Mirrors, stone-on_board, turned-mirrors, mirrors-turned, turned-is_board, turned-back, turned-one, empty-turned, put-mirrors}
+use Rattle.hx_turn.proofs.TurnedBoards.{Mirrors, stone-on_board, turned-mirrors, mirrors-turned, turned-is_board, turned-back, turned-one}
+use Rattle.hx_turn.proofs.TurnedBoards.{empty-turned, put-mirrors}
 
 -- ---- which cells a set of turned cells has
 

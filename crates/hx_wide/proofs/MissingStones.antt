@@ -1,5 +1,6 @@
 -- The opponent's stones that a position lacks of a wider one come one after the other, on empty cells, and lead to the wider one.
-use Rattle.std.proofs.Common.{◌≡◌, ℕ, List, [], ◌∷◌, ◌++◌, Bool, true, false, ◌||◌, ◌&&◌, not, eqb, eqb-true, length, arith, refl, sym, ap, ◌∙◌, subst, ⊎_elim, ◌↔◌}
+use Rattle.std.proofs.Common.{◌≡◌, ℕ, List, [], ◌∷◌, ◌++◌, Bool, true, false, ◌||◌, ◌&&◌, not, eqb, eqb-true, length, arith, refl, sym, ap}
+use Rattle.std.proofs.Common.{◌∙◌, subst, ⊎_elim, ◌↔◌}
 use Rattle.std.proofs.lemmas.Bool.{false≢true, false_from_ne_true, or_right, true_from_ne_false}
 use Rattle.hx_board.specs.declared.colours.Colour.{Colour}
 use Rattle.hx_board.specs.declared.colours.Colour.TheVariants.{Black, White}
@@ -7,7 +8,9 @@ use Rattle.hx_board.specs.Colours.{other_of}
 use Rattle.hx_board.specs.Sets.{has, insert, remove, union, difference, IsSubset}
 use Rattle.hx_board.specs.Cells.{Extent, OnBoard}
 use Rattle.hx_board.specs.Positions.{Board, IsBoard, IsEmpty, put, stones_of}
-use Rattle.hx_board.proofs.SetLaws.{has-union, has-insert, has-remove, has-empty, same_set, has-remove_before, has-union_cases, has-union_left, has-union_right, has-difference_left, has-difference_right, has-difference_both, by_member, removed, same_test, union-none}
+use Rattle.hx_board.proofs.SetLaws.{has-union, has-insert, has-remove, has-empty, same_set, has-remove_before, has-union_cases}
+use Rattle.hx_board.proofs.SetLaws.{has-union_left, has-union_right, has-difference_left, has-difference_right, has-difference_both}
+use Rattle.hx_board.proofs.SetLaws.{by_member, removed, same_test, union-none}
 use Rattle.hx_board.proofs.ColourLaws.{one_or_other}
 use Rattle.hx_board.proofs.PositionLaws.{same_board, own-not_others}
 use Rattle.hx_board.proofs.StoneLaws.{empty-put}

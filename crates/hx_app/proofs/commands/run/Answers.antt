@@ -1,6 +1,8 @@
 use Rattle.std.proofs.Common.{refl}
 use Rattle.hx_words.specs.declared.commands.Command.TheVariants.{Check, Solve, Htp, Demo}
-use Rattle.hx_app.proofs.RunClauses.{checked_run, checked_kept, checked_not_solved, checked_not_served, checked_not_drawn, solved_run, solved_kept, solved_not_served, solved_not_drawn, served_run, served_kept, served_not_drawn, drew_run, drew_kept}
+use Rattle.hx_app.proofs.RunClauses.{checked_run, checked_kept, checked_not_solved, checked_not_served, checked_not_drawn, solved_run}
+use Rattle.hx_app.proofs.RunClauses.{solved_kept, solved_not_served, solved_not_drawn, served_run, served_kept, served_not_drawn, drew_run}
+use Rattle.hx_app.proofs.RunClauses.{drew_kept}
 use Rattle.hx_app.proofs.commands.run.Goals as goal
 
 pub returns-in-Some-Check-clause-run : goal.returns-in-Some-Check-clause-run

@@ -4,7 +4,8 @@ use Rattle.hx_lines.specs.declared.cutters.Cut.TheVariants.{Line, TooLong, Over}
 use Rattle.hx_lines.specs.Cutters.{IsCut}
 use Rattle.hx_io.proofs.CauseLaws.{rose_from_earlier}
 use Rattle.hx_check.proofs.JudgedNodes.{judged_in, judged_more}
-use Rattle.hx_check.proofs.DueAnswers.{ended_cut, long_answer, fault_answer, missing_answer, wrong_answer, many_answer, node_answer, due_next, due_later}
+use Rattle.hx_check.proofs.DueAnswers.{ended_cut, long_answer, fault_answer, missing_answer, wrong_answer, many_answer, node_answer}
+use Rattle.hx_check.proofs.DueAnswers.{due_next, due_later}
 use Rattle.hx_check.proofs.Endings.{judged_end}
 use Rattle.hx_check.proofs.judge.judge_line.Goals as goal
 

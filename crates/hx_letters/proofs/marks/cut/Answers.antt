@@ -1,5 +1,6 @@
 -- The search passed no mark up to the place that it found, so the bytes before that place lack it.
-use Rattle.std.proofs.Common.{arith, ◌≡◌, ◌≢◌, ℕ, suc, ◌+◌, ◌<◌, ◌≤◌, List, [], ◌∷◌, ◌++◌, length, length-take, get_or, take, drop, sym, ap, ◌∙◌, drop-cons, add-one}
+use Rattle.std.proofs.Common.{arith, ◌≡◌, ◌≢◌, ℕ, suc, ◌+◌, ◌<◌, ◌≤◌, List, [], ◌∷◌, ◌++◌, length, length-take, get_or, take, drop, sym, ap}
+use Rattle.std.proofs.Common.{◌∙◌, drop-cons, add-one}
 use Rattle.std.proofs.lemmas.Bool.{eq-eqb, eqb-true}
 use Rattle.std.proofs.lemmas.List.{get_or-take, take-append-drop, take_rest}
 use Rattle.memchr.specs.Find.{Nowhere, Passes, is_byte}

@@ -14,7 +14,8 @@ use Rattle.hx_tree.specs.declared.nodes.Line.{Line}
 use Rattle.hx_tree.specs.declared.nodes.Line.TheVariants.{Child}
 use Rattle.hx_tree.specs.Headings.{heading_of}
 use Rattle.hx_sweep.proofs.WinCases.{answers_all, not_all_refuted}
-use Rattle.hx_sweep.proofs.NodeGrowth.{grown_none, grown_less, grown_on, move_room, moves_room, begun_after, grown_after, proved_leads, proved_by}
+use Rattle.hx_sweep.proofs.NodeGrowth.{grown_none, grown_less, grown_on, move_room, moves_room, begun_after, grown_after, proved_leads}
+use Rattle.hx_sweep.proofs.NodeGrowth.{proved_by}
 use Rattle.hx_tree.proofs.LinesInOrder.{none_answered, all_answered, fewer_answered, right_by_lines}
 use Rattle.hx_sweep.proofs.AnswerOrder.{answered_on, child_lines}
 use Rattle.hx_sweep.proofs.nodes.+nodes.Goals as goal

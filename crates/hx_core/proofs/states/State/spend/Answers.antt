@@ -1,7 +1,8 @@
 use Rattle.std.proofs.Common.{vec_capacity}
 use Rattle.hx_count.specs.Machine.{CountsState, with_unit, with_refusal}
 use Rattle.hx_count.specs.declared.events.CountEvent.TheVariants.{Spend as SpendUnit}
-use Rattle.hx_core.proofs.FieldLaws.{step-written, fields-written, unit_left, no_unit_left, granted-answer, refused-answer, granted-changes, refused-changes}
+use Rattle.hx_core.proofs.FieldLaws.{step-written, fields-written, unit_left, no_unit_left, granted-answer, refused-answer, granted-changes}
+use Rattle.hx_core.proofs.FieldLaws.{refused-changes}
 use Rattle.hx_core.proofs.states.State.spend.Goals as goal
 
 pub invariant_of-self : goal.invariant_of-self

@@ -3,7 +3,8 @@ use Rattle.hx_count.specs.Machine.{granted_to_all}
 use Rattle.hx_count.specs.declared.events.CountEvent.TheVariants.{Spend}
 use Rattle.hx_count.specs.Counted.{IsSpend}
 use Rattle.hx_count.specs.Seats.{state_seen, first_part}
-use Rattle.hx_count.proofs.SeatLaws.{made-next, may-spend, keeps-ok, keeps-err, own-granted, refused-granted, spends-ok, spends-err, own-ok, own-err, granted-err}
+use Rattle.hx_count.proofs.SeatLaws.{made-next, may-spend, keeps-ok, keeps-err, own-granted, refused-granted, spends-ok, spends-err, own-ok}
+use Rattle.hx_count.proofs.SeatLaws.{own-err, granted-err}
 use Rattle.hx_count.proofs.counts.Counts.spend.Goals as goal
 
 pub returns-then-seat-clause-spent : goal.returns-then-seat-clause-spent

@@ -3,7 +3,8 @@ use Rattle.hx_board.specs.Positions.{Board}
 use Rattle.hx_board.specs.Sets.{count_below}
 use Rattle.hx_board.specs.Counts.{empty_count}
 use Rattle.hx_demo.specs.Generators.{words_later}
-use Rattle.hx_demo.proofs.DrawnBoards.{with_stones, black_cells, white_cells, two_parts, found-some, drawn_position-parts, drawn-black, drawn-white, drawn-empty, cells-left}
+use Rattle.hx_demo.proofs.DrawnBoards.{with_stones, black_cells, white_cells, two_parts, found-some, drawn_position-parts, drawn-black}
+use Rattle.hx_demo.proofs.DrawnBoards.{drawn-white, drawn-empty, cells-left}
 use Rattle.hx_demo.proofs.WordLaws.{words_later-add}
 use Rattle.hx_demo.proofs.draws.Draw.next.Goals as goal
 
