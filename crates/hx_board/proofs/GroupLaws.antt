@@ -88,6 +88,29 @@ pub joined_all : (before after : List ℕ) (group waiting : ℕ) → waiting ≡
 joined_all before after group waiting none k n low =
     k.sets n low ∙ rw (none, has-empty n, and-true (has group n)) refl
 
+-- the set of one number, which has grown by the group where the number is in it
+module _ (before after : List ℕ) (group place n : ℕ)
+    (row : slice_index after place ≡ (if has group place then union (slice_index before place) group else slice_index before place)) where
+  pub row_keeps : has (slice_index before place) n ≡ true → has (slice_index after place) n ≡ true
+  row_keeps h = rw row (kept (has group place))
+    where
+      kept : (b : Bool) → has (if b then union (slice_index before place) group else slice_index before place) n ≡ true
+      kept true = has-union_left (slice_index before place) group n h
+      kept false = h
+
+  pub row_adds : has group place ≡ true → has group n ≡ true → has (slice_index after place) n ≡ true
+  row_adds here there = rw (row, here) (has-union_right (slice_index before place) group n there)
+
+  pub row_cases : has (slice_index after place) n ≡ true
+      → (has (slice_index before place) n ≡ true) ⊎ ((has group place ≡ true) × (has group n ≡ true))
+  row_cases h = cases (has group place) refl (rw row at h)
+    where
+      cases : (b : Bool) → has group place ≡ b
+          → has (if b then union (slice_index before place) group else slice_index before place) n ≡ true
+          → (has (slice_index before place) n ≡ true) ⊎ ((has group place ≡ true) × (has group n ≡ true))
+      cases true e w = ⊎_elim inl (λ a. inr (e, a)) (has-union_cases (slice_index before place) group n w)
+      cases false e w = inl w
+
 -- ---- each group joined
 
 -- nothing is joined in these sets that is not in the graph, cells are joined with what touches them, and each vertex is
@@ -158,25 +181,15 @@ module _ (board : Board) (player : Colour) (extent : IsExtent board.size.rows bo
 
     keeps : (v : Vertex) → IsVertex board.size v → (n : ℕ) → has (slice_index before (code_of v)) n ≡ true
         → has (slice_index after (code_of v)) n ≡ true
-    keeps v is n h = rw (row v is) (kept (has reach (code_of v)))
-      where
-        kept : (b : Bool) → has (if b then union (slice_index before (code_of v)) reach else slice_index before (code_of v)) n ≡ true
-        kept true = has-union_left (slice_index before (code_of v)) reach n h
-        kept false = h
+    keeps v is n h = row_keeps before after reach (code_of v) n (row v is) h
 
     adds : (v : Vertex) → IsVertex board.size v → (n : ℕ) → has reach (code_of v) ≡ true → has reach n ≡ true
         → has (slice_index after (code_of v)) n ≡ true
-    adds v is n in_v in_n = rw (row v is, in_v) (has-union_right (slice_index before (code_of v)) reach n in_n)
+    adds v is n in_v in_n = row_adds before after reach (code_of v) n (row v is) in_v in_n
 
     no_more : (v : Vertex) → IsVertex board.size v → (n : ℕ) → has (slice_index after (code_of v)) n ≡ true
         → (has (slice_index before (code_of v)) n ≡ true) ⊎ ((has reach (code_of v) ≡ true) × (has reach n ≡ true))
-    no_more v is n h = cases (has reach (code_of v)) refl (rw (row v is) at h)
-      where
-        cases : (b : Bool) → has reach (code_of v) ≡ b
-            → has (if b then union (slice_index before (code_of v)) reach else slice_index before (code_of v)) n ≡ true
-            → (has (slice_index before (code_of v)) n ≡ true) ⊎ ((has reach (code_of v) ≡ true) × (has reach n ≡ true))
-        cases true e w = ⊎_elim inl (λ a. inr (e, a)) (has-union_cases (slice_index before (code_of v)) reach n w)
-        cases false e w = inl w
+    no_more v is n h = row_cases before after reach (code_of v) n (row v is) h
 
     both_joined : (v w : Vertex) → IsVertex board.size v → IsVertex board.size w → has reach (code_of v) ≡ true
         → has reach (code_of w) ≡ true → Joined board player v w

@@ -2,12 +2,14 @@
 -- cells.
 use Rattle.std.specs.Prelude.{◌≡◌, ℕ, ◌+◌, ◌<◌, true, ◌↔◌}
 use Rattle.hx_board.specs.declared.cells.TheConstants.{CELLS}
+use Rattle.hx_board.specs.declared.colours.Colour.{Colour}
 use Rattle.hx_board.specs.declared.vertices.Vertex.{Vertex}
 use Rattle.hx_board.specs.declared.vertices.Vertex.TheVariants.{Of, First, Last}
 use Rattle.hx_board.specs.declared.vertices.TheConstants.{VERTICES}
 use Rattle.hx_board.specs.Sets.{has}
 use Rattle.hx_board.specs.Cells.{Extent}
-use Rattle.hx_board.specs.Graph.{IsVertex}
+use Rattle.hx_board.specs.Positions.{Board}
+use Rattle.hx_board.specs.Graph.{IsVertex, Joined}
 
 -- the number of a vertex in a set of vertices
 abbrev pub code_of : Vertex → ℕ
@@ -40,3 +42,8 @@ pub record IsVertexCode (size : Extent) (n : ℕ) : Type 0 where
 pub record IsSetOf (size : Extent) (Fact : Vertex → Type 0) (set : ℕ) : Type 0 where
   pub vertices : (n : ℕ) → has set n ≡ true → IsVertexCode size n
   pub members : (vertex : Vertex) → IsVertex size vertex → (has set (code_of vertex) ≡ true) ↔ Fact vertex
+
+-- any two vertices of the board in a set are joined
+abbrev pub AreAllJoined : Board → Colour → ℕ → Type 0
+AreAllJoined board player set = (one other : Vertex) → IsVertex board.size one → IsVertex board.size other
+    → has set (code_of one) ≡ true → has set (code_of other) ≡ true → Joined board player one other

@@ -6,6 +6,7 @@
 
 ghost use Rattle.hx_board.specs.Graph.{IsVertex, Joined};
 ghost use Rattle.hx_board.specs.VertexSets.{IsSetOf};
+ghost use Rattle.hx_board.specs.Floods.{IsReach};
 
 use crate::graphs::Graph;
 use crate::vertex_sets::VertexSet;
@@ -27,5 +28,29 @@ pub(crate) fn flood(graph: &Graph, start: Vertex) -> VertexSet
             return group.union(near);
         }
         group = next;
+    }
+}
+
+/// What a vertex is joined with, as `flood` tells it, or a part of that which has all of a set: the flood stops as soon as it has
+/// come to all of them. Three of four steps look at cells alone, which takes half as long.
+pub(crate) fn flood_to(graph: &Graph, start: Vertex, wanted: VertexSet) -> VertexSet
+    requires { IsVertex graph.now.board.size start }
+    ensures { IsReach graph.now.board graph.now.player start wanted result }
+{
+    let own = graph.own();
+    let mut group = VertexSet::single(start);
+    loop {
+        let near = graph.spread(group);
+        let reach = group.union(near);
+        if wanted.inside(reach) {
+            return reach;
+        }
+        let next = group.union(near.meet(own));
+        if next == group {
+            return reach;
+        }
+        group = graph.grown(graph.grown(graph.grown(next)));
+        // A set is a number below 2 ^ 128 and grows at each step, so a flood ends.
+        let _bits = group.codes().bits();
     }
 }

@@ -7,9 +7,9 @@ ghost use Rattle.std.specs.Prelude.{◌≡◌, ℕ, ◌+◌, ◌-◌, ◌<◌, �
 ghost use Rattle.hx_board.specs.Sets.{has};
 ghost use Rattle.hx_board.specs.Cells.{OnBoard, CellsTouch};
 ghost use Rattle.hx_board.specs.Positions.{IsBoard};
-ghost use Rattle.hx_board.specs.Graph.{IsFirstLine, IsLastLine, IsOwn};
+ghost use Rattle.hx_board.specs.Graph.{IsFirstLine, IsLastLine, IsVertex, IsOwn};
 ghost use Rattle.hx_board.specs.VertexSets.{IsSetOf, AreVertexCodes};
-ghost use Rattle.hx_board.specs.Floods.{TouchesCellOf, TouchesOneOf};
+ghost use Rattle.hx_board.specs.Floods.{TouchesCellOf, TouchesOneOf, IsOrTouches, IsGrown};
 
 use crate::cells::Cell;
 use crate::colours::Colour;
@@ -92,6 +92,18 @@ impl Graph {
         single.union(VertexSet::of(self.around(single.codes())))
     }
 
+    /// A vertex and the vertices that touch it.
+    pub(crate) fn touching(&self, vertex: Vertex) -> VertexSet
+        requires { IsVertex self.now.board.size vertex }
+        ensures { IsSetOf self.now.board.size (IsOrTouches self.now.board.size self.now.player vertex)
+            result }
+    {
+        // The proof takes from here that the board is one.
+        let _own = self.own();
+        let single = VertexSet::single(vertex);
+        single.union(self.spread(single))
+    }
+
     /// The cells that lie below a cell of a set.
     pub(crate) fn below(&self, set: VertexSet) -> VertexSet
         ensures { (cell : ℕ) → (has result cell ≡ true)
@@ -114,6 +126,14 @@ impl Graph {
         let to_cells = cells.union(from_first).union(from_last);
         let to_sides = to_first.union(to_last);
         VertexSet::of(to_cells).union(to_sides)
+    }
+
+    /// A set with the own cells that touch a vertex in it, but for those that only a side touches.
+    pub(crate) fn grown(&self, set: VertexSet) -> VertexSet
+        ensures { IsGrown self.now.board self.now.player set result }
+    {
+        let cells = VertexSet::of(self.around(set.codes()));
+        set.union(cells.meet(self.own))
     }
 }
 

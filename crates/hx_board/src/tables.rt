@@ -59,7 +59,7 @@ fn join_groups(graph: &Graph, sets: &mut [VertexSet; VERTICES])
 }
 
 /// Joins each vertex of a set with all of them.
-fn join_all(sets: &mut [VertexSet; VERTICES], group: VertexSet)
+pub(crate) fn join_all(sets: &mut [VertexSet; VERTICES], group: VertexSet)
     ensures len { length sets.new ≡ VERTICES }
     ensures sets { (n : ℕ) → n < VERTICES → slice_index sets.new n
         ≡ (if has group n then union (slice_index sets.old n) group else slice_index sets.old n) }

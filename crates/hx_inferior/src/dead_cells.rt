@@ -8,27 +8,17 @@ ghost use Rattle.std.specs.Prelude.{◌↔◌, IsTrue};
 ghost use Rattle.hx_inferior.specs.Inferior.{IsDead};
 
 use crate::open_neighbours::open_around;
-use hx_board::{Cell, Colour, Groups, Position};
+use hx_board::{Cell, Colour, Position, all_joined};
 
 /// Whether a cell is dead for a player: it is empty, and any two different neighbours of it in the player's graph that are
 /// no stones of the opponent are joined. The player's sides are neighbours of the cells along them.
 pub fn dead(position: &Position, colour: Colour, cell: Cell) -> bool
     ensures { IsTrue result ↔ IsDead position.now colour cell }
 {
-    // The proof takes from here that the position's board is one.
-    let _size = position.size();
     let is_empty = position.empties().has(cell);
     if !is_empty {
         return false;
     }
     let around = open_around(position, colour, cell);
-    let groups = Groups::of(position, colour);
-    let mut waiting = around;
-    while let Some(vertex) = waiting.lowest() {
-        if !around.inside(groups.joined_with(vertex)) {
-            return false;
-        }
-        waiting = waiting.without_lowest();
-    }
-    true
+    all_joined(position, colour, around)
 }
