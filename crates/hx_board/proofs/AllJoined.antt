@@ -41,13 +41,15 @@ touching-is size player extent vertex is near is_near = record { vertices = vert
         let P : Vertex → Type 0 = λ x. Touches size player x v in
         subst P (same_vertex size extent t.by vertex t.by_vertex is (has-single (code_of vertex) (code_of t.by) t.by_member)) t.touch
 
-    from_set : (v : Vertex) → IsVertex size v → has (union (insert 0 (code_of vertex)) near) (code_of v) ≡ true → IsOrTouches size player vertex v
+    from_set : (v : Vertex) → IsVertex size v → has (union (insert 0 (code_of vertex)) near) (code_of v) ≡ true
+        → IsOrTouches size player vertex v
     from_set v is_v h = ⊎_elim
         (λ w. inl (same_vertex size extent vertex v is is_v (sym (has-single (code_of vertex) (code_of v) w))))
         (λ w. inr (touched v ((is_near.members v is_v).0 w)))
         (has-union_cases (insert 0 (code_of vertex)) near (code_of v) h)
 
-    to_set : (v : Vertex) → IsVertex size v → IsOrTouches size player vertex v → has (union (insert 0 (code_of vertex)) near) (code_of v) ≡ true
+    to_set : (v : Vertex) → IsVertex size v → IsOrTouches size player vertex v
+        → has (union (insert 0 (code_of vertex)) near) (code_of v) ≡ true
     to_set v is_v (inl e) =
         let P : Vertex → Type 0 = λ x. has (union (insert 0 (code_of vertex)) near) (code_of x) ≡ true in
         subst P e (has-union_left (insert 0 (code_of vertex)) near (code_of vertex) (has-insert_same 0 (code_of vertex)))
@@ -77,7 +79,8 @@ module _ (board : Board) (player : Colour) (extent : IsExtent board.size.rows bo
         (is_reach.sound w is_w (inside (code_of w) in_w))
 
     -- a flood comes to all that is joined with one of the set
-    pub joined-reached : ((n : ℕ) → has set n ≡ true → IsVertexCode board.size n) → IsVertex board.size start → has set (code_of start) ≡ true
+    pub joined-reached : ((n : ℕ) → has set n ≡ true → IsVertexCode board.size n) → IsVertex board.size start
+        → has set (code_of start) ≡ true
         → AreAllJoined board player set → IsSubset set reach
     joined-reached codes is in_set all n h = ⊎_elim (λ inside. inside n h)
         (λ whole.
@@ -136,7 +139,8 @@ module _ (board : Board) (player : Colour) (extent : IsExtent board.size.rows bo
                 then union (slice_index sets (code_of v)) (intersection reach set) else slice_index sets (code_of v))
             row v is = grown (code_of v) (code-small v (some-vertex board.size extent v is))
 
-            joined_start : (v : Vertex) → IsVertex board.size v → has (intersection reach set) (code_of v) ≡ true → Joined board player start v
+            joined_start : (v : Vertex) → IsVertex board.size v → has (intersection reach set) (code_of v) ≡ true
+                → Joined board player start v
             joined_start v is h = is_reach.sound v is (has-intersection_left reach set (code_of v) h)
 
             over_group : (u v : Vertex) → IsVertex board.size u → IsVertex board.size v → has seeds (code_of u) ≡ true
@@ -208,13 +212,16 @@ none-reached size player set sets = record {
   reached = λ v w is_v is_w in_v waits. absurd (false≢true (sym waits ∙ in_v));
 }
 
-pub all-reached : (size : Extent) (player : Colour) (set waiting : ℕ) (sets : List ℕ) → waiting ≡ 0 → AreReachedBut size player set waiting sets
+pub all-reached : (size : Extent) (player : Colour) (set waiting : ℕ) (sets : List ℕ) → waiting ≡ 0
+    → AreReachedBut size player set waiting sets
     → AreReached size player set sets
-all-reached size player set waiting sets none k = λ v w is_v is_w in_v in_w. k.reached v w is_v is_w in_v (rw none (has-empty (code_of v))) in_w
+all-reached size player set waiting sets none k = λ v w is_v is_w in_v in_w.
+    k.reached v w is_v is_w in_v (rw none (has-empty (code_of v))) in_w
 
 module _ (size : Extent) (player : Colour) (extent : IsExtent size.rows size.cols) (set : ℕ)
     (codes : (n : ℕ) → has set n ≡ true → IsVertexCode size n) (waiting : ℕ) (sets : List ℕ)
-    (k : AreReachedBut size player set waiting sets) (next : Vertex) (member : has waiting (code_of next) ≡ true) (some : IsSomeVertex next) where
+    (k : AreReachedBut size player set waiting sets) (next : Vertex) (member : has waiting (code_of next) ≡ true)
+        (some : IsSomeVertex next) where
   pub next-vertex : IsVertex size next
   next-vertex = code-vertex size next (codes (code_of next) (k.inside (code_of next) member)) some
 

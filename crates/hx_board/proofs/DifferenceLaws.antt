@@ -15,7 +15,8 @@ difference-le : (s t : ℕ) → difference s t ≤ s
 difference-le s t = rw whole at (le-union (difference s t) (intersection s t))
   where
     whole : union (difference s t) (intersection s t) ≡ s
-    whole = same_set _ _ (λ n. rw (has-union (difference s t) (intersection s t) n, has-difference s t n, has-intersection s t n) (parts (has s n) (has t n)))
+    whole = same_set _ _ (λ n.
+        rw (has-union (difference s t) (intersection s t) n, has-difference s t n, has-intersection s t n) (parts (has s n) (has t n)))
 
 -- the number falls where the two share a member
 pub difference-lt : (s t n : ℕ) → has s n ≡ true → has t n ≡ true → difference s t < s

@@ -1,6 +1,7 @@
 -- The laws of the number of empty cells. A stone on an empty cell changes the answer of `is_empty` at that cell alone, so
 -- the count falls by one.
-use Rattle.std.proofs.Common.{◌≡◌, ◌≢◌, ℕ, zero, suc, ◌+◌, ◌*◌, ◌<◌, ◌≤◌, Bool, true, false, ◌||◌, ◌&&◌, not, ltb, refl, sym, ap, ◌∙◌, arith, ⊎_elim, ◌↔◌, eqb-true}
+use Rattle.std.proofs.Common.{◌≡◌, ◌≢◌, ℕ, zero, suc, ◌+◌, ◌*◌, ◌<◌, ◌≤◌, Bool, true, false, ◌||◌, ◌&&◌, not, ltb, refl, sym, ap, ◌∙◌}
+use Rattle.std.proofs.Common.{arith, ⊎_elim, ◌↔◌, eqb-true}
 use Rattle.std.proofs.lemmas.Bool.{false≢true, cases_lt, ltb-true, lt-ltb, not-true, not_from_false, and_from, false_from_ne_true}
 use Rattle.std.specs.Prelude.{if◌then◌else◌}
 use Rattle.hx_board.specs.Sets.{has, insert, count_below}
@@ -16,7 +17,8 @@ use Rattle.hx_board.proofs.Tallies.{share, tally, tally-same, tally-one_less, ta
 -- ---- the test of one cell
 
 is_empty-parts : (board : Board) (cell : ℕ)
-    → is_empty board cell ≡ (ltb (row_of cell) board.size.rows && ltb (col_of cell) board.size.cols && not (has board.black cell) && not (has board.white cell))
+    → is_empty board cell ≡ (ltb (row_of cell) board.size.rows && ltb (col_of cell) board.size.cols && not (has board.black cell)
+        && not (has board.white cell))
 unfolding is_empty
 is_empty-parts board cell = refl
 
@@ -28,7 +30,8 @@ is_empty-is board cell = (
     no_white = not-true _ t.3;
   }),
   (λ e. is_empty-parts board cell
-      ∙ and_from _ _ (and_from _ _ (and_from _ _ (lt-ltb _ _ e.on_board.row) (lt-ltb _ _ e.on_board.col)) (not_from_false _ e.no_black)) (not_from_false _ e.no_white)),
+      ∙ and_from _ _ (and_from _ _ (and_from _ _ (lt-ltb _ _ e.on_board.row) (lt-ltb _ _ e.on_board.col)) (not_from_false _ e.no_black))
+          (not_from_false _ e.no_white)),
 )
   where
     tests : (a b c d : Bool) → (a && b && c && d) ≡ true → (a ≡ true) × (b ≡ true) × (c ≡ true) × (d ≡ true)
@@ -46,7 +49,8 @@ put-not_empty board colour cell = false_from_ne_true _ (λ h. held colour ((is_e
     held White e = false≢true (sym e.no_white ∙ has-insert_same board.white cell)
 
 has-insert_elsewhere : (set cell n : ℕ) → n ≢ cell → has (insert set cell) n ≡ has set n
-has-insert_elsewhere set cell n other = has-insert set cell n ∙ ap (λ b. b || has set n) (false_from_ne_true _ (λ h. other (eqb-true n cell h)))
+has-insert_elsewhere set cell n other = has-insert set cell n
+    ∙ ap (λ b. b || has set n) (false_from_ne_true _ (λ h. other (eqb-true n cell h)))
 
 pub put-elsewhere : (board : Board) (colour : Colour) (cell n : ℕ) → n ≢ cell → is_empty (put board colour cell) n ≡ is_empty board n
 unfolding is_empty
@@ -61,7 +65,8 @@ empty_below-tally zero board = refl
 empty_below-tally (suc bound) board = let rest = empty_below-tally bound board in omega arith
 
 -- the members of the set of the empty cells are counted
-count_below-empty : (bound : ℕ) (board : Board) (set : ℕ) → ((cell : ℕ) → (has set cell ≡ true) ↔ IsEmpty board cell) → count_below bound set ≡ empty_below bound board
+count_below-empty : (bound : ℕ) (board : Board) (set : ℕ) → ((cell : ℕ) → (has set cell ≡ true) ↔ IsEmpty board cell)
+    → count_below bound set ≡ empty_below bound board
 count_below-empty bound board set is_set =
     rw (count_below-tally bound set, empty_below-tally bound board) (tally-same (has set) (is_empty board) bound (λ cell _. same cell))
   where
@@ -90,7 +95,8 @@ pub empty_count-put : (board : Board) (colour : Colour) (cell : ℕ) → IsBoard
 unfolding empty_count
 empty_count-put board colour cell is e =
     rw (empty_below-tally 121 board, empty_below-tally 121 (put board colour cell))
-    (tally-one_less (is_empty board) (is_empty (put board colour cell)) cell 121 ((is_empty-is board cell).1 e) (put-not_empty board colour cell)
+    (tally-one_less (is_empty board) (is_empty (put board colour cell)) cell 121 ((is_empty-is board cell).1 e)
+        (put-not_empty board colour cell)
     (λ n other. sym (put-elsewhere board colour cell n other)) (on_board-small board.size cell is.0 e.on_board))
 
 pub some_empty-count : (board : Board) (cell : ℕ) → IsBoard board → IsEmpty board cell → 1 ≤ empty_count board
@@ -102,7 +108,8 @@ none_empty board is none cell e = let some = some_empty-count board cell is e in
 pub none_empty-count : (board : Board) → ((cell : ℕ) → IsEmpty board cell → ⊥) → empty_count board ≡ 0
 unfolding empty_count
 none_empty-count board none =
-    empty_below-tally 121 board ∙ tally-none (is_empty board) 121 (λ cell _. false_from_ne_true _ (λ e. none cell ((is_empty-is board cell).0 e)))
+    empty_below-tally 121 board
+        ∙ tally-none (is_empty board) 121 (λ cell _. false_from_ne_true _ (λ e. none cell ((is_empty-is board cell).0 e)))
 
 -- from 121 on there is no cell
 above_board : (more : ℕ) (board : Board) → IsExtent board.size.rows board.size.cols → empty_below (121 + more) board ≡ empty_below 121 board
@@ -116,7 +123,8 @@ above_board (suc more) board extent =
     outside : IsEmpty board (121 + more) → ⊥
     outside e = let small : 121 + more < 121 = on_board-small board.size (121 + more) extent e.on_board in absurd (omega arith)
 
-pub empties-count : (board : Board) (set : ℕ) → IsBoard board → ((cell : ℕ) → (has set cell ≡ true) ↔ IsEmpty board cell) → count_below 128 set ≡ empty_count board
+pub empties-count : (board : Board) (set : ℕ) → IsBoard board → ((cell : ℕ) → (has set cell ≡ true) ↔ IsEmpty board cell)
+    → count_below 128 set ≡ empty_count board
 unfolding empty_count
 empties-count board set is is_set = count_below-empty 128 board set is_set ∙ above_board 7 board is.0
 
@@ -138,7 +146,8 @@ sweep_size-more empty = grind arith
 pub sweep_size-below : (less more : ℕ) → less ≤ more → sweep_size less ≤ sweep_size more
 sweep_size-below less zero h = let same : less ≡ 0 = omega arith in rw same (omega arith)
 sweep_size-below less (suc more) h =
-    ⊎_elim (λ k. let rest = sweep_size-below less more (omega arith) in let step = sweep_size-more more in omega arith) same (cases_lt less (suc more))
+    ⊎_elim (λ k. let rest = sweep_size-below less more (omega arith) in let step = sweep_size-more more in omega arith) same
+        (cases_lt less (suc more))
   where
     same : suc more ≤ less → sweep_size less ≤ sweep_size (suc more)
     same k = let e : less ≡ suc more = omega arith in rw e (omega arith)

@@ -1,6 +1,7 @@
 -- Flooding finds exactly what is joined. A flood keeps that each vertex in it is the start or led to by a walk of own
 -- vertices, and where it grows no more, no walk of own vertices leads out of it.
-use Rattle.std.proofs.Common.{◌≡◌, ◌≢◌, ℕ, ◌-◌, ◌<◌, ◌≤◌, Bool, ◌||◌, List, [], ◌∷◌, ◌++◌, true, false, refl, sym, ◌∙◌, subst, arith, ◌⊎◌, inl, inr, ⊎_elim, ◌↔◌}
+use Rattle.std.proofs.Common.{◌≡◌, ◌≢◌, ℕ, ◌-◌, ◌<◌, ◌≤◌, Bool, ◌||◌, List, [], ◌∷◌, ◌++◌, true, false, refl, sym, ◌∙◌, subst, arith, ◌⊎◌}
+use Rattle.std.proofs.Common.{inl, inr, ⊎_elim, ◌↔◌}
 use Rattle.std.proofs.lemmas.Bool.{false≢true}
 use Rattle.std.proofs.lemmas.Nat.{le_or_l}
 use Rattle.hx_board.specs.declared.colours.Colour.{Colour}
@@ -12,7 +13,9 @@ use Rattle.hx_board.specs.Positions.{Board, IsBoard, stones_of}
 use Rattle.hx_board.specs.Graph.{IsVertex, IsOwn, Touches, Walk, Joined}
 use Rattle.hx_board.specs.VertexSets.{IsVertexCode, IsSetOf, code_of}
 use Rattle.hx_board.specs.Floods.{TouchesCellOf, TouchesOneOf, IsAdded, IsGrown, IsReach}
-use Rattle.hx_board.proofs.SetLaws.{same_set, has-union, has-union_left, has-union_right, has-union_cases, has-intersection_left, has-intersection_right, has-intersection_both, has-insert_cases, has-insert_same, has-insert_other, has-empty}
+use Rattle.hx_board.proofs.SetLaws.{same_set, has-union, has-union_left, has-union_right, has-union_cases, has-intersection_left}
+use Rattle.hx_board.proofs.SetLaws.{has-intersection_right, has-intersection_both, has-insert_cases, has-insert_same, has-insert_other}
+use Rattle.hx_board.proofs.SetLaws.{has-empty}
 use Rattle.hx_board.proofs.CellLaws.{on_board-small}
 use Rattle.hx_board.proofs.Joins.{touches-vertex, walk-append}
 use Rattle.hx_board.proofs.VertexSetLaws.{some-vertex, code-same}
@@ -113,22 +116,26 @@ Leads board player from to = IsOwn board player to × ((inner : List Vertex) × 
 pub record IsFlood (board : Board) (player : Colour) (start : Vertex) (set : ℕ) : Type 0 where
   pub started : has set (code_of start) ≡ true
   pub vertices : (n : ℕ) → has set n ≡ true → IsVertexCode board.size n
-  pub sound : (vertex : Vertex) → IsVertex board.size vertex → has set (code_of vertex) ≡ true → (vertex ≡ start) ⊎ Leads board player start vertex
+  pub sound : (vertex : Vertex) → IsVertex board.size vertex → has set (code_of vertex) ≡ true → (vertex ≡ start)
+      ⊎ Leads board player start vertex
 
 -- no own vertex outside the set touches one in it
 abbrev pub HoldsItsNeighbours : Board → Colour → ℕ → Type 0
 HoldsItsNeighbours board player set =
-    (vertex : Vertex) → IsVertex board.size vertex → IsOwn board player vertex → TouchesOneOf board.size player set vertex → has set (code_of vertex) ≡ true
+    (vertex : Vertex) → IsVertex board.size vertex → IsOwn board player vertex → TouchesOneOf board.size player set vertex
+        → has set (code_of vertex) ≡ true
 
 module _ (board : Board) (player : Colour) where
-  pub single-is_flood : IsExtent board.size.rows board.size.cols → (start : Vertex) → IsVertex board.size start → (n : ℕ) → code_of start ≡ n → IsFlood board player start (insert 0 n)
+  pub single-is_flood : IsExtent board.size.rows board.size.cols → (start : Vertex) → IsVertex board.size start → (n : ℕ)
+      → code_of start ≡ n → IsFlood board player start (insert 0 n)
   single-is_flood extent start is n e = record {
     started = rw e (has-insert_same 0 n);
     vertices = λ k h. record { vertex = start; is_vertex = is; is_code = e ∙ sym (has-single n k h) };
     sound = λ v is_v h. inl (same_vertex board.size extent v start is_v is (has-single n (code_of v) h ∙ sym e));
   }
 
-  leads_more : (start by v : Vertex) → (by ≡ start) ⊎ Leads board player start by → IsOwn board player v → Touches board.size player by v → Leads board player start v
+  leads_more : (start by v : Vertex) → (by ≡ start) ⊎ Leads board player start by → IsOwn board player v → Touches board.size player by v
+      → Leads board player start v
   leads_more start by v (inl e) own t = (own, ([], let P : Vertex → Type 0 = λ x. Touches board.size player x v in subst P e t))
   leads_more start by v (inr w) own t = (own, (w.1.0 ++ by ∷ [], walk-append board player w.1.0 [] start by v w.1.1 w.0 t))
 
@@ -148,39 +155,47 @@ module _ (board : Board) (player : Colour) where
           subst P (same_vertex board.size extent a.vertex v a.is_vertex is_v a.is_code)
           (leads_more start by a.vertex (f.sound by a.touch.by_vertex a.touch.by_member) a.own a.touch.touch)
 
-  module _ (own set near : ℕ) (is_own : IsSetOf board.size (IsOwn board player) own) (is_near : IsSetOf board.size (TouchesOneOf board.size player set) near) where
+  module _ (own set near : ℕ) (is_own : IsSetOf board.size (IsOwn board player) own)
+      (is_near : IsSetOf board.size (TouchesOneOf board.size player set) near) where
     pub grown-is_flood : (start : Vertex) → IsFlood board player start set → IsFlood board player start (union set (intersection near own))
     grown-is_flood start f = record {
       started = has-union_left set _ (code_of start) f.started;
-      vertices = λ n h. ⊎_elim (f.vertices n) (λ w. is_near.vertices n (has-intersection_left near own n w)) (has-union_cases set (intersection near own) n h);
+      vertices = λ n h. ⊎_elim (f.vertices n) (λ w. is_near.vertices n (has-intersection_left near own n w))
+          (has-union_cases set (intersection near own) n h);
       sound = λ v is_v h. ⊎_elim (f.sound v is_v)
           (λ w.
           let t : TouchesOneOf board.size player set v = (is_near.members v is_v).0 (has-intersection_left near own (code_of v) w) in
-          inr (leads_more start t.by v (f.sound t.by t.by_vertex t.by_member) ((is_own.members v is_v).0 (has-intersection_right near own (code_of v) w)) t.touch))
+          inr (leads_more start t.by v (f.sound t.by t.by_vertex t.by_member)
+              ((is_own.members v is_v).0 (has-intersection_right near own (code_of v) w)) t.touch))
           (has-union_cases set (intersection near own) (code_of v) h);
     }
 
     grown-is_closed : union set (intersection near own) ≡ set → HoldsItsNeighbours board player set
     grown-is_closed same v is_v own_v t =
-        rw same at (has-union_right set _ (code_of v) (has-intersection_both near own (code_of v) ((is_near.members v is_v).1 t) ((is_own.members v is_v).1 own_v)))
+        rw same at (has-union_right set _ (code_of v)
+            (has-intersection_both near own (code_of v) ((is_near.members v is_v).1 t) ((is_own.members v is_v).1 own_v)))
 
-    walked : HoldsItsNeighbours board player set → (inner : List Vertex) (from to : Vertex) → IsVertex board.size from → has set (code_of from) ≡ true
+    walked : HoldsItsNeighbours board player set → (inner : List Vertex) (from to : Vertex) → IsVertex board.size from
+        → has set (code_of from) ≡ true
         → Walk board player from inner to → TouchesOneOf board.size player set to
     walked closed [] from to is h w = record { by = from; by_vertex = is; by_member = h; touch = w }
     walked closed (v ∷ vs) from to is h w =
         let is_v : IsVertex board.size v = touches-vertex board.size player from v w.0 in
         walked closed vs v to is_v (closed v is_v w.1 (record { by = from; by_vertex = is; by_member = h; touch = w.0 })) w.2
 
-    flood-joined : (start to : Vertex) → IsFlood board player start set → TouchesOneOf board.size player set to → Joined board player start to
+    flood-joined : (start to : Vertex) → IsFlood board player start set → TouchesOneOf board.size player set to
+        → Joined board player start to
     flood-joined start to f t =
         ⊎_elim (λ e. inr ([], let P : Vertex → Type 0 = λ x. Touches board.size player x to in subst P e t.touch))
         (λ w. inr (w.1.0 ++ t.by ∷ [], walk-append board player w.1.0 [] start t.by to w.1.1 w.0 t.touch))
         (f.sound t.by t.by_vertex t.by_member)
 
-    joined-flood : HoldsItsNeighbours board player set → (start to : Vertex) → IsVertex board.size start → IsVertex board.size to → IsFlood board player start set
+    joined-flood : HoldsItsNeighbours board player set → (start to : Vertex) → IsVertex board.size start → IsVertex board.size to
+        → IsFlood board player start set
         → Joined board player start to → has (union set near) (code_of to) ≡ true
     joined-flood closed start to is is_to f (inl e) =
-        let P : Vertex → Type 0 = λ x. has (union set near) (code_of x) ≡ true in subst P e (has-union_left set near (code_of start) f.started)
+        let P : Vertex → Type 0 = λ x. has (union set near) (code_of x) ≡ true in
+            subst P e (has-union_left set near (code_of start) f.started)
     joined-flood closed start to is is_to f (inr w) =
         has-union_right set near (code_of to) ((is_near.members to is_to).1 (walked closed w.0 start to is f.started w.1))
 
@@ -190,7 +205,8 @@ module _ (board : Board) (player : Colour) where
     flood-sound : (start : Vertex) → IsFlood board player start set → (v : Vertex) → IsVertex board.size v
         → has (union set near) (code_of v) ≡ true → Joined board player start v
     flood-sound start f v is_v h =
-        ⊎_elim (λ w. ⊎_elim (λ e. inl (sym e)) (λ l. inr l.1) (f.sound v is_v w)) (λ w. flood-joined start v f ((is_near.members v is_v).0 w))
+        ⊎_elim (λ w. ⊎_elim (λ e. inl (sym e)) (λ l. inr l.1) (f.sound v is_v w))
+            (λ w. flood-joined start v f ((is_near.members v is_v).0 w))
         (has-union_cases set near (code_of v) h)
 
     -- where a flood grows no more, it and what touches it are what the start is joined with

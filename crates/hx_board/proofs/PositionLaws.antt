@@ -9,7 +9,8 @@ use Rattle.hx_board.specs.declared.colours.Colour.{Colour}
 use Rattle.hx_board.specs.declared.colours.Colour.TheVariants.{Black, White}
 use Rattle.hx_board.specs.Colours.{other_of}
 use Rattle.hx_board.specs.Positions.{Board, IsBoard, IsPosition, IsEmpty, put, stones_of, lifted, stone_at}
-use Rattle.hx_board.proofs.SetLaws.{has-empty, has-insert_cases, has-union_left, has-union_right, has-union_cases, has-difference_left, has-difference_right, has-difference_both, set-small, remove-absent, remove-insert}
+use Rattle.hx_board.proofs.SetLaws.{has-empty, has-insert_cases, has-union_left, has-union_right, has-union_cases, has-difference_left}
+use Rattle.hx_board.proofs.SetLaws.{has-difference_right, has-difference_both, set-small, remove-absent, remove-insert}
 use Rattle.hx_board.proofs.CellLaws.{on_board-small}
 
 pub empty-is_position : (size : Extent) → IsPosition size 0 0
@@ -20,7 +21,8 @@ empty-is_position size = record {
 }
 
 -- a player's stones are none of the opponent's
-pub own-not_others : (board : Board) → IsBoard board → (player : Colour) (n : ℕ) → has (stones_of board player) n ≡ true → has (stones_of board (other_of player)) n ≡ false
+pub own-not_others : (board : Board) → IsBoard board → (player : Colour) (n : ℕ) → has (stones_of board player) n ≡ true
+    → has (stones_of board (other_of player)) n ≡ false
 own-not_others board is Black n own = is.1.apart n own
 own-not_others board is White n own = false_from_ne_true _ (λ black. false≢true (sym (is.1.apart n black) ∙ own))
 
@@ -39,21 +41,25 @@ white-alone-is_position {size} {black} {white} is = record {
   white_inside = is.white_inside;
 }
 
-inserted_inside : (size : Extent) (set cell : ℕ) → OnBoard size cell → ((n : ℕ) → has set n ≡ true → OnBoard size n) → (n : ℕ) → has (insert set cell) n ≡ true → OnBoard size n
+inserted_inside : (size : Extent) (set cell : ℕ) → OnBoard size cell → ((n : ℕ) → has set n ≡ true → OnBoard size n) → (n : ℕ)
+    → has (insert set cell) n ≡ true → OnBoard size n
 inserted_inside size set cell here before n h =
     ⊎_elim (λ e. let P : ℕ → Type 0 = λ x. OnBoard size x in subst P (sym e) here) (λ k. before n k) (has-insert_cases set cell n h)
 
 lacks_inserted : (set cell n : ℕ) → has set n ≡ false → n ≢ cell → has (insert set cell) n ≡ false
-lacks_inserted set cell n lacks other = false_from_ne_true _ (λ h. ⊎_elim other (λ k. false≢true (sym lacks ∙ k)) (has-insert_cases set cell n h))
+lacks_inserted set cell n lacks other =
+    false_from_ne_true _ (λ h. ⊎_elim other (λ k. false≢true (sym lacks ∙ k)) (has-insert_cases set cell n h))
 
-pub black-is_position : (board : Board) (cell : ℕ) → IsPosition board.size board.black board.white → IsEmpty board cell → IsPosition board.size (insert board.black cell) board.white
+pub black-is_position : (board : Board) (cell : ℕ) → IsPosition board.size board.black board.white → IsEmpty board cell
+    → IsPosition board.size (insert board.black cell) board.white
 black-is_position board cell p e = record {
   apart = λ n h. ⊎_elim (λ same. ap (has board.white) same ∙ e.no_white) (p.apart n) (has-insert_cases board.black cell n h);
   black_inside = inserted_inside board.size board.black cell e.on_board p.black_inside;
   white_inside = p.white_inside;
 }
 
-pub white-is_position : (board : Board) (cell : ℕ) → IsPosition board.size board.black board.white → IsEmpty board cell → IsPosition board.size board.black (insert board.white cell)
+pub white-is_position : (board : Board) (cell : ℕ) → IsPosition board.size board.black board.white → IsEmpty board cell
+    → IsPosition board.size board.black (insert board.white cell)
 white-is_position board cell p e = record {
   apart = λ n h. lacks_inserted board.white cell n (p.apart n h) (λ same. false≢true (sym (ap (has board.black) same ∙ e.no_black) ∙ h));
   black_inside = p.black_inside;
@@ -67,11 +73,15 @@ has-empties board all is_all n =
     let held : ℕ = union board.black board.white in (
       (λ h. record {
         on_board = (is_all n).0 (has-difference_left all held n h);
-        no_black = false_from_ne_true _ (λ k. false≢true (sym (has-difference_right all held n h) ∙ has-union_left board.black board.white n k));
-        no_white = false_from_ne_true _ (λ k. false≢true (sym (has-difference_right all held n h) ∙ has-union_right board.black board.white n k));
+        no_black = false_from_ne_true _
+            (λ k. false≢true (sym (has-difference_right all held n h) ∙ has-union_left board.black board.white n k));
+        no_white = false_from_ne_true _
+            (λ k. false≢true (sym (has-difference_right all held n h) ∙ has-union_right board.black board.white n k));
       }),
       (λ e. has-difference_both all held n ((is_all n).1 e.on_board)
-          (false_from_ne_true _ (λ k. ⊎_elim (λ b. false≢true (sym e.no_black ∙ b)) (λ w. false≢true (sym e.no_white ∙ w)) (has-union_cases board.black board.white n k)))),
+          (false_from_ne_true _
+              (λ k. ⊎_elim (λ b. false≢true (sym e.no_black ∙ b)) (λ w. false≢true (sym e.no_white ∙ w))
+              (has-union_cases board.black board.white n k)))),
     )
 
 pub tested-is_position : (size : Extent) (black white all : ℕ) → ((n : ℕ) → (has all n ≡ true) ↔ OnBoard size n)
@@ -82,7 +92,8 @@ tested-is_position size black white all is_all apart inside = record {
   white_inside = λ n h. (is_all n).0 (inside n (has-union_right black white n h));
 }
 
-pub position-inside : (size : Extent) (black white all : ℕ) → ((n : ℕ) → (has all n ≡ true) ↔ OnBoard size n) → IsPosition size black white → IsSubset (union black white) all
+pub position-inside : (size : Extent) (black white all : ℕ) → ((n : ℕ) → (has all n ≡ true) ↔ OnBoard size n) → IsPosition size black white
+    → IsSubset (union black white) all
 position-inside size black white all is_all p n h =
     (is_all n).1 (⊎_elim (p.black_inside n) (p.white_inside n) (has-union_cases black white n h))
 
@@ -103,7 +114,8 @@ lifted-put board White cell e =
     ∙ ap (λ (w : ℕ). record board { white = w }) (remove-insert board.white cell e.no_white)
 
 -- the same of a board that is equal to the one with the stone, the form in which the prover finds it for `lift`
-pub lifted_back : (old before : Board) (colour : Colour) (cell : ℕ) → IsEmpty before cell → old ≡ put before colour cell → lifted old cell ≡ before
+pub lifted_back : (old before : Board) (colour : Colour) (cell : ℕ) → IsEmpty before cell → old ≡ put before colour cell
+    → lifted old cell ≡ before
 lifted_back old before colour cell e same = ap (λ (board : Board). lifted board cell) same ∙ lifted-put before colour cell e
 
 -- the sets of a position have only cells of a board, whose indexes are below 121

@@ -1,6 +1,7 @@
 -- How many numbers below a bound pass a test: what the counts of members of a set and of empty cells have in common. Where one
 -- test differs from another at one number alone, that is one more or one less.
-use Rattle.std.proofs.Common.{◌≡◌, ◌≢◌, ℕ, zero, suc, ◌+◌, ◌<◌, ◌≤◌, Bool, true, false, ◌&&◌, not, eqb, eq-eqb, refl, sym, ap, ◌∙◌, arith, ⊎_elim}
+use Rattle.std.proofs.Common.{◌≡◌, ◌≢◌, ℕ, zero, suc, ◌+◌, ◌<◌, ◌≤◌, Bool, true, false, ◌&&◌, not, eqb, eq-eqb, refl, sym, ap, ◌∙◌, arith}
+use Rattle.std.proofs.Common.{⊎_elim}
 use Rattle.std.specs.Prelude.{if◌then◌else◌}
 use Rattle.std.proofs.lemmas.Bool.{cases_lt, ne_eqb}
 use Rattle.hx_board.specs.Sets.{has, remove, count_below}
@@ -20,7 +21,8 @@ tally-same test other (suc bound) same =
     let last = ap share (same bound (omega arith)) in
     let rest = tally-same test other bound (λ n h. same n (omega arith)) in omega arith
 
-pub tally-one_less : (test other : ℕ → Bool) (n bound : ℕ) → test n ≡ true → other n ≡ false → ((k : ℕ) → k ≢ n → test k ≡ other k) → n < bound
+pub tally-one_less : (test other : ℕ → Bool) (n bound : ℕ) → test n ≡ true → other n ≡ false → ((k : ℕ) → k ≢ n → test k ≡ other k)
+    → n < bound
     → tally test bound ≡ suc (tally other bound)
 tally-one_less test other n zero passes fails same less = absurd (omega arith)
 tally-one_less test other n (suc bound) passes fails same less =

@@ -40,13 +40,15 @@ pub empty-codes : AreVertexCodes 0
 empty-codes n h = absurd (false≢true (sym (has-empty n) ∙ h))
 
 pub insert-codes : (set code : ℕ) → AreVertexCodes set → code < 123 → AreVertexCodes (insert set code)
-insert-codes set code are small n h = ⊎_elim (λ (e : n ≡ code). let P : ℕ → Type 0 = λ x. x < 123 in subst P (sym e) small) (are n) (has-insert_cases set code n h)
+insert-codes set code are small n h =
+    ⊎_elim (λ (e : n ≡ code). let P : ℕ → Type 0 = λ x. x < 123 in subst P (sym e) small) (are n) (has-insert_cases set code n h)
 
 pub union-codes : (set other : ℕ) → AreVertexCodes set → AreVertexCodes other → AreVertexCodes (union set other)
 union-codes set other are others n h = ⊎_elim (are n) (others n) (has-union_cases set other n h)
 
 -- a set of cells of a board
-pub cells-small : (size : Extent) (set : ℕ) → IsExtent size.rows size.cols → ((n : ℕ) → has set n ≡ true → OnBoard size n) → AreVertexCodes set
+pub cells-small : (size : Extent) (set : ℕ) → IsExtent size.rows size.cols → ((n : ℕ) → has set n ≡ true → OnBoard size n)
+    → AreVertexCodes set
 cells-small size set extent cells n h = let small : n < 121 = on_board-small size n extent (cells n h) in omega arith
 
 -- a vertex of some board whose code is that of a vertex of this board is that vertex

@@ -25,7 +25,8 @@ same_or_differ Last (Of m) = inr (λ e. cc)
 same_or_differ Last First = inr (λ e. cc)
 same_or_differ Last Last = inl cc
 
-module _ (board : Board) (player : Colour) (cell around : ℕ) (is_around : IsSetOf board.size (IsOpenNeighbour board player cell) around) where
+module _ (board : Board) (player : Colour) (cell around : ℕ)
+    (is_around : IsSetOf board.size (IsOpenNeighbour board player cell) around) where
   pub all_joined-dead : IsEmpty board cell → AreAllJoined board player around → IsDead board player cell
   all_joined-dead empty all = record {
     empty = empty;

@@ -16,7 +16,8 @@ returns-in-Some c =
     let is : IsVertex c.args.position.now.size c.in-Some.start = code-vertex _ _ (c.requires _ in_set) c.in-Some.ensures.some in
     let mine : IsOwn c.args.position.now c.args.player c.in-Some.start = (own.members _ is).0 (has-intersection_right _ _ _ member) in (
       (λ h. reached-joined _ _ (rw c.of-graph.ensures at c.own.ensures.valid).0 _ _ _ reach mine (c.inside.ensures.0 h)),
-      (λ all. c.inside.ensures.1 (joined-reached _ _ (rw c.of-graph.ensures at c.own.ensures.valid).0 _ _ _ reach c.requires is in_set all)),
+      (λ all. c.inside.ensures.1
+          (joined-reached _ _ (rw c.of-graph.ensures at c.own.ensures.valid).0 _ _ _ reach c.requires is in_set all)),
     )
 
 pub returns-in-None : goal.returns-in-None

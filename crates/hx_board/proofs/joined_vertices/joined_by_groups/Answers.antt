@@ -1,6 +1,7 @@
 use Rattle.std.proofs.Common.{sym, ◌∙◌, refl}
 use Rattle.std.proofs.lemmas.Bool.{false≢true}
-use Rattle.hx_board.proofs.AllJoined.{none-grouped, seed-vertex, one_group-joined, seeds-fall, one_more-grouped, grouped-joined, joined-grouped}
+use Rattle.hx_board.proofs.AllJoined.{none-grouped, seed-vertex, one_group-joined, seeds-fall, one_more-grouped, grouped-joined}
+use Rattle.hx_board.proofs.AllJoined.{joined-grouped}
 use Rattle.hx_board.proofs.joined_vertices.joined_by_groups.Goals as goal
 
 pub loop-start-init : goal.loop-start-init

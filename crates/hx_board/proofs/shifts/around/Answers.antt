@@ -4,7 +4,9 @@ use Rattle.hx_board.proofs.SetLaws.{has-intersection}
 use Rattle.hx_board.proofs.Around.{Shifts, from_shifts, to_shifts}
 use Rattle.hx_board.proofs.shifts.around.Goals as goal
 
-shifts : (c : goal.After-meet-2) → Shifts c.args.size c.args.set c.args.all c.args.left c.meet-cells.result c.earlier-above.result c.later-below.result c.later-to_right.result c.meet-to_left.result
+shifts : (c : goal.After-meet-2)
+    → Shifts c.args.size c.args.set c.args.all c.args.left c.meet-cells.result c.earlier-above.result c.later-below.result
+    c.later-to_right.result c.meet-to_left.result
 shifts c = record {
   extent = c.requires.extent;
   is_all = c.requires.all;
@@ -13,7 +15,8 @@ shifts c = record {
   is_above = c.earlier-above.ensures;
   is_below = c.later-below.ensures;
   is_to_right = λ n h. rw (← c.union.ensures.set, ← c.meet.ensures.set) (c.later-to_right.ensures n h);
-  is_to_left = λ n. rw (c.meet-to_left.ensures.set, ← c.union-2.ensures.set) (has-intersection _ _ n ∙ ap (λ b. b && has c.args.left n) (c.earlier.ensures n));
+  is_to_left = λ n. rw (c.meet-to_left.ensures.set, ← c.union-2.ensures.set)
+      (has-intersection _ _ n ∙ ap (λ b. b && has c.args.left n) (c.earlier.ensures n));
 }
 
 pub returns : goal.returns

@@ -3,7 +3,8 @@ use Rattle.hx_inferior.proofs.OpenLaws.{parts-are_open}
 use Rattle.hx_inferior.proofs.open_neighbours.open_around.Goals as goal
 
 pub returns : goal.returns
-returns c = parts-are_open c.args.position.now c.args.player c.args.cell c.neighbour_set-touched.result c.of_cells-cells.result c.with_if-with_first.result _ _ _ (record {
+returns c = parts-are_open c.args.position.now c.args.player c.args.cell c.neighbour_set-touched.result c.of_cells-cells.result
+    c.with_if-with_first.result _ _ _ (record {
   extent = c.size-size.ensures.valid.0;
   on_board = c.requires;
   is_touched = rw c.size-size.ensures.value at c.neighbour_set-touched.ensures;
