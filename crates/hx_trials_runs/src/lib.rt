@@ -1,12 +1,24 @@
-//! The workers of a whole run, as its gate sees them.
+//! The workers of a whole run, as its gate sees them, and how losses part them.
 //!
 //! No clause sees a gate. So it is shown here that as many workers search as were asked for, that each asks for a unit only after a call,
-//! and that two work at the same time. What the commands answer is tried on the built program, by the scripts beside `.ci/run`.
+//! which tells its number and that of its turn, and that two work at the same time. No clause says either when a worker holds a loss
+//! word, nor how much harder a move looks for it. What the commands answer is tried on the built program, by the scripts beside
+//! `.ci/run`.
 #![tactic(auto)]
 
+#[cfg(test)]
+mod held_units;
+#[cfg(test)]
+mod holds;
+#[cfg(test)]
+mod losses;
 #[cfg(test)]
 mod meetings;
 #[cfg(test)]
 mod runs;
 #[cfg(test)]
+mod seats;
+#[cfg(test)]
 mod turns;
+#[cfg(test)]
+mod waits;

@@ -1,6 +1,7 @@
 //! Two workers work at the same time.
 
 use super::runs::output_of;
+use super::waits::comes;
 use hx_io::Gate;
 use std::sync::atomic::{AtomicU64, Ordering};
 use std::test::Fail;
@@ -13,30 +14,19 @@ white 00000000000000000000000000000000
 move black
 ";
 
-/// Holds worker 0 at its first turn until worker 1 has come to its first turn, for at most a thousand million looks.
+/// Holds worker 0 at its first turn until worker 1 has come to its first turn.
 #[derive(Drop)]
 struct Meeting {
     came: AtomicU64,
     met: AtomicU64,
 }
 
-impl Meeting {
-    fn hold(&self) {
-        for _ in 0..1_000_000_000u32 {
-            if self.came.load(Ordering::SeqCst) == 1 {
-                self.met.store(1, Ordering::SeqCst);
-                return;
-            }
-        }
-    }
-}
-
 impl Gate for Meeting {
     fn at_turn(&self, worker: u32, turn: u64) {
         if worker == 1 {
             self.came.store(1, Ordering::SeqCst);
-        } else if turn == 0 {
-            self.hold();
+        } else if turn == 0 && comes(&self.came) {
+            self.met.store(1, Ordering::SeqCst);
         }
     }
 }
