@@ -1,9 +1,9 @@
 -- What every function of a search keeps: so do two of them, one after the other.
-use Rattle.std.proofs.Common.{rules, ◌≡◌, sym, ap, ◌∙◌, ℕ, ◌<◌, [], ◌∷◌, arith}
-use Rattle.hx_book.specs.Sights.{Sight}
-use Rattle.hx_book.proofs.SightLaws.{grows-on}
+use Rattle.std.proofs.Common.{rules, ◌≡◌, refl, sym, ap, ◌∙◌, ℕ, ◌<◌, [], ◌∷◌, arith}
+use Rattle.hx_book.specs.Sights.{Sight, Grows}
+use Rattle.hx_book.proofs.SightLaws.{grows-itself, grows-on}
 use Rattle.hx_count.specs.Machine.{Account, holding, releasing, held_in_all}
-use Rattle.hx_count.specs.Seats.{Seat, own as own_account}
+use Rattle.hx_count.specs.Seats.{Seat, Origin, own as own_account}
 use Rattle.hx_count.proofs.MachineLaws.{held-holding-le, releasing-held}
 use Rattle.hx_linkset.specs.States.{State, Standing}
 use Rattle.hx_moves.specs.Keeps.{KeepsSeat}
@@ -14,12 +14,18 @@ use Rattle.hx_worker.specs.Keeps.{StandsAgain}
 use Rattle.hx_worker.specs.Sets.{IsPut, HasPlay, IsBack}
 use Rattle.hx_worker.specs.Searches.{Keeps, MayHold}
 
+pub stands-itself : (set : Standing) → StandsAgain set set
+stands-itself set = record { same_player = refl; same_board = refl; same_past = refl }
+
 pub stands-on : (first second third : Standing) → StandsAgain first second → StandsAgain second third → StandsAgain first third
 stands-on first second third one two = record {
   same_player = two.same_player ∙ one.same_player;
   same_board = two.same_board ∙ one.same_board;
   same_past = two.same_past ∙ one.same_past;
 }
+
+pub seat-itself : (seat : Seat) → KeepsSeat seat seat
+seat-itself seat = record { same_made = refl; same_held = refl; still_refused = λ is. is }
 
 pub seat-on : (first second third : Seat) → KeepsSeat first second → KeepsSeat second third → KeepsSeat first third
 seat-on first second third one two = record {
@@ -48,6 +54,41 @@ release-keeps before held turned after word made_held own_held turn made_after o
 }
 
 module _ {P G R W : Type 0} (sight : P → Sight) where
+  pub keeps-itself : (search : Search P G R W Standing) → Keeps sight search search
+  keeps-itself search = record {
+    same_worker = refl;
+    same_proofs = refl;
+    same_seat = refl;
+    grew = grows-itself _;
+    seat = seat-itself _;
+    own = stands-itself _;
+    others = stands-itself _;
+  }
+
+  pub keeps-grown : (search : Search P G R W Standing) (now : P) → Grows (sight search.proofs.now) (sight now)
+      → Keeps sight search (record search { proofs = record search.proofs { now = now } })
+  keeps-grown search now grown = record {
+    same_worker = refl;
+    same_proofs = refl;
+    same_seat = refl;
+    grew = grown;
+    seat = seat-itself _;
+    own = stands-itself _;
+    others = stands-itself _;
+  }
+
+  pub keeps-seat : (search : Search P G R W Standing) (now : Seat) → KeepsSeat search.seat.now now
+      → Keeps sight search (record search { seat = record search.seat { now = now } })
+  keeps-seat search now kept = record {
+    same_worker = refl;
+    same_proofs = refl;
+    same_seat = refl;
+    grew = grows-itself _;
+    seat = kept;
+    own = stands-itself _;
+    others = stands-itself _;
+  }
+
   pub keeps-on : (first second third : Search P G R W Standing) → Keeps sight first second → Keeps sight second third → Keeps sight first third
   keeps-on first second third one two = record {
     same_worker = two.same_worker ∙ one.same_worker;
@@ -129,4 +170,12 @@ module _ {P G R W : Type 0} where
         let sum = ap held_in_all held in
         let more = held-holding-le word (own_account first.seat.now) in
         omega (arith, may.room, sum, more, is_less);
+  }
+
+module _ {P G R W : Type 0} (sight : P → Sight) where
+  pub kept-may-hold : (first second : Search P G R W Standing) (count : ℕ) → Keeps sight first second → MayHold first count → MayHold second count
+  kept-may-hold first second count kept may = record {
+    made = kept.seat.same_made ∙ may.made ∙ sym kept.same_worker;
+    words = ap (λ (counts : Origin). counts.limits.words) kept.same_worker ∙ may.words;
+    room = rw kept.seat.same_held may.room;
   }
