@@ -1,9 +1,9 @@
 -- What every function of a search keeps: so do two of them, one after the other.
-use Rattle.std.proofs.Common.{rules, ◌≡◌, sym, ap, ◌∙◌, ℕ, ◌<◌, [], ◌∷◌, arith}
-use Rattle.hx_book.specs.Sights.{Sight}
-use Rattle.hx_book.proofs.SightLaws.{grows-on}
+use Rattle.std.proofs.Common.{rules, ◌≡◌, refl, sym, ap, ◌∙◌, ℕ, ◌<◌, [], ◌∷◌, arith}
+use Rattle.hx_book.specs.Sights.{Sight, Grows}
+use Rattle.hx_book.proofs.SightLaws.{grows-itself, grows-on}
 use Rattle.hx_count.specs.Machine.{Account, holding, releasing, held_in_all}
-use Rattle.hx_count.specs.Seats.{Seat, own as own_account}
+use Rattle.hx_count.specs.Seats.{Seat, Origin, own as own_account}
 use Rattle.hx_count.proofs.MachineLaws.{held-holding-le, releasing-held}
 use Rattle.hx_linkset.specs.States.{State, Standing}
 use Rattle.hx_moves.specs.Keeps.{KeepsSeat}
@@ -14,12 +14,25 @@ use Rattle.hx_worker.specs.Keeps.{StandsAgain}
 use Rattle.hx_worker.specs.Sets.{IsPut, HasPlay, IsBack}
 use Rattle.hx_worker.specs.Searches.{Keeps, MayHold}
 
+pub stands-itself : (set : Standing) → StandsAgain set set
+stands-itself set = record { same_player = refl; same_board = refl; same_past = refl }
+
+pub stands-same : (old new : Standing) → new ≡ old → StandsAgain old new
+stands-same old new same = record {
+  same_player = ap (λ (set : Standing). set.player) same;
+  same_board = ap (λ (set : Standing). set.present.board) same;
+  same_past = ap (λ (set : Standing). set.past) same;
+}
+
 pub stands-on : (first second third : Standing) → StandsAgain first second → StandsAgain second third → StandsAgain first third
 stands-on first second third one two = record {
   same_player = two.same_player ∙ one.same_player;
   same_board = two.same_board ∙ one.same_board;
   same_past = two.same_past ∙ one.same_past;
 }
+
+pub seat-itself : (seat : Seat) → KeepsSeat seat seat
+seat-itself seat = record { same_made = refl; same_held = refl; still_refused = λ is. is }
 
 pub seat-on : (first second third : Seat) → KeepsSeat first second → KeepsSeat second third → KeepsSeat first third
 seat-on first second third one two = record {
@@ -30,11 +43,7 @@ seat-on first second third one two = record {
 
 -- a set that was moved to another place, stood there, and was moved back
 pub stands-moved : (old moved stood last : Standing) → moved ≡ old → StandsAgain moved stood → last ≡ stood → StandsAgain old last
-stands-moved old moved stood last there stands back = record {
-  same_player = ap (λ (set : Standing). set.player) back ∙ stands.same_player ∙ ap (λ (set : Standing). set.player) there;
-  same_board = ap (λ (set : Standing). set.present.board) back ∙ stands.same_board ∙ ap (λ (set : Standing). set.present.board) there;
-  same_past = ap (λ (set : Standing). set.past) back ∙ stands.same_past ∙ ap (λ (set : Standing). set.past) there;
-}
+stands-moved old moved stood last there stands back = stands-on _ _ _ (stands-on _ _ _ (stands-same _ _ there) stands) (stands-same _ _ back)
 
 -- a word is held, a turn keeps the seat, and the word is released
 pub release-keeps : (before held turned after : Seat) (word : ℕ) → held.made ≡ before.made → own_account held ≡ holding word (own_account before)
@@ -48,6 +57,64 @@ release-keeps before held turned after word made_held own_held turn made_after o
 }
 
 module _ {P G R W : Type 0} (sight : P → Sight) where
+  pub keeps-itself : (search : Search P G R W Standing) → Keeps sight search search
+  keeps-itself search = record {
+    same_worker = refl;
+    same_proofs = refl;
+    same_seat = refl;
+    grew = grows-itself _;
+    seat = seat-itself _;
+    own = stands-itself _;
+    others = stands-itself _;
+  }
+
+  pub keeps-grown : (search : Search P G R W Standing) (now : P) → Grows (sight search.proofs.now) (sight now)
+      → Keeps sight search (record search { proofs = record search.proofs { now = now } })
+  keeps-grown search now grown = record {
+    same_worker = refl;
+    same_proofs = refl;
+    same_seat = refl;
+    grew = grown;
+    seat = seat-itself _;
+    own = stands-itself _;
+    others = stands-itself _;
+  }
+
+  pub keeps-seat : (search : Search P G R W Standing) (now : Seat) → KeepsSeat search.seat.now now
+      → Keeps sight search (record search { seat = record search.seat { now = now } })
+  keeps-seat search now kept = record {
+    same_worker = refl;
+    same_proofs = refl;
+    same_seat = refl;
+    grew = grows-itself _;
+    seat = kept;
+    own = stands-itself _;
+    others = stands-itself _;
+  }
+
+  pub keeps-own : (search : Search P G R W Standing) (set : Standing) → StandsAgain search.own set → Keeps sight search (record search { own = set })
+  keeps-own search set stands = record {
+    same_worker = refl;
+    same_proofs = refl;
+    same_seat = refl;
+    grew = grows-itself _;
+    seat = seat-itself _;
+    own = stands;
+    others = stands-itself _;
+  }
+
+  pub keeps-others : (search : Search P G R W Standing) (set : Standing) → StandsAgain search.others set
+      → Keeps sight search (record search { others = set })
+  keeps-others search set stands = record {
+    same_worker = refl;
+    same_proofs = refl;
+    same_seat = refl;
+    grew = grows-itself _;
+    seat = seat-itself _;
+    own = stands-itself _;
+    others = stands;
+  }
+
   pub keeps-on : (first second third : Search P G R W Standing) → Keeps sight first second → Keeps sight second third → Keeps sight first third
   keeps-on first second third one two = record {
     same_worker = two.same_worker ∙ one.same_worker;
@@ -70,16 +137,8 @@ put-back Played old put played last is stands back =
       same_board = ap (λ (state : State). state.board) present;
       same_past = past;
     }
-put-back Same old put played last is stands back = record {
-  same_player = ap (λ (set : Standing). set.player) back ∙ stands.same_player ∙ ap (λ (set : Standing). set.player) is;
-  same_board = ap (λ (set : Standing). set.present.board) back ∙ stands.same_board ∙ ap (λ (set : Standing). set.present.board) is;
-  same_past = ap (λ (set : Standing). set.past) back ∙ stands.same_past ∙ ap (λ (set : Standing). set.past) is;
-}
-put-back (Other set) old put played last is stands back = record {
-  same_player = ap (λ (at : Standing). at.player) (back ∙ is);
-  same_board = ap (λ (at : Standing). at.present.board) (back ∙ is);
-  same_past = ap (λ (at : Standing). at.past) (back ∙ is);
-}
+put-back Same old put played last is stands back = stands-moved _ _ _ _ is stands back
+put-back (Other set) old put played last is stands back = stands-same _ _ (back ∙ is)
 
 -- what a turn put can be taken back after the turns that came in between
 pub has-play : (before : Before) (old put played : Standing) → IsPut before old put → StandsAgain put played → HasPlay before played
@@ -118,15 +177,32 @@ module _ {P G R W : Type 0} (sight : P → Sight) where
   }
 
 module _ {P G R W : Type 0} where
+  -- what a search may hold is no matter of its sets
+  pub own-may-hold : (search : Search P G R W Standing) (set : Standing) (count : ℕ) → MayHold search count
+      → MayHold (record search { own = set }) count
+  own-may-hold search set count may = record { made = may.made; words = may.words; room = may.room }
+
+  pub others-may-hold : (search : Search P G R W Standing) (set : Standing) (count : ℕ) → MayHold search count
+      → MayHold (record search { others = set }) count
+  others-may-hold search set count may = record { made = may.made; words = may.words; room = may.room }
+
   -- a word more is held, and one move less is left
   pub held-may-hold : (first : Search P G R W Standing) (word depth : ℕ) → MayHold first depth → (second : Search P G R W Standing) (less : ℕ) → less < depth
       → second.worker.now.counts.now ≡ first.worker.now.counts.now → second.seat.now.made ≡ first.seat.now.made
       → own_account second.seat.now ≡ holding word (own_account first.seat.now) → MayHold second less
   held-may-hold first word depth may second less is_less same_counts same_made held = record {
     made = same_made ∙ may.made ∙ sym same_counts;
-    words = search (rules, same_counts, may.words);
+    words = ap (λ (counts : Origin). counts.limits.words) same_counts ∙ may.words;
     room =
         let sum = ap held_in_all held in
         let more = held-holding-le word (own_account first.seat.now) in
         omega (arith, may.room, sum, more, is_less);
+  }
+
+module _ {P G R W : Type 0} (sight : P → Sight) where
+  pub kept-may-hold : (first second : Search P G R W Standing) (count : ℕ) → Keeps sight first second → MayHold first count → MayHold second count
+  kept-may-hold first second count kept may = record {
+    made = kept.seat.same_made ∙ may.made ∙ sym kept.same_worker;
+    words = ap (λ (counts : Origin). counts.limits.words) kept.same_worker ∙ may.words;
+    room = rw kept.seat.same_held may.room;
   }

@@ -1,4 +1,11 @@
+use Rattle.hx_worker.proofs.KeepLaws.{keeps-itself, keeps-grown}
 use Rattle.hx_worker.proofs.proved_moves.Search+P+G+R+Workspace+LinkSet.win_by.Goals as goal
+
+pub returns-then-not-is_empty-clause-keeps : goal.returns-then-not-is_empty-clause-keeps
+returns-then-not-is_empty-clause-keeps g c = keeps-itself _ c.args.self.now
+
+pub returns-clause-keeps : goal.returns-clause-keeps
+returns-clause-keeps g c = keeps-grown _ _ _ c.widen_move.ensures.grew
 
 pub returns-clause-outcome : goal.returns-clause-outcome
 returns-clause-outcome g c = c.outcome_of.ensures _ _ _ _ c.args.self.now.seat.now c.widen_move.ensures.stored

@@ -1,6 +1,6 @@
-use Rattle.std.proofs.Common.{rules, ◌-◌, ◌<◌, ◌∙◌, arith}
-use Rattle.hx_book.proofs.SightLaws.{grows-on}
-use Rattle.hx_worker.proofs.KeepLaws.{keeps-on, put-own-keeps, put-others-keeps, held-may-hold, release-keeps, seat-on, stands-moved, stands-on}
+use Rattle.std.proofs.Common.{rules, ◌-◌, ◌<◌, arith}
+use Rattle.hx_worker.proofs.KeepLaws.{keeps-seat, keeps-own, keeps-others, keeps-on, put-own-keeps, put-others-keeps, has-play}
+use Rattle.hx_worker.proofs.KeepLaws.{kept-may-hold, own-may-hold, others-may-hold, held-may-hold, release-keeps, stands-same, stands-moved}
 use Rattle.hx_worker.proofs.turns.Search+P+G+R+Workspace+LinkSet.+search.Goals as goal
 
 pub descend-turn-outcome-requires : goal.descend-turn-outcome-requires
@@ -30,22 +30,86 @@ pub expand-loop-init : goal.expand-loop-init
 expand-loop-init g t c =
     keeps-on _ _ _ _ (keeps-on _ _ _ _ c.by_others_links.ensures.keeps c.look_at_all.ensures.keeps) c.look_at_marked.ensures.keeps
 
+pub expand-returns-in_default-of-clause-keeps : goal.expand-returns-in_default-of-clause-keeps
+expand-returns-in_default-of-clause-keeps g t c = c.by_others_links.ensures.keeps
+
+pub expand-returns-in-Some-look_at_all-clause-keeps : goal.expand-returns-in-Some-look_at_all-clause-keeps
+expand-returns-in-Some-look_at_all-clause-keeps g t c = keeps-on _ _ _ _ c.by_others_links.ensures.keeps c.look_at_all.ensures.keeps
+
+pub expand-go_on-requires : goal.expand-go_on-requires
+expand-go_on-requires g t c κs within = (omega arith, search (kept-may-hold _ _ _ _ c.loop.invariant c.requires))
+
+pub expand-returns-in-Some-go_on-clause-keeps : goal.expand-returns-in-Some-go_on-clause-keeps
+expand-returns-in-Some-go_on-clause-keeps g t c = keeps-on _ _ _ _ c.loop.invariant c.go_on.ensures.keeps
+
+pub expand-loop-preserved : goal.expand-loop-preserved
+expand-loop-preserved g t c = keeps-on _ _ _ _ c.loop.invariant c.go_on.ensures.keeps
+
+pub go_on-returns-in-Limit-clause-keeps : goal.go_on-returns-in-Limit-clause-keeps
+go_on-returns-in-Limit-clause-keeps g t c = keeps-on _ _ _ _ c.look_again.ensures.keeps (keeps-seat _ _ _ c.choose.ensures.seat)
+
+pub go_on-returns-in-AllLose-clause-keeps : goal.go_on-returns-in-AllLose-clause-keeps
+go_on-returns-in-AllLose-clause-keeps g t c =
+    keeps-on _ _ _ _ (keeps-on _ _ _ _ c.look_again.ensures.keeps (keeps-seat _ _ _ c.choose.ensures.seat)) c.all_lose.ensures.keeps
+
+pub go_on-descend-outcome-requires : goal.go_on-descend-outcome-requires
+go_on-descend-outcome-requires g t c κs within =
+    let chosen = keeps-on _ _ _ _ c.look_again.ensures.keeps (keeps-seat _ _ _ c.choose.ensures.seat) in
+    (omega arith, search (kept-may-hold _ _ _ _ chosen c.requires))
+
 pub go_on-returns-clause-keeps : goal.go_on-returns-clause-keeps
 go_on-returns-clause-keeps g t c =
-    let before = c.look_again.ensures.keeps in
-    let after = keeps-on _ _ _ _ c.descend-outcome.ensures.keeps c.take_in.ensures.keeps in record {
-      same_worker = after.same_worker ∙ before.same_worker;
-      same_proofs = after.same_proofs ∙ before.same_proofs;
-      same_seat = after.same_seat ∙ before.same_seat;
-      grew = grows-on _ _ _ before.grew after.grew;
-      seat = seat-on _ _ _ before.seat (seat-on _ _ _ c.choose.ensures.seat after.seat);
-      own = stands-on _ _ _ before.own after.own;
-      others = stands-on _ _ _ before.others after.others;
-    }
+    keeps-on _ _ _ _ (keeps-on _ _ _ _ c.look_again.ensures.keeps (keeps-seat _ _ _ c.choose.ensures.seat))
+    (keeps-on _ _ _ _ c.descend-outcome.ensures.keeps c.take_in.ensures.keeps)
+
+pub turn-returns-in-Err-clause-keeps : goal.turn-returns-in-Err-clause-keeps
+turn-returns-in-Err-clause-keeps g t c = keeps-seat _ _ _ c.ask.ensures.seat
+
+pub turn-visit-requires : goal.turn-visit-requires
+turn-visit-requires g t c κs within =
+    (omega arith, search (kept-may-hold g.P.Proofs.sight _ _ _ (keeps-seat _ _ _ c.ask.ensures.seat) c.requires))
+
+pub turn-returns-clause-keeps : goal.turn-returns-clause-keeps
+turn-returns-clause-keeps g t c = keeps-on _ _ _ _ (keeps-seat _ _ _ c.ask.ensures.seat) c.visit.ensures.keeps
+
+pub visit-returns-in_default-fill_in-clause-keeps : goal.visit-returns-in_default-fill_in-clause-keeps
+visit-returns-in_default-fill_in-clause-keeps g t c = c.look_up.ensures.keeps
+
+pub visit-returns-in_default-of-clause-keeps : goal.visit-returns-in_default-of-clause-keeps
+visit-returns-in_default-of-clause-keeps g t c = c.look_up.ensures.keeps
+
+pub visit-with_own-outcome-requires : goal.visit-with_own-outcome-requires
+visit-with_own-outcome-requires g t c κs within = (omega arith, search (kept-may-hold _ _ _ _ c.look_up.ensures.keeps c.requires))
+
+pub visit-returns-clause-keeps : goal.visit-returns-clause-keeps
+visit-returns-clause-keeps g t c =
+    keeps-on _ _ _ _ (keeps-on _ _ _ _ c.look_up.ensures.keeps c.with_own-outcome.ensures.keeps) c.conclude.ensures.keeps
+
+pub with_others-returns-in_default-put-clause-keeps : goal.with_others-returns-in_default-put-clause-keeps
+with_others-returns-in_default-put-clause-keeps g t c =
+    keeps-on _ _ _ _ c.by_own_links.ensures.keeps (keeps-others _ _ _ (stands-same _ _ c.in_default-put.ensures.memory))
+
+pub with_others-expand-outcome-requires : goal.with_others-expand-outcome-requires
+with_others-expand-outcome-requires g t c κs within =
+    let may = kept-may-hold _ _ _ _ c.by_own_links.ensures.keeps c.requires in (omega arith, search (others-may-hold _ c.put.new.set _ may))
+
+pub with_others-take_back-requires : goal.with_others-take_back-requires
+with_others-take_back-requires g t c = has-play _ _ _ _ c.in-Ok.ensures.put c.expand-outcome.ensures.keeps.others
 
 pub with_others-returns-clause-keeps : goal.with_others-returns-clause-keeps
 with_others-returns-clause-keeps g t c =
     put-others-keeps _ _ _ _ _ _ _ c.by_own_links.ensures.keeps c.in-Ok.ensures.put c.expand-outcome.ensures.keeps c.take_back.ensures
+
+pub with_own-returns-in_default-put-clause-keeps : goal.with_own-returns-in_default-put-clause-keeps
+with_own-returns-in_default-put-clause-keeps g t c =
+    keeps-on _ _ _ _ c.look_up_filled.ensures.keeps (keeps-own _ _ _ (stands-same _ _ c.in_default-put.ensures.memory))
+
+pub with_own-with_others-outcome-requires : goal.with_own-with_others-outcome-requires
+with_own-with_others-outcome-requires g t c κs within =
+    let may = kept-may-hold _ _ _ _ c.look_up_filled.ensures.keeps c.requires in (omega arith, search (own-may-hold _ c.put.new.set _ may))
+
+pub with_own-take_back-requires : goal.with_own-take_back-requires
+with_own-take_back-requires g t c = has-play _ _ _ _ c.in-Ok.ensures.put c.with_others-outcome.ensures.keeps.own
 
 pub with_own-returns-clause-keeps : goal.with_own-returns-clause-keeps
 with_own-returns-clause-keeps g t c =

@@ -1,0 +1,15 @@
+use Rattle.std.proofs.Common.{rules}
+use Rattle.hx_worker.proofs.KeepLaws.{keeps-itself, keeps-on, kept-may-hold}
+use Rattle.hx_worker.proofs.rounds.Search+P+G+R+Workspace+LinkSet.rounds.Goals as goal
+
+pub loop-init : goal.loop-init
+loop-init g c = record { turns = search rules; keeps = keeps-itself _ _ }
+
+pub round-requires : goal.round-requires
+round-requires g c = kept-may-hold _ _ _ _ c.loop.invariant.keeps c.requires
+
+pub returns-in-Some-round-clause-keeps : goal.returns-in-Some-round-clause-keeps
+returns-in-Some-round-clause-keeps g c = keeps-on _ _ _ _ c.loop.invariant.keeps c.round.ensures.keeps
+
+pub loop-preserved : goal.loop-preserved
+loop-preserved g c = record { turns = search rules; keeps = keeps-on _ _ _ _ c.loop.invariant.keeps c.round.ensures.keeps }

@@ -1,0 +1,15 @@
+use Rattle.hx_worker.proofs.KeepLaws.{keeps-itself, keeps-on}
+use Rattle.hx_worker.proofs.wide_moves.Search+P+G+R+Workspace+LinkSet.look_at_all.Goals as goal
+
+pub loop-left-init : goal.loop-left-init
+loop-left-init g c = keeps-itself _ c.args.self.now
+
+pub returns-in-Some-won_by-clause-keeps : goal.returns-in-Some-won_by-clause-keeps
+returns-in-Some-won_by-clause-keeps g c = keeps-on _ _ _ _ c.loop-left.invariant c.won_by.ensures.keeps
+
+pub loop-left-preserved-then-has : goal.loop-left-preserved-then-has
+loop-left-preserved-then-has g c =
+    keeps-on _ _ _ _ (keeps-on _ _ _ _ c.loop-left.invariant c.won_by.ensures.keeps) c.with_refuted-refuted.ensures.keeps
+
+pub loop-left-preserved : goal.loop-left-preserved
+loop-left-preserved g c = keeps-on _ _ _ _ (keeps-on _ _ _ _ c.loop-left.invariant c.won_by.ensures.keeps) c.with_refuted-refuted.ensures.keeps
