@@ -43,10 +43,12 @@ seat-on first second third one two = record {
 
 -- a set that was moved to another place, stood there, and was moved back
 pub stands-moved : (old moved stood last : Standing) → moved ≡ old → StandsAgain moved stood → last ≡ stood → StandsAgain old last
-stands-moved old moved stood last there stands back = stands-on _ _ _ (stands-on _ _ _ (stands-same _ _ there) stands) (stands-same _ _ back)
+stands-moved old moved stood last there stands back =
+    stands-on _ _ _ (stands-on _ _ _ (stands-same _ _ there) stands) (stands-same _ _ back)
 
 -- a word is held, a turn keeps the seat, and the word is released
-pub release-keeps : (before held turned after : Seat) (word : ℕ) → held.made ≡ before.made → own_account held ≡ holding word (own_account before)
+pub release-keeps : (before held turned after : Seat) (word : ℕ) → held.made ≡ before.made
+    → own_account held ≡ holding word (own_account before)
     → KeepsSeat held turned → after.made ≡ turned.made → own_account after ≡ releasing word (own_account turned) → KeepsSeat before after
 release-keeps before held turned after word made_held own_held turn made_after own_after = record {
   same_made = made_after ∙ turn.same_made ∙ made_held;
@@ -92,7 +94,8 @@ module _ {P G R W : Type 0} (sight : P → Sight) where
     others = stands-itself _;
   }
 
-  pub keeps-own : (search : Search P G R W Standing) (set : Standing) → StandsAgain search.own set → Keeps sight search (record search { own = set })
+  pub keeps-own : (search : Search P G R W Standing) (set : Standing) → StandsAgain search.own set
+      → Keeps sight search (record search { own = set })
   keeps-own search set stands = record {
     same_worker = refl;
     same_proofs = refl;
@@ -115,7 +118,8 @@ module _ {P G R W : Type 0} (sight : P → Sight) where
     others = stands;
   }
 
-  pub keeps-on : (first second third : Search P G R W Standing) → Keeps sight first second → Keeps sight second third → Keeps sight first third
+  pub keeps-on : (first second third : Search P G R W Standing) → Keeps sight first second → Keeps sight second third
+      → Keeps sight first third
   keeps-on first second third one two = record {
     same_worker = two.same_worker ∙ one.same_worker;
     same_proofs = two.same_proofs ∙ one.same_proofs;
@@ -127,7 +131,8 @@ module _ {P G R W : Type 0} (sight : P → Sight) where
   }
 
 -- a set on which a turn put its stones, and took them back
-pub put-back : (before : Before) (old put played last : Standing) → IsPut before old put → StandsAgain put played → IsBack before played last
+pub put-back : (before : Before) (old put played last : Standing) → IsPut before old put → StandsAgain put played
+    → IsBack before played last
     → StandsAgain old last
 put-back Played old put played last is stands back =
     let lists : old.present ∷ old.past ≡ last.present ∷ last.past = sym is.same_past ∙ sym stands.same_past ∙ back.back in
@@ -187,7 +192,8 @@ module _ {P G R W : Type 0} where
   others-may-hold search set count may = record { made = may.made; words = may.words; room = may.room }
 
   -- a word more is held, and one move less is left
-  pub held-may-hold : (first : Search P G R W Standing) (word depth : ℕ) → MayHold first depth → (second : Search P G R W Standing) (less : ℕ) → less < depth
+  pub held-may-hold : (first : Search P G R W Standing) (word depth : ℕ) → MayHold first depth
+      → (second : Search P G R W Standing) (less : ℕ) → less < depth
       → second.worker.now.counts.now ≡ first.worker.now.counts.now → second.seat.now.made ≡ first.seat.now.made
       → own_account second.seat.now ≡ holding word (own_account first.seat.now) → MayHold second less
   held-may-hold first word depth may second less is_less same_counts same_made held = record {
@@ -200,7 +206,8 @@ module _ {P G R W : Type 0} where
   }
 
 module _ {P G R W : Type 0} (sight : P → Sight) where
-  pub kept-may-hold : (first second : Search P G R W Standing) (count : ℕ) → Keeps sight first second → MayHold first count → MayHold second count
+  pub kept-may-hold : (first second : Search P G R W Standing) (count : ℕ) → Keeps sight first second → MayHold first count
+      → MayHold second count
   kept-may-hold first second count kept may = record {
     made = kept.seat.same_made ∙ may.made ∙ sym kept.same_worker;
     words = ap (λ (counts : Origin). counts.limits.words) kept.same_worker ∙ may.words;

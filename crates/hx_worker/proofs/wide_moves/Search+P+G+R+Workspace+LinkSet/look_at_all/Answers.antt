@@ -12,4 +12,5 @@ loop-left-preserved-then-has g c =
     keeps-on _ _ _ _ (keeps-on _ _ _ _ c.loop-left.invariant c.won_by.ensures.keeps) c.with_refuted-refuted.ensures.keeps
 
 pub loop-left-preserved : goal.loop-left-preserved
-loop-left-preserved g c = keeps-on _ _ _ _ (keeps-on _ _ _ _ c.loop-left.invariant c.won_by.ensures.keeps) c.with_refuted-refuted.ensures.keeps
+loop-left-preserved g c =
+    keeps-on _ _ _ _ (keeps-on _ _ _ _ c.loop-left.invariant c.won_by.ensures.keeps) c.with_refuted-refuted.ensures.keeps
