@@ -21,7 +21,7 @@ nodes_text-more : (nodes : List Node) (place : ℕ) (node : Node) → place < le
     → nodes_text (take place nodes) ++ node_text node ≡ nodes_text (take (place + 1) nodes)
 nodes_text-more nodes place node less is =
     let one_more : take (place + 1) nodes ≡ take place nodes ++ node ∷ [] = take_more nodes place node less
-        ∙ ap (λ n. take place nodes ++ n ∷ []) (sym is) in
+    ∙ ap (λ n. take place nodes ++ n ∷ []) (sym is) in
     sym (ap nodes_text one_more ∙ nodes_text-append (take place nodes) (node ∷ [])
     ∙ ap (λ (t : List ℕ). nodes_text (take place nodes) ++ t) (list_append-nil (node_text node)))
 
@@ -33,10 +33,10 @@ none_out old nodes = sym (append-nil old)
 pub one_more_out : (old between new : Option (List ℕ)) (nodes : List Node) (place : ℕ) (node : Node) → place < length nodes
     → node ≡ get_or nodes place node
     → between ≡ append old (nodes_text (take place nodes)) → new ≡ append between (node_text node)
-        → new ≡ append old (nodes_text (take (place + 1) nodes))
+    → new ≡ append old (nodes_text (take (place + 1) nodes))
 one_more_out old between new nodes place node less is out then =
     append-then old between new (nodes_text (take place nodes)) (node_text node) out then
-        ∙ ap (append old) (nodes_text-more nodes place node less is)
+    ∙ ap (append old) (nodes_text-more nodes place node less is)
 
 -- the writing of a node was cut short
 pub cut_short : (old between new : Option (List ℕ)) (nodes : List Node) (place : ℕ) (node : Node) → place < length nodes

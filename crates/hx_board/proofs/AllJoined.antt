@@ -221,7 +221,7 @@ all-reached size player set waiting sets none k = λ v w is_v is_w in_v in_w.
 module _ (size : Extent) (player : Colour) (extent : IsExtent size.rows size.cols) (set : ℕ)
     (codes : (n : ℕ) → has set n ≡ true → IsVertexCode size n) (waiting : ℕ) (sets : List ℕ)
     (k : AreReachedBut size player set waiting sets) (next : Vertex) (member : has waiting (code_of next) ≡ true)
-        (some : IsSomeVertex next) where
+    (some : IsSomeVertex next) where
   pub next-vertex : IsVertex size next
   next-vertex = code-vertex size next (codes (code_of next) (k.inside (code_of next) member)) some
 

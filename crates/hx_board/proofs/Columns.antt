@@ -20,7 +20,7 @@ each_tried = refl
 pub has-columns : (cols : ℕ) → cols ≤ 11 → (n : ℕ) → n < 121 → has (columns cols) n ≡ ltb (n % 11) cols
 has-columns cols few n small =
     agree_below_at (has (columns cols)) (λ k. ltb (k % 11) cols) 121 n
-        (agree_below_at are_columns (λ _. true) 12 cols each_tried (omega arith)) small
+    (agree_below_at are_columns (λ _. true) 12 cols each_tried (omega arith)) small
 
 -- the first rows and columns, by their sets
 in_both : (rows n : ℕ) (row col here : Bool) → rows ≤ 11 → row ≡ (leb 0 n && ltb n (11 * rows)) → (n < 121 → here ≡ col)
@@ -33,4 +33,4 @@ pub has-block : (first_rows first_columns rows cols : ℕ) → rows ≤ 11
     → (n : ℕ) → has (intersection first_rows first_columns) n ≡ (ltb (n / 11) rows && ltb (n % 11) cols)
 has-block first_rows first_columns rows cols few are_rows are_columns n =
     has-intersection first_rows first_columns n
-        ∙ in_both rows n (has first_rows n) (ltb (n % 11) cols) (has first_columns n) few (are_rows n) (are_columns n)
+    ∙ in_both rows n (has first_rows n) (ltb (n % 11) cols) (has first_columns n) few (are_rows n) (are_columns n)

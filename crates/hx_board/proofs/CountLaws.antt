@@ -20,8 +20,8 @@ tally-small test zero small = omega arith
 tally-small test (suc bound) small = ⊎_elim
     (λ lt. omega (arith, tally-le test (suc bound), lt))
     (λ le. let none : share (test bound) ≡ 0 =
-        ap share (false_from_ne_true (test bound) (λ h. absurd (omega (arith, small bound h, le)))) in
-        omega (arith, tally-small test bound small, none))
+    ap share (false_from_ne_true (test bound) (λ h. absurd (omega (arith, small bound h, le)))) in
+    omega (arith, tally-small test bound small, none))
     (cases_lt bound 121)
 
 pub count-small : (set : ℕ) → ((n : ℕ) → has set n ≡ true → n < 121) → count_below 128 set ≤ 121
@@ -44,16 +44,21 @@ count-less set other n small member lacks =
     let rest : IsSubset (intersection set other) (remove set n) = λ k h. kept set n k (has-intersection_left set other k h)
     (λ e. false≢true (sym lacks ∙ (ap (has other) (sym e) ∙ has-intersection_right set other k h))) in
     let le : tally (has (intersection set other)) 128 ≤ tally (has (remove set n)) 128 =
-        tally-subset (has (intersection set other)) (has (remove set n)) 128 rest in
-    omega (arith, le, count_below-tally 128 (intersection set other), count_below-tally 128 (remove set n),
-        count_below-remove 128 set n member small)
+    tally-subset (has (intersection set other)) (has (remove set n)) 128 rest in
+    omega (
+      arith,
+      le,
+      count_below-tally 128 (intersection set other),
+      count_below-tally 128 (remove set n),
+      count_below-remove 128 set n member small,
+    )
 
 -- a set that is not empty has a member
 pub some_member : (set bits : ℕ) → bits ≡ set → bits < 2 ^ 128 → eqb bits 0 ≡ false → (n : ℕ) × (has set n ≡ true)
 some_member set bits e small some =
     let w : ShareOne set set =
-        share_one set set bits (e ∙ sym (is_subset-intersection set set (λ n h. h))) small
-        (λ zero_is. false≢true (sym some ∙ eq-eqb bits 0 zero_is)) in
+    share_one set set bits (e ∙ sym (is_subset-intersection set set (λ n h. h))) small
+    (λ zero_is. false≢true (sym some ∙ eq-eqb bits 0 zero_is)) in
     (w.shared, w.in_set)
 
 -- ---- a set that is not inside another has a member that the other lacks
@@ -72,7 +77,7 @@ lacks_below set other (suc bound) = ⊎_elim inl (λ rest. here rest (has set bo
     here rest true false in_set not_other = inl (record { cell = bound; member = in_set; lacks = not_other })
     here rest true true in_set in_other = inr (λ n low h. ⊎_elim (λ k. rest n k h)
         (λ k. let same : bound ≡ n = omega arith in let P : ℕ → Type 0 = λ x. has other x ≡ true in subst P same in_other)
-            (cases_lt n bound))
+        (cases_lt n bound))
     here rest false b not_set e = inr (λ n low h. ⊎_elim (λ k. rest n k h)
         (λ k. let same : n ≡ bound = omega arith in absurd (false≢true (sym not_set ∙ ap (has set) (sym same) ∙ h))) (cases_lt n bound))
 

@@ -18,7 +18,7 @@ use Rattle.hx_board.proofs.Tallies.{share, tally, tally-same, tally-one_less, ta
 
 is_empty-parts : (board : Board) (cell : ℕ)
     → is_empty board cell ≡ (ltb (row_of cell) board.size.rows && ltb (col_of cell) board.size.cols && not (has board.black cell)
-        && not (has board.white cell))
+    && not (has board.white cell))
 unfolding is_empty
 is_empty-parts board cell = refl
 
@@ -31,7 +31,7 @@ is_empty-is board cell = (
   }),
   (λ e. is_empty-parts board cell
       ∙ and_from _ _ (and_from _ _ (and_from _ _ (lt-ltb _ _ e.on_board.row) (lt-ltb _ _ e.on_board.col)) (not_from_false _ e.no_black))
-          (not_from_false _ e.no_white)),
+      (not_from_false _ e.no_white)),
 )
   where
     tests : (a b c d : Bool) → (a && b && c && d) ≡ true → (a ≡ true) × (b ≡ true) × (c ≡ true) × (d ≡ true)
@@ -96,7 +96,7 @@ unfolding empty_count
 empty_count-put board colour cell is e =
     rw (empty_below-tally 121 board, empty_below-tally 121 (put board colour cell))
     (tally-one_less (is_empty board) (is_empty (put board colour cell)) cell 121 ((is_empty-is board cell).1 e)
-        (put-not_empty board colour cell)
+    (put-not_empty board colour cell)
     (λ n other. sym (put-elsewhere board colour cell n other)) (on_board-small board.size cell is.0 e.on_board))
 
 pub some_empty-count : (board : Board) (cell : ℕ) → IsBoard board → IsEmpty board cell → 1 ≤ empty_count board
@@ -109,7 +109,7 @@ pub none_empty-count : (board : Board) → ((cell : ℕ) → IsEmpty board cell 
 unfolding empty_count
 none_empty-count board none =
     empty_below-tally 121 board
-        ∙ tally-none (is_empty board) 121 (λ cell _. false_from_ne_true _ (λ e. none cell ((is_empty-is board cell).0 e)))
+    ∙ tally-none (is_empty board) 121 (λ cell _. false_from_ne_true _ (λ e. none cell ((is_empty-is board cell).0 e)))
 
 -- from 121 on there is no cell
 above_board : (more : ℕ) (board : Board) → IsExtent board.size.rows board.size.cols → empty_below (121 + more) board ≡ empty_below 121 board
@@ -147,7 +147,7 @@ pub sweep_size-below : (less more : ℕ) → less ≤ more → sweep_size less �
 sweep_size-below less zero h = let same : less ≡ 0 = omega arith in rw same (omega arith)
 sweep_size-below less (suc more) h =
     ⊎_elim (λ k. let rest = sweep_size-below less more (omega arith) in let step = sweep_size-more more in omega arith) same
-        (cases_lt less (suc more))
+    (cases_lt less (suc more))
   where
     same : suc more ≤ less → sweep_size less ≤ sweep_size (suc more)
     same k = let e : less ≡ suc more = omega arith in rw e (omega arith)

@@ -123,7 +123,7 @@ pub record IsFlood (board : Board) (player : Colour) (start : Vertex) (set : ℕ
 abbrev pub HoldsItsNeighbours : Board → Colour → ℕ → Type 0
 HoldsItsNeighbours board player set =
     (vertex : Vertex) → IsVertex board.size vertex → IsOwn board player vertex → TouchesOneOf board.size player set vertex
-        → has set (code_of vertex) ≡ true
+    → has set (code_of vertex) ≡ true
 
 module _ (board : Board) (player : Colour) where
   pub single-is_flood : IsExtent board.size.rows board.size.cols → (start : Vertex) → IsVertex board.size start → (n : ℕ)
@@ -166,14 +166,14 @@ module _ (board : Board) (player : Colour) where
           (λ w.
           let t : TouchesOneOf board.size player set v = (is_near.members v is_v).0 (has-intersection_left near own (code_of v) w) in
           inr (leads_more start t.by v (f.sound t.by t.by_vertex t.by_member)
-              ((is_own.members v is_v).0 (has-intersection_right near own (code_of v) w)) t.touch))
+          ((is_own.members v is_v).0 (has-intersection_right near own (code_of v) w)) t.touch))
           (has-union_cases set (intersection near own) (code_of v) h);
     }
 
     grown-is_closed : union set (intersection near own) ≡ set → HoldsItsNeighbours board player set
     grown-is_closed same v is_v own_v t =
         rw same at (has-union_right set _ (code_of v)
-            (has-intersection_both near own (code_of v) ((is_near.members v is_v).1 t) ((is_own.members v is_v).1 own_v)))
+        (has-intersection_both near own (code_of v) ((is_near.members v is_v).1 t) ((is_own.members v is_v).1 own_v)))
 
     walked : HoldsItsNeighbours board player set → (inner : List Vertex) (from to : Vertex) → IsVertex board.size from
         → has set (code_of from) ≡ true
@@ -195,7 +195,7 @@ module _ (board : Board) (player : Colour) where
         → Joined board player start to → has (union set near) (code_of to) ≡ true
     joined-flood closed start to is is_to f (inl e) =
         let P : Vertex → Type 0 = λ x. has (union set near) (code_of x) ≡ true in
-            subst P e (has-union_left set near (code_of start) f.started)
+        subst P e (has-union_left set near (code_of start) f.started)
     joined-flood closed start to is is_to f (inr w) =
         has-union_right set near (code_of to) ((is_near.members to is_to).1 (walked closed w.0 start to is f.started w.1))
 
@@ -206,7 +206,7 @@ module _ (board : Board) (player : Colour) where
         → has (union set near) (code_of v) ≡ true → Joined board player start v
     flood-sound start f v is_v h =
         ⊎_elim (λ w. ⊎_elim (λ e. inl (sym e)) (λ l. inr l.1) (f.sound v is_v w))
-            (λ w. flood-joined start v f ((is_near.members v is_v).0 w))
+        (λ w. flood-joined start v f ((is_near.members v is_v).0 w))
         (has-union_cases set near (code_of v) h)
 
     -- where a flood grows no more, it and what touches it are what the start is joined with

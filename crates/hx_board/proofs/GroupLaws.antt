@@ -212,7 +212,7 @@ module _ (board : Board) (player : Colour) (extent : IsExtent board.size.rows bo
         cases false e =
             keeps v is_v (code_of w)
             (k.done u v w is_u is_v is_w own_u
-                (false_from_ne_true _ (λ h. false≢true (sym none ∙ has-difference_both waiting reach (code_of u) h e)))
+            (false_from_ne_true _ (λ h. false≢true (sym none ∙ has-difference_both waiting reach (code_of u) h e)))
             j l)
 
     pub over_more : AreJoinedOver board player after own (difference waiting reach)

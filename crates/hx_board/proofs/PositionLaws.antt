@@ -80,8 +80,8 @@ has-empties board all is_all n =
       }),
       (λ e. has-difference_both all held n ((is_all n).1 e.on_board)
           (false_from_ne_true _
-              (λ k. ⊎_elim (λ b. false≢true (sym e.no_black ∙ b)) (λ w. false≢true (sym e.no_white ∙ w))
-              (has-union_cases board.black board.white n k)))),
+          (λ k. ⊎_elim (λ b. false≢true (sym e.no_black ∙ b)) (λ w. false≢true (sym e.no_white ∙ w))
+          (has-union_cases board.black board.white n k)))),
     )
 
 pub tested-is_position : (size : Extent) (black white all : ℕ) → ((n : ℕ) → (has all n ≡ true) ↔ OnBoard size n)

@@ -27,14 +27,16 @@ has-insert_either set cell n (inr member) = has-insert_other set cell n member
 -- a player's stones are those from before, and the new one where it is the player's
 pub stones-put : (board : Board) (who player : Colour) (cell n : ℕ) → (has (stones_of (put board who cell) player) n ≡ true)
     ↔ (((who ≡ player) × (n ≡ cell)) ⊎ (has (stones_of board player) n ≡ true))
-stones-put board Black Black cell n =
-    ((λ h. ⊎_elim (λ e. inl (refl, e)) inr (has-insert_cases board.black cell n h)),
-    ⊎_elim (λ w. has-insert_either _ _ _ (inl w.1)) (λ h. has-insert_either _ _ _ (inr h)))
+stones-put board Black Black cell n = (
+  (λ h. ⊎_elim (λ e. inl (refl, e)) inr (has-insert_cases board.black cell n h)),
+  ⊎_elim (λ w. has-insert_either _ _ _ (inl w.1)) (λ h. has-insert_either _ _ _ (inr h)),
+)
 stones-put board Black White cell n = (inr, ⊎_elim (λ w. let e = w.0 in cc) (λ h. h))
 stones-put board White Black cell n = (inr, ⊎_elim (λ w. let e = w.0 in cc) (λ h. h))
-stones-put board White White cell n =
-    ((λ h. ⊎_elim (λ e. inl (refl, e)) inr (has-insert_cases board.white cell n h)),
-    ⊎_elim (λ w. has-insert_either _ _ _ (inl w.1)) (λ h. has-insert_either _ _ _ (inr h)))
+stones-put board White White cell n = (
+  (λ h. ⊎_elim (λ e. inl (refl, e)) inr (has-insert_cases board.white cell n h)),
+  ⊎_elim (λ w. has-insert_either _ _ _ (inl w.1)) (λ h. has-insert_either _ _ _ (inr h)),
+)
 
 -- the empty cells are those from before, without the new stone's
 empty_before : (board : Board) (who : Colour) (cell n : ℕ) → IsEmpty (put board who cell) n → IsEmpty board n

@@ -70,19 +70,23 @@ pub record IsGrown (board : Board) (player : Colour) (set grown : ℕ) : Type 0 
 -- vertices that one is joined with: all of a set, or all that there are
 pub record IsReach (board : Board) (player : Colour) (start : Vertex) (wanted reach : ℕ) : Type 0 where
   pub vertices : (n : ℕ) → has reach n ≡ true → IsVertexCode board.size n
-  pub sound : (vertex : Vertex) → IsVertex board.size vertex → has reach (code_of vertex) ≡ true → Joined board player start vertex
+  pub sound : (vertex : Vertex) → IsVertex board.size vertex → has reach (code_of vertex) ≡ true
+      → Joined board player start vertex
   pub whole : IsSubset wanted reach
-      ⊎ ((vertex : Vertex) → IsVertex board.size vertex → Joined board player start vertex → has reach (code_of vertex) ≡ true)
+      ⊎ ((vertex : Vertex) → IsVertex board.size vertex → Joined board player start vertex
+      → has reach (code_of vertex) ≡ true)
 
 -- a vertex is the other one, or touches it, or has it in its set
 abbrev pub HasReached : Extent → Colour → List ℕ → Vertex → Vertex → Type 0
 HasReached size player sets vertex other =
-    (vertex ≡ other) ⊎ (Touches size player vertex other ⊎ (has (slice_index sets (code_of vertex)) (code_of other) ≡ true))
+    (vertex ≡ other)
+    ⊎ (Touches size player vertex other ⊎ (has (slice_index sets (code_of vertex)) (code_of other) ≡ true))
 
 -- a set that tells of each vertex of the board whether the vertex has reached it
 abbrev pub IsReached : Extent → Colour → List ℕ → Vertex → ℕ → Type 0
 IsReached size player sets vertex reached =
-    (other : Vertex) → IsVertex size other → (has reached (code_of other) ≡ true) ↔ HasReached size player sets vertex other
+    (other : Vertex) → IsVertex size other
+    → (has reached (code_of other) ≡ true) ↔ HasReached size player sets vertex other
 
 -- of any two vertices of the board in a set the one has reached the other
 abbrev pub AreReached : Extent → Colour → ℕ → List ℕ → Type 0

@@ -59,8 +59,8 @@ module _ (key : ℕ → Node → ℕ) (nodes : List Node) (heads next : List ℕ
             (λ below. is_older.newest place from below (has-in place found there has))
             (λ above. ⊎_elim
             (λ (same : place ≡ link - 1).
-                other-read nodes Has (link - 1) node inside node_read lacks found
-                (subst (λ (p : ℕ). slice_get nodes p ≡ Some found) same there) has)
+            other-read nodes Has (link - 1) node inside node_read lacks found
+            (subst (λ (p : ℕ). slice_get nodes p ≡ Some found) same there) has)
             (λ (different : place ≡ link - 1 → ⊥). reached.none place (omega (arith, above, different)) found there has)
             (cases_eq place (link - 1)))
             (cases_lt place (link - 1));

@@ -45,7 +45,7 @@ line-size : (before : List Heading) (heading : Heading) (links : List Link) (thr
     → IsRightLine before heading links threats lines line → NamesChild line child → HasSize before heading.position.size child
 line-size before heading links threats lines (Child cell own) child right names = rw names
     (some-size (slice_get before own) before own
-        (put heading.position (other_of heading.winner) cell) heading.winner heading.winner heading.position.size refl right
+    (put heading.position (other_of heading.winner) cell) heading.winner heading.winner heading.position.size refl right
     (size-put heading.position (other_of heading.winner) cell))
 line-size before heading links threats lines (Under cell better kill) child right names = absurd names
 
@@ -55,14 +55,14 @@ rule-size before heading Chain child right names = absurd names
 rule-size before heading (Links steps) child right names = absurd names
 rule-size before heading (Move cell own) child right names = rw names
     (some-size (slice_get before own) before own (put heading.position heading.winner cell)
-        (other_of heading.winner) heading.winner heading.position.size refl right.leads
+    (other_of heading.winner) heading.winner heading.position.size refl right.leads
     (size-put heading.position heading.winner cell))
 rule-size before heading (All steps threats lines) child right names =
     let each = right.answered.lines_right names.k in
     line-size before heading right.links threats lines names.line child (rw names.there at each) names.names
 rule-size before heading (Fill steps own) child right names = rw names
     (some-size (slice_get before own) before own
-        (filled_all heading.position heading.winner steps) heading.to_move heading.winner heading.position.size refl right.leads
+    (filled_all heading.position heading.winner steps) heading.to_move heading.winner heading.position.size refl right.leads
     (size-filled_all heading.position heading.winner steps))
 rule-size before heading (Turned own) child right names = rw names (turned-size (slice_get before own) before own heading refl right)
 
@@ -98,8 +98,12 @@ module _ (nodes : List Node) (right : AreRight nodes) (place : ℕ) (node : Node
   child-before = take-before nodes place child found.heading found.there
 
   pub child-size : HasSize (headings_of nodes) node.heading.position.size child
-  child-size = record { heading = found.heading; there = sym (take-heading nodes place child child-before) ∙ found.there; same_size =
-      found.same_size }
+  child-size = record {
+    heading = found.heading;
+    there = sym (take-heading nodes place child child-before) ∙ found.there;
+    same_size =
+        found.same_size;
+  }
 
 -- ---- what is needed
 
@@ -113,15 +117,15 @@ leads-further nodes (step ∷ path) first last next leads child =
 pub needed-size : (nodes : List Node) → AreRight nodes → (path : List ℕ) (root place : ℕ) (top heading : Heading)
     → LeadsTo nodes root path place
     → slice_get (headings_of nodes) root ≡ Some top → slice_get (headings_of nodes) place ≡ Some heading
-        → heading.position.size ≡ top.position.size
+    → heading.position.size ≡ top.position.size
 needed-size nodes right [] root place top heading leads at_root at_place =
     let same : top ≡ heading = same_Some top heading (sym at_root ∙ ap (λ (p : ℕ). slice_get (headings_of nodes) p) leads ∙ at_place) in
     ap (λ (h : Heading). h.position.size) (sym same)
 needed-size nodes right (next ∷ path) root place top heading leads at_root at_place =
     let step : HasChildAt nodes root next = leads.0 in
     let size : HasSize (headings_of nodes) step.node.heading.position.size next =
-        child-size nodes right root step.node step.there next step.names in
+    child-size nodes right root step.node step.there next step.names in
     let same : step.node.heading ≡ top =
-        same_Some step.node.heading top (sym (get-map (λ (n : Node). n.heading) nodes root step.node step.there) ∙ at_root) in
+    same_Some step.node.heading top (sym (get-map (λ (n : Node). n.heading) nodes root step.node step.there) ∙ at_root) in
     needed-size nodes right path next place size.heading heading leads.1 size.there at_place ∙ size.same_size
-        ∙ ap (λ (h : Heading). h.position.size) same
+    ∙ ap (λ (h : Heading). h.position.size) same

@@ -15,7 +15,7 @@ pub entry-bucket : (buckets : ℕ) (board : Board) (mover : Colour) (bucket : �
     → (node : Node) → IsOf board mover node → position_key buckets node ≡ bucket
 entry-bucket buckets board mover bucket is_bucket node has =
     ap (λ (b : Board). bucket_of buckets b node.heading.to_move) has.same_position
-        ∙ ap (λ (m : Colour). bucket_of buckets board m) has.same_mover ∙ sym is_bucket
+    ∙ ap (λ (m : Colour). bucket_of buckets board m) has.same_mover ∙ sym is_bucket
 
 module _ (nodes : List Node) (board : Board) (mover : Colour) where
   entry-there : (place : ℕ) (node : Node) → slice_get nodes place ≡ Some node → IsOf board mover node → IsEntry nodes board mover place
@@ -52,13 +52,13 @@ pub wider-bucket : (buckets : ℕ) (board : Board) (mover winner : Colour) (buck
 wider-bucket buckets board mover winner bucket is_bucket node has =
     ap (λ (w : Colour). stones_bucket_of buckets node.heading.position node.heading.to_move w) has.same_winner
     ∙ ap (λ (b : Board). bucket_of buckets b node.heading.to_move)
-        (same-alone node.heading.position board winner has.same_size has.same_stones)
+    (same-alone node.heading.position board winner has.same_size has.same_stones)
     ∙ ap (λ (m : Colour). bucket_of buckets (alone_of board winner) m) has.same_mover ∙ sym is_bucket
 
 module _ (nodes : List Node) (board : Board) (mover winner : Colour) where
   pub wider-found : (place : ℕ) (node : Node) → slice_get nodes place ≡ Some node → HasWider board mover winner node
       → IsWiderFound nodes board mover winner
-          (record { found = record { index = place; winner = winner }; position = node.heading.position })
+      (record { found = record { index = place; winner = winner }; position = node.heading.position })
   wider-found place node there has = record {
     entry = record { node = node; there = there; is_wider = has };
     same_winner = refl;

@@ -90,9 +90,9 @@ module _ (key : ℕ → Node → ℕ) (nodes : List Node) (heads next : List ℕ
   head-more : (b : ℕ) → b < length heads → IsNewestBelow own more b (length nodes + 1) (slice_index new_heads b)
   head-more b inside = ⊎_elim
       (λ (same : b ≡ bucket).
-          rw (same, get_or-set_same heads bucket (length nodes + 1) 0 below)
-          (subst (λ (mine : ℕ). IsNewestBelow own more mine (length nodes + 1) (length nodes + 1)) (sym is_bucket)
-          (newest-own own nodes node)))
+      rw (same, get_or-set_same heads bucket (length nodes + 1) 0 below)
+      (subst (λ (mine : ℕ). IsNewestBelow own more mine (length nodes + 1) (length nodes + 1)) (sym is_bucket)
+      (newest-own own nodes node)))
       (λ (different : b ≡ bucket → ⊥). rw (get_or-set_other heads bucket b (length nodes + 1) 0 different)
       (newest-other own nodes node b (slice_index heads b) (λ same. different (sym same ∙ sym is_bucket)) (chains.heads_lead b inside)))
       (cases_eq b bucket)
@@ -109,10 +109,10 @@ module _ (key : ℕ → Node → ℕ) (nodes : List Node) (heads next : List ℕ
   next-more_last b place at here =
       let last : place ≡ length next = at ∙ sym chains.long in
       let value : slice_index new_next place ≡ slice_index heads bucket = ap (λ (p : ℕ). slice_index new_next p) last
-          ∙ index-push_last next (slice_index heads bucket) in
+      ∙ index-push_last next (slice_index heads bucket) in
       let within : length nodes ≤ length nodes = omega arith in
       rw (value, here, at) (newest-before own nodes node bucket (length nodes) (slice_index heads bucket) within
-          (chains.heads_lead bucket below))
+      (chains.heads_lead bucket below))
 
   next-more : (b place : ℕ) → IsIn own more b place → IsNewestBelow own more b place (slice_index new_next place)
   next-more b place is = ⊎_elim
@@ -156,10 +156,10 @@ module _ (slots : ℕ) (nodes : List Node) (node : Node) (book : IsBook (record 
 module _ (slots : ℕ) (nodes : List Node) (by_position by_stones : Links) (room : ℕ) (node : Node)
     (fields : FieldsKeep slots nodes by_position by_stones room)
     (place stones : ℕ) (is_place : place ≡ position_key (length by_position.heads) node)
-        (is_stones : stones ≡ stones_key (length by_stones.heads) node)
+    (is_stones : stones ≡ stones_key (length by_stones.heads) node)
     (place_below : place < length by_position.heads) (stones_below : stones < length by_stones.heads)
     (new_position new_stones : Links) (position_added : IsLinked by_position place new_position)
-        (stones_added : IsLinked by_stones stones new_stones) where
+    (stones_added : IsLinked by_stones stones new_stones) where
   pub fields-more : length nodes ≢ slots → IsRightNode (headings_of nodes) node
       → HasNoEntry nodes node.heading.position node.heading.to_move
       → FieldsKeep slots (nodes ++ node ∷ []) new_position new_stones room

@@ -141,7 +141,7 @@ module _ (nodes : List Node) (right : AreRight nodes) (root : ℕ) (marks : List
     same-child child names_it =
         let less : child < bound = child-before nodes right bound node there child names_it in
         let child_marked : IsMarked marks child =
-            marked.closed bound child (omega arith) here (record { node = node; there = there; names = names_it }) in
+        marked.closed bound child (omega arith) here (record { node = node; there = there; names = names_it }) in
         old.gives child child_marked less ∙ sym (take-heading nodes bound child less)
 
     new-right : IsRightNode (headings_of kept) new
@@ -152,7 +152,7 @@ module _ (nodes : List Node) (right : AreRight nodes) (root : ℕ) (marks : List
     gives-own =
         let inside_names : bound < length names = omega (arith, within, old.named) in
         ap (λ (p : ℕ). slice_get (headings_of more) p) (get_or-set_same names bound (length kept) 0 inside_names) ∙ heading-last kept new
-            ∙ sym own_heading
+        ∙ sym own_heading
 
     gives-before : (place : ℕ) → IsMarked marks place → place < bound
         → slice_get (headings_of more) (slice_index new_names place) ≡ slice_get (headings_of nodes) place
@@ -189,7 +189,7 @@ module _ (nodes : List Node) (right : AreRight nodes) (root : ℕ) (marks : List
     renamed-more k place e = ⊎_elim
         (λ was. sym (name-before place (old.below k place was)) ∙ old.needed.renamed k place was)
         (λ last. ap new_name last.1 ∙ get_or-set_same names bound (length kept) 0 (omega (arith, within, old.named))
-            ∙ sym (last.0 ∙ old.needed.as_many))
+        ∙ sym (last.0 ∙ old.needed.as_many))
         (get-push old.places bound place k e)
 
     -- a node that stands before is renamed as it was
@@ -197,7 +197,7 @@ module _ (nodes : List Node) (right : AreRight nodes) (root : ℕ) (marks : List
         → renamed_node name at ≡ renamed_node new_name at
     node-before place at less there_at =
         node-same name new_name at (λ child names_it.
-            name-before child (omega (arith, child-before nodes right place at there_at child names_it, less)))
+        name-before child (omega (arith, child-before nodes right place at there_at child names_it, less)))
 
     node-more : (k place : ℕ) (at : Node) → slice_get new_places k ≡ Some place → slice_get nodes place ≡ Some at
         → slice_get more k ≡ Some (renamed_node new_name at)
@@ -214,7 +214,7 @@ module _ (nodes : List Node) (right : AreRight nodes) (root : ℕ) (marks : List
     each-more place h less = ⊎_elim
         (λ (same : place ≡ bound). (length old.places, get-push_last old.places bound ∙ ap Some (sym same)))
         (λ (different : place ≡ bound → ⊥). let was = old.each place h (omega (arith, less, different)) in
-            (was.0, get-push_before old.places bound was.0 place was.1))
+        (was.0, get-push_before old.places bound was.0 place was.1))
         (cases_eq place bound)
 
     order-more : (j k one other : ℕ) → j < k → slice_get new_places j ≡ Some one → slice_get new_places k ≡ Some other → one < other

@@ -54,6 +54,6 @@ module _ (lines : List Line) (i : ℕ) (line : Line) (inside : i < length lines)
       let up_to : take (i + 1) lines ≡ take i lines ++ line ∷ [] = take-read lines i line inside is in
       let more : MarksMore (HasLine (take i lines ++ line ∷ [])) old new =
       mark-as (λ p. HasLine (take i lines) p ⊎ NamesChild line p) (HasLine (take i lines ++ line ∷ [])) old new
-          (lines-push (take i lines) line) (lines-cases (take i lines) line)
+      (lines-push (take i lines) line) (lines-cases (take i lines) line)
       (mark-then (HasLine (take i lines)) (NamesChild line) old middle new m n) in
       subst (λ (ls : List Line). MarksMore (HasLine ls) old new) (sym up_to) more

@@ -15,7 +15,7 @@ pub marked-begun : (nodes : List Node) (root : ℕ) (none marks : List Bool) →
     → AreMarkedFrom nodes root (root + 1) marks
 marked-begun nodes root none marks empty more =
     let only : (place : ℕ) → IsMarked marks place → place ≡ root = λ place h.
-        ⊎_elim (λ was. absurd (empty.none place was)) (λ same. same) (more.only place h) in
+    ⊎_elim (λ was. absurd (empty.none place was)) (λ same. same) (more.only place h) in
     record {
       long = more.long ∙ empty.long;
       root_marked = more.each root refl;
@@ -47,7 +47,7 @@ module _ (nodes : List Node) (right : AreRight nodes) (root bound : ℕ) (marks 
     needed_more place h = ⊎_elim
         (λ was. marked.needed place was)
         (λ names. let need = marked.needed bound here in
-            leads-further nodes need.0 root bound place need.1 (record { node = node; there = there; names = names }))
+        leads-further nodes need.0 root bound place need.1 (record { node = node; there = there; names = names }))
         (more.only place h)
 
     own_child : (child : ℕ) → HasChildAt nodes bound child → IsMarked new child

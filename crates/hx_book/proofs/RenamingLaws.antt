@@ -63,7 +63,7 @@ contains-map f xs x has =
 module _ (before after : List Heading) (heading : Heading) (links : List Link) (threats : List ℕ) (name : ℕ → ℕ) (lines : List Line) where
   line-renamed : (line : Line) → ((child : ℕ) → NamesChild line child → slice_get after (name child) ≡ slice_get before child)
       → IsRightLine before heading links threats lines line
-          → IsRightLine after heading links threats (map (renamed_line name) lines) (renamed_line name line)
+      → IsRightLine after heading links threats (map (renamed_line name) lines) (renamed_line name line)
   line-renamed (Child cell child) same right = rw (same child refl) right
   line-renamed (Under cell better kill) same right = record {
     dominated = right.dominated;

@@ -197,7 +197,7 @@ module _ (before : Option (List ℕ)) (reader : TreeReader) (headings : List Hea
             parts = parts ∙ sym (text_of-push upto.judged.lines new.line later)
                 ∙ ap (λ (ls : List (List ℕ)). text_of (ls ++ new.line ∷ []) ++ later) stands.same
                 ∙ ap (λ (l : List ℕ). text_of ((front_lines next.so_far.preamble ++ flat_map node_lines upto.judged.nodes) ++ l ∷ [])
-                    ++ later)
+                ++ later)
                 (next.same ∙ ap head_line (sym whole.2));
           }
 

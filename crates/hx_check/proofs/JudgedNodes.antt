@@ -55,8 +55,11 @@ faultless reader headings judged = record {
 
 pub few_fed : (reader : TreeReader) (headings : List Heading) → HasJudged reader headings → lines_fed reader < 2 ^ 63
 few_fed reader headings judged =
-    omega (arith, judged.counted,
-        ended_few judged.lines judged.nodes (ended_in reader.place judged.nodes judged.lines judged.read judged.few))
+    omega (
+      arith,
+      judged.counted,
+      ended_few judged.lines judged.nodes (ended_in reader.place judged.nodes judged.lines judged.read judged.few),
+    )
 
 pub count_more : (reader : TreeReader) (headings : List Heading) (now : ℕ) (judged : HasJudged reader headings)
     → now ≡ next_count (lines_fed reader) → now ≡ length judged.lines + 1

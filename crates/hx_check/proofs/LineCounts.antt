@@ -33,8 +33,12 @@ few_lines_in : (preamble : Preamble) (nodes : List Node) → EachNodeFits preamb
     → length (flat_map node_lines nodes) ≤ 9001 * length nodes
 few_lines_in preamble [] each = omega arith
 few_lines_in preamble (node ∷ nodes) each =
-    omega (arith, few_lines preamble node each.0, few_lines_in preamble nodes each.1,
-        length-append (node_lines node) (flat_map node_lines nodes))
+    omega (
+      arith,
+      few_lines preamble node each.0,
+      few_lines_in preamble nodes each.1,
+      length-append (node_lines node) (flat_map node_lines nodes),
+    )
 
 pub ended_few : (lines : List (List ℕ)) (nodes : List Node) → EndedIn lines nodes → length lines < 2 ^ 63
 ended_few lines nodes (Before_size none short) = omega (arith, short)

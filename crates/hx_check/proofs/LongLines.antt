@@ -67,7 +67,7 @@ goes_on_by input long lines rest lack short (Second_goes_on [] is left) =
     record { more = []; is = sym (append-nil long.lines) ∙ sym is ∙ sym (append-nil lines); left = sym left }
 goes_on_by input long lines rest lack short (Second_goes_on (next ∷ more) is left) =
     absurd (lines_not_long next more rest
-        (Lacks-middle long.lines next more (subst AllLack (is ∙ sym (append_assoc long.lines (next ∷ []) more)) lack))
+    (Lacks-middle long.lines next more (subst AllLack (is ∙ sym (append_assoc long.lines (next ∷ []) more)) lack))
     (AllShort-middle long.lines next more (subst AllShort is short)) (subst BeginsLong left long.long))
 
 goes_on : (input : List ℕ) (long : IsLongLine input) (lines : List (List ℕ)) (rest : List ℕ) → AllLack lines → AllShort lines
@@ -86,9 +86,9 @@ long_not_text input nodes long text =
     let are : AreTreeLines text.lines = record { preamble = text.preamble; nodes = nodes; winner = text.winner; are = text.are } in
     let on : GoesOn input long text.lines [] =
     goes_on input long text.lines [] (AllLack-tree_lines text.lines are) (AllShort-tree_lines text.lines are)
-        (text.same ∙ sym (append-nil (text_of text.lines))) in
+    (text.same ∙ sym (append-nil (text_of text.lines))) in
     none_not_long long.rest
-        (nil_from_length long.rest (omega (arith, ap length on.left, length-append (text_of on.more) long.rest))) long.long
+    (nil_from_length long.rest (omega (arith, ap length on.left, length-append (text_of on.more) long.rest))) long.long
 
 pub long_not_fault : (input : List ℕ) (line : ℕ) → IsLongLine input → IsNoText input line → ⊥
 unfolding text_of
@@ -97,7 +97,7 @@ long_not_fault input line long text =
     goes_on input long text.fault.before text.fault.rest (AllLack-begun text.fault.before text.fault.right)
     (AllShort-begun text.fault.before text.fault.right) text.fault.parts in
     let none : on.more ≡ [] =
-        no_more AreTreeLines AllLack-tree_lines input line text.fault long.lines on.more long.rest on.is on.left long.faultless.begin in
+    no_more AreTreeLines AllLack-tree_lines input line text.fault long.lines on.more long.rest on.is on.left long.faultless.begin in
     let same : text.fault.rest ≡ long.rest = on.left ∙ ap (λ (ls : List (List ℕ)). text_of ls ++ long.rest) none in
     text.short (subst BeginsLong (sym same) long.long)
 

@@ -35,7 +35,7 @@ record Ended (lines : List (List ℕ)) (nodes : List Node) : Type 0 where
 part_no_node : (preamble : Preamble) (node : Node) (part rest : List (List ℕ)) → IsExtent preamble.size.rows preamble.size.cols
     → NodeFits preamble node
     → node_lines node ≡ part ++ rest → rest ≢ [] → (other : Node) (more : List (List ℕ)) → NodeFits preamble other → part ≡ node_lines other
-        ++ more → ⊥
+    ++ more → ⊥
 part_no_node preamble node part rest extent fits whole some other more fits_other e =
     let same : node_lines node ++ [] ≡ node_lines other ++ (more ++ rest) =
     append-nil (node_lines node) ∙ whole ∙ ap (λ (ls : List (List ℕ)). ls ++ rest) e ∙ append_assoc (node_lines other) more rest in
@@ -110,7 +110,7 @@ not_shorter lines more a b form_a form_b longer =
     let flat_b : List (List ℕ) = flat_map node_lines b in
     let whole : (front_lines form_a.preamble ++ flat_a) ++ (form_a.tail ++ more) ≡ (front_lines form_b.preamble ++ flat_b) ++ form_b.tail =
     sym (append_assoc (front_lines form_a.preamble ++ flat_a) form_a.tail more) ∙ ap (λ (ls : List (List ℕ)). ls ++ more) (sym form_a.same)
-        ∙ form_b.same in
+    ∙ form_b.same in
     let titles : title_line form_a.preamble.version ≡ title_line form_b.preamble.version = cc in
     let second : size_line form_a.preamble.size ≡ size_line form_b.preamble.size = cc in
     let tails : flat_a ++ (form_a.tail ++ more) ≡ flat_b ++ form_b.tail = cc in
@@ -122,7 +122,7 @@ not_shorter lines more a b form_a form_b longer =
     ∙ ap (λ (ls : List (List ℕ)). ls ++ (form_a.tail ++ more)) (flat_map-append node_lines b (longer.next ∷ longer.more))
     ∙ append_assoc flat_b (node_lines longer.next ++ flat_map node_lines longer.more) (form_a.tail ++ more)
     ∙ ap (λ (ls : List (List ℕ)). flat_b ++ ls)
-        (append_assoc (node_lines longer.next) (flat_map node_lines longer.more) (form_a.tail ++ more)) in
+    (append_assoc (node_lines longer.next) (flat_map node_lines longer.more) (form_a.tail ++ more)) in
     let fits : NodeFits form_b.preamble longer.next =
     fits_middle form_b.preamble b longer.next longer.more (subst (λ (ns : List Node). EachNodeFits form_b.preamble ns) longer.same
     (subst (λ (p : Preamble). EachNodeFits p a) preambles form_a.each)) in
@@ -136,9 +136,9 @@ front_nodes lines more a b ended_a ended_b begins =
     let whole : AreTreeLinesOf begins.1.preamble begins.1.nodes begins.1.winner (lines ++ (more ++ begins.0)) =
     subst (AreTreeLinesOf begins.1.preamble begins.1.nodes begins.1.winner) (append_assoc lines more begins.0) begins.1.are in
     let on_a : GoOn a begins.1.nodes =
-        ended_first lines (more ++ begins.0) a begins.1.nodes begins.1.preamble begins.1.winner ended_a whole in
+    ended_first lines (more ++ begins.0) a begins.1.nodes begins.1.preamble begins.1.winner ended_a whole in
     let on_b : GoOn b begins.1.nodes =
-        ended_first (lines ++ more) begins.0 b begins.1.nodes begins.1.preamble begins.1.winner ended_b begins.1.are in
+    ended_first (lines ++ more) begins.0 b begins.1.nodes begins.1.preamble begins.1.winner ended_b begins.1.are in
     ⊎_elim
     (λ (less : length a < length b).
     let goes_on : Longer a b = longer a b on_a.more on_b.more (sym on_a.same ∙ on_b.same) less in
@@ -175,7 +175,7 @@ text_not_node_from k text node more is =
     front_nodes node.lines more node.nodes text.nodes node.ended (subst (λ (ls : List (List ℕ)). EndedIn ls text.nodes) is text.ended)
     (subst (Begins AreTreeLines) is text.fault.right) in
     let least : IsLeastWrong text.nodes k =
-        subst (λ (ns : List Node). IsLeastWrong ns k) (sym on.same) (least_wrong-append node.nodes on.more k node.wrong) in
+    subst (λ (ns : List Node). IsLeastWrong ns k) (sym on.same) (least_wrong-append node.nodes on.more k node.wrong) in
     least.wrong (text.right k)
 
 text_not_node_by : (input : List ℕ) (line k : ℕ) (text : IsNoText input line) (node : IsNoNode input k)
@@ -185,7 +185,7 @@ text_not_node_by input line k text node (Second_goes_on more is left) =
     let none : more ≡ [] = no_more AreTreeLines AllLack-tree_lines input line text.fault node.lines more node.rest is left node.right in
     text_not_node_from k text node []
     (sym (append-nil text.fault.before) ∙ ap (λ (ls : List (List ℕ)). text.fault.before ++ ls) (sym none) ∙ sym is
-        ∙ sym (append-nil node.lines))
+    ∙ sym (append-nil node.lines))
 
 pub text_not_node : (input : List ℕ) (line k : ℕ) → IsNoText input line → IsNoNode input k → ⊥
 text_not_node input line k text node =
@@ -207,10 +207,10 @@ one_node_from : (input : List ℕ) (k j : ℕ) (first : IsNoNode input k) (secon
 one_node_from input k j first second more is =
     let on : GoOn first.nodes second.nodes =
     front_nodes first.lines more first.nodes second.nodes first.ended
-        (subst (λ (ls : List (List ℕ)). EndedIn ls second.nodes) is second.ended)
+    (subst (λ (ls : List (List ℕ)). EndedIn ls second.nodes) is second.ended)
     (subst (Begins AreTreeLines) is second.right) in
     one_least second.nodes k j
-        (subst (λ (ns : List Node). IsLeastWrong ns k) (sym on.same) (least_wrong-append first.nodes on.more k first.wrong)) second.wrong
+    (subst (λ (ns : List Node). IsLeastWrong ns k) (sym on.same) (least_wrong-append first.nodes on.more k first.wrong)) second.wrong
 
 one_node_by : (input : List ℕ) (k j : ℕ) (first : IsNoNode input k) (second : IsNoNode input j)
     → Agree first.lines second.lines first.rest second.rest → k ≡ j

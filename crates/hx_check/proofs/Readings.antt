@@ -36,11 +36,11 @@ ended_first lines more nodes all preamble winner (Before_size none short) are =
     record { more = all; same = ap (λ (ns : List Node). ns ++ all) (sym none) }
 ended_first lines more nodes all preamble winner (Among_nodes first is_size each few same) are =
     let on = aligned first nodes lines more preamble all winner is_size each same are in
-        record { more = on.on.more; same = on.on.nodes_are }
+    record { more = on.on.more; same = on.on.nodes_are }
 ended_first lines more nodes all preamble winner (Inside_node first is_size each few node fits part rest whole some same) are =
     let front : List (List ℕ) = front_lines first ++ flat_map node_lines nodes in
     let same_lines : lines ++ more ≡ front ++ (part ++ more) = ap (λ (ls : List (List ℕ)). ls ++ more) same
-        ∙ append_assoc front part more in
+    ∙ append_assoc front part more in
     let on = aligned first nodes front (part ++ more) preamble all winner is_size each refl
     (subst (AreTreeLinesOf preamble all winner) same_lines are) in record { more = on.on.more; same = on.on.nodes_are }
 ended_first lines more nodes all preamble winner (After_end first last whole few) are =
@@ -158,7 +158,7 @@ many_are many =
     let front : List (List ℕ) = front_lines many.preamble ++ flat_map node_lines many.nodes in
     let end : List (List ℕ) = end_line (length (all_of many)) many.next.heading.winner ∷ [] in
     ap (λ (ls : List (List ℕ)). ls ++ many_rest many)
-        (sym (append_assoc (front_lines many.preamble) (flat_map node_lines many.nodes) (head_line (head_of many.next) ∷ [])))
+    (sym (append_assoc (front_lines many.preamble) (flat_map node_lines many.nodes) (head_line (head_of many.next) ∷ [])))
     ∙ append_assoc front (head_line (head_of many.next) ∷ []) (many_rest many)
     ∙ sym (append_assoc front (node_lines many.next) end)
     ∙ ap (λ (ls : List (List ℕ)). ls ++ end)
@@ -207,8 +207,12 @@ more_nodes many preamble all winner rest are few =
 
 long_many : {input : List ℕ} (many : IsTooManyNodes input) (lines more : List (List ℕ)) → lines ≡ many_lines many ++ more → 3 ≤ length lines
 long_many many lines more is =
-    omega (arith, ap length is, length-append (many_lines many) more,
-        length-append (flat_map node_lines many.nodes) (head_line (head_of many.next) ∷ []))
+    omega (
+      arith,
+      ap length is,
+      length-append (many_lines many) more,
+      length-append (flat_map node_lines many.nodes) (head_line (head_of many.next) ∷ []),
+    )
 
 -- more nodes than a text may have
 pub too_many : {input : List ℕ} (many : IsTooManyNodes input) (lines more : List (List ℕ)) (nodes : List Node)
@@ -265,8 +269,13 @@ many_not_fault_at many line is [] same rest =
     is.ended
 many_not_fault_at {input} many line is (next ∷ more) same rest =
     no_next input line is.fault next more (more ++ many_rest many) many.rest rest
-    (record { preamble = many.preamble; nodes = all_of many; winner = many.next.heading.winner; are =
-        goes_to_end many is.fault.before (next ∷ more) same })
+    (record {
+      preamble = many.preamble;
+      nodes = all_of many;
+      winner = many.next.heading.winner;
+      are =
+          goes_to_end many is.fault.before (next ∷ more) same;
+    })
 
 many_not_fault_by : {input : List ℕ} (many : IsTooManyNodes input) (line : ℕ) (is : IsNoText input line)
     → Agree (many_lines many) is.fault.before many.rest is.fault.rest → ⊥
@@ -339,7 +348,7 @@ valid_not_wrong input nodes k text valid is =
     (agree text.lines is.lines [] is.rest (AllLack-text text) (AllLack-begun is.lines is.right)
     (append-nil (text_of text.lines) ∙ sym text.same ∙ is.parts)) in
     let least : IsLeastWrong nodes k =
-        subst (λ (ns : List Node). IsLeastWrong ns k) (sym on.same) (least_wrong-append is.nodes on.more k is.wrong) in
+    subst (λ (ns : List Node). IsLeastWrong ns k) (sym on.same) (least_wrong-append is.nodes on.more k is.wrong) in
     least.wrong (valid.right k)
 
 text_not_many_by : {input : List ℕ} {nodes : List Node} (text : IsTreeText input nodes) → length nodes ≤ most_nodes

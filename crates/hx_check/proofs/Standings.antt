@@ -61,6 +61,6 @@ not_whole (Between so_far) nodes lines other stands are =
     no_end_line on.on.more _ on.on.rest_is
 not_whole (Inside begun) nodes lines other stands are =
     in_node_not_whole begun.so_far.preamble nodes lines stands.begun_so.stands.is_size stands.begun_so.stands.each
-        (inside_begins_node begun nodes lines stands) are
+    (inside_begins_node begun nodes lines stands) are
 not_whole (After preamble) nodes lines other stands are = other (preamble, refl)
 not_whole (Failed fault version) nodes lines other stands are = stands

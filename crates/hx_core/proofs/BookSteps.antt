@@ -84,9 +84,9 @@ module _ (workers slots : ℕ) (book : BookState) (kept : IsBook workers slots b
     stored-kept : (place : ℕ) → IsStored book.slots book.nodes node place nodes → IsBook workers slots (with_nodes book nodes)
     stored-kept place = ⊎_elim
         (λ (there : IsThere book.nodes node place nodes).
-            subst (λ (ns : List Node). IsBook workers slots (with_nodes book ns)) (sym there.same) kept)
+        subst (λ (ns : List Node). IsBook workers slots (with_nodes book ns)) (sym there.same) kept)
         (λ (added : IsAdded book.slots book.nodes node place nodes).
-            subst (λ (ns : List Node). IsBook workers slots (with_nodes book ns)) (sym added.grown)
+        subst (λ (ns : List Node). IsBook workers slots (with_nodes book ns)) (sym added.grown)
         (node-kept node added.room (right_node-whole book.nodes (seen_by book worker) node right) added.none))
 
     stored-extends : (place : ℕ) → IsStored book.slots book.nodes node place nodes → Extends nodes book.nodes

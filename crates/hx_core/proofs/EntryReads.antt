@@ -16,16 +16,21 @@ module _ (nodes : List Node) (board : Board) (mover : Colour) (index : ℕ)
     pub read-found : (node.heading.position ≡ board) × (node.heading.to_move ≡ mover)
         → IsFirstFound nodes board mover (record { index = index; winner = node.heading.winner })
     read-found is = record {
-      first = record { entry = record { node = node; there = there; is_of = record { same_position = is.0; same_mover = is.1 } }; first =
-          none };
+      first = record {
+        entry = record { node = node; there = there; is_of = record { same_position = is.0; same_mover = is.1 } };
+        first =
+            none;
+      };
       same_winner = refl;
     }
 
     other : ((node.heading.position ≡ board) × (node.heading.to_move ≡ mover) → ⊥) → IsEntry nodes board mover index → ⊥
     other is_not entry =
         let same : entry.node ≡ node = same_Some entry.node node (sym entry.there ∙ there) in
-        is_not (ap (λ (n : Node). n.heading.position) (sym same) ∙ entry.is_of.same_position,
-            ap (λ (n : Node). n.heading.to_move) (sym same) ∙ entry.is_of.same_mover)
+        is_not (
+          ap (λ (n : Node). n.heading.position) (sym same) ∙ entry.is_of.same_position,
+          ap (λ (n : Node). n.heading.to_move) (sym same) ∙ entry.is_of.same_mover,
+        )
 
     pub read-more : ((node.heading.position ≡ board) × (node.heading.to_move ≡ mover) → ⊥) → (place : ℕ) → place < index + 1
         → IsEntry nodes board mover place → ⊥

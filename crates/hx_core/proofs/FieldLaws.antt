@@ -66,16 +66,16 @@ module _ (slots : ℕ) (nodes : List Node) (seen : List ℕ) (budget : ℕ) (acc
   pub fields-added : (worker held : ℕ) (node : Node) → held ≡ length nodes → held ≢ slots
       → IsRightNode (headings_of (take (slice_index seen worker) nodes)) node
       → HasNoEntry nodes node.heading.position node.heading.to_move
-          → FieldsKeep (machine slots (nodes ++ node ∷ []) (set seen worker (held + 1)) budget accounts) room
+      → FieldsKeep (machine slots (nodes ++ node ∷ []) (set seen worker (held + 1)) budget accounts) room
   fields-added worker held node is_held left right none =
       fields-as (machine slots (nodes ++ node ∷ []) (set seen worker (held + 1)) budget accounts) (record {
-    book = seen-kept fields.workers fields.slots (record { slots = slots; nodes = nodes ++ node ∷ []; seen = seen })
-        (node-kept fields.workers fields.slots state.book fields.kept.book node
+        book = seen-kept fields.workers fields.slots (record { slots = slots; nodes = nodes ++ node ∷ []; seen = seen })
+            (node-kept fields.workers fields.slots state.book fields.kept.book node
             (omega (arith, is_held, left, fields.kept.book.held, fields.kept.book.same_slots))
-        (right_node-whole nodes (slice_index seen worker) node right) none)
-        worker (held + 1) (omega (arith, is_held, length-append nodes (node ∷ [])));
-    counts = fields.kept.counts;
-  })
+            (right_node-whole nodes (slice_index seen worker) node right) none)
+            worker (held + 1) (omega (arith, is_held, length-append nodes (node ∷ [])));
+        counts = fields.kept.counts;
+      })
 
   -- no word is held more often than all workers may hold
   pub losses-few : (word : ℕ) → losses_at state.counts word ≤ 65536
@@ -131,15 +131,15 @@ module _ (slots : ℕ) (nodes : List Node) (seen : List ℕ) (budget : ℕ) (acc
   step-written =
       let one : set accounts (worker_of event) written ≡ changed_at change accounts (worker_of event) =
       ap (λ (a : Account). set accounts (worker_of event) a) is_changed
-          ∙ set-changed change accounts (worker_of event) read allowed.0 is_read in
+      ∙ set-changed change accounts (worker_of event) read allowed.0 is_read in
       ap (λ (all : List Account). machine slots nodes seen budget all) one
-          ∙ ap (λ (c : CountsState). record before { counts = c }) (sym changes)
+      ∙ ap (λ (c : CountsState). record before { counts = c }) (sym changes)
 
   pub fields-written : (room : ℕ) → FieldsKeep before room
       → FieldsKeep (machine slots nodes seen budget (set accounts (worker_of event) written)) room
   fields-written room fields =
       subst (λ (s : MachineState). FieldsKeep s room) (sym step-written)
-          (fields-counted slots nodes seen budget accounts room fields event allowed)
+      (fields-counted slots nodes seen budget accounts room fields event allowed)
 
 -- ---- units
 

@@ -38,16 +38,16 @@ module _ (workers slots budget words : ℕ) (old : MachineState) (kept : IsKept 
       book-changed new (store-kept workers slots old.book kept.book worker node can.1 new.book reply step.0) step.1
   step-kept (Tell from to) reply new can step =
       subst (λ (s : MachineState). IsKept workers slots budget words s) (sym step.1)
-          (record { book = told-kept workers slots old.book kept.book from to; counts = kept.counts })
+      (record { book = told-kept workers slots old.book kept.book from to; counts = kept.counts })
   step-kept (Spend worker) reply new can step =
       counts-changed (counts_step old.counts (SpendUnit worker)) new
-          (counts-kept workers budget words old.counts kept.counts (SpendUnit worker) can) step.1
+      (counts-kept workers budget words old.counts kept.counts (SpendUnit worker) can) step.1
   step-kept (Hold worker word) reply new can step =
       counts-changed (counts_step old.counts (HoldWord worker word)) new
-          (counts-kept workers budget words old.counts kept.counts (HoldWord worker word) can) step.1
+      (counts-kept workers budget words old.counts kept.counts (HoldWord worker word) can) step.1
   step-kept (Release worker word) reply new can step =
       counts-changed (counts_step old.counts (ReleaseWord worker word)) new
-          (counts-kept workers budget words old.counts kept.counts (ReleaseWord worker word) can) step.1
+      (counts-kept workers budget words old.counts kept.counts (ReleaseWord worker word) can) step.1
   step-kept (LookAtWord worker word) reply new can step =
       subst (λ (s : MachineState). IsKept workers slots budget words s) (sym step.1) kept
 
@@ -86,7 +86,7 @@ module _ (workers slots budget words : ℕ) where
   run-grows old (event ∷ events) new kept run =
       let between : MachineState = run.1.1.0 in
       let first : BookGrows old.book between.book =
-          step-grows workers slots budget words old kept event run.1.0 between run.0 run.1.1.1.0 in
+      step-grows workers slots budget words old kept event run.1.0 between run.0 run.1.1.1.0 in
       let rest : IsLaterState between new =
       run-grows between events new (step-kept workers slots budget words old kept event run.1.0 between run.0 run.1.1.1.0) run.1.1.1.1 in
       record {

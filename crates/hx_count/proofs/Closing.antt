@@ -67,8 +67,12 @@ times-numbers worker (p ∷ parts) =
 sum-numbers : (f : ℕ → ℕ) (parts : List Part) → sum_by (λ (p : Part). f p.worker) parts ≡ sum_by f (map (λ (p : Part). p.worker) parts)
 sum-numbers f [] = refl
 sum-numbers f (p ∷ parts) =
-    omega (arith, sum_by-cons (λ (q : Part). f q.worker) p parts, sum_by-cons f p.worker (map (λ (q : Part). q.worker) parts),
-    sum-numbers f parts)
+    omega (
+      arith,
+      sum_by-cons (λ (q : Part). f q.worker) p parts,
+      sum_by-cons f p.worker (map (λ (q : Part). q.worker) parts),
+      sum-numbers f parts,
+    )
 
 module _ (limits : Limits) (words : List ℕ) (parts : List Part) (e : Ends limits words parts) where
   abbrev last : CountsState
@@ -85,12 +89,15 @@ module _ (limits : Limits) (words : List ℕ) (parts : List Part) (e : Ends limi
       sum-upto (drop 1 words)
       ∙ (ap (λ n. upto n (λ k. slice_index (drop 1 words) k)) long
       ∙ (upto-same limits.words (λ k. slice_index (drop 1 words) k) (λ k. losses_at last k)
-          (λ k below. index-rest words k ∙ (ap (slice_index words) (omega arith) ∙ e.losses k below))
+      (λ k below. index-rest words k ∙ (ap (slice_index words) (omega arith) ∙ e.losses k below))
       ∙ held-losses limits.words last (history-bounded limits.budget limits.words limits.workers e.history e.is_history)))
 
   pub few-held : held_by_all last ≤ limits.workers * MOST_HELD
-  few-held = omega (arith, held-le limits.words last (history-bounded limits.budget limits.words limits.workers e.history e.is_history),
-      ap (λ n. n * MOST_HELD) (history-workers limits.budget limits.words limits.workers e.history))
+  few-held = omega (
+    arith,
+    held-le limits.words last (history-bounded limits.budget limits.words limits.workers e.history e.is_history),
+    ap (λ n. n * MOST_HELD) (history-workers limits.budget limits.words limits.workers e.history),
+  )
 
   -- a sum over the workers' accounts is one over the parts
   workers-sum : (f : Account → ℕ) → length parts ≡ limits.workers
@@ -103,7 +110,7 @@ module _ (limits : Limits) (words : List ℕ) (parts : List Part) (e : Ends limi
       (λ n far. times-numbers n parts ∙ e.never n far) in
       sum-numbers (λ worker. f (account_of last worker)) parts
       ∙ (each ∙ (ap (λ n. upto n (λ worker. f (account_of last worker)))
-          (sym (history-workers limits.budget limits.words limits.workers e.history)) ∙ sym (sum_by-upto f last.accounts no_account)))
+      (sym (history-workers limits.budget limits.words limits.workers e.history)) ∙ sym (sum_by-upto f last.accounts no_account)))
 
 -- ---- the seats that were given back
 
@@ -120,12 +127,12 @@ module _ (made : Origin) (seats : List Seat) (words : List ℕ) (e : Ends made.l
   -- each worker has at the end what its seat says
   own-last : (f : Account → ℕ) (more : List Seat) → AreCurrentParts made.limits e.history (map part_of more)
       → sum_by (λ (s : Seat). f (own s)) more ≡ sum_by (λ (p : Part). f (account_of (state_after made.limits e.history) p.worker))
-          (map part_of more)
+      (map part_of more)
   own-last f [] current = refl
   own-last f (s ∷ more) current =
       let same : own s ≡ account_of (state_after made.limits e.history) s.worker =
       ap (λ (l : Limits). account_of (state_after l s.seen) s.worker) current.0.same_limits
-          ∙ sym (goes_on-account (start_of made.limits) s.worker s.seen e.history current.0.goes_on) in
+      ∙ sym (goes_on-account (start_of made.limits) s.worker s.seen e.history current.0.goes_on) in
       omega (
         arith,
         sum_by-cons (λ (t : Seat). f (own t)) s more,
@@ -156,10 +163,15 @@ module _ (made : Origin) (seats : List Seat) (words : List ℕ) (e : Ends made.l
       let f : Seat → ℕ = λ s. cond (own s).refused 1 0 in
       let one : f some_refused.1 ≡ 1 = ap (λ b. cond b 1 0) some_refused.4 in
       let refused : 0 < refused_of_all (state_after made.limits e.history) =
-          omega (arith, one, get_or-le-sum_by f seats some_refused.0 some_refused.1 some_refused.2, ap f some_refused.3,
-          seats-sum (λ (a : Account). cond a.refused 1 0) all) in
+      omega (
+        arith,
+        one,
+        get_or-le-sum_by f seats some_refused.0 some_refused.1 some_refused.2,
+        ap f some_refused.3,
+        seats-sum (λ (a : Account). cond a.refused 1 0) all,
+      ) in
       sym e.granted ∙ ((history-in_budget made.limits.budget made.limits.words made.limits.workers e.history e.is_history).full refused
-          ∙ run-budget (start_of made.limits) e.history)
+      ∙ run-budget (start_of made.limits) e.history)
 
   pub closed : (granted held : ℕ) → granted ≡ min (slice_index words 0) made.limits.budget → held ≡ sum (drop 1 words)
       → AreTotals made seats granted held

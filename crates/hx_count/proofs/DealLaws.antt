@@ -33,17 +33,17 @@ seats-more made first zero = let e : first + 0 ≡ first = omega arith in ap (λ
 seats-more made first (suc count) =
     let e : first + suc count ≡ first + 1 + count = omega arith in let one : suc count + 1 ≡ suc (count + 1) = omega arith in
     ap (λ n. seat made first [] ∷ (new_seats made (first + 1) count ++ seat made n [] ∷ [])) e
-        ∙ (ap (λ l. seat made first [] ∷ l) (seats-more made (first + 1) count) ∙ ap (new_seats made first) (sym one))
+    ∙ (ap (λ l. seat made first [] ∷ l) (seats-more made (first + 1) count) ∙ ap (new_seats made first) (sym one))
 
 pub dealt-more : (made : Origin) (limits : Limits) (table : TableId) (dealt : ℕ) (me : Seated) (seats after : List Seat)
     → made ≡ origin table limits → me ≡ (view (part limits dealt [] ∷ []), [])
     → seats ≡ new_seats made 0 dealt → after ≡ seats ++ seat_of table (first_part me.0) ∷ [] → after ≡ new_seats made 0 (dealt + 1)
 dealt-more made limits table dealt me seats after is_made one were pushed =
     let new : seat_of table (first_part me.0) ≡ seat made dealt [] = ap (λ (m : Seated). seat_of table (first_part m.0)) one
-        ∙ ap (λ (o : Origin). seat o dealt []) (sym is_made) in
+    ∙ ap (λ (o : Origin). seat o dealt []) (sym is_made) in
     let zero_first : 0 + dealt ≡ dealt = omega arith in
     pushed ∙ ((λ k. were k ++ new k ∷ [])
-        ∙ (ap (λ n. new_seats made 0 dealt ++ seat made n [] ∷ []) (sym zero_first) ∙ seats-more made 0 dealt))
+    ∙ (ap (λ n. new_seats made 0 dealt ++ seat made n [] ∷ []) (sym zero_first) ∙ seats-more made 0 dealt))
 
 -- ---- seats that come back
 

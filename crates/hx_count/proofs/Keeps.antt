@@ -89,14 +89,17 @@ module _ (limits : Limits) (s : Words) (c : Counted limits s) (id : ℕ) (p : Pa
     current-others : (other : ℕ) (u : View) → other ≢ id → get_elem? s.views other ≡ some u → AreCurrentParts limits longer u.parts
     current-others other u apart also = current-more limits c.history event u.parts
         (ap (λ worker. times_in worker u.parts) own
-            ∙ others-none (named p.worker) s.views id other (view (p ∷ [])) u no_parts refl
-            (omega (arith, c.once p.worker is-worker)) own-once apart there also)
+        ∙ others-none (named p.worker) s.views id other (view (p ∷ [])) u no_parts refl
+        (omega (arith, c.once p.worker is-worker)) own-once apart there also)
         (c.current other u also)
 
     same-sum : (worker : ℕ) → sum_by (named worker) (set s.views id seen_more) ≡ sum_by (named worker) s.views
-    same-sum worker = omega
-        (arith, sum-set (named worker) s.views id (view (p ∷ [])) seen_more there, times-single worker p,
-        times-single worker (part p.limits p.worker longer))
+    same-sum worker = omega (
+      arith,
+      sum-set (named worker) s.views id (view (p ∷ [])) seen_more there,
+      times-single worker p,
+      times-single worker (part p.limits p.worker longer),
+    )
 
     -- the event is the next one of the history, and one word changes so that the words agree with it
     pub counted-more : (word n : ℕ) → IsAllowed now event
@@ -116,8 +119,8 @@ module _ (limits : Limits) (s : Words) (c : Counted limits s) (id : ℕ) (p : Pa
       never = λ worker far. same-sum worker ∙ c.never worker far;
       current = λ other u at. ⊎_elim
           (λ (t : (other ≡ id) × (seen_more ≡ u)).
-              subst (λ (v : View). AreCurrentParts limits longer v.parts) t.1
-              (record { same_limits = same-limits; goes_on = goes_on-now p.worker longer }, tt))
+          subst (λ (v : View). AreCurrentParts limits longer v.parts) t.1
+          (record { same_limits = same-limits; goes_on = goes_on-now p.worker longer }, tt))
           (λ (t : (other ≢ id) × (get_elem? s.views other ≡ some u)). current-others other u t.0 t.1)
           (at_set s.views id other seen_more u at);
     }
@@ -163,8 +166,15 @@ module _ (limits : Limits) (slots id : ℕ) (p : Part) where
 
     few-spends : found < 1099511627841
     few-spends = let small = c.small in
-        omega (arith, small.budget, small.workers, c.spent, c.granted, refused-le before,
-        history-workers limits.budget limits.words limits.workers c.history)
+        omega (
+          arith,
+          small.budget,
+          small.workers,
+          c.spent,
+          c.granted,
+          refused-le before,
+          history-workers limits.budget limits.words limits.workers c.history,
+        )
 
     word-zero : slice_index (set s.words 0 (found + 1)) 0 ≡ found + 1
     word-zero = get_or-set_same s.words 0 (found + 1) 0 (omega (arith, c.wide))
@@ -178,18 +188,28 @@ module _ (limits : Limits) (slots id : ℕ) (p : Part) where
     spend-counted = ⊎_elim
         (λ (room : granted_to_all before < limits.budget).
         let units : has_units before ≡ true =
-            lt-ltb (granted_to_all before) (before.budget) (omega (arith, room, after-budget limits c.history)) in
+        lt-ltb (granted_to_all before) (before.budget) (omega (arith, room, after-budget limits c.history)) in
         counted-more limits s c id p there spend refl 0 (found + 1) spend-allowed
-        (omega (arith, word-zero, c.spent, granted-unit before p.worker (is-of_now limits s c id p there) units,
-            refused-unit before p.worker (is-of_now limits s c id p there) units))
+        (omega (
+          arith,
+          word-zero,
+          c.spent,
+          granted-unit before p.worker (is-of_now limits s c id p there) units,
+          refused-unit before p.worker (is-of_now limits s c id p there) units,
+        ))
         (omega (arith, word-zero, room, c.granted, granted-unit before p.worker (is-of_now limits s c id p there) units))
         other-words)
         (λ (full : limits.budget ≤ granted_to_all before).
         let units : has_units before ≡ false =
-            le-ltb (granted_to_all before) (before.budget) (omega (arith, full, after-budget limits c.history)) in
+        le-ltb (granted_to_all before) (before.budget) (omega (arith, full, after-budget limits c.history)) in
         counted-more limits s c id p there spend refl 0 (found + 1) spend-allowed
-        (omega (arith, word-zero, c.spent, granted-refusal before p.worker (is-of_now limits s c id p there) units,
-            refused-refusal before p.worker (is-of_now limits s c id p there) units still-not))
+        (omega (
+          arith,
+          word-zero,
+          c.spent,
+          granted-refusal before p.worker (is-of_now limits s c id p there) units,
+          refused-refusal before p.worker (is-of_now limits s c id p there) units still-not,
+        ))
         (omega (arith, word-zero, full, c.granted, granted-refusal before p.worker (is-of_now limits s c id p there) units))
         other-words)
         (cases_lt (granted_to_all before) limits.budget)
@@ -260,10 +280,10 @@ module _ (limits : Limits) (slots id : ℕ) (p : Part) where
         → (k : ℕ) → k < limits.words → slice_index (set s.words (word + 1) n) (k + 1) ≡ losses_at (counts_step state event) k
     losses-more n event here elsewhere k below = ⊎_elim
         (λ (same : word ≡ k).
-            subst (λ (o : ℕ). slice_index (set s.words (word + 1) n) (o + 1) ≡ losses_at (counts_step state event) o) same
-            (word-here n ∙ here))
+        subst (λ (o : ℕ). slice_index (set s.words (word + 1) n) (o + 1) ≡ losses_at (counts_step state event) o) same
+        (word-here n ∙ here))
         (λ (apart : word ≢ k). get_or-set_other s.words (word + 1) (k + 1) n 0 (λ same. apart (omega arith))
-            ∙ (c.losses k below ∙ sym (elsewhere k apart)))
+        ∙ (c.losses k below ∙ sym (elsewhere k apart)))
         (cases_eq word k)
 
     module _ (room : held_in_all (account_of (state_after p.limits p.seen) p.worker) < MOST_HELD) where
@@ -271,14 +291,18 @@ module _ (limits : Limits) (slots id : ℕ) (p : Part) where
       hold-allowed = (of_now, (omega (arith, long, inside), omega (arith, room, ap held_in_all as-before)))
 
       hold-counted : Counted limits
-          (record { words = set s.words (word + 1) (number + 1); homes = s.homes; views =
-          set s.views id (seen_more limits s c id p there (Hold p.worker word) refl) })
+          (record {
+            words = set s.words (word + 1) (number + 1);
+            homes = s.homes;
+            views =
+                set s.views id (seen_more limits s c id p there (Hold p.worker word) refl);
+          })
       hold-counted = counted-more limits s c id p there (Hold p.worker word) refl (word + 1) (number + 1) hold-allowed
           (omega (arith, word-zero_kept (number + 1), c.spent, granted-hold state worker word, refused-hold state worker word))
           (omega (arith, word-zero_kept (number + 1), c.granted, granted-hold state worker word))
           (losses-more (number + 1) (Hold worker word)
-              (omega (arith, c.losses word inside, losses-hold_here state worker word of_now (omega (arith, long, inside))))
-              (λ other apart. losses-hold_elsewhere state worker word of_now other apart))
+          (omega (arith, c.losses word inside, losses-hold_here state worker word of_now (omega (arith, long, inside))))
+          (λ other apart. losses-hold_elsewhere state worker word of_now other apart))
 
       hold-next : IsNext p (Hold p.worker word) (seen_more limits s c id p there (Hold p.worker word) refl)
       hold-next = next limits s c id p there (Hold p.worker word) refl hold-allowed
@@ -295,14 +319,18 @@ module _ (limits : Limits) (slots id : ℕ) (p : Part) where
       some-losses = omega (arith, c.losses word inside, losses-own state worker word, holds-some)
 
       release-counted : Counted limits
-          (record { words = set s.words (word + 1) (number - 1); homes = s.homes; views =
-          set s.views id (seen_more limits s c id p there (Release p.worker word) refl) })
+          (record {
+            words = set s.words (word + 1) (number - 1);
+            homes = s.homes;
+            views =
+                set s.views id (seen_more limits s c id p there (Release p.worker word) refl);
+          })
       release-counted = counted-more limits s c id p there (Release p.worker word) refl (word + 1) (number - 1) release-allowed
           (omega (arith, word-zero_kept (number - 1), c.spent, granted-release state worker word, refused-release state worker word))
           (omega (arith, word-zero_kept (number - 1), c.granted, granted-release state worker word))
           (losses-more (number - 1) (Release worker word)
-              (omega (arith, c.losses word inside, losses-release_here state worker word of_now holds-some))
-              (λ other apart. losses-release_elsewhere state worker word of_now other apart))
+          (omega (arith, c.losses word inside, losses-release_here state worker word of_now holds-some))
+          (λ other apart. losses-release_elsewhere state worker word of_now other apart))
 
       release-next : IsNext p (Release p.worker word) (seen_more limits s c id p there (Release p.worker word) refl)
       release-next = next limits s c id p there (Release p.worker word) refl release-allowed
@@ -313,8 +341,12 @@ module _ (limits : Limits) (slots id : ℕ) (p : Part) where
     look-allowed = (of_now, omega (arith, long, inside))
 
     look-counted : Counted limits
-        (record { words = set s.words (word + 1) number; homes = s.homes; views =
-        set s.views id (seen_more limits s c id p there (Look p.worker word) refl) })
+        (record {
+          words = set s.words (word + 1) number;
+          homes = s.homes;
+          views =
+              set s.views id (seen_more limits s c id p there (Look p.worker word) refl);
+        })
     look-counted = counted-more limits s c id p there (Look p.worker word) refl (word + 1) number look-allowed
         (word-zero_kept number ∙ c.spent)
         (c.granted ∙ ap (λ n. min n limits.budget) (sym (word-zero_kept number)))
@@ -340,9 +372,12 @@ module _ (limits : Limits) (slots id : ℕ) (p : Part) where
         tt,
         subst (λ (x : ℕ). Counted limits (record { words = set s.words (word + 1) x; homes = s.homes; views = set s.views id w })) (sym one)
             (hold-counted word inside s c there room),
-        (refl, λ q other same at.
-            subst (λ (r : Part). IsNext r (Hold r.worker other) w) (first-same p q same)
-            (subst (λ (k : ℕ). IsNext p (Hold p.worker k) w) (same-word word other at) (hold-next word inside s c there room))),
+        (
+          refl,
+          λ q other same at.
+              subst (λ (r : Part). IsNext r (Hold r.worker other) w) (first-same p q same)
+              (subst (λ (k : ℕ). IsNext p (Hold p.worker k) w) (same-word word other at) (hold-next word inside s c there room)),
+        ),
       )
 
   pub releases-keep : (word : ℕ) → word < limits.words → 0 < slice_index (account_of (state_after p.limits p.seen) p.worker).held word
@@ -358,10 +393,13 @@ module _ (limits : Limits) (slots id : ℕ) (p : Part) where
         tt,
         subst (λ (x : ℕ). Counted limits (record { words = set s.words (word + 1) x; homes = s.homes; views = set s.views id w })) (sym one)
             (release-counted word inside s c there some_held),
-        (refl, λ q other same at.
-            subst (λ (r : Part). IsNext r (Release r.worker other) w) (first-same p q same)
-            (subst (λ (k : ℕ). IsNext p (Release p.worker k) w) (same-word word other at)
-            (release-next word inside s c there some_held))),
+        (
+          refl,
+          λ q other same at.
+              subst (λ (r : Part). IsNext r (Release r.worker other) w) (first-same p q same)
+              (subst (λ (k : ℕ). IsNext p (Release p.worker k) w) (same-word word other at)
+              (release-next word inside s c there some_held)),
+        ),
       )
 
   pub looks-keep : (word : ℕ) → word < limits.words
@@ -373,9 +411,12 @@ module _ (limits : Limits) (slots id : ℕ) (p : Part) where
         keeps,
         tt,
         look-counted word inside s c there,
-        (refl, λ q other same at.
-            subst (λ (r : Part). IsLook r other n w) (first-same p q same)
-            (subst (λ (k : ℕ). IsLook p k n w) (same-word word other at) (look-told word inside s c there))),
+        (
+          refl,
+          λ q other same at.
+              subst (λ (r : Part). IsLook r other n w) (first-same p q same)
+              (subst (λ (k : ℕ). IsLook p k n w) (same-word word other at) (look-told word inside s c there)),
+        ),
       )
 
 -- ---- seats that are dealt and gathered
@@ -384,8 +425,8 @@ pub splits-keep : (limits : Limits) (id : ℕ) (v : View) → Splits (Counted li
 splits-keep limits id v s c there =
     let rest = all_but_first v in let first = only_first v in let views = set s.views id rest in
     let same : (worker : ℕ)
-        → sum_by (λ (u : View). times_in worker u.parts) (views ++ first ∷ []) ≡ sum_by (λ (u : View). times_in worker u.parts) s.views =
-        λ worker. omega (
+    → sum_by (λ (u : View). times_in worker u.parts) (views ++ first ∷ []) ≡ sum_by (λ (u : View). times_in worker u.parts) s.views =
+    λ worker. omega (
       arith,
       sum_by-append (λ (u : View). times_in worker u.parts) views (first ∷ []),
       sum_by-cons (λ (u : View). times_in worker u.parts) first [],
@@ -404,12 +445,12 @@ splits-keep limits id v s c there =
       current = λ other u at. ⊎_elim
           (λ (t : get_elem? views other ≡ some u). ⊎_elim
           (λ (e : (other ≡ id) × (rest ≡ u)).
-              subst (λ (w : View). AreCurrentParts limits c.history w.parts) e.1
-              (current-rest limits c.history v.parts (c.current id v there)))
+          subst (λ (w : View). AreCurrentParts limits c.history w.parts) e.1
+          (current-rest limits c.history v.parts (c.current id v there)))
           (λ (e : (other ≢ id) × (get_elem? s.views other ≡ some u)). c.current other u e.1)
           (at_set s.views id other rest u t))
           (λ (t : first ≡ u). subst (λ (w : View). AreCurrentParts limits c.history w.parts) t
-              (current-first limits c.history v.parts (c.current id v there)))
+          (current-first limits c.history v.parts (c.current id v there)))
           (at_snoc views first u other at);
     }
 
@@ -418,8 +459,8 @@ joins-keep limits id v other w s c there apart also =
     let both = joined v w in let views = set s.views id both in
     let was : get_elem? s.views other ≡ some w = sym (set_else s.views id other both apart) ∙ also in
     let same : (worker : ℕ)
-        → sum_by (λ (u : View). times_in worker u.parts) (set views other no_parts) ≡ sum_by
-        (λ (u : View). times_in worker u.parts) s.views = λ worker. omega (
+    → sum_by (λ (u : View). times_in worker u.parts) (set views other no_parts) ≡ sum_by
+    (λ (u : View). times_in worker u.parts) s.views = λ worker. omega (
       arith,
       sum-set (λ (u : View). times_in worker u.parts) views other w no_parts also,
       sum-set (λ (u : View). times_in worker u.parts) s.views id v both there,
@@ -438,8 +479,8 @@ joins-keep limits id v other w s c there apart also =
           (λ (t : (one ≡ other) × (no_parts ≡ u)). subst (λ (x : View). AreCurrentParts limits c.history x.parts) t.1 tt)
           (λ (t : (one ≢ other) × (get_elem? views one ≡ some u)). ⊎_elim
           (λ (e : (one ≡ id) × (both ≡ u)).
-              subst (λ (x : View). AreCurrentParts limits c.history x.parts) e.1
-              (current-append limits c.history w.parts v.parts (c.current other w was) (c.current id v there)))
+          subst (λ (x : View). AreCurrentParts limits c.history x.parts) e.1
+          (current-append limits c.history w.parts v.parts (c.current other w was) (c.current id v there)))
           (λ (e : (one ≢ id) × (get_elem? s.views one ≡ some u)). c.current one u e.1)
           (at_set s.views id one both u t.1))
           (at_set views other one no_parts u at);
@@ -451,8 +492,8 @@ pub opens : (limits : Limits) (words : List ℕ) → AreSmall limits → length 
     → Counted limits (opening words [] (first_view limits))
 opens limits words small wide zeros =
     let one : (worker : ℕ)
-        → sum_by (λ (u : View). times_in worker u.parts) (first_view limits ∷ []) ≡ times_in worker (new_parts limits 0 limits.workers) =
-        λ worker. omega (arith, sum_by-cons (λ (u : View). times_in worker u.parts) (first_view limits) []) in
+    → sum_by (λ (u : View). times_in worker u.parts) (first_view limits ∷ []) ≡ times_in worker (new_parts limits 0 limits.workers) =
+    λ worker. omega (arith, sum_by-cons (λ (u : View). times_in worker u.parts) (first_view limits) []) in
     let nothing = start-granted limits.budget limits.words limits.workers in record {
       history = [];
       is_history = tt;

@@ -182,7 +182,7 @@ held-holding a word inside = omega (arith, sum_by-changed (λ (n : ℕ). n) (λ 
 pub held-releasing : (a : Account) (word : ℕ) → 0 < slice_index a.held word → held_in_all (releasing word a) + 1 ≡ held_in_all a
 held-releasing a word some =
     let inside : word < length a.held =
-        dite (dec_lt word (length a.held)) (λ less. less) (λ not_less. absurd (omega (arith, get_or_past a.held word 0 (omega arith)))) in
+    dite (dec_lt word (length a.held)) (λ less. less) (λ not_less. absurd (omega (arith, get_or_past a.held word 0 (omega arith)))) in
     omega (arith, sum_by-changed (λ (n : ℕ). n) (λ n. n - 1) a.held word 0 inside)
 
 pub held-holding-le : (word : ℕ) (a : Account) → held_in_all (holding word a) ≤ held_in_all a + 1
@@ -205,7 +205,7 @@ bounded-step words state event bounded is_worker long few = record {
   long = λ worker less. dite (ℕ_discrete (worker_of event) worker)
       (λ same. subst (λ w. length (account_of (counts_step state event) w).held ≡ words) same long)
       (λ apart. ap (λ a. length a.held) (step-others state event worker apart)
-          ∙ bounded.long worker (omega (arith, step-workers state event)));
+      ∙ bounded.long worker (omega (arith, step-workers state event)));
   few = λ worker. dite (ℕ_discrete (worker_of event) worker)
       (λ same. subst (λ w. held_in_all (account_of (counts_step state event) w) ≤ MOST_HELD) same few)
       (λ apart. subst (λ a. held_in_all a ≤ MOST_HELD) (sym (step-others state event worker apart)) (bounded.few worker));
@@ -215,12 +215,12 @@ pub bounded-allowed : (words : ℕ) (state : CountsState) (event : CountEvent) �
     → AreBounded words (counts_step state event)
 bounded-allowed words state (Spend worker) bounded allowed =
     let own : account_of (counts_step state (Spend worker)) worker ≡ cond (has_units state) with_unit with_refusal
-        (account_of state worker) =
-        changed-here (cond (has_units state) with_unit with_refusal) state.accounts worker no_account allowed.0 in
+    (account_of state worker) =
+    changed-here (cond (has_units state) with_unit with_refusal) state.accounts worker no_account allowed.0 in
     let same : (account_of (counts_step state (Spend worker)) worker).held ≡ (account_of state worker).held = ap (λ a. a.held) own
-        ∙ spent-held (has_units state) (account_of state worker) in
+    ∙ spent-held (has_units state) (account_of state worker) in
     bounded-step words state (Spend worker) bounded allowed.0 (ap length same ∙ bounded.long worker allowed.0)
-        (subst (λ l. sum l ≤ MOST_HELD) (sym same) (bounded.few worker))
+    (subst (λ l. sum l ≤ MOST_HELD) (sym same) (bounded.few worker))
 bounded-allowed words state (Hold worker word) bounded allowed =
     let own = hold-own state worker allowed.0 word in let a = account_of state worker in
     bounded-step words state (Hold worker word) bounded allowed.0
@@ -321,9 +321,11 @@ one_at_most true = omega arith
 one_at_most false = omega arith
 
 pub refused-le : (state : CountsState) → refused_of_all state ≤ length state.accounts
-refused-le state = omega
-    (arith, sum_by-bounded (λ (a : Account). cond a.refused 1 0) 1 state.accounts no_account
-    (λ k less. one_at_most (account_of state k).refused))
+refused-le state = omega (
+  arith,
+  sum_by-bounded (λ (a : Account). cond a.refused 1 0) 1 state.accounts no_account
+      (λ k less. one_at_most (account_of state k).refused),
+)
 
 -- a worker's own number of a loss word is part of the sum
 pub losses-own : (state : CountsState) (worker word : ℕ) → slice_index (account_of state worker).held word ≤ losses_at state word
@@ -341,14 +343,14 @@ pub refused-own : (state : CountsState) (worker : ℕ) → (account_of state wor
 refused-own state worker refused = dite (dec_lt worker (length state.accounts))
     (λ less. omega (arith, get_or-le-sum_by (λ (a : Account). one_if a.refused) state.accounts worker no_account less, ap one_if refused))
     (λ not_less. absurd (true≢false
-        (sym refused ∙ ap (λ (a : Account). a.refused) (get_or_past state.accounts worker no_account (omega arith)))))
+    (sym refused ∙ ap (λ (a : Account). a.refused) (get_or_past state.accounts worker no_account (omega arith)))))
 
 -- the loss words' sums make together what is held in all
 pub held-losses : (words : ℕ) (state : CountsState) → AreBounded words state → upto words (λ word. losses_at state word) ≡ held_by_all state
 held-losses words state bounded = upto-sum_by words (λ word (a : Account). slice_index a.held word) state.accounts
     ∙ sum_by-same (λ (a : Account). upto words (λ word. slice_index a.held word)) held_in_all state.accounts no_account
     (λ k less. sym (sum-upto (account_of state k).held
-        ∙ ap (λ n. upto n (λ word. slice_index (account_of state k).held word)) (bounded.long k less)))
+    ∙ ap (λ n. upto n (λ word. slice_index (account_of state k).held word)) (bounded.long k less)))
 
 -- ---- how many units are granted
 

@@ -88,10 +88,18 @@ pub times-among : (limits : Limits) (first count worker : ℕ) → first ≤ wor
     → times_in worker (new_parts limits first count) ≡ 1
 times-among limits first zero worker from to = absurd (omega arith)
 times-among limits first (suc count) worker from to = ⊎_elim
-    (λ same. omega (arith, times-first worker (part limits first []) (new_parts limits (first + 1) count), same-one worker first same,
-        times-before limits (first + 1) count worker (omega arith)))
-    (λ apart. omega (arith, times-first worker (part limits first []) (new_parts limits (first + 1) count), other-none worker first apart,
-        times-among limits (first + 1) count worker (omega arith) (omega arith)))
+    (λ same. omega (
+      arith,
+      times-first worker (part limits first []) (new_parts limits (first + 1) count),
+      same-one worker first same,
+      times-before limits (first + 1) count worker (omega arith),
+    ))
+    (λ apart. omega (
+      arith,
+      times-first worker (part limits first []) (new_parts limits (first + 1) count),
+      other-none worker first apart,
+      times-among limits (first + 1) count worker (omega arith) (omega arith),
+    ))
     (cases_eq first worker)
 
 pub times-after : (limits : Limits) (first count worker : ℕ) → first + count ≤ worker → times_in worker (new_parts limits first count) ≡ 0

@@ -92,7 +92,7 @@ module _ (limits : Limits) (worker : ℕ) (seen before : List CountEvent) (on : 
       (account_of (state_after limits seen) worker)
   account-hold word is = ap (λ (s : CountsState). account_of s worker) (after (Hold worker word))
       ∙ (hold-own (state_after limits before) worker (allowed-last (start_of limits) before (Hold worker word) is).0 word
-          ∙ ap (holding word) was)
+      ∙ ap (holding word) was)
 
   -- there is room for the word in the account
   pub hold-inside : (word : ℕ) → IsHistory limits (before ++ Hold worker word ∷ [])
@@ -104,7 +104,7 @@ module _ (limits : Limits) (worker : ℕ) (seen before : List CountEvent) (on : 
       (account_of (state_after limits seen) worker)
   account-release word is = ap (λ (s : CountsState). account_of s worker) (after (Release worker word))
       ∙ (release-own (state_after limits before) worker (allowed-last (start_of limits) before (Release worker word) is).0 word
-          ∙ ap (releasing word) was)
+      ∙ ap (releasing word) was)
 
   pub account-look : (word : ℕ)
       → account_of (state_after limits (before ++ Look worker word ∷ [])) worker ≡ account_of (state_after limits seen) worker
@@ -118,7 +118,7 @@ only-first_part v q same = ap first_part same
 
 pub keeps-part : (me : Seated) (q : Part) (granted held : ℕ) (refused : Bool) → me.0 ≡ view (q ∷ []) → me.1 ≡ [] → IsHistory q.limits q.seen
     → (account_of (state_after q.limits q.seen) q.worker).granted ≡ granted
-        → (account_of (state_after q.limits q.seen) q.worker).refused ≡ refused
+    → (account_of (state_after q.limits q.seen) q.worker).refused ≡ refused
     → held_in_all (account_of (state_after q.limits q.seen) q.worker) ≡ held → SeatKeeps me granted held refused
 keeps-part me q granted held refused one bare is same_granted same_refused same_held =
     let first = only-first_part me.0 q one in
@@ -173,25 +173,25 @@ module _ (table table_after : TableId) (same : table_after ≡ table) (p : Part)
     pub own-ok : (found : ℕ) → IsSpend p found me.0 → found < p.limits.budget → own new ≡ with_unit (own old)
     own-ok found t room = own-next (Spend p.worker) t.next
         ∙ (account-unit p.limits p.worker p.seen t.next.before t.next.goes_on t.next.is_history (units-left found t room)
-            ∙ ap (λ (o : Seat). with_unit (own o)) is_old)
+        ∙ ap (λ (o : Seat). with_unit (own o)) is_old)
 
     pub own-err : (found : ℕ) → IsSpend p found me.0 → p.limits.budget ≤ found → own new ≡ with_refusal (own old)
     own-err found t full = own-next (Spend p.worker) t.next
         ∙ (account-refusal p.limits p.worker p.seen t.next.before t.next.goes_on t.next.is_history (no-units found t full)
-            ∙ ap (λ (o : Seat). with_refusal (own o)) is_old)
+        ∙ ap (λ (o : Seat). with_refusal (own o)) is_old)
 
     -- after a refusal all units are granted
     pub granted-err : (found : ℕ) → IsSpend p found me.0 → p.limits.budget ≤ found → granted_to_all (state_seen new) ≡ p.limits.budget
     granted-err found t full =
         let history = t.next.before ++ Spend p.worker ∷ [] in
         let same : state_seen new ≡ state_after p.limits history =
-            ap (λ (q : Part). state_after q.limits q.seen) (only-first_part me.0 (part p.limits p.worker history) t.next.seen) in
+        ap (λ (q : Part). state_after q.limits q.seen) (only-first_part me.0 (part p.limits p.worker history) t.next.seen) in
         let mine : (own new).refused ≡ true = ap (λ (a : Account). a.refused) (own-err found t full) in
         let mine_there : (account_of (state_after p.limits history) p.worker).refused ≡ true =
-            sym (ap (λ (a : Account). a.refused) (own-next (Spend p.worker) t.next)) ∙ mine in
+        sym (ap (λ (a : Account). a.refused) (own-next (Spend p.worker) t.next)) ∙ mine in
         let in_budget = history-in_budget p.limits.budget p.limits.words p.limits.workers history t.next.is_history in
         ap granted_to_all same
-            ∙ (in_budget.full (refused-own (state_after p.limits history) p.worker mine_there) ∙ run-budget (start_of p.limits) history)
+        ∙ (in_budget.full (refused-own (state_after p.limits history) p.worker mine_there) ∙ run-budget (start_of p.limits) history)
 
     pub adds-hold : (word : ℕ) → IsNext p (Hold p.worker word) me.0 → Adds old (Hold old.worker word) new
     adds-hold word next = subst (λ (o : Seat). Adds o (Hold o.worker word) new) is_old (adds-next (Hold p.worker word) next)
@@ -205,10 +205,13 @@ module _ (table table_after : TableId) (same : table_after ≡ table) (p : Part)
     pub held-hold : (word : ℕ) → IsNext p (Hold p.worker word) me.0 → 0 < slice_index (own new).held word
     held-hold word next =
         let inside : word < length (own old).held =
-            subst (λ (o : Seat). word < length (own o).held) is_old
-            (hold-inside p.limits p.worker p.seen next.before next.goes_on word next.is_history) in
-        omega (arith, ap (λ (a : Account). slice_index a.held word) (own-hold word next),
-            changed-here (λ (n : ℕ). n + 1) (own old).held word 0 inside)
+        subst (λ (o : Seat). word < length (own o).held) is_old
+        (hold-inside p.limits p.worker p.seen next.before next.goes_on word next.is_history) in
+        omega (
+          arith,
+          ap (λ (a : Account). slice_index a.held word) (own-hold word next),
+          changed-here (λ (n : ℕ). n + 1) (own old).held word 0 inside,
+        )
 
     pub adds-release : (word : ℕ) → IsNext p (Release p.worker word) me.0 → Adds old (Release old.worker word) new
     adds-release word next = subst (λ (o : Seat). Adds o (Release o.worker word) new) is_old (adds-next (Release p.worker word) next)
@@ -231,13 +234,17 @@ module _ (table table_after : TableId) (same : table_after ≡ table) (p : Part)
       sum-look =
           let history = t.next.before ++ Look p.worker word ∷ [] in
           let same : state_seen new ≡ state_after p.limits history =
-              ap (λ (q : Part). state_after q.limits q.seen) (only-first_part me.0 (part p.limits p.worker history) t.next.seen) in
+          ap (λ (q : Part). state_after q.limits q.seen) (only-first_part me.0 (part p.limits p.worker history) t.next.seen) in
           t.losses ∙ ap (λ (s : CountsState). losses_at s word)
-              (sym (same ∙ run-append (start_of p.limits) t.next.before (Look p.worker word ∷ [])))
+          (sym (same ∙ run-append (start_of p.limits) t.next.before (Look p.worker word ∷ [])))
 
       pub least-look : slice_index (own old).held word ≤ found
-      least-look = omega (arith, ap (λ (a : Account). slice_index a.held word) own-look, sum-look,
-          losses-own (state_seen new) new.worker word)
+      least-look = omega (
+        arith,
+        ap (λ (a : Account). slice_index a.held word) own-look,
+        sum-look,
+        losses-own (state_seen new) new.worker word,
+      )
 
 -- ---- the fields after a step
 
@@ -252,15 +259,20 @@ module _ (me after_me : Seated) (granted held : ℕ) (refused : Bool) (k : SeatK
   pub own-granted : granted ≤ q.limits.budget
   own-granted =
       let in_budget = history-in_budget q.limits.budget q.limits.words q.limits.workers q.seen k.is_history in
-      omega (arith, k.same_granted, granted-own (state_after q.limits q.seen) q.worker, in_budget.within,
-          run-budget (start_of q.limits) q.seen)
+      omega (
+        arith,
+        k.same_granted,
+        granted-own (state_after q.limits q.seen) q.worker,
+        in_budget.within,
+        run-budget (start_of q.limits) q.seen,
+      )
 
   -- where the seat was refused, all units are granted
   pub refused-granted : refused ≡ true → granted_to_all (state_after q.limits q.seen) ≡ q.limits.budget
   refused-granted yes_refused =
       let in_budget = history-in_budget q.limits.budget q.limits.words q.limits.workers q.seen k.is_history in
       in_budget.full (refused-own (state_after q.limits q.seen) q.worker (k.same_refused ∙ yes_refused))
-          ∙ run-budget (start_of q.limits) q.seen
+      ∙ run-budget (start_of q.limits) q.seen
 
   module _ (found : ℕ) (t : IsSpend q found after_me.0) where
     abbrev longer : List CountEvent
@@ -269,8 +281,8 @@ module _ (me after_me : Seated) (granted held : ℕ) (refused : Bool) (k : SeatK
     pub keeps-ok : found < q.limits.budget → SeatKeeps after_me (granted + 1) held refused
     keeps-ok room =
         let units : has_units (state_after q.limits t.next.before) ≡ true =
-            lt-ltb (granted_to_all (state_after q.limits t.next.before)) (state_after q.limits t.next.before).budget
-            (omega (arith, t.granted, room, run-budget (start_of q.limits) t.next.before)) in
+        lt-ltb (granted_to_all (state_after q.limits t.next.before)) (state_after q.limits t.next.before).budget
+        (omega (arith, t.granted, room, run-budget (start_of q.limits) t.next.before)) in
         let mine = account-unit q.limits q.worker q.seen t.next.before t.next.goes_on t.next.is_history units in
         keeps-part after_me (part q.limits q.worker longer) (granted + 1) held refused t.next.seen stays-bare t.next.is_history
         (ap (λ (a : Account). a.granted) mine ∙ ap (λ n. n + 1) k.same_granted)
@@ -280,8 +292,8 @@ module _ (me after_me : Seated) (granted held : ℕ) (refused : Bool) (k : SeatK
     pub keeps-err : q.limits.budget ≤ found → SeatKeeps after_me granted held true
     keeps-err full =
         let units : has_units (state_after q.limits t.next.before) ≡ false =
-            le-ltb (granted_to_all (state_after q.limits t.next.before)) (state_after q.limits t.next.before).budget
-            (omega (arith, t.granted, full, run-budget (start_of q.limits) t.next.before)) in
+        le-ltb (granted_to_all (state_after q.limits t.next.before)) (state_after q.limits t.next.before).budget
+        (omega (arith, t.granted, full, run-budget (start_of q.limits) t.next.before)) in
         let mine = account-refusal q.limits q.worker q.seen t.next.before t.next.goes_on t.next.is_history units in
         keeps-part after_me (part q.limits q.worker longer) granted held true t.next.seen stays-bare t.next.is_history
         (ap (λ (a : Account). a.granted) mine ∙ k.same_granted)
@@ -293,7 +305,7 @@ module _ (me after_me : Seated) (granted held : ℕ) (refused : Bool) (k : SeatK
       let mine = account-hold q.limits q.worker q.seen next.before next.goes_on word next.is_history in
       let inside = hold-inside q.limits q.worker q.seen next.before next.goes_on word next.is_history in
       keeps-part after_me (part q.limits q.worker (next.before ++ Hold q.worker word ∷ [])) granted
-          (held + 1) refused next.seen stays-bare next.is_history
+      (held + 1) refused next.seen stays-bare next.is_history
       (ap (λ (a : Account). a.granted) mine ∙ k.same_granted)
       (ap (λ (a : Account). a.refused) mine ∙ k.same_refused)
       (ap held_in_all mine ∙ (held-holding (account_of (state_after q.limits q.seen) q.worker) word inside ∙ ap (λ n. n + 1) k.same_held))
@@ -304,7 +316,7 @@ module _ (me after_me : Seated) (granted held : ℕ) (refused : Bool) (k : SeatK
       let mine = account-release q.limits q.worker q.seen next.before next.goes_on word next.is_history in
       let less = held-releasing (account_of (state_after q.limits q.seen) q.worker) word some_held in
       keeps-part after_me (part q.limits q.worker (next.before ++ Release q.worker word ∷ [])) granted
-          (held - 1) refused next.seen stays-bare next.is_history
+      (held - 1) refused next.seen stays-bare next.is_history
       (ap (λ (a : Account). a.granted) mine ∙ k.same_granted)
       (ap (λ (a : Account). a.refused) mine ∙ k.same_refused)
       (omega (arith, ap held_in_all mine, less, k.same_held))
@@ -313,7 +325,7 @@ module _ (me after_me : Seated) (granted held : ℕ) (refused : Bool) (k : SeatK
   keeps-look word found t =
       let mine = account-look q.limits q.worker q.seen t.next.before t.next.goes_on word in
       keeps-part after_me (part q.limits q.worker
-          (t.next.before ++ Look q.worker word ∷ [])) granted held refused t.next.seen stays-bare t.next.is_history
+      (t.next.before ++ Look q.worker word ∷ [])) granted held refused t.next.seen stays-bare t.next.is_history
       (ap (λ (a : Account). a.granted) mine ∙ k.same_granted)
       (ap (λ (a : Account). a.refused) mine ∙ k.same_refused)
       (ap held_in_all mine ∙ k.same_held)

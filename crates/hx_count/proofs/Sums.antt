@@ -46,6 +46,11 @@ pub upto-sum_by : {A : Type 0} → (bound : ℕ) (f : ℕ → A → ℕ) (xs : L
 upto-sum_by bound f [] = upto-zero bound
 upto-sum_by bound f (x ∷ xs) =
     let each : upto bound (λ k. sum_by (f k) (x ∷ xs)) ≡ upto bound (λ k. f k x + sum_by (f k) xs) =
-        upto-same bound (λ k. sum_by (f k) (x ∷ xs)) (λ k. f k x + sum_by (f k) xs) (λ k less. sum_by-cons (f k) x xs) in
-    omega (arith, each, upto-add bound (λ k. f k x) (λ k. sum_by (f k) xs), upto-sum_by bound f xs,
-        sum_by-cons (λ y. upto bound (λ k. f k y)) x xs)
+    upto-same bound (λ k. sum_by (f k) (x ∷ xs)) (λ k. f k x + sum_by (f k) xs) (λ k less. sum_by-cons (f k) x xs) in
+    omega (
+      arith,
+      each,
+      upto-add bound (λ k. f k x) (λ k. sum_by (f k) xs),
+      upto-sum_by bound f xs,
+      sum_by-cons (λ y. upto bound (λ k. f k y)) x xs,
+    )

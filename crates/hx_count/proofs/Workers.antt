@@ -43,15 +43,21 @@ sum-times : (bound : ℕ) (numbers : List ℕ) (f : ℕ → ℕ) → ((n : ℕ) 
 sum-times bound [] f far = sym (upto-same bound (λ n. times n [] * f n) (λ n. 0) (λ k less. omega arith) ∙ upto-zero bound)
 sum-times bound (first ∷ numbers) f far =
     let inside : first < bound =
-        dite (dec_lt first bound) (λ less. less)
-        (λ not_less. absurd (omega (arith, far first (omega arith), times-cons first first numbers, same-one first first refl))) in
+    dite (dec_lt first bound) (λ less. less)
+    (λ not_less. absurd (omega (arith, far first (omega arith), times-cons first first numbers, same-one first first refl))) in
     let rest : sum_by f numbers ≡ upto bound (λ n. times n numbers * f n) =
-        sum-times bound numbers f (λ n above. omega (arith, far n above, times-cons n first numbers)) in
+    sum-times bound numbers f (λ n above. omega (arith, far n above, times-cons n first numbers)) in
     let terms : upto bound (λ n. times n (first ∷ numbers) * f n) ≡ upto bound (λ n. one_same n first * f n + times n numbers * f n) =
     upto-same bound (λ n. times n (first ∷ numbers) * f n) (λ n. one_same n first * f n + times n numbers * f n)
-        (λ n less. ap (λ m. m * f n) (times-cons n first numbers) ∙ add-mul (one_same n first) (times n numbers) (f n)) in
-    omega (arith, sum_by-cons f first numbers, rest, terms, upto-add bound (λ n. one_same n first * f n) (λ n. times n numbers * f n),
-        (upto-pick bound first f).0 inside)
+    (λ n less. ap (λ m. m * f n) (times-cons n first numbers) ∙ add-mul (one_same n first) (times n numbers) (f n)) in
+    omega (
+      arith,
+      sum_by-cons f first numbers,
+      rest,
+      terms,
+      upto-add bound (λ n. one_same n first * f n) (λ n. times n numbers * f n),
+      (upto-pick bound first f).0 inside,
+    )
 
 upto-le : (bound : ℕ) (f : ℕ → ℕ) → ((n : ℕ) → n < bound → f n ≤ 1) → upto bound f ≤ bound
 upto-le zero f small = omega arith
@@ -78,8 +84,13 @@ pub sum-once : (bound : ℕ) (numbers : List ℕ) (f : ℕ → ℕ) → length n
 sum-once bound numbers f long once never =
     let all : sum_by (λ n. 1) numbers ≡ upto bound (λ n. times n numbers * 1) = sum-times bound numbers (λ n. 1) never in
     let count : upto bound (λ n. times n numbers) ≡ bound =
-        omega (arith, all, upto-same bound (λ n. times n numbers * 1) (λ n. times n numbers) (λ n less. mul-one (times n numbers)),
-        sum_by-ones numbers, long) in
+    omega (
+      arith,
+      all,
+      upto-same bound (λ n. times n numbers * 1) (λ n. times n numbers) (λ n less. mul-one (times n numbers)),
+      sum_by-ones numbers,
+      long,
+    ) in
     sum-times bound numbers f never
-        ∙ upto-same bound (λ n. times n numbers * f n) f
-        (λ n less. ap (λ m. m * f n) (full-ones bound (λ k. times k numbers) once count n less) ∙ one-mul (f n))
+    ∙ upto-same bound (λ n. times n numbers * f n) f
+    (λ n less. ap (λ m. m * f n) (full-ones bound (λ k. times k numbers) once count n less) ∙ one-mul (f n))

@@ -37,7 +37,7 @@ on_board-by_tests [] cell pass h = absurd h
 on_board-by_tests (first ∷ cells) cell pass (inl same) =
     let both = first_of_both (ltb (first / 11) 5 && ltb (first % 11) 5) (are_on_board cells) pass in
     let here : OnBoard board_size first =
-        record { row = ltb-true _ _ (first_of_both _ _ both); col = ltb-true _ _ (second_of_both _ _ both) } in
+    record { row = ltb-true _ _ (first_of_both _ _ both); col = ltb-true _ _ (second_of_both _ _ both) } in
     let P : ℕ → Type 0 = OnBoard board_size in subst P (sym same) here
 on_board-by_tests (first ∷ cells) cell pass (inr h) = on_board-by_tests cells cell (second_of_both _ (are_on_board cells) pass) h
 
@@ -61,9 +61,10 @@ not_in-by_test n (x ∷ xs) pass (inr h) = not_in-by_test n xs (second_of_both (
 
 distinct-by_test : (xs : List ℕ) → are_distinct xs ≡ true → AreDistinct xs
 distinct-by_test [] pass = tt
-distinct-by_test (x ∷ xs) pass =
-    (not_in-by_test x xs (first_of_both (lacks x xs) (are_distinct xs) pass),
-    distinct-by_test xs (second_of_both (lacks x xs) (are_distinct xs) pass))
+distinct-by_test (x ∷ xs) pass = (
+  not_in-by_test x xs (first_of_both (lacks x xs) (are_distinct xs) pass),
+  distinct-by_test xs (second_of_both (lacks x xs) (are_distinct xs) pass),
+)
 
 pub in_order-distinct : AreDistinct cells_in_order
 in_order-distinct = distinct-by_test cells_in_order refl

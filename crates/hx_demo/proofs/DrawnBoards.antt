@@ -115,7 +115,7 @@ drawn_cells-on_board generator n h =
 drawn_cells-small : (generator : Lcg) (n : ℕ) → IsIn n (black_cells generator ++ white_cells generator) → n < 128
 drawn_cells-small generator n h =
     let small : n < 121 = on_board-small board_size n (lit≤ tt, lit≤ tt, lit≤ tt, lit≤ tt) (drawn_cells-on_board generator n h) in
-        omega arith
+    omega arith
 
 -- ---- what the two parts are
 
@@ -149,7 +149,7 @@ drawn-black generator =
     let black : List ℕ = black_cells generator in
     let white : List ℕ = white_cells generator in
     count-set_of black (distinct-left black white (drawn_cells-distinct generator))
-        (λ n h. drawn_cells-small generator n (in-left n black white h))
+    (λ n h. drawn_cells-small generator n (in-left n black white h))
     ∙ length-black_cells generator
 
 pub drawn-white : (generator : Lcg) → count_below 128 (set_of (white_cells generator)) ≡ 8
@@ -157,7 +157,7 @@ drawn-white generator =
     let black : List ℕ = black_cells generator in
     let white : List ℕ = white_cells generator in
     count-set_of white (distinct-right black white (drawn_cells-distinct generator))
-        (λ n h. drawn_cells-small generator n (in-right n black white h))
+    (λ n h. drawn_cells-small generator n (in-right n black white h))
     ∙ length-white_cells generator
 
 -- ---- the position that is found

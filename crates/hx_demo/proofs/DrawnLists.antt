@@ -13,7 +13,7 @@ pub drawn_from-append : (cells words more : List ℕ) → drawn_from cells (word
 drawn_from-append cells [] more = refl
 drawn_from-append cells (word ∷ words) more =
     ap (λ (drawn : List ℕ). slice_index cells (place_of word cells) ∷ drawn)
-        (drawn_from-append (remove cells (place_of word cells)) words more)
+    (drawn_from-append (remove cells (place_of word cells)) words more)
 
 pub left_after-append : (cells words more : List ℕ) → left_after cells (words ++ more) ≡ left_after (left_after cells words) more
 left_after-append cells [] more = refl

@@ -33,7 +33,7 @@ module _ (OnIt : ℕ → Type 0) (places cell : ℕ) (before : List ℕ) where
     kept = λ n m h. ⊎_elim (λ t. here n m t.1 (k.kept n m h)) (λ t. there n m t.1 (k.kept n m h)) (eqb_tells n place);
     added = λ n on h out. ⊎_elim (λ (same : n ≡ place). new n same)
         (λ still. ⊎_elim (λ t. new n t.1) (λ t. there n cell t.1 (k.added n on h still)) (eqb_tells n place))
-            (removed_cases left place n out);
+        (removed_cases left place n out);
   }
     where
       within : place < length after
@@ -75,8 +75,11 @@ module _ (board : Board) (mover : Colour) (cells : ℕ) where
       → HoldDominated board mover cells left sets
       → HoldDominated board mover cells 0 sets
   hold_all left sets none k =
-      record { count = k.count; held = λ better worse kill in_cells here _ dominated.
-      k.held better worse kill in_cells here (none worse here) dominated }
+      record {
+        count = k.count;
+        held = λ better worse kill in_cells here _ dominated.
+            k.held better worse kill in_cells here (none worse here) dominated;
+      }
 
   -- what holds for all cells holds for fewer
   pub hold_fewer : (fewer : ℕ) (sets : List ℕ) → IsSubset fewer cells → HoldDominated board mover cells 0 sets

@@ -31,7 +31,7 @@ module _ (board : Board) (player : Colour) (cell : ℕ) where
   over_own from v to own touch rest =
       let here : Joined board player from v = joined-touches board player from v touch in
       ⊎_elim (λ r. inl (joined-over_own board player from v to own here r))
-          (λ r. inr (joined-over_own board player from v (Of cell) own here r.0, r.1)) rest
+      (λ r. inr (joined-over_own board player from v (Of cell) own here r.0, r.1)) rest
 
   walk_before : (inner : List Vertex) (from to : Vertex) → Walk (put board player cell) player from inner to → JoinedAround from to
   walk_before [] from to walk = inl (joined-touches board player from to (rw size-put at walk))

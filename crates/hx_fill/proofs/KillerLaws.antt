@@ -97,7 +97,7 @@ module _ (board : Board) (player : Colour) (stone : ℕ) where
             (λ j. joined_still board player maker one other (same_joined one other o j))
             (λ both. joined_over_stone board player maker one other (same_joined one (Of maker) o both.0)
             (joined-sym board player other (Of maker)
-                (same_joined other (Of maker) p (joined-sym (put board player stone) player (Of maker) other both.1))))
+            (same_joined other (Of maker) p (joined-sym (put board player stone) player (Of maker) other both.1))))
             (joined_before (put board player stone) player maker one other with_both)
 
   pub maker_before : (a b : ℕ) → IsPair (put board player stone) player a b → IsApart board player a stone → IsMaker board player a b
@@ -122,18 +122,18 @@ module _ (board : Board) (player : Colour) (stone : ℕ) where
 -- a cell that is a pair with no maker among the empty cells is a pair with none
 pub no_pair-by_makers : (board : Board) (player : Colour) (cell among : ℕ) (makers : Makers) → AreMakers board player cell among makers
     → ((n : ℕ) → IsEmpty board n → has among n ≡ true) → ((n : ℕ) → has makers.cells n ≡ true → ¬ IsPair board player cell n) → (n : ℕ)
-        → ¬ IsPair board player cell n
+    → ¬ IsPair board player cell n
 no_pair-by_makers board player cell among makers are all none n pair =
     none n ((are.cells n).1
-        (all n pair.b_empty, record { empty = pair.b_empty; differ = λ e. pair.differ (sym e); dead = pair.a_dead })) pair
+    (all n pair.b_empty, record { empty = pair.b_empty; differ = λ e. pair.differ (sym e); dead = pair.a_dead })) pair
 
 -- a partner after a move is one that makes the move a better one
 pub partner-dominates : (board : Board) (mover : Colour) (better worse : ℕ) (makers : ℕ) (found : Option ℕ) → IsEmpty board better
     → IsEmpty board worse → better ≢ worse
     → (((n : ℕ) → has makers n ≡ true → ¬ IsPair (put board mover better) mover worse n) → (n : ℕ)
-        → ¬ IsPair (put board mover better) mover worse n)
+    → ¬ IsPair (put board mover better) mover worse n)
     → Finds found (λ n. (has makers n ≡ true) × IsPair (put board mover better) mover worse n)
-        → Finds found (λ n. IsDominated board mover better worse (ByPair n))
+    → Finds found (λ n. IsDominated board mover better worse (ByPair n))
 partner-dominates board mover better worse makers None empty worse_empty differ all none = λ n dominated.
     all (λ k among pair. none k (among, pair)) n dominated.killed
 partner-dominates board mover better worse makers (Some partner) empty worse_empty differ all is =
@@ -152,7 +152,7 @@ module _ (board : Board) (mover : Colour) (worse : ℕ) where
       → (better partner : ℕ) → IsDominated board mover better worse (ByPair partner) → has (union near near_makers) better ≡ true
   killers_by_pair-reached empties makers near near_makers empties_are makers_are no_pair holds holds_each better partner dominated =
       by_member near better (λ h. has-union_left near near_makers better h)
-          (λ misses. has-union_right near near_makers better (by_maker misses))
+      (λ misses. has-union_right near near_makers better (by_maker misses))
     where
       by_maker : has near better ≡ false → has near_makers better ≡ true
       by_maker misses = by_member near_makers better (λ h. h)
@@ -172,7 +172,7 @@ module _ (board : Board) (mover : Colour) (worse : ℕ) where
 pub killers-both : (board : Board) (mover : Colour) (worse by_dead by_pair : ℕ)
     → ((better : ℕ) → IsDominated board mover better worse ByDead → has by_dead better ≡ true)
     → ((better partner : ℕ) → IsDominated board mover better worse (ByPair partner) → has by_pair better ≡ true)
-        → AreKillers board mover worse (union by_dead by_pair)
+    → AreKillers board mover worse (union by_dead by_pair)
 killers-both board mover worse by_dead by_pair dead pair better ByDead dominated =
     has-union_left by_dead by_pair better (dead better dominated)
 killers-both board mover worse by_dead by_pair dead pair better (ByPair partner) dominated =

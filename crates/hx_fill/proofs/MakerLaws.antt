@@ -59,7 +59,7 @@ module _ (board : Board) (player : Colour) (around : ℕ) (vertex : Vertex) (joi
 
     pub narrowed_met : (cells met : ℕ) → met ≡ intersection makers.cells cells → ((n : ℕ) → has cells n ≡ (has joined n && ltb n CELLS))
         → IsExtent board.size.rows board.size.cols → ((n : ℕ) → has makers.cells n ≡ true → OnBoard board.size n)
-            → (JoinsEach board player around vertex → ⊥)
+        → (JoinsEach board player around vertex → ⊥)
         → IsNarrowed board player around vertex makers (record { is_dead = false; cells = met })
     narrowed_met cells met same cells_are extent on not = record {
       dead = ((λ t. absurd (false≢true t)), (λ both. absurd (not both.1)));
@@ -68,11 +68,11 @@ module _ (board : Board) (player : Colour) (around : ℕ) (vertex : Vertex) (joi
             let k : has (intersection makers.cells cells) other ≡ true = rw same at h in
             let before : has makers.cells other ≡ true = has-intersection_left makers.cells cells other k in
             let here : has joined other ≡ true =
-                first_of_both _ _ (sym (cells_are other) ∙ has-intersection_right makers.cells cells other k) in
+            first_of_both _ _ (sym (cells_are other) ∙ has-intersection_right makers.cells cells other k) in
             (before, λ w in_w. inr ((is.members (Of other) (on other before)).0 here))),
         (λ both. rw same (has-intersection_both makers.cells cells other both.0 (by_member cells other (λ h. h)
             (λ misses. absurd (not
-                (λ w in_w. ⊎_elim (λ j. j) (λ j. absurd (false≢true (sym misses ∙ member other (on other both.0) j))) (both.1 w in_w))))))),
+            (λ w in_w. ⊎_elim (λ j. j) (λ j. absurd (false≢true (sym misses ∙ member other (on other both.0) j))) (both.1 w in_w))))))),
       );
     }
       where
@@ -145,8 +145,11 @@ module _ (board : Board) (player : Colour) (cell around : ℕ) (is : IsSetOf boa
       ⊎_elim inl (λ differ. dead.joined vertex w differ ((open_ones vertex).0 among) ((open_ones w).0 in_w)) (same_or_differ vertex w)
 
   joined-dead : ((vertex : Vertex) → IsAmong board.size around vertex → JoinsEach board player around vertex) → IsDead board player cell
-  joined-dead joins = record { empty = empty; joined = λ one other differ o p.
-      joins one ((open_ones one).1 o) other ((open_ones other).1 p) }
+  joined-dead joins = record {
+    empty = empty;
+    joined = λ one other differ o p.
+        joins one ((open_ones one).1 o) other ((open_ones other).1 p);
+  }
 
   module _ (other : ℕ) where
     among_before : (v : Vertex) → IsOpenNeighbour (put board player other) player cell v → IsAmong board.size around v
@@ -175,7 +178,7 @@ module _ (board : Board) (player : Colour) (cell around : ℕ) (is : IsSetOf boa
     made_dead dead vertex among w in_w =
         ⊎_elim (λ (same : vertex ≡ w). inl (inl same))
         (λ differ. ⊎_elim inl (λ both. inr both.0)
-            (joined_before board player other vertex w (dead.joined vertex w differ (among_after vertex among) (among_after w in_w))))
+        (joined_before board player other vertex w (dead.joined vertex w differ (among_after vertex among) (among_after w in_w))))
         (same_or_differ vertex w)
 
   -- after a look at each open neighbour
@@ -188,9 +191,15 @@ module _ (board : Board) (player : Colour) (cell around : ℕ) (is : IsSetOf boa
       (λ dead. narrowed.dead.1 (all_dead, λ v in_v _. dead-joined v dead in_v)),
     );
     cells = λ other. (
-      (λ h. let found = (narrowed.cells other).0 h in let a = (all_cells other).0 found.0 in
-          (a.0, record { empty = a.1.0; differ = a.1.1; dead =
-              makes_dead other (λ e. a.1.1 (sym e)) (λ v in_v. found.1 v in_v (has-empty (code_of v))) })),
+      (λ h. let found = (narrowed.cells other).0 h in let a = (all_cells other).0 found.0 in (
+        a.0,
+        record {
+          empty = a.1.0;
+          differ = a.1.1;
+          dead =
+              makes_dead other (λ e. a.1.1 (sym e)) (λ v in_v. found.1 v in_v (has-empty (code_of v)));
+        },
+      )),
       (λ both. (narrowed.cells other).1
           ((all_cells other).1 (both.0, (both.1.empty, both.1.differ)), λ v in_v _. made_dead other both.1.dead v in_v)),
     );

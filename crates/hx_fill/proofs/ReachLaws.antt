@@ -29,15 +29,15 @@ module _ (board : Board) (player : Colour) where
   pub holds-next : IsExtent board.size.rows board.size.cols → (around left found joined : ℕ) (next : Vertex)
       → IsAmong board.size around next
       → IsSetOf board.size (Joined board player next) joined → HoldsAllBut around left found
-          → HoldsAllBut around (remove left (code_of next)) (union found joined)
+      → HoldsAllBut around (remove left (code_of next)) (union found joined)
   holds-next extent around left found joined next in_next is before = record {
     inside = λ n h. before.inside n (has-remove_before left (code_of next) n h);
     held = λ vertex among out other on j. ⊎_elim
         (λ (same : code_of vertex ≡ code_of next). has-union_right found joined other ((is.members (Of other) on).1
         (let P : Vertex → Type 0 = λ v. Joined board player v (Of other) in
-            subst P (same_vertex board.size extent vertex next among.0 in_next.0 same) j)))
+        subst P (same_vertex board.size extent vertex next among.0 in_next.0 same) j)))
         (λ still. has-union_left found joined other (before.held vertex among still other on j))
-            (removed_cases left (code_of next) (code_of vertex) out);
+        (removed_cases left (code_of next) (code_of vertex) out);
   }
 
   pub holds-all : (around left found : ℕ) → left ≡ 0 → HoldsAllBut around left found
@@ -53,6 +53,6 @@ module _ (board : Board) (player : Colour) where
       → (n : ℕ) → has cells n ≡ true → has (remove left cell) n ≡ false → HoldsReached board player n (union found near)
   holds-more cells left cell found near held here n among out vertex o other on joined = ⊎_elim
       (λ (same : n ≡ cell).
-          has-union_right found near other
-          (here vertex (let P : ℕ → Type 0 = λ x. IsOpenNeighbour board player x vertex in subst P same o) other on joined))
+      has-union_right found near other
+      (here vertex (let P : ℕ → Type 0 = λ x. IsOpenNeighbour board player x vertex in subst P same o) other on joined))
       (λ still. has-union_left found near other (held n among still vertex o other on joined)) (removed_cases left cell n out)

@@ -28,7 +28,7 @@ empties-put : (board : Board) (player : Colour) (cell cells : ℕ) → AreAllEmp
 empties-put board player cell cells are n = (
   (λ member.
       let other : n ≢ cell = λ same. let P : ℕ → Type 0 = λ k. has (remove cells cell) k ≡ true in
-          false≢true (sym (removed cells cell) ∙ subst P same member) in
+      false≢true (sym (removed cells cell) ∙ subst P same member) in
       (empty-put board player cell n).1 ((are n).0 (has-remove_before cells cell n member), other)),
   (λ empty. let both = (empty-put board player cell n).0 empty in has-remove_other cells cell n both.1 ((are n).1 both.0)),
 )
@@ -60,7 +60,7 @@ module _ (player : Colour) (board : Board) (fills : List Fill) where
       → IsRound player (remove left cell) board fills now found
   round_passes left cell now found held (Still same also settled) =
       Still same also (λ n empty out.
-          ⊎_elim (λ (e : n ≡ cell). let P : ℕ → Type 0 = λ x. IsEmpty board x in absurd (held (rw same (subst P e empty))))
+      ⊎_elim (λ (e : n ≡ cell). let P : ℕ → Type 0 = λ x. IsEmpty board x in absurd (held (rw same (subst P e empty))))
       (settled n empty) (removed_cases left cell n out))
   round_passes left cell now found held (Further added some is kinds to) = Further added some is kinds to
 
@@ -77,8 +77,8 @@ module _ (player : Colour) (board : Board) (fills : List Fill) where
       (settled n empty) (removed_cases left cell n out))
   looked_still left cell now next found more same also settled (Fills step kind may does) =
       Further (record { colour = player; step = step } ∷ []) (omega arith) (rw also at does.steps)
-          (All-push (λ (fill : Fill). IsDeadOrPair fill.step) [] (record { colour = player; step = step })
-          (All-nil (λ (fill : Fill). IsDeadOrPair fill.step)) kind)
+      (All-push (λ (fill : Fill). IsDeadOrPair fill.step) [] (record { colour = player; step = step })
+      (All-nil (λ (fill : Fill). IsDeadOrPair fill.step)) kind)
       (fills_to-one board next player step (rw same at may) (rw same at does.position))
 
   looked_further : (left cell : ℕ) (now next : Board) (found more added : List Fill) → 0 < length added → found ≡ fills ++ added
@@ -89,7 +89,7 @@ module _ (player : Colour) (board : Board) (fills : List Fill) where
   looked_further left cell now next found more added some is kinds to (Fills step kind may does) =
       let last : List Fill = record { colour = player; step = step } ∷ [] in
       Further (added ++ last) (more_than_none added last some)
-          (does.steps ∙ ap (λ (xs : List Fill). xs ++ last) is ∙ append_assoc fills added last)
+      (does.steps ∙ ap (λ (xs : List Fill). xs ++ last) is ∙ append_assoc fills added last)
       (All-push (λ (fill : Fill). IsDeadOrPair fill.step) added (record { colour = player; step = step }) kinds kind)
       (fills_to-append added last board now next to (fills_to-one now next player step may does.position))
 
@@ -126,8 +126,13 @@ pub record Adds (player : Colour) (board : Board) (fills : List Fill) (next : Bo
 pub round-adds : (player : Colour) (board next : Board) (fills more : List Fill) → IsRound player 0 board fills next more
     → Adds player board fills next more
 round-adds player board next fills more (Still same also settled) =
-    record { added = []; is = also ∙ sym (append-nil fills); kinds = All-nil (λ (fill : Fill). IsDeadOrPair fill.step); to = sym same;
-        none = λ _. (same, none_from board player settled) }
+    record {
+      added = [];
+      is = also ∙ sym (append-nil fills);
+      kinds = All-nil (λ (fill : Fill). IsDeadOrPair fill.step);
+      to = sym same;
+      none = λ _. (same, none_from board player settled);
+    }
 round-adds player board next fills more (Further added some is kinds to) =
     record { added = added; is = is; kinds = kinds; to = to; none = λ none. absurd (omega arith) }
 
@@ -151,7 +156,7 @@ module _ (player : Colour) (board next : Board) (fills more : List Fill) (adds :
   round-fewer is grew =
       let all = lengths in
       fewer_empty adds.added board next is adds.to
-          (⊎_elim (λ some. some) (λ none. absurd (grew (omega arith))) (cases_lt 0 (length adds.added)))
+      (⊎_elim (λ some. some) (λ none. absurd (grew (omega arith))) (cases_lt 0 (length adds.added)))
 
 one_less : (n : ℕ) → n + n < suc (n + n)
 one_less n = omega arith

@@ -29,8 +29,10 @@ module _ (set : Standing) (right : IsRight set.player set.present) where
   pub threats_none : (cells : ℕ) → ((cell : ℕ) → (has cells cell ≡ true) ↔ IsEmpty set.present.board cell) → AreKept set [] cells
   threats_none cells is = record {
     live = All-nil (IsLivePair set First Last);
-    shared = λ cell. ((λ h. record { empty = (is cell).0 h; in_each = λ place at. absurd (omega (arith, at.1)) }),
-        (λ shared. (is cell).1 shared.empty));
+    shared = λ cell. (
+      (λ h. record { empty = (is cell).0 h; in_each = λ place at. absurd (omega (arith, at.1)) }),
+      (λ shared. (is cell).1 shared.empty),
+    );
     few = let few = count-small cells (cells_small cells (λ cell h. (is cell).0 h)) in omega arith;
     each_takes = λ k place at. absurd (none_there k place at);
   }
@@ -44,7 +46,7 @@ module _ (set : Standing) (right : IsRight set.player set.present) where
     has_cell : (cell : ℕ) → has carrier cell ≡ true → HasCell set cell place
     has_cell cell h link there =
         let same : live.0 ≡ link = same_Some live.0 link (sym live.1.0 ∙ there) in ap (λ (l : Link). has l.carrier cell) (sym same)
-            ∙ ap (λ (c : ℕ). has c cell) (sym carrier_is) ∙ h
+        ∙ ap (λ (c : ℕ). has c cell) (sym carrier_is) ∙ h
 
     pub taken_same : (places : List ℕ) (cells : ℕ) → AreKept set places cells → IsSubset cells carrier
         → IsTaken set place cells places cells
@@ -60,13 +62,16 @@ module _ (set : Standing) (right : IsRight set.player set.present) where
             empty = before.empty;
             in_each = λ other at. ⊎_elim (before.in_each other)
                 (λ (same : place ≡ other). let P : ℕ → Type 0 = λ p. HasCell set cell p in
-                    subst P same (has_cell cell (has-intersection_right cells carrier cell h)))
+                subst P same (has_cell cell (has-intersection_right cells carrier cell h)))
                 (Contains-push_cases places place other at);
           }),
           (λ shared. has-intersection_both cells carrier cell
               ((threats.shared cell).1
-                  (record { empty = shared.empty; in_each = λ other at.
-                  shared.in_each other (Contains-append_left places (place ∷ []) other at) }))
+              (record {
+                empty = shared.empty;
+                in_each = λ other at.
+                    shared.in_each other (Contains-append_left places (place ∷ []) other at);
+              }))
               (ap (λ (c : ℕ). has c cell) carrier_is ∙ shared.in_each place (Contains-push places place) live.0 live.1.0)),
         );
         few = fewer;
@@ -111,7 +116,7 @@ module _ (set : Standing) (right : IsRight set.player set.present) where
                 let Q : ℕ → Type 0 = λ p. TakesAway set places p in
                 subst P (sym last.0)
                 (rw (take-append-le (length places) places (place ∷ []) (omega arith), take_all (length places) places (omega arith))
-                    (subst Q (sym last.1) here))
+                (subst Q (sym last.1) here))
 
 -- ---- all links between the sides
 
@@ -130,7 +135,7 @@ module _ (set : Standing) (links : List Between) where
       All-more (λ (each : Between). (cell : ℕ) → has cells cell ≡ true → HasCell set cell each.place) links count link low
       (All-weaker (λ (each : Between). (cell : ℕ) → has before cell ≡ true → HasCell set cell each.place)
       (λ (each : Between). (cell : ℕ) → has cells cell ≡ true → HasCell set cell each.place)
-          (λ each old cell h. old cell (taken.less cell h)) (take count links) first)
+      (λ each old cell h. old cell (taken.less cell h)) (take count links) first)
       (let P : Between → Type 0 = λ each. (cell : ℕ) → has cells cell ≡ true → HasCell set cell each.place in subst P is taken.inside)
 
   pub all_taken : (count : ℕ) (places : List ℕ) (cells : ℕ) → AreBetween set links → length links ≤ count → AreKept set places cells
@@ -153,7 +158,7 @@ module _ (set : Standing) (links : List Between) where
       in_link cell h place live =
           All-contains (λ (p : ℕ). (n : ℕ) → has cells n ≡ true → HasCell set n p) (map (λ (link : Between). link.place) links) place
           (All-map (λ (p : ℕ). (n : ℕ) → has cells n ≡ true → HasCell set n p) (λ (link : Between). link.place) links in_all)
-              (between.all place live) cell h
+          (between.all place live) cell h
 
 -- ---- the links, as they are gathered and sorted
 
@@ -172,7 +177,7 @@ between_sorted set links sorted places each split all moved = record {
   all = λ place live. Contains-permutation (map (λ (link : Between). link.place) links) (map (λ (link : Between). link.place) sorted) place
       (IsPermutation-map (λ (link : Between). link.place) links sorted moved)
       (let P : List ℕ → Type 0 = λ xs. Contains xs place in
-          subst P (sym split ∙ append-nil (map (λ (each : Between). each.place) links)) (all place live));
+      subst P (sym split ∙ append-nil (map (λ (each : Between). each.place) links)) (all place live));
 }
 
 -- each of the places that come is one of a live link
@@ -182,4 +187,4 @@ pub next_live : (set : Standing) (places : List ℕ) (links : List Between) (pla
 next_live set places links place rest live split =
     All-contains (IsLivePair set First Last) places place live
     (let P : List ℕ → Type 0 = λ xs. Contains xs place in
-        subst P split (Contains-append_right (map (λ (each : Between). each.place) links) (place ∷ rest) place (0, omega arith, refl)))
+    subst P split (Contains-append_right (map (λ (each : Between). each.place) links) (place ∷ rest) place (0, omega arith, refl)))

@@ -65,13 +65,13 @@ module _ (choices : List (Option Better)) (lined : ℕ) where
       in_order = rw pushed (increasing-push (cells_of lines) cell so_far.in_order (λ done has_line. so_far.before done has_line cell here));
       before = λ done has_line n h. ⊎_elim (λ old. so_far.before done old n (has-remove_before left cell n h))
           (λ (same : cell ≡ done). let P : ℕ → Type 0 = λ x. x < n in
-              subst P same (least n (has-remove_before left cell n h) (not_removed n h)))
+          subst P same (least n (has-remove_before left cell n h) (not_removed n h)))
           (Contains-push_cases (cells_of lines) cell done (rw pushed at has_line));
       all = λ n in_lined out. ⊎_elim
           (λ (same : n ≡ cell). let P : ℕ → Type 0 = λ x. HasLineFor (lines ++ line ∷ []) x in
-              subst P (sym same) (rw pushed (Contains-push (cells_of lines) cell)))
+          subst P (sym same) (rw pushed (Contains-push (cells_of lines) cell)))
           (λ still. rw pushed (Contains-append_left (cells_of lines) (cell ∷ []) n (so_far.all n in_lined still)))
-              (removed_cases left cell n out);
+          (removed_cases left cell n out);
       left_inside = λ n h. so_far.left_inside n (has-remove_before left cell n h);
     }
       where
@@ -100,7 +100,7 @@ module _ (choices : List (Option Better)) (lined : ℕ) where
       let P : ℕ → Type 0 = λ n. has lined n ≡ true in
       All-contains P (cells_of lines) cell
       (All-map P cell_of lines
-          (All-weaker (IsLineFor choices lined) (λ (line : Line). has lined (cell_of line) ≡ true) line_lined lines are.each)) has_line
+      (All-weaker (IsLineFor choices lined) (λ (line : Line). has lined (cell_of line) ≡ true) line_lined lines are.each)) has_line
 
 same_line : (choices : List (Option Better)) (cell better other : ℕ) (kill how : Kill)
     → better_for choices cell ≡ Some (record { cell = better; kill = kill })
@@ -121,7 +121,7 @@ pub adds_one : (choices : List (Option Better)) (cell : ℕ) (better : Better) �
     → more ≡ lines ++ Under cell better.cell better.kill ∷ [] → AddsLine choices cell lines more
 adds_one choices cell better is lines more pushed other is_other =
     let P : Better → Type 0 = λ b. more ≡ lines ++ Under cell b.cell b.kill ∷ [] in
-        subst P (same_Some better other (sym is ∙ is_other)) pushed
+    subst P (same_Some better other (sym is ∙ is_other)) pushed
 
 -- ---- the end
 
@@ -167,7 +167,7 @@ module _ (board : Board) (mover : Colour) (cells : ℕ) (order : List ℕ) (choi
   named_in_line better worse kill (Child cell child) named at is same = absurd is
   named_in_line better worse kill (Under cell other how) named at is same =
       let there : better_for choices cell ≡ Some (record { cell = better; kill = kill }) =
-          (let P : ℕ → Type 0 = λ x. better_for choices x ≡ Some (record { cell = better; kill = kill }) in
+      (let P : ℕ → Type 0 = λ x. better_for choices x ≡ Some (record { cell = better; kill = kill }) in
       subst P (sym same) named) in
       let e = same_line choices cell other better how kill is.1 there in
       record { worse = cell; kill = how; line = (let P : ℕ → Type 0 = λ x. Contains lines (Under cell x how) in subst P e.0 at) }
@@ -176,7 +176,7 @@ module _ (board : Board) (mover : Colour) (cells : ℕ) (order : List ℕ) (choi
   better_named better h =
       let name = (sifted.named better h).1 in
       let from = mapped_from lines name.worse
-          (are.all name.worse (has-difference_both cells without_line name.worse name.among name.lined) (has-empty name.worse)) in
+      (are.all name.worse (has-difference_both cells without_line name.worse name.among name.lined) (has-empty name.worse)) in
       named_in_line better name.worse name.kill from.0 name.is from.1 (contained from.0 from.1) from.2
 
   pub sifted-under : AreUnder board mover cells lines

@@ -97,18 +97,18 @@ module _ (board : Board) (player : Colour) (cell : ℕ) where
 
 pub tells-after : (board : Board) (player who : Colour) (cell : ℕ) → OnBoard board.size cell → (joint : ℕ)
     → IsSetOf board.size (Joined board player (Of cell)) joint → (stone : Option ℕ) → (who ≡ player → stone ≡ Some cell)
-        → (who ≢ player → stone ≡ None)
+    → (who ≢ player → stone ≡ None)
     → TellsJoined (record { board = board; player = player }) (put board who cell) player stone joint
 tells-after board player who cell on joint is stone own others = ⊎_elim
     (λ (same : who ≡ player). rw (own same, same) (tells-own board player cell on joint is))
     (λ (differ : who ≡ other_of player).
-        rw (others (λ same. other-differs player (sym same ∙ differ)), differ) (tells-others board player cell joint))
-        (one_or_other who player)
+    rw (others (λ same. other-differs player (sym same ∙ differ)), differ) (tells-others board player cell joint))
+    (one_or_other who player)
 
 pub joined-widened : (before : Grouped) (board : Board) (player : Colour) (stone : Option ℕ) (joint : ℕ)
     → TellsJoined before board player stone joint
     → (cell : ℕ) → stone ≡ Some cell → (vertex : Vertex) (set : ℕ)
-        → IsSetOf before.board.size (Joined before.board before.player vertex) set
+    → IsSetOf before.board.size (Joined before.board before.player vertex) set
     → (meets : Bool) → meets ≡ has set cell → IsSetOf board.size (Joined board player vertex) (widened_if meets joint set)
 joined-widened before board player stone joint tells cell same vertex set is meets meets_is =
     let now = tells.now vertex set is in

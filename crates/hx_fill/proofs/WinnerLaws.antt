@@ -34,9 +34,9 @@ single-lead winner who is board (Dead cell) kind may =
 single-lead winner who is board (Pair a b) kind may =
     let empties : IsEmpty board a × IsEmpty (put board who a) b = (may.a_empty, second_empty board who a b may) in
     let P : Colour → Type 0 = λ player. IsEmpty board a × IsEmpty (put board player a) b
-        → LeadTo board winner (single_stones (Pair a b)) (put (put board player a) player b) in
+    → LeadTo board winner (single_stones (Pair a b)) (put (put board player a) player b) in
     subst P (sym is) (λ (both : IsEmpty board a × IsEmpty (put board (other_of winner) a) b).
-        record { right = (both.0, (both.1, tt)); same = refl }) empties
+    record { right = (both.0, (both.1, tt)); same = refl }) empties
 
 step-leads : (winner who : Colour) (board : Board) (step : FillStep) → IsDeadOrPair step → MayFill board who step
     → LeadTo board winner (winner_steps winner who step) (filled board who step)
@@ -50,10 +50,10 @@ pub winner_steps-lead : (winner : Colour) (fills : List Fill) → AreDeadOrPairs
 winner_steps-lead winner [] kinds board final to = record { right = tt; same = to }
 winner_steps-lead winner (fill ∷ rest) kinds board final to =
     lead_to-append (winner_steps winner fill.colour fill.step) (winner_steps_all winner rest) board
-        (filled board fill.colour fill.step) final winner
+    (filled board fill.colour fill.step) final winner
     (step-leads winner fill.colour board fill.step (All-head (λ (each : Fill). IsDeadOrPair each.step) fill rest kinds) to.0)
     (winner_steps-lead winner rest (All-tail (λ (each : Fill). IsDeadOrPair each.step) fill rest kinds)
-        (filled board fill.colour fill.step) final to.1)
+    (filled board fill.colour fill.step) final to.1)
 
 -- ---- no step
 
@@ -90,11 +90,11 @@ winner_steps_all-push winner [] fill = append-nil (winner_steps winner fill.colo
 winner_steps_all-push winner (first ∷ rest) fill =
     ap (λ (xs : List FillStep). winner_steps winner first.colour first.step ++ xs) (winner_steps_all-push winner rest fill)
     ∙ sym (append_assoc (winner_steps winner first.colour first.step) (winner_steps_all winner rest)
-        (winner_steps winner fill.colour fill.step))
+    (winner_steps winner fill.colour fill.step))
 
 -- with one step more of a list
 pub winner_steps_all-more : (winner : Colour) (fills : List Fill) (i : ℕ) (fill : Fill) → i < length fills → fill ≡ get_or fills i fill
     → winner_steps_all winner (take (i + 1) fills) ≡ winner_steps_all winner (take i fills) ++ winner_steps winner fill.colour fill.step
 winner_steps_all-more winner fills i fill lt is =
     ap (winner_steps_all winner) (take_more fills i fill lt ∙ ap (λ (x : Fill). take i fills ++ x ∷ []) (sym is))
-        ∙ winner_steps_all-push winner (take i fills) fill
+    ∙ winner_steps_all-push winner (take i fills) fill

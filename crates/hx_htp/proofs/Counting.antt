@@ -37,7 +37,7 @@ stays old new e = (let P : Moment → Type 0 = λ m. Continues old.account m.acc
 turned : (old new : Moment) (mid : Moment) → new ≡ mid → mid.account ≡ old.account → Continues old.account new.account
 turned old new mid e same =
     (let P : Account → Type 0 = λ a. Continues old.account a in
-        subst P (sym (ap (λ (m : Moment). m.account) e ∙ same)) (continues_here old.account))
+    subst P (sym (ap (λ (m : Moment). m.account) e ∙ same)) (continues_here old.account))
 
 generated_later : (old : Moment) (player : Colour) (given : Given) (new : Moment) → GeneratesMove old player given new
     → Continues old.account new.account

@@ -32,4 +32,4 @@ put_name start now between next word first others count none so_far ended put wi
     put ∙ ap (λ xs. xs ++ word) (ended ∙ ap (λ xs. xs ++ 10 ∷ []) so_far)
     ∙ append_assoc (start ++ text_of first others count) (10 ∷ []) word ∙ append_assoc start (text_of first others count) (10 ∷ word)
     ∙ ap (λ xs. start ++ (text_of first others count ++ 10 ∷ xs)) is
-        ∙ ap (λ xs. start ++ xs) (sym (text_of-more first others count none within))
+    ∙ ap (λ xs. start ++ xs) (sym (text_of-more first others count none within))

@@ -64,7 +64,7 @@ generated_game : (old : Moment) (player : Colour) (given : Given) (new : Moment)
     → IsGame new.state
 generated_game old player (Ok (answer.Cell cell)) new h game =
     game_at (with_move old.state (record { colour = player; cell = cell })) new.state h.1
-        (moved old.state _ game (played_empty _ _ _ _ _ h.0))
+    (moved old.state _ game (played_empty _ _ _ _ _ h.0))
 generated_game old player (Err refusal.NoEmptyCell) new h game = game_at old.state new.state (same_state new old h.1) game
 generated_game old player (Err refusal.OutOfMemory) new h game = game_at old.state new.state h.1.0 game
 generated_game old player _ new h game = absurd h

@@ -115,7 +115,7 @@ passed_on start mid now board player first cell left next is at_first at_cell ea
     inl (lost_here board player cell left next members lost here)
 passed_on start mid now board player first cell left next is at_first at_cell earlier later members (inl lost) (Unknown left_open) =
     inr (open_moved start now board player cell first is at_cell at_first
-        (open_from start mid now (put board player cell) earlier left_open))
+    (open_from start mid now (put board player cell) earlier left_open))
 
 -- all moves were passed
 pub passed_all : (before after : Account) (board : Board) (player : Colour) (first left : ℕ) → IsBoard board → IsFirstEmpty board first

@@ -74,11 +74,11 @@ pub words_cut : (bytes : List ℕ) (n : ℕ) → n ≡ position_or_len is_space 
 words_cut bytes n is some begun =
     let m : ℕ = position_or_len is_space bytes in
     let all : words_in bytes ≡ filter has_bytes (take m bytes ∷ after_space (drop m bytes)) =
-        ap (filter has_bytes) (parts_at_space bytes) in
+    ap (filter has_bytes) (parts_at_space bytes) in
     let first : has_bytes (take m bytes) ≡ true = some_first bytes m some (no_space_first bytes some begun) in
     let kept : filter has_bytes (take m bytes ∷ after_space (drop m bytes)) ≡ take m bytes ∷ filter has_bytes (after_space (drop m bytes))
     = ap (λ b. cond b (take m bytes ∷ filter has_bytes (after_space (drop m bytes)))
-        (filter has_bytes (after_space (drop m bytes)))) first in
+    (filter has_bytes (after_space (drop m bytes)))) first in
     all ∙ kept ∙ ap (λ (words : List (List ℕ)). take m bytes ∷ words) (words_behind (drop m bytes) (behind bytes))
     ∙ ap (λ k. take k bytes ∷ words_in (drop k bytes)) (sym is)
 
@@ -95,7 +95,7 @@ words_in-none = refl
 pub shown-dropped : (byte : ℕ) (bytes : List ℕ) → is_kept byte ≡ false → shown (byte ∷ bytes) ≡ shown bytes
 shown-dropped byte bytes h =
     ap (λ b. take (position_or_len is_hash (cond b (byte ∷ filter is_kept bytes) (filter is_kept bytes)))
-        (cond b (byte ∷ filter is_kept bytes) (filter is_kept bytes))) h
+    (cond b (byte ∷ filter is_kept bytes) (filter is_kept bytes))) h
 
 kept_first : (byte : ℕ) (rest : List ℕ) (hash : Bool) → is_hash byte ≡ hash
     → take (position_or_len is_hash (byte ∷ rest)) (byte ∷ rest) ≡ cond hash [] (byte ∷ take (position_or_len is_hash rest) rest)
@@ -108,7 +108,7 @@ pub shown-kept : (byte : ℕ) (bytes : List ℕ) (hash : Bool) → is_kept byte 
     → shown (byte ∷ bytes) ≡ cond hash [] (byte ∷ shown bytes)
 shown-kept byte bytes hash h is =
     ap (λ b. take (position_or_len is_hash (cond b (byte ∷ filter is_kept bytes) (filter is_kept bytes)))
-        (cond b (byte ∷ filter is_kept bytes) (filter is_kept bytes))) h
+    (cond b (byte ∷ filter is_kept bytes) (filter is_kept bytes))) h
     ∙ kept_first byte (filter is_kept bytes) hash is
 
 -- one more byte of a line is passed: it is kept, or it is dropped
@@ -163,7 +163,7 @@ pub space_passed : (bytes : List ℕ) → 1 ≤ length bytes → is_space (get_o
     → words_in (take (length bytes - 1) (drop 1 bytes)) ≡ words_in bytes
 space_passed bytes some space =
     let all : take (length bytes - 1) (drop 1 bytes) ≡ drop 1 bytes =
-        take_all (length bytes - 1) (drop 1 bytes) (omega (arith, length-drop 1 bytes)) in
+    take_all (length bytes - 1) (drop 1 bytes) (omega (arith, length-drop 1 bytes)) in
     let parts : bytes ≡ get_or bytes 0 0 ∷ drop 1 bytes = drop-cons bytes 0 0 (omega arith) in
     ap words_in all ∙ sym (ap words_in parts ∙ words_in-space (get_or bytes 0 0) (drop 1 bytes) space)
 

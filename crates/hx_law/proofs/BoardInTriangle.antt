@@ -47,4 +47,4 @@ pub stone_of-owner : (board : Board) (player : Colour) (cell : ℕ) → IsFull b
 stone_of-owner board Black cell full on same = black_only _ (sym (owner-on_board board cell on) ∙ same)
 stone_of-owner board White cell full on same =
     true_from_ne_false _ (λ no_white.
-        full cell (record { on_board = on; no_black = white_only _ (sym (owner-on_board board cell on) ∙ same); no_white = no_white }))
+    full cell (record { on_board = on; no_black = white_only _ (sym (owner-on_board board cell on) ∙ same); no_white = no_white }))

@@ -99,8 +99,12 @@ module _ (board : Board) (is : IsBoard board) (player : Colour) where
   line_reaches : (edge : Side) → FromFirst → Reaches (owner board) player side (behind 0) edge
   line_reaches (First_of who) first = ⊎_elim
       (λ own. record { end = first.0; along = rw own first.1.0; path = connected-sym IsOurs first.0 (behind 0) first.1.1 })
-      (λ others. record { end = behind 0; along = rw others (depths-point_at player (extent player size) 0).1; path =
-          line 0 (extent-positive (other_of player) size is.0) })
+      (λ others. record {
+        end = behind 0;
+        along = rw others (depths-point_at player (extent player size) 0).1;
+        path =
+            line 0 (extent-positive (other_of player) size is.0);
+      })
       (one_or_other who player)
   line_reaches Long first =
       let last : ℕ = extent (other_of player) size - 1 in
@@ -141,8 +145,13 @@ module _ (board : Board) (is : IsBoard board) (player : Colour) where
     stone x ours before =
         let same : x ≡ point_of (cell_at x) = point_of-cell_at x (col_small size player x is.0 before (across_less x ours)) in
         let on : OnBoard size (cell_at x) = (on_board size player (cell_at x)).1 (rw (← same) (before, across_less x ours)) in
-        record { cell = cell_at x; same = same; on = on; own =
-            stone_of-owner board player (cell_at x) full on (ap (owner board) (sym same) ∙ ours.same) }
+        record {
+          cell = cell_at x;
+          same = same;
+          on = on;
+          own =
+              stone_of-owner board player (cell_at x) full on (ap (owner board) (sym same) ∙ ours.same);
+        }
 
     step_to : (x u : Point) (s : Stone x) (t : Stone u) → Near x u → ToLast t.cell → ToLast s.cell
     step_to x u s t near walk = ⊎_elim
@@ -164,7 +173,7 @@ module _ (board : Board) (is : IsBoard board) (player : Colour) where
     walk_to_last x y (Stay _ _) s behind = let before = stone-before x s in absurd (omega arith)
     walk_to_last x y (Step _ u _ ours near rest) s behind = ⊎_elim
         (λ before. let t : Stone u = stone u (connected-first IsOurs u y rest) before in
-            step_to x u s t near (walk_to_last u y rest t behind))
+        step_to x u s t near (walk_to_last u y rest t behind))
         (stone-last x u s near)
         (cases_lt (depth player u) (extent player size))
 
@@ -177,7 +186,7 @@ module _ (board : Board) (is : IsBoard board) (player : Colour) where
         let some : 0 < extent player size = extent-positive player size is.0 in
         let s : Stone first.end = stone first.end (connected-first IsOurs _ _ path) (omega arith) in
         let walk : ToLast s.cell =
-            walk_to_last first.end long.end path s (long_behind long.end (connected-last IsOurs _ _ path) long.along) in
+        walk_to_last first.end long.end path s (long_behind long.end (connected-last IsOurs _ _ path) long.along) in
         inr (Of s.cell ∷ walk.0, ((s.on, (on_first_line player s.cell).1 (rw (← s.same) start)), s.own, walk.1))
 
 -- ---- the two laws

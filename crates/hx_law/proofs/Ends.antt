@@ -85,7 +85,7 @@ ends_within : (n : ℕ) (board : Board) → empties_below (bound board) board < 
 ends_within zero board less = absurd (omega arith)
 ends_within (suc n) board less = After board (λ who cell empty.
     let fall : empties_below (bound board) (put board who cell) < empties_below (bound board) board =
-        fewer board who cell empty (bound board) (empty-below board cell empty) in
+    fewer board who cell empty (bound board) (empty-below board cell empty) in
     ends_within n (put board who cell) (rw (size-put board who cell) (omega arith)))
 
 pub ends : (board : Board) → Ends board

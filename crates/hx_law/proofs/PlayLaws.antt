@@ -140,10 +140,10 @@ module _ (player : Colour) where
         better before mover good (By_goal _ _ goal) = By_goal after mover (stays before after good.keeps goal)
         better before mover good (By_move _ _ cell own free win) = ⊎_elim
             (λ here. By_move after mover cell own here
-                ((next player cell here.empty).better region (put before player cell) other
-                (as_good_both region larger before after good player cell) win))
+            ((next player cell here.empty).better region (put before player cell) other
+            (as_good_both region larger before after good player cell) win))
             (λ there. rw own (move_more other refl
-                (better (put before player cell) other (as_good_less region larger before after good player cell (λ _. there)) win)))
+            (better (put before player cell) other (as_good_less region larger before after good player cell (λ _. there)) win)))
             (good.free cell free)
         better before mover good (By_answers _ _ some others free all) = ⊎_elim
             (λ found. By_answers after mover found.0 others found.1 (λ cell here. answered cell here (is_free region before cell)))
@@ -161,12 +161,12 @@ module _ (player : Colour) where
             answered cell here (no was_not) =
                 (next other cell here.empty).move_more other refl
                 ((next other cell here.empty).better region before other
-                    (as_good_more region larger before after good other cell (inr was_not)) (By_answers before other some refl free all))
+                (as_good_more region larger before after good other cell (inr was_not)) (By_answers before other some refl free all))
 
     kept_of : (after : Board) → Ends after → Kept after
     kept_of after (After _ next) =
         let later : (who : Colour) (cell : ℕ) → IsEmpty after cell → Kept (put after who cell) = λ who cell empty.
-            kept_of (put after who cell) (next who cell empty) in
+        kept_of (put after who cell) (next who cell empty) in
         record { better = better after later; move_more = move_more after later }
 
     pub kept : (after : Board) → Kept after

@@ -49,7 +49,7 @@ which t x c =
     ⊎_elim
     (λ lower. Under (omega arith) (omega arith))
     (λ same_row. ⊎_elim (λ further. Beside (omega arith) (omega arith)) (λ same_col. Base (omega arith) (omega arith))
-        (cases_lt t.col x.col))
+    (cases_lt t.col x.col))
     (cases_lt t.row x.row)
 
 -- two points that are corners of one small triangle

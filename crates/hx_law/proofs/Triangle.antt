@@ -116,12 +116,22 @@ module _ (colour : Point → Colour) where
     bridge_by x y z tx sx ty sz xy xz near = by (choose t x y tx ty xy) (choose s x z sx sz xz)
       where
         by : (colour x ≡ small t) ⊎ (colour y ≡ small t) → (colour x ≡ small s) ⊎ (colour z ≡ small s) → Bridge t s
-        by (inl e) _ = record { from = record { point = x; corner = tx; same = e }; to = record { point = x; corner = sx; same = e ∙ same };
-            near = corners-near t x x tx tx }
-        by (inr e) (inl f) = record { from = record { point = x; corner = tx; same = f ∙ sym same }; to =
-            record { point = x; corner = sx; same = f }; near = corners-near t x x tx tx }
-        by (inr e) (inr f) = record { from = record { point = y; corner = ty; same = e }; to = record { point = z; corner = sz; same = f };
-            near = near }
+        by (inl e) _ = record {
+          from = record { point = x; corner = tx; same = e };
+          to = record { point = x; corner = sx; same = e ∙ same };
+          near = corners-near t x x tx tx;
+        }
+        by (inr e) (inl f) = record {
+          from = record { point = x; corner = tx; same = f ∙ sym same };
+          to =
+              record { point = x; corner = sx; same = f };
+          near = corners-near t x x tx tx;
+        }
+        by (inr e) (inr f) = record {
+          from = record { point = y; corner = ty; same = e };
+          to = record { point = z; corner = sz; same = f };
+          near = near;
+        }
 
     -- the farthest row and column of the two
     shared : Point
@@ -132,11 +142,11 @@ module _ (colour : Point → Colour) where
     bridge_if near (yes row) col =
         bridge_by shared (under t) (under s) (search (arith, corner)) (search (arith, corner)) (corner_under t) (corner_under s)
         (differ _ _ (λ e. omega arith)) (differ _ _ (λ e. omega arith))
-            (corners-near (under near.base) _ _ (search (arith, corner)) (search (arith, corner)))
+        (corners-near (under near.base) _ _ (search (arith, corner)) (search (arith, corner)))
     bridge_if near (no rows) (yes col) =
         bridge_by shared (beside t) (beside s) (search (arith, corner)) (search (arith, corner)) (corner_beside t) (corner_beside s)
         (differ _ _ (λ e. omega arith)) (differ _ _ (λ e. omega arith))
-            (corners-near (beside near.base) _ _ (search (arith, corner)) (search (arith, corner)))
+        (corners-near (beside near.base) _ _ (search (arith, corner)) (search (arith, corner)))
     bridge_if near (no rows) (no cols) =
         bridge_by shared t s (search (arith, corner)) (search (arith, corner)) (corner_base t) (corner_base s)
         (differ _ _ (λ e. omega arith)) (differ _ _ (λ e. omega arith)) near
@@ -182,7 +192,7 @@ module _ (colour : Point → Colour) where
     decide : (t x y : Point) → Corner t x → Corner t y → IsPoint x → IsPoint y → (x ≡ y) ⊎ IsSmall t
     decide t x y c d px py = ⊎_elim
         (λ inside. ⊎_elim inl (λ one. inr (record { inside = inside; same = ⊎_elim (λ e. sym e ∙ px.same) (λ e. sym e ∙ py.same) one }))
-            (corner_of_two colour t x y c d))
+        (corner_of_two colour t x y c d))
         (λ outside. inl (same_point x y (omega arith) (omega arith)))
         (cases_lt (t.row + t.col) side)
 
@@ -253,8 +263,11 @@ last_colour (suc n) colour = last_colour n (reduced colour)
 pub last-meets : (n : ℕ) (colour : Point → Colour) → Meets colour (last_colour n colour) (suc n)
 unfolding last_colour
 last-meets zero colour =
-    record { centre = origin; reaches = λ edge.
-    record { end = origin; along = along edge; path = Stay origin (record { inside = omega arith; same = refl }) } }
+    record {
+      centre = origin;
+      reaches = λ edge.
+          record { end = origin; along = along edge; path = Stay origin (record { inside = omega arith; same = refl }) };
+    }
   where
     along : (edge : Side) → IsAlong edge 1 origin
     along (First_of Black) = refl

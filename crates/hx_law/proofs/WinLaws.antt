@@ -31,7 +31,7 @@ module _ (player : Colour) where
       Play_move board mover cell own (record { inside = refl; empty = empty }) (wins-plays (put board player cell) other win)
   wins-plays board mover (By_answers _ _ some others empty all) =
       Play_answers board mover some others (record { inside = refl; empty = empty })
-          (λ cell free. wins-plays (put board other cell) player (all cell free.empty))
+      (λ cell free. wins-plays (put board other cell) player (all cell free.empty))
 
   plays-wins : (board : Board) (mover : Colour) → Plays player everywhere Chain board mover → Wins player board mover
   plays-wins board mover (By_goal _ _ chain) = By_chain board mover chain
@@ -39,14 +39,14 @@ module _ (player : Colour) where
       By_move board mover cell own free.empty (plays-wins (put board player cell) other win)
   plays-wins board mover (Play_answers _ _ some others free all) =
       By_answers board mover some others free.empty
-          (λ cell empty. plays-wins (put board other cell) player (all cell (record { inside = refl; empty = empty })))
+      (λ cell empty. plays-wins (put board other cell) player (all cell (record { inside = refl; empty = empty })))
 
   pub extra_stone : (board : Board) (mover : Colour) (cell : ℕ) → ExtraStone board mover player cell
   extra_stone board mover cell win =
       let good = as_good_more player everywhere everywhere board board (as_good_itself player everywhere board) player cell (inl refl) in
       plays-wins (put board player cell) mover
-          ((kept player Chain (joined_stays player First Last) everywhere (put board player cell)).better everywhere board mover good
-          (wins-plays board mover win))
+      ((kept player Chain (joined_stays player First Last) everywhere (put board player cell)).better everywhere board mover good
+      (wins-plays board mover win))
 
   pub extra_move : (board : Board) → ExtraMove board player
   extra_move board win =

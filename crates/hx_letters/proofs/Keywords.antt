@@ -102,7 +102,7 @@ prefix_goes_on mark next bytes word later words other is e =
     let found = first_word mark bytes word words e in
     no_end mark next found.after later other
     (sym (drop-append_seam word found.after) ∙ ap (drop (length word)) (sym found.parts ∙ is)
-        ∙ drop-append_seam word (next ∷ later)) found.ended
+    ∙ drop-append_seam word (next ∷ later)) found.ended
 
 -- a cursor that has a word left
 pub words_left-some_more : (more : Bool) (rest : List ℕ) → more ≡ true → words_left more rest ≡ split_at_marks 32 rest

@@ -54,7 +54,7 @@ last_digit : (word : List ℕ) (i n : ℕ) → i < length word → take (i + 1) 
     → (take i word ≡ hex i (n / 16)) × (get_or word i 0 ≡ hex_digit (n % 16))
 last_digit word i n within e =
     push_injective (take i word) (hex i (n / 16)) (get_or word i 0) (hex_digit (n % 16))
-        (sym (take_more word i 0 within) ∙ e ∙ hex_parts i n)
+    (sym (take_more word i 0 within) ∙ e ∙ hex_parts i n)
 
 wrong_more : (word : List ℕ) (i digit : ℕ) (known : Bool) → i < length word
     → ((d : ℕ) → d < 16 → get_or word i 0 ≡ hex_digit d → digit ≡ d)

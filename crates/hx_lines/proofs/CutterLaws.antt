@@ -78,7 +78,7 @@ moved_line old moved new line_start start end len is =
     let order = is.order in
     let short : len ≤ end - line_start = omega arith in
     sym (take-take len (end - line_start) new short) ∙ ap (take len) (is.same ∙ is.to_front)
-        ∙ take-take len (end - line_start) (drop line_start old) short
+    ∙ take-take len (end - line_start) (drop line_start old) short
 
 pub refilled : (before after : Cutter) (left_before left_after : Option (List ℕ)) (old moved new : List ℕ)
     (line_start start end len count : ℕ)
@@ -94,7 +94,7 @@ refilled before after left_before left_after old moved new line_start start end 
     let more_is : end - line_start + count - (start - line_start) ≡ end - start + count = omega arith in
     let tail : List ℕ = drop (start - line_start) new in
     let behind : drop (end - line_start) new ≡ drop (end - start) tail = ap (λ k. drop k new) (sym all_is)
-        ∙ sym (drop-drop (end - start) (start - line_start) new) in
+    ∙ sym (drop-drop (end - start) (start - line_start) new) in
     record {
       same = record {
         read = take count (drop (end - line_start) new);
@@ -120,7 +120,7 @@ pub refill_failed : (before after : Cutter) (old moved new : List ℕ) (line_sta
     → IsMoved old moved new line_start start end len
     → before.held ≡ take (end - start) (drop start old) → before.line ≡ take len (drop line_start old)
     → after.held ≡ take (end - line_start - (start - line_start)) (drop (start - line_start) new) → after.line ≡ take len new
-        → after.met_end ≡ before.met_end
+    → after.met_end ≡ before.met_end
     → after ≡ before
 refill_failed before after old moved new line_start start end len is held line now kept met_end =
     let line_first = is.line_first in
@@ -141,7 +141,7 @@ cut_held buffer start n len m n_is within lf =
     let front : take len held ≡ take len rest = take-take len n rest (omega arith) in
     let tail : drop len held ≡ get_or held len 0 ∷ drop (suc len) held = drop-cons held len 0 within in
     let behind : drop (suc len) held ≡ take m (drop (suc len) rest) = ap (λ k. drop (suc len) (take k rest)) n_is
-        ∙ drop-take (suc len) m rest in
+    ∙ drop-take (suc len) m rest in
     let place : start + suc len ≡ start + (len + 1) = omega arith in
     let far : drop (suc len) rest ≡ drop (start + (len + 1)) buffer = drop-drop (suc len) start buffer ∙ ap (λ k. drop k buffer) place in
     sym (take-append-drop len held)
@@ -154,7 +154,7 @@ cut_held buffer start n len m n_is within lf =
 pub ended_line : (before after : Cutter) (left : Option (List ℕ)) (bytes : List ℕ) (place : ℕ) → bytes ≡ before.held
     → after.line ≡ take place before.held
     → before.held ≡ (after.line ++ 10 ∷ []) ++ after.held → ¬ HasLf (take place bytes) → place ≤ longest
-        → CutsLine before after left left true
+    → CutsLine before after left left true
 ended_line before after left bytes place is line held plain short = record {
   loses = record { read = []; took = sym (prepend-nil left); moved = append-nil before.held ∙ held };
   plain = λ lf. plain (subst HasLf (line ∙ ap (take place) (sym is)) lf);

@@ -17,14 +17,14 @@ pub parts-lost : (before : Option (List ℕ)) (front held kept bytes : List ℕ)
 parts-lost before front held kept bytes left then_left parts loses =
     parts ∙ ap (prepend (front ++ held)) loses.took ∙ prepend-prepend (front ++ held) loses.read then_left
     ∙ ap (λ xs. prepend xs then_left)
-        (append_assoc front held loses.read ∙ ap (λ xs. front ++ xs) loses.moved ∙ sym (append_assoc front bytes kept))
+    (append_assoc front held loses.read ∙ ap (λ xs. front ++ xs) loses.moved ∙ sym (append_assoc front bytes kept))
 
 pub parts-stay : (before : Option (List ℕ)) (front : List ℕ) (old new : Cutter) (left then_left : Option (List ℕ))
     → before ≡ prepend (front ++ old.held) left
     → Stays old new left then_left → before ≡ prepend (front ++ new.held) then_left
 parts-stay before front old new left then_left parts stays =
     parts-lost before front old.held new.held [] left then_left parts stays.same
-        ∙ ap (λ xs. prepend (xs ++ new.held) then_left) (append-nil front)
+    ∙ ap (λ xs. prepend (xs ++ new.held) then_left) (append-nil front)
 
 -- some bytes were read
 record Takes (left then_left : Option (List ℕ)) : Type 0 where

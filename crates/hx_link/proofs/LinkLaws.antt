@@ -38,7 +38,7 @@ same_front a b = cc
 -- the place that is named for one of the links
 pub place_of : (before : List Link) (places : List ℕ) (links : List Link) → links_at before places ≡ map (λ (l : Link). Some l) links
     → (k : ℕ) (part : Link) → slice_get links k ≡ Some part → (place : ℕ)
-        × ((slice_get places k ≡ Some place) × (slice_get before place ≡ Some part))
+    × ((slice_get places k ≡ Some place) × (slice_get before place ≡ Some part))
 place_of before [] [] e k part h = cc
 place_of before [] (l ∷ ls) e k part h = cc
 place_of before (p ∷ ps) [] e k part h = cc

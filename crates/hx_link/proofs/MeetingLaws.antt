@@ -42,8 +42,12 @@ meets_once f s x z y x' z' y' (inr a) (inr b) d (inr a') (inl b') d' = (cc, cc, 
 meets_once f s x z y x' z' y' (inr a) (inr b) d (inr a') (inr b') d' = (cc, cc, cc)
 
 met_eq : (f f' s s' : Link) (x x' z z' y y' : Vertex) → f ≡ f' → s ≡ s' → x ≡ x' → z ≡ z' → y ≡ y'
-    → (let m : Met = record { first = f; second = s; at = record { from = x; middle = z; to = y } } in m) ≡ record { first = f'; second =
-    s'; at = record { from = x'; middle = z'; to = y' } }
+    → (let m : Met = record { first = f; second = s; at = record { from = x; middle = z; to = y } } in m) ≡ record {
+      first = f';
+      second =
+          s';
+      at = record { from = x'; middle = z'; to = y' };
+    }
 met_eq f f' s s' x x' z z' y y' a b d e g = cc
 
 module _ (before : List Link) (left right : ℕ) where
@@ -77,7 +81,7 @@ module _ (before : List Link) (left right : ℕ) where
       let second : m.second ≡ n.second = same_Some m.second n.second (sym h.second_there ∙ k.second_there) in
       let once : (m.at.from ≡ n.at.from) × (m.at.middle ≡ n.at.middle) × (m.at.to ≡ n.at.to) =
       meets_once m.first m.second m.at.from m.at.middle m.at.to n.at.from n.at.middle n.at.to h.meet.first_ends h.meet.second_ends
-          h.meet.other_ends_differ
+      h.meet.other_ends_differ
       (rw first k.meet.first_ends) (rw second k.meet.second_ends) k.meet.other_ends_differ in
       met_eq m.first n.first m.second n.second m.at.from n.at.from m.at.middle n.at.middle m.at.to n.at.to first second once.0 once.1 once.2
 
@@ -112,7 +116,7 @@ module _ (before : List Link) (left right : ℕ) where
         × IsMade board player Full m.at.from m.at.to carrier link
     stone-to m carrier e h g ok =
         let same : m ≡ record { first = g.first; second = g.second; at = record { from = g.from; middle = g.middle; to = g.to } } =
-            met-same m _ h (met-of g.from g.middle g.to g.first g.second g.meet) in (
+        met-same m _ h (met-of g.from g.middle g.to g.first g.second g.meet) in (
           let P : Met → Type 0 = λ w. IsOwn board player w.at.middle in subst P (sym same) g.own,
           record {
             kind_is = g.kind;
@@ -148,17 +152,24 @@ module _ (before : List Link) (left right : ℕ) where
         × IsMiddle board m cell
     cell-middle m h g =
         let same : m ≡ record { first = g.first; second = g.second; at = record { from = g.from; middle = Of g.cell; to = g.to } } =
-            met-same m _ h (met-of g.from (Of g.cell) g.to g.first g.second g.meet) in
-        (g.cell, let P : Met → Type 0 = λ w. IsMiddle board w g.cell in
-            subst P (sym same) record { is_cell = refl; empty = g.empty; outside_first = g.outside_first; outside_second =
-            g.outside_second })
+        met-same m _ h (met-of g.from (Of g.cell) g.to g.first g.second g.meet) in (
+          g.cell,
+          let P : Met → Type 0 = λ w. IsMiddle board w g.cell in
+              subst P (sym same) record {
+                is_cell = refl;
+                empty = g.empty;
+                outside_first = g.outside_first;
+                outside_second =
+                    g.outside_second;
+              },
+        )
 
     pub cell-to : (m : Met) (cell carrier : ℕ) → carrier ≡ insert (union m.first.carrier m.second.carrier) cell → IsMet before left right m
         → IsMiddle board m cell → GivesAndCell board player before left right link → IsLink board player link
         → IsMade board player Semi m.at.from m.at.to carrier link
     cell-to m cell carrier e h mid g ok =
         let same : m ≡ record { first = g.first; second = g.second; at = record { from = g.from; middle = Of g.cell; to = g.to } } =
-            met-same m _ h (met-of g.from (Of g.cell) g.to g.first g.second g.meet) in
+        met-same m _ h (met-of g.from (Of g.cell) g.to g.first g.second g.meet) in
         let here : Of g.cell ≡ Of cell = ap (λ (w : Met). w.at.middle) (sym same) ∙ mid.is_cell in
         let cells : g.cell ≡ cell = cc in
         record {

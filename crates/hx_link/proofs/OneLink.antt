@@ -48,14 +48,14 @@ module _ (board : Board) (player : Colour) (before : List Link) (l m : Link) whe
       let met : Met = record { first = g.first; second = g.second; at = record { from = g.from; middle = g.middle; to = g.to } } in
       let is : IsMet before left right met = met-of before left right g.from g.middle g.to g.first g.second g.meet in
       same_made _ _ _ _ (stone-to before left right board player l met _ refl is g ok).1
-          (stone-to before left right board player m met _ refl is h ok').1
+      (stone-to before left right board player m met _ refl is h ok').1
   by_rule (AndCell left right) g ok h ok' =
       let met : Met = record { first = g.first; second = g.second; at = record { from = g.from; middle = Of g.cell; to = g.to } } in
       let is : IsMet before left right met = met-of before left right g.from (Of g.cell) g.to g.first g.second g.meet in
       let mid : IsMiddle board met g.cell =
-          record { is_cell = refl; empty = g.empty; outside_first = g.outside_first; outside_second = g.outside_second } in
+      record { is_cell = refl; empty = g.empty; outside_first = g.outside_first; outside_second = g.outside_second } in
       same_made _ _ _ _ (cell-to before left right board player l met g.cell _ refl is mid g ok)
-          (cell-to before left right board player m met g.cell _ refl is mid h ok')
+      (cell-to before left right board player m met g.cell _ refl is mid h ok')
   by_rule (Or parts) g ok h ok' =
       let links : g.links ≡ h.links = same_links g.links h.links (sym g.there ∙ h.there) in
       let w = g.none_in_all 0 in

@@ -58,7 +58,7 @@ carriers_of-push (l ∷ ls) part n =
     has-union l.carrier (carriers_of (ls ++ part ∷ [])) n
     ∙ (ap (λ b. has l.carrier n || b) (carriers_of-push ls part n)
     ∙ (or_assoc (has l.carrier n) (has (carriers_of ls) n) (has part.carrier n)
-        ∙ sym (ap (λ b. b || has part.carrier n) (has-union l.carrier (carriers_of ls) n))))
+    ∙ sym (ap (λ b. b || has part.carrier n) (has-union l.carrier (carriers_of ls) n))))
 
 pub no_parts : (before : List Link) (a b : Vertex) (start : ℕ) → PartsSoFar before [] a b start start 0
 no_parts before a b start = record {
@@ -83,7 +83,7 @@ parts_more before done place a b start in_all in_some carrier p s = record {
       (one_of_push p.links s.part part h);
   in_each = λ cell h part w. ⊎_elim (λ k. p.in_each cell (has-intersection_left in_all carrier cell h) part k)
       (λ e. ap (λ (l : Link). has l.carrier cell) e ∙ (ap (λ c. has c cell) s.carrier_is ∙ has-intersection_right in_all carrier cell h))
-          (one_of_push p.links s.part part w);
+      (one_of_push p.links s.part part w);
   missing = λ cell h lacks. ⊎_elim
       (λ k. let w = p.missing cell h k in (w.0, (one_of_before p.links s.part w.0 w.1.0, w.1.1)))
       (λ k. (s.part, (one_of_last p.links s.part, ap (λ c. has c cell) s.carrier_is ∙ k)))
@@ -98,9 +98,14 @@ pub part_at : (before : List Link) (places : List ℕ) (links : List Link) → l
     → (k place : ℕ) → slice_get places k ≡ Some place → (part : Link) × (IsOneOf part links × (slice_get before place ≡ Some part))
 part_at before [] links e k place h = cc
 part_at before (p ∷ ps) [] e k place h = cc
-part_at before (p ∷ ps) (l ∷ ls) e zero place h =
-    (l, ((zero, refl), let same : p ≡ place = cc in
-    (let there : slice_get before p ≡ Some l = cc in ap (λ n. slice_get before n) (sym same) ∙ there)))
+part_at before (p ∷ ps) (l ∷ ls) e zero place h = (
+  l,
+  (
+    (zero, refl),
+    let same : p ≡ place = cc in
+        (let there : slice_get before p ≡ Some l = cc in ap (λ n. slice_get before n) (sym same) ∙ there),
+  ),
+)
 part_at before (p ∷ ps) (l ∷ ls) e (suc k) place h = let w = part_at before ps ls (cc) k place h in
     (w.0, (one_of_later w.0 l ls w.1.0, w.1.1))
 
@@ -145,8 +150,8 @@ module _ (before : List Link) (places : List ℕ) (link : Link) (g : GivesOr bef
     pub or-none_in_all : in_all ≡ 0
     or-none_in_all = same_set in_all 0 (λ n. let w = g.none_in_all n in
         false_from_ne_true (has in_all n)
-            (λ h. false≢true (sym w.1.1 ∙ p.in_each n h w.0 (let P : List Link → Type 0 = λ ls. IsOneOf w.0 ls in subst P same w.1.0)))
-            ∙ sym (has-empty n))
+        (λ h. false≢true (sym w.1.1 ∙ p.in_each n h w.0 (let P : List Link → Type 0 = λ ls. IsOneOf w.0 ls in subst P same w.1.0)))
+        ∙ sym (has-empty n))
 
     pub or-carrier : link.carrier ≡ in_some
     or-carrier = same_set link.carrier in_some (λ n. ap (λ c. has c n) (g.carrier ∙ ap carriers_of same) ∙ sym (p.carriers n))
@@ -204,7 +209,7 @@ module _ (before : List Link) (places : List ℕ) (place : ℕ) (first : Link) (
 pub parts_next : (before : List Link) (places : List ℕ) (i : ℕ) (a b : Vertex) (start in_all in_some carrier next_all next_some : ℕ)
     → i < length places → next_all ≡ intersection in_all carrier → next_some ≡ union in_some carrier
     → PartsSoFar before (take i places) a b start in_all in_some → IsSemiAt before (get_or places i 0) a b carrier
-        → PartsSoFar before (take (i + 1) places) a b start next_all next_some
+    → PartsSoFar before (take (i + 1) places) a b start next_all next_some
 parts_next before places i a b start in_all in_some carrier next_all next_some lt e f p s =
     rw (e, f, take_more places i 0 lt) (parts_more before (take i places) (get_or places i 0) a b start in_all in_some carrier p s)
 

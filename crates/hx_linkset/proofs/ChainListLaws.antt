@@ -39,7 +39,7 @@ module _ (set : Standing) (kind : Kind) (a b : Vertex) where
         (λ low. ([], λ place le. later-none set right rings hold kind a b index is low place (omega (arith, le))))
         (λ high.
         let next : IsFirstFrom set kind a b (index + 1) (get_or rings.next (30258 + index) 0 - 30258) =
-            later-some set right rings hold kind a b index is _ high refl in
+        later-some set right rings hold kind a b index is _ high refl in
         let rest = chain_after left _ next.is (omega (arith, few, next.not_below)) in
         (_ ∷ rest.0, (next, rest.1)))
         (cases_lt (get_or rings.next (30258 + index) 0) 30258)
@@ -50,7 +50,7 @@ module _ (set : Standing) (kind : Kind) (a b : Vertex) where
         (λ low. ([], λ place le. first-none set right rings hold kind a b head of low place))
         (λ high.
         let first : IsFirstFrom set kind a b 0 (get_or rings.next head 0 - 30258) =
-            first-some set right rings hold kind a b head of _ high refl in
+        first-some set right rings hold kind a b head of _ high refl in
         let rest = chain_after (length set.present.links) _ first.is (omega arith) in
         (_ ∷ rest.0, (first, rest.1)))
         (cases_lt (get_or rings.next head 0) 30258)

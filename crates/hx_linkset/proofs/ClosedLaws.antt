@@ -60,7 +60,7 @@ module _ (player : Colour) (state : State) (r : IsRight player state) where
         m.each part (subst P same k)
     closed_at p s (inr ne) le h here part k = ⊎_elim
         (λ was. ⊎_elim (λ lt. absurd (at.last p (omega arith) lt was)) (λ above. m.stay part (c.closed p s above was here part k))
-            (cases_lt p bound))
+        (cases_lt p bound))
         (λ one. absurd (omega (arith, (before p one).0)))
         (m.only p h)
 

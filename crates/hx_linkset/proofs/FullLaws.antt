@@ -66,7 +66,7 @@ module _ (Has : FullLink → Type 0) (one_at : (full other : FullLink) → full.
       (λ more. ⊎_elim
       (λ e. (0, omega arith, sym (one_at full first e has h.1.0)))
       (λ other. let w = full-contains rest (first.index + 1) full h.1.1.1 (omega (arith, more, other)) has in
-          (suc w.0, omega (arith, w.1), w.2))
+      (suc w.0, omega (arith, w.1), w.2))
       (cases_eq full.index first.index))
       (cases_lt full.index first.index)
 
@@ -111,7 +111,7 @@ module _ (set : Standing) (empties ends : ℕ) (empties_are : (cell : ℕ) → (
       let same : h.link ≡ k.link = same_Some h.link k.link (sym h.there ∙ (ap (λ (n : ℕ). slice_get set.present.links n) e ∙ k.there)) in
       let P : Link → Type 0 = λ link. HasEnds link vertex other.to in
       same_full full other e (other_end h.link full.to other.to h.ends (subst P (sym same) k.ends))
-          (h.carrier_is ∙ (ap (λ (link : Link). link.carrier) same ∙ sym k.carrier_is))
+      (h.carrier_is ∙ (ap (λ (link : Link). link.carrier) same ∙ sym k.carrier_is))
 
   vertex_end : (full : FullLink) → IsFullAt set vertex full → MayEnd vertex
   vertex_end full h = by_ends h.ends
@@ -138,16 +138,20 @@ module _ (set : Standing) (empties ends : ℕ) (empties_are : (cell : ℕ) → (
     seen_cases : (kind : Kind) (p q : Bool) → link.kind ≡ kind → nat_eq (code_of link.a) (code_of vertex) ≡ p
         → nat_eq (code_of link.b) (code_of vertex) ≡ q
         → ((seen_by kind p q place link ≡ []) × ((full : FullLink) → IsSeen full → ⊥))
-            ⊎ ((full : FullLink) × ((seen_by kind p q place link ≡ full ∷ []) × IsSeen full))
+        ⊎ ((full : FullLink) × ((seen_by kind p q place link ≡ full ∷ []) × IsSeen full))
     seen_cases Semi p q k e f = inl (refl, λ full seen. let no : Semi ≡ Full = sym k ∙ seen.kind_is in cc)
     seen_cases Full true q k e f =
         let same : link.a ≡ vertex = code-same link.a vertex (link_some k).0 some (eqb-true (code_of link.a) (code_of vertex) e) in
-        inr (record { index = place; to = link.b; carrier = link.carrier },
-            (refl, record { index_is = refl; kind_is = k; of_ends = inl (same, refl); carrier_is = refl }))
+        inr (
+          record { index = place; to = link.b; carrier = link.carrier },
+          (refl, record { index_is = refl; kind_is = k; of_ends = inl (same, refl); carrier_is = refl }),
+        )
     seen_cases Full false true k e f =
         let same : link.b ≡ vertex = code-same link.b vertex (link_some k).1 some (eqb-true (code_of link.b) (code_of vertex) f) in
-        inr (record { index = place; to = link.a; carrier = link.carrier },
-            (refl, record { index_is = refl; kind_is = k; of_ends = inr (refl, same); carrier_is = refl }))
+        inr (
+          record { index = place; to = link.a; carrier = link.carrier },
+          (refl, record { index_is = refl; kind_is = k; of_ends = inr (refl, same); carrier_is = refl }),
+        )
     seen_cases Full false false k e f = inl (refl, λ full seen. seen-no k e f full.to seen.of_ends)
 
     module _ (full : FullLink) (seen : IsSeen full) where
@@ -170,7 +174,7 @@ module _ (set : Standing) (empties ends : ℕ) (empties_are : (cell : ℕ) → (
       live_if from test =
           let inside = intersection-is_subset full.carrier empties (eqb-true _ _ (first_of_both _ (has ends (code_of full.to)) test)) in
           let both = live_by seen.of_ends from
-              ((ends_are full.to to_some).0 (second_of_both (nat_eq (intersection full.carrier empties) full.carrier) _ test)) in
+          ((ends_are full.to to_some).0 (second_of_both (nat_eq (intersection full.carrier empties) full.carrier) _ test)) in
           record {
             empty = λ cell h. (empties_are cell).0 (inside cell (ap (λ (carrier : ℕ). has carrier cell) seen.carrier_is ∙ h));
             a_end = both.0;
@@ -180,7 +184,7 @@ module _ (set : Standing) (empties ends : ℕ) (empties_are : (cell : ℕ) → (
       live_only_if : IsLive set.present.board set.player link → is_live_from empties ends full ≡ true
       live_only_if live = and_from _ _
           (eq-eqb _ _ (is_subset-intersection full.carrier empties
-              (λ cell h. (empties_are cell).1 (live.empty cell (ap (λ (carrier : ℕ). has carrier cell) (sym seen.carrier_is) ∙ h)))))
+          (λ cell h. (empties_are cell).1 (live.empty cell (ap (λ (carrier : ℕ). has carrier cell) (sym seen.carrier_is) ∙ h)))))
           ((ends_are full.to to_some).1 (to_end seen.of_ends live))
 
     -- what is live of the link brings no entry, or one
@@ -197,8 +201,13 @@ module _ (set : Standing) (empties ends : ℕ) (empties_are : (cell : ℕ) → (
           let same : h.link ≡ link = same_Some h.link link (sym h.there ∙ (ap (λ (n : ℕ). slice_get set.present.links n) e ∙ there)) in
           let P : Link → Type 0 = λ l. HasEnds l vertex full.to in
           let Q : Link → Type 0 = λ l. IsLive set.present.board set.player l in (
-            record { index_is = e; kind_is = ap (λ (l : Link). l.kind) (sym same) ∙ h.kind_is; of_ends = subst P same h.ends; carrier_is =
-                h.carrier_is ∙ ap (λ (l : Link). l.carrier) same },
+            record {
+              index_is = e;
+              kind_is = ap (λ (l : Link). l.kind) (sym same) ∙ h.kind_is;
+              of_ends = subst P same h.ends;
+              carrier_is =
+                  h.carrier_is ∙ ap (λ (l : Link). l.carrier) same;
+            },
             subst Q same h.live,
           )
 
@@ -246,7 +255,7 @@ module _ (set : Standing) (empties ends : ℕ) (empties_are : (cell : ℕ) → (
     fulls-from [] place rest_is = λ full le h.
         let at : full.index ≡ place + (full.index - place) = omega arith in
         let no : slice_get [] (full.index - place) ≡ Some h.link =
-            sym (ap (λ (n : ℕ). slice_get set.present.links n) at ∙ rest_is (full.index - place)) ∙ h.there in
+        sym (ap (λ (n : ℕ). slice_get set.present.links n) at ∙ rest_is (full.index - place)) ∙ h.there in
         cc
     fulls-from (link ∷ links) place rest_is =
         let next : (k : ℕ) → (place + 1) + k ≡ place + suc k = λ k. omega arith in
@@ -254,14 +263,14 @@ module _ (set : Standing) (empties ends : ℕ) (empties_are : (cell : ℕ) → (
         let there : slice_get set.present.links place ≡ Some link = ap (λ (n : ℕ). slice_get set.present.links n) none_more ∙ rest_is 0 in
         let rest = live_from empties ends (fulls_from (code_of vertex) (place + 1) links) in
         let later : AreFullFrom (IsFullAt set vertex) (place + 1) rest =
-            fulls-from links (place + 1) (λ k. ap (λ (n : ℕ). slice_get set.present.links n) (next k) ∙ rest_is (suc k)) in
+        fulls-from links (place + 1) (λ k. ap (λ (n : ℕ). slice_get set.present.links n) (next k) ∙ rest_is (suc k)) in
         let parts = filter-append (is_live_from empties ends) (seen_from (code_of vertex) place link)
-            (fulls_from (code_of vertex) (place + 1) links) in
+        (fulls_from (code_of vertex) (place + 1) links) in
         let P : List FullLink → Type 0 = λ fulls. AreFullFrom (IsFullAt set vertex) place fulls in
         let Q : ℕ → Type 0 = λ n. AreFullFrom (IsFullAt set vertex) (n + 1) rest in
         ⊎_elim
         (λ none. subst P (sym (parts ∙ ap (λ (fulls : List FullLink). fulls ++ rest) none.0))
-            (full-later (IsFullAt set vertex) one_at_index rest place none.1 later))
+        (full-later (IsFullAt set vertex) one_at_index rest place none.1 later))
         (λ one. subst P (sym (parts ∙ ap (λ (fulls : List FullLink). fulls ++ rest) one.1.0)) (
           omega (arith, one.1.1.0),
           (one.1.1.1, ((λ full le less h. absurd (omega (arith, le, less, one.1.1.0))), subst Q (sym one.1.1.0) later)),
@@ -272,7 +281,7 @@ module _ (set : Standing) (empties ends : ℕ) (empties_are : (cell : ℕ) → (
     full-open =
         let same : (k : ℕ) → 0 + k ≡ k = λ k. omega arith in
         let all : AreFullFrom (IsFullAt set vertex) 0 (live_from empties ends (fulls_of set.present.links vertex)) =
-            fulls-from set.present.links 0 (λ k. ap (λ (n : ℕ). slice_get set.present.links n) (same k)) in
+        fulls-from set.present.links 0 (λ k. ap (λ (n : ℕ). slice_get set.present.links n) (same k)) in
         record {
           rising = all-rising (HasAt (IsFullAt set vertex) one_at_index) _ 0 (indices-from (IsFullAt set vertex) one_at_index _ 0 all);
           each = full-each (IsFullAt set vertex) one_at_index _ 0 all;

@@ -68,9 +68,9 @@ fulls-push code place [] link = append-nil (seen_from code place link) ∙ ap (�
 fulls-push code place (first ∷ links) link =
     let later : (place + 1) + length links ≡ place + length (first ∷ links) = omega arith in
     ap (λ (fulls : List FullLink). seen_from code place first ++ fulls)
-        (fulls-push code (place + 1) links link ∙ ap (λ (n : ℕ). fulls_from code (place + 1) links ++ seen_from code n link) later)
+    (fulls-push code (place + 1) links link ∙ ap (λ (n : ℕ). fulls_from code (place + 1) links ++ seen_from code n link) later)
     ∙ sym (append_assoc (seen_from code place first) (fulls_from code (place + 1) links)
-        (seen_from code (place + length (first ∷ links)) link))
+    (seen_from code (place + length (first ∷ links)) link))
 
 fulls-more : (code : ℕ) (links : List Link) (link : Link) → fulls_from code 0 (links ++ link ∷ []) ≡ fulls_from code 0 links
     ++ seen_from code (length links) link
@@ -87,13 +87,13 @@ without_last-push fulls full =
 pub contents-written : (lists : List (Vec FullLink Global)) (seen : List (List FullLink)) (code : ℕ) (old new : Vec FullLink Global)
     (change : List FullLink → List FullLink)
     → contents_of lists ≡ seen → code < length lists → old ≡ get_or lists code old → new.items ≡ change old.items
-        → contents_of (set lists code new) ≡ set seen code (change (get_or seen code []))
+    → contents_of (set lists code new) ≡ set seen code (change (get_or seen code []))
 contents-written lists seen code old new change is inside read written =
     let items : Vec FullLink Global → List FullLink = λ list. list.items in
     let P : List (List FullLink) → Type 0 = λ s. contents_of (set lists code new) ≡ set s code (change (get_or s code [])) in
     let before : get_or (contents_of lists) code [] ≡ old.items = get_or-map items lists code old [] inside ∙ ap items (sym read) in
     subst P is (map-set items lists code new
-        ∙ ap (λ (list : List FullLink). set (contents_of lists) code list) (written ∙ ap change (sym before)))
+    ∙ ap (λ (list : List FullLink). set (contents_of lists) code list) (written ∙ ap change (sym before)))
 
 -- ---- the lists of all vertices
 
@@ -120,7 +120,7 @@ module _ (links : List Link) (link : Link) where
     -- each list has what is seen of one link more
     lists-more : (after : List (List FullLink)) → length after ≡ 123 → (link.kind ≡ Full → IsSomeVertex link.a × IsSomeVertex link.b)
         → ((k : ℕ) → k < 123 → get_or after k [] ≡ get_or lists k [] ++ seen_from k (length links) link)
-            → AreFullLists (links ++ link ∷ []) after
+        → AreFullLists (links ++ link ∷ []) after
     lists-more after long some more = record {
       long = long;
       some = λ place other there full. ⊎_elim
@@ -129,13 +129,13 @@ module _ (links : List Link) (link : Link) where
           (get-push links link other place there);
       each = λ vertex small. more (code_of vertex) small
           ∙ (ap (λ (fulls : List FullLink). fulls ++ seen_from (code_of vertex) (length links) link) (are.each vertex small)
-              ∙ sym (fulls-more (code_of vertex) links link));
+          ∙ sym (fulls-more (code_of vertex) links link));
     }
 
     pub lists-semi : link.kind ≡ Semi → AreFullLists (links ++ link ∷ []) lists
     lists-semi semi = lists-more lists are.long (λ full. cc)
         (λ k small. sym (ap (λ (fulls : List FullLink). get_or lists k [] ++ fulls) (seen-semi k (length links) link semi)
-            ∙ append-nil (get_or lists k [])))
+        ∙ append-nil (get_or lists k [])))
 
     module _ (full : link.kind ≡ Full) (a_some : IsSomeVertex link.a) (b_some : IsSomeVertex link.b) where
       abbrev at_first : List (List FullLink)
@@ -169,17 +169,21 @@ module _ (links : List Link) (link : Link) where
 
       module _ (differ : code_of link.a ≢ code_of link.b) where
         b_inside : code_of link.b < length at_first
-        b_inside = omega (arith, are.long, code-small link.b b_some,
-            length-set lists (code_of link.a) (get_or lists (code_of link.a) [] ++ entry_to (length links) link link.b ∷ []))
+        b_inside = omega (
+          arith,
+          are.long,
+          code-small link.b b_some,
+          length-set lists (code_of link.a) (get_or lists (code_of link.a) [] ++ entry_to (length links) link link.b ∷ []),
+        )
 
         second_same : (k : ℕ) → code_of link.b ≡ k → get_or at_both k [] ≡ get_or lists k [] ++ seen_from k (length links) link
         second_same k e =
             get_or-set_at at_first (code_of link.b) k _ [] (sym e) b_inside
             ∙ (ap (λ (fulls : List FullLink). fulls ++ entry_to (length links) link link.a ∷ [])
-                (first_other (code_of link.b) (λ f. differ (sym f)))
+            (first_other (code_of link.b) (λ f. differ (sym f)))
             ∙ (ap (λ (n : ℕ). get_or lists n [] ++ entry_to (length links) link link.a ∷ []) e
             ∙ sym (ap (λ (fulls : List FullLink). get_or lists k [] ++ fulls)
-                (seen-second k (length links) link full (λ f. differ (f ∙ sym e)) e))))
+            (seen-second k (length links) link full (λ f. differ (f ∙ sym e)) e))))
 
         second_other : (k : ℕ) → k ≢ code_of link.b → get_or at_both k [] ≡ get_or at_first k []
         second_other k ne = get_or-set_other at_first (code_of link.b) k _ [] ne
@@ -237,7 +241,7 @@ module _ (links : List Link) (link : Link) where
           let inside : code_of link.a < length lists = omega (arith, are.long, code-small link.a a_some) in
           get_or-set_at lists (code_of link.a) (code_of vertex) _ [] (sym e) inside
           ∙ (ap (λ (n : ℕ). without_last (get_or lists n [])) e
-              ∙ were_seen vertex _ small (seen-first (code_of vertex) (length links) link full e))
+          ∙ were_seen vertex _ small (seen-first (code_of vertex) (length links) link full e))
 
       off_other : (k : ℕ) → k ≢ code_of link.a → get_or off_first k [] ≡ get_or lists k []
       off_other k ne = get_or-set_other lists (code_of link.a) k _ [] ne
@@ -246,7 +250,7 @@ module _ (links : List Link) (link : Link) where
       cut-once same = lists-less off_first (length-set lists _ _ ∙ are.long) (λ vertex small. ⊎_elim
           (off_same vertex small)
           (λ ne. off_other (code_of vertex) (λ e. ne (sym e))
-              ∙ were_unseen vertex small (seen-none (code_of vertex) (length links) link ne (λ e. ne (same ∙ e))))
+          ∙ were_unseen vertex small (seen-none (code_of vertex) (length links) link ne (λ e. ne (same ∙ e))))
           (cases_eq (code_of link.a) (code_of vertex)))
 
       module _ (differ : code_of link.a ≢ code_of link.b) where
@@ -254,8 +258,12 @@ module _ (links : List Link) (link : Link) where
             → get_or off_both (code_of vertex) [] ≡ fulls_of links vertex
         off_second vertex small e =
             let inside : code_of link.b < length off_first =
-                omega (arith, are.long, code-small link.b b_some,
-                length-set lists (code_of link.a) (without_last (get_or lists (code_of link.a) []))) in
+            omega (
+              arith,
+              are.long,
+              code-small link.b b_some,
+              length-set lists (code_of link.a) (without_last (get_or lists (code_of link.a) [])),
+            ) in
             get_or-set_at off_first (code_of link.b) (code_of vertex) _ [] (sym e) inside
             ∙ (ap without_last (off_other (code_of link.b) (λ f. differ (sym f)))
             ∙ (ap (λ (n : ℕ). without_last (get_or lists n [])) e
@@ -267,6 +275,6 @@ module _ (links : List Link) (link : Link) where
             (λ ne. get_or-set_other off_first (code_of link.b) (code_of vertex) _ [] (λ e. ne (sym e)) ∙ ⊎_elim
             (off_same vertex small)
             (λ ne'. off_other (code_of vertex) (λ e. ne' (sym e))
-                ∙ were_unseen vertex small (seen-none (code_of vertex) (length links) link ne' ne))
+            ∙ were_unseen vertex small (seen-none (code_of vertex) (length links) link ne' ne))
             (cases_eq (code_of link.a) (code_of vertex)))
             (cases_eq (code_of link.b) (code_of vertex)))

@@ -31,10 +31,10 @@ module _ (p : FullLink → Bool) where
   above-filter n (full ∷ fulls) h =
       let Above : List ℕ → Type 0 = λ ms. All (λ (m : ℕ). n < m) ms in
       let rest : Above (map index_of (filter p fulls)) =
-          above-filter n fulls (All-tail (λ (m : ℕ). n < m) full.index (map index_of fulls) h) in
+      above-filter n fulls (All-tail (λ (m : ℕ). n < m) full.index (map index_of fulls) h) in
       cond_both (p full) (full ∷ filter p fulls) (filter p fulls) (λ kept. Above (map index_of kept))
       (λ _. All-cons (λ (m : ℕ). n < m) full.index (map index_of (filter p fulls))
-          (All-head (λ (m : ℕ). n < m) full.index (map index_of fulls) h) rest)
+      (All-head (λ (m : ℕ). n < m) full.index (map index_of fulls) h) rest)
       (λ _. rest)
 
   pairs-filter : (fulls : List FullLink) → AllPairs (λ (n m : ℕ). n < m) (map index_of fulls)
@@ -43,9 +43,9 @@ module _ (p : FullLink → Bool) where
   pairs-filter (full ∷ fulls) h =
       let Rises : List ℕ → Type 0 = λ ms. AllPairs (λ (n m : ℕ). n < m) ms in
       let rest : Rises (map index_of (filter p fulls)) =
-          pairs-filter fulls (λ i j d lt within. h (suc i) (suc j) d (omega (arith, lt)) (omega (arith, within))) in
+      pairs-filter fulls (λ i j d lt within. h (suc i) (suc j) d (omega (arith, lt)) (omega (arith, within))) in
       let head : All (λ (m : ℕ). full.index < m) (map index_of fulls) = λ k d within.
-          h zero (suc k) d (omega arith) (omega (arith, within)) in
+      h zero (suc k) d (omega arith) (omega (arith, within)) in
       cond_both (p full) (full ∷ filter p fulls) (filter p fulls) (λ kept. Rises (map index_of kept))
       (λ _. AllPairs-cons (λ (n m : ℕ). n < m) full.index (map index_of (filter p fulls)) (above-filter full.index fulls head) rest)
       (λ _. rest)
@@ -96,9 +96,9 @@ module _ (full : FullLink) where
       let leads = leads_if (intersection empties cells) (intersection ends to) test in
       and_from _ _
       (live_if empties ends (λ n h. has-intersection_left empties cells n (inside n h))
-          (has-intersection_left ends to (code_of full.to) leads))
+      (has-intersection_left ends to (code_of full.to) leads))
       (live_if cells to (λ n h. has-intersection_right empties cells n (inside n h))
-          (has-intersection_right ends to (code_of full.to) leads)))
+      (has-intersection_right ends to (code_of full.to) leads)))
       (λ test.
       let live = first_of_both (is_live_from empties ends full) (is_live_from cells to full) test in
       let held = second_of_both (is_live_from empties ends full) (is_live_from cells to full) test in
@@ -112,7 +112,7 @@ pub live_from-within : (empties ends cells to : ℕ) (fulls : List FullLink)
     → live_from (intersection empties cells) (intersection ends to) fulls ≡ filter (is_live_from cells to) (live_from empties ends fulls)
 live_from-within empties ends cells to fulls =
     filter_agree (is_live_from (intersection empties cells) (intersection ends to))
-        (λ full. is_live_from empties ends full && is_live_from cells to full) (λ full. live-both full empties ends cells to) fulls
+    (λ full. is_live_from empties ends full && is_live_from cells to full) (λ full. live-both full empties ends cells to) fulls
     ∙ sym (filter_filter (is_live_from cells to) (is_live_from empties ends) fulls)
 
 pub full-within : (set : Standing) (vertex : Vertex) (cells to : ℕ) (fulls : List FullLink) → AreFullAt set vertex fulls

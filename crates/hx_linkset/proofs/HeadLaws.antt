@@ -29,7 +29,7 @@ pub head-same : (kind kind' : Kind) (a b a' b' : Vertex) → IsSomeVertex a → 
     → head_for kind a b ≡ head_for kind' a' b' → (kind ≡ kind') × (a ≡ a') × (b ≡ b')
 head-same kind kind' a b a' b' ha hb ha' hb' e =
     let w = parts-same kind kind' (code_of a) (code_of b) (code_of a') (code_of b') (code-small a ha) (code-small b hb) (code-small a' ha')
-        (code-small b' hb') e in
+    (code-small b' hb') e in
     (w.0, code-same a a' ha ha' w.1, code-same b b' hb hb' w.2)
 
 pub head-small : (kind : Kind) (a b : Vertex) → IsSomeVertex a → IsSomeVertex b → head_for kind a b < 30258

@@ -120,8 +120,11 @@ module _ (links : List Link) (board : Board) (player : Colour) (rings : Rings) (
     as_long = as_long;
     small = omega (arith, small, now.hold.next_long);
     before_inside = omega (arith, last_less, now.hold.next_long);
-    after_inside = omega (arith, linked-small links (IsLiveThere board player) _ (now.hold.rings_ok.next_linked head (inl small)),
-        now.hold.next_long);
+    after_inside = omega (
+      arith,
+      linked-small links (IsLiveThere board player) _ (now.hold.rings_ok.next_linked head (inl small)),
+      now.hold.next_long,
+    );
   }
 
   again : cut (grown rings head) ≡ rings
@@ -129,19 +132,26 @@ module _ (links : List Link) (board : Board) (player : Colour) (rings : Rings) (
       (now.hold.rings_ok.forth head (inl small))
 
   longer : length (set rings.next last (length rings.next) ++ head ∷ []) ≡ length rings.next + 1
-  longer = omega (arith, length-append (set rings.next last (length rings.next)) (head ∷ []),
-      length-set rings.next last (length rings.next))
+  longer = omega (
+    arith,
+    length-append (set rings.next last (length rings.next)) (head ∷ []),
+    length-set rings.next last (length rings.next),
+  )
 
   longer' : length (set rings.previous head (length rings.next) ++ last ∷ []) ≡ length rings.next + 1
-  longer' = omega (arith, length-append (set rings.previous head (length rings.next)) (last ∷ []),
-      length-set rings.previous head (length rings.next), as_long)
+  longer' = omega (
+    arith,
+    length-append (set rings.previous head (length rings.next)) (last ∷ []),
+    length-set rings.previous head (length rings.next),
+    as_long,
+  )
 
   new-inside : IsInside (grown rings head) (length (grown rings head).next - 1)
   new-inside =
       let at : length (set rings.next last (length rings.next)) ≡ length (grown rings head).next - 1 =
-          omega (arith, longer, length-set rings.next last (length rings.next)) in
+      omega (arith, longer, length-set rings.next last (length rings.next)) in
       let at' : length (set rings.previous head (length rings.next)) ≡ length (grown rings head).next - 1 =
-          omega (arith, longer, length-set rings.previous head (length rings.next), as_long) in
+      omega (arith, longer, length-set rings.previous head (length rings.next), as_long) in
       record {
         as_long = longer' ∙ sym longer;
         small = omega (arith, longer);
@@ -162,7 +172,7 @@ module _ (links : List Link) (board : Board) (player : Colour) (rings : Rings) (
   history-added (p ∷ ps) fits h =
       let one : length more - p.count ≡ suc (length links - p.count) = omega (arith, length-append links (link ∷ []), fits) in
       let cuts : cut_times (length more - p.count) (grown rings head) ≡ cut_times (length links - p.count) rings =
-          ap (λ n. cut_times n (grown rings head)) one ∙ ap (λ (r : Rings). cut_times (length links - p.count) r) again in
+      ap (λ n. cut_times n (grown rings head)) one ∙ ap (λ (r : Rings). cut_times (length links - p.count) r) again in
       let front : take p.count more ≡ take p.count links = take-append-le p.count links (link ∷ []) fits in
       let C : Rings → Type 0 = λ r. CanCut (length links - p.count) r in
       let N : ℕ → Type 0 = λ n. CanCut n (grown rings head) in

@@ -33,9 +33,10 @@ module _ (board : Board) (player colour : Colour) (cell : ℕ) where
   end_before : (vertex : Vertex) → IsEnd after player vertex → IsEnd board player vertex
   end_before First h = tt
   end_before Last h = tt
-  end_before (Of n) h =
-      (rw (size-put board colour cell) at h.0,
-      false_from_ne_true _ (λ k. false≢true (sym h.1 ∙ (stones-put board colour (other_of player) cell n).1 (inr k))))
+  end_before (Of n) h = (
+    rw (size-put board colour cell) at h.0,
+    false_from_ne_true _ (λ k. false≢true (sym h.1 ∙ (stones-put board colour (other_of player) cell n).1 (inr k))),
+  )
 
   end_is_other : (vertex : Vertex) → IsEnd after player vertex → colour ≡ other_of player → vertex ≢ Of cell
   end_is_other vertex h e same =

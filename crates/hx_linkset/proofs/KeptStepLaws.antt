@@ -77,9 +77,9 @@ module _ (player : Colour) (state : State) (marks : List ℕ) where
       named_now p (inl e) h lt =
           let name : slice_index (set names place (length steps)) p ≡ length k.links =
           ap (λ q. slice_index (set names place (length steps)) q) e
-              ∙ (get_or-set_same names place (length steps) 0 in_names ∙ sym k.steps_of) in
+          ∙ (get_or-set_same names place (length steps) 0 in_names ∙ sym k.steps_of) in
           ap (λ q. slice_get (k.links ++ live.0 ∷ []) q) name
-              ∙ (get-push_last k.links live.0 ∙ (sym live.1.0 ∙ ap (λ q. slice_get state.links q) (sym e)))
+          ∙ (get-push_last k.links live.0 ∙ (sym live.1.0 ∙ ap (λ q. slice_get state.links q) (sym e)))
       named_now p (inr ne) h lt =
           let was : IsLiveAt state.board player state.links p = c.live p h in
           let b : p < bound = below p h (omega arith) in
@@ -98,9 +98,11 @@ module _ (player : Colour) (state : State) (marks : List ℕ) where
         gives = λ p h lt. named_now p (cases_eq p place) h lt;
         last = λ p h lt top.
             let e : p ≡ place = omega (arith, top place at.marked (omega arith)) in
-            simp length-append (omega
-                (arith, ap (λ q. slice_index (set names place (length steps)) q) e
-                ∙ get_or-set_same names place (length steps) 0 in_names));
+            simp length-append (omega (
+              arith,
+              ap (λ q. slice_index (set names place (length steps)) q) e
+                  ∙ get_or-set_same names place (length steps) 0 in_names,
+            ));
       }
 
     -- all marked links are kept once no mark is left
@@ -143,7 +145,7 @@ module _ (player : Colour) (state : State) (marks : List ℕ) where
         same_Some new (slice_index names n) (sym h ∙ get-map (λ (p : ℕ). slice_index names p) (n ∷ ns) 0 n refl) in
         let alone : length named ≡ 1 = ap (λ (xs : List ℕ). length xs) (sym e) ∙ one in
         let last : suc (slice_index names n) ≡ length steps =
-            k.last n marked (held n marked) (λ other g l. top_one alone n first other g) in
+        k.last n marked (held n marked) (λ other g l. top_one alone n first other g) in
         omega (arith, is, last)
 
     pub derived : IsDerived state.board player state.links named steps (map (λ (p : ℕ). slice_index names p) named)

@@ -80,10 +80,10 @@ module _ (player : Colour) where
       let M : List Link → Type 0 = λ ls. HasDropped player ls play.position board newer in
       let both : HasDropped player links first.position board (drop first.logged older ++ newer) =
       dropped-both player links first.position play.position board (drop first.logged older) newer (subst L front earlier.1)
-          (subst M front dropped) in
+      (subst M front dropped) in
       let joined : drop first.logged log ≡ drop first.logged older ++ newer =
       ap (λ (xs : List ℕ). drop first.logged xs) (sym (take-append-drop play.logged log))
-          ∙ drop-append-le first.logged older newer earlier.0 in
+      ∙ drop-append-le first.logged older newer earlier.0 in
       let D : List ℕ → Type 0 = λ xs. HasDropped player links first.position board xs in
       (omega (arith, earlier.0, length-take-le play.logged log fits, fits), subst D (sym joined) both)
 
@@ -99,16 +99,16 @@ module _ (player : Colour) where
       let le : play.count ≤ length links = omega (arith, here) in
       let earlier : IsSince player (take play.count links) play.position (take play.logged log) (stage_before play plays) =
       since-last play play.position (take play.count links) _ (take play.logged log) plays refl (sym (length-take-le play.count links le))
-          (sym (length-take-le play.logged log h.1.0.fits)) h.1.1.1 in
+      (sym (length-take-le play.logged log h.1.0.fits)) h.1.1.1 in
       subst Is (sym (chosen (stage_before play plays) now play.count now.count same))
-          (since-play (stage_before play plays) play board links log here h.1.0.fits h.1.1.0 earlier))
+      (since-play (stage_before play plays) play board links log here h.1.0.fits h.1.1.0 earlier))
       (λ differ. subst Is (sym (left_out (stage_before play plays) now play.count now.count differ))
-          (since-now now board links log at logs))
+      (since-now now board links log at logs))
 
 -- the log from the stage on that was before the last stones names exactly the links that they dropped
 module _ (player : Colour) (board : Board) (links : List Link) (steps : List Step) (plays : List Stage) (rings : Rings) (log : List ℕ)
     (s : Stands player (record { board = board; links = links; steps = steps }) (reverse plays))
-        (h : HasHistory player board links rings log (reverse plays)) where
+    (h : HasHistory player board links rings log (reverse plays)) where
   abbrev now : Stage
   now = record { position = board; count = length links; logged = length log }
 
@@ -146,5 +146,5 @@ module _ (player : Colour) (board : Board) (links : List Link) (steps : List Ste
         Contains-from_any eqb-true place (drop first.logged log)
         (⊎_elim (λ live. absurd (d.is_dead live)) (λ k. k)
         (since.1.all_dropped.all place d.link d.there (slice_get_within links place d.link d.there)
-            (subst P (sym board-first) d.was_live)));
+        (subst P (sym board-first) d.was_live)));
   }

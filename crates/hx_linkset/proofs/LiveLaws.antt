@@ -55,7 +55,7 @@ module _ (board : Board) (player : Colour) where
     -- the two parts of an And
     meet_parts : (left right : ℕ) (from middle to : Vertex) (first second : Link) → MeetAt before left right from middle to first second
         → IsEnd board player from → IsEnd board player to → IsEnd board player middle
-            → ((n : ℕ) → has (union first.carrier second.carrier) n ≡ true → IsEmpty board n)
+        → ((n : ℕ) → has (union first.carrier second.carrier) n ≡ true → IsEmpty board n)
         → IsLive board player first × IsLive board player second
     meet_parts left right from middle to first second meet from_end to_end middle_end empty = (
       (let ends : IsEnd board player first.a × IsEnd board player first.b =
@@ -73,22 +73,30 @@ module _ (board : Board) (player : Colour) where
         let ends : IsEnd board player g.from × IsEnd board player g.to = ends_of link g.from g.to g.ends live.a_end live.b_end in
         let both : IsLive board player g.first × IsLive board player g.second =
         meet_parts left right g.from g.middle g.to g.first g.second g.meet ends.0 ends.1 (own_is_end p g.middle g.own)
-            (λ n h. live.empty n (rw g.carrier h)) in
+        (λ n h. live.empty n (rw g.carrier h)) in
         ⊎_elim (λ e. (g.first, (ap (λ n. slice_get before n) e ∙ g.meet.first_there, both.0)))
-            (λ e. (g.second, (ap (λ n. slice_get before n) e ∙ g.meet.second_there, both.1))) named
+        (λ e. (g.second, (ap (λ n. slice_get before n) e ∙ g.meet.second_there, both.1))) named
     parts_by_rule (AndCell left right) link g live place named =
         let ends : IsEnd board player g.from × IsEnd board player g.to = ends_of link g.from g.to g.ends live.a_end live.b_end in
         let both : IsLive board player g.first × IsLive board player g.second =
         meet_parts left right g.from (Of g.cell) g.to g.first g.second g.meet ends.0 ends.1 (empty_is_end g.cell g.empty)
         (λ n h. live.empty n (rw g.carrier (has-insert_other (union g.first.carrier g.second.carrier) g.cell n h))) in
         ⊎_elim (λ e. (g.first, (ap (λ n. slice_get before n) e ∙ g.meet.first_there, both.0)))
-            (λ e. (g.second, (ap (λ n. slice_get before n) e ∙ g.meet.second_there, both.1))) named
+        (λ e. (g.second, (ap (λ n. slice_get before n) e ∙ g.meet.second_there, both.1))) named
     parts_by_rule (Or parts) link g live place named =
         let w = part_at before parts g.links g.there named.0 place named.1 in
         let ends : IsEnd board player w.0.a × IsEnd board player w.0.b =
-            ends_are w.0 link.a link.b (g.same_ends w.0 w.1.0) live.a_end live.b_end in
-        (w.0, (w.1.1, record { empty = λ n h. live.empty n (rw g.carrier (in_carriers g.links w.1.0.0 w.0 w.1.0.1 n h)); a_end = ends.0;
-            b_end = ends.1 }))
+        ends_are w.0 link.a link.b (g.same_ends w.0 w.1.0) live.a_end live.b_end in (
+          w.0,
+          (
+            w.1.1,
+            record {
+              empty = λ n h. live.empty n (rw g.carrier (in_carriers g.links w.1.0.0 w.0 w.1.0.1 n h));
+              a_end = ends.0;
+              b_end = ends.1;
+            },
+          ),
+        )
 
     pub parts_live : (step : Step) (link : Link) → StepGives board player before step link → IsLive board player link → (place : ℕ)
         → Names step place → IsLiveAt board player before place

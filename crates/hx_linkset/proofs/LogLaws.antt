@@ -64,7 +64,7 @@ pub log-room_more : (links : List Link) (Has : ℕ → Link → Type 0) (log : L
 log-room_more links Has log h place link there has =
     let Less : ℕ → Link → Type 0 = λ n l. ⊥ in
     let more : LogHolds links Less (log ++ place ∷ []) =
-        log-push links Has Less (λ n l no. absurd no) log h place link there has (λ no. no) in
+    log-push links Has Less (λ n l no. absurd no) log h place link there has (λ no. no) in
     omega (arith, log-room links Less (log ++ place ∷ []) more, length-append log (place ∷ []))
 
 -- a link more that is held

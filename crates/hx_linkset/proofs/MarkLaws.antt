@@ -57,7 +57,7 @@ pub mark-both : (marks : List ℕ) (left right : ℕ) → left < length marks �
 mark-both marks left right l r =
     let r' : right < length (set marks left 1) = omega (arith, length-set {A = ℕ}) in
     mark-then (λ p. p ≡ left) (λ p. p ≡ right) marks (set marks left 1) (set (set marks left 1) right 1) (mark-one marks left l)
-        (mark-one (set marks left 1) right r')
+    (mark-one (set marks left 1) right r')
 
 module _ (places : List ℕ) (i : ℕ) (inside : i < length places) where
   stands_to : (p : ℕ) → StandsIn (take i places) p ⊎ (p ≡ get_or places i 0) → StandsIn (take (i + 1) places) p
@@ -65,7 +65,7 @@ module _ (places : List ℕ) (i : ℕ) (inside : i < length places) where
       subst P (sym (take_more places i 0 inside)) (s.0, get-push_before (take i places) (get_or places i 0) s.0 p s.1)
   stands_to p (inr e) = let P : List ℕ → Type 0 = λ ps. StandsIn ps p in
       subst P (sym (take_more places i 0 inside))
-          (length (take i places), get-push_last (take i places) (get_or places i 0) ∙ ap (λ q. Some q) (sym e))
+      (length (take i places), get-push_last (take i places) (get_or places i 0) ∙ ap (λ q. Some q) (sym e))
 
   pub stands_from : (p : ℕ) → StandsIn (take (i + 1) places) p → StandsIn (take i places) p ⊎ (p ≡ get_or places i 0)
   stands_from p s =
@@ -77,9 +77,9 @@ module _ (places : List ℕ) (i : ℕ) (inside : i < length places) where
       → MarksMore (StandsIn (take (i + 1) places)) old (set marks (get_or places i 0) 1)
   mark-next old marks lt m =
       mark-as (λ p. StandsIn (take i places) p ⊎ (p ≡ get_or places i 0)) (StandsIn (take (i + 1) places)) old
-          (set marks (get_or places i 0) 1) stands_to stands_from
+      (set marks (get_or places i 0) 1) stands_to stands_from
       (mark-then (StandsIn (take i places)) (λ p. p ≡ get_or places i 0) old marks (set marks (get_or places i 0) 1) m
-          (mark-one marks (get_or places i 0) lt))
+      (mark-one marks (get_or places i 0) lt))
 
   pub stands-here : StandsIn places (get_or places i 0)
   stands-here = (i, slice_get-get_or places i 0 inside)

@@ -58,7 +58,7 @@ module _ (set : Standing) (right : IsRight set.player set.present) where
     from_ring : (node place : ℕ) → place ≡ node - 30258 → LinkAt set.present.links Has head node → IsLiveOf set kind a b place
     from_ring node place e at =
         let same = live-same set.present.board right.is_board set.player at.link kind of.low of.high at.has of.low_some of.high_some
-            (at.in_ring ∙ of.head_is) in
+        (at.in_ring ∙ of.head_is) in
         let places : at.place ≡ place = omega (arith, at.node_is, e) in
         record {
           link = at.link;
@@ -75,7 +75,7 @@ module _ (set : Standing) (right : IsRight set.player set.present) where
       past : (place : ℕ) → node < 30258 + place → (after < 30258) ⊎ (30258 + place < after) → IsLiveOf set kind a b place → ⊥
       past place less before is = none_past set.present.links Has rings hold head head-low node (30258 + place) linked here
           (inr (place, (is.link, (refl, (is.there, is.live)))))
-              (head_at-link set.present.links place is.link is.there ∙ in_ring place is) less before
+          (head_at-link set.present.links place is.link is.there ∙ in_ring place is) less before
 
       pub next-none : after < 30258 → (place : ℕ) → node < 30258 + place → IsLiveOf set kind a b place → ⊥
       next-none low place less = past place less (inl low)

@@ -36,7 +36,7 @@ unfolding head_at
 head_at-link links place link e =
     choice (nat_lt (30258 + place) 30258) (30258 + place) _ (not_below (30258 + place) 30258 (omega arith))
     ∙ ap (λ (o : Option Link). head_or o (30258 + place))
-        (ap (λ n. slice_get links n) (let same : 30258 + place - 30258 ≡ place = omega arith in same) ∙ e)
+    (ap (λ n. slice_get links n) (let same : 30258 + place - 30258 ≡ place = omega arith in same) ∙ e)
 
 -- rings of the same linked nodes
 pub rings-same : (f g h : ℕ → ℕ) (P Q : ℕ → Type 0) → ((v : ℕ) → P v → Q v) → ((v : ℕ) → Q v → P v) → AreRings f g h P → AreRings f g h Q
@@ -218,7 +218,7 @@ module _ (links : List Link) (before after : Board) (player : Colour) (bound : �
               (node-between links Now new p.hold bound link there (live, λ lt. absurd (omega arith)) small),
           let P : Rings → Type 0 = λ r. CanRelink r p.dropped in
               subst P (sym (relinked-unlinked new (30258 + bound)
-                  (node-between links Now new p.hold bound link there (live, λ lt. absurd (omega arith)) small))) p.can,
+              (node-between links Now new p.hold bound link there (live, λ lt. absurd (omega arith)) small))) p.can,
         );
         back = ap (λ (r : Rings). relinked_all r p.dropped)
             (relinked-unlinked new (30258 + bound)
@@ -337,7 +337,7 @@ module _ (links : List Link) (board : Board) (player : Colour) (rings : Rings) (
             (λ k. absurd (omega (arith, linked-small links (IsLiveThere board player) end k, end_is)))
             (λ v k. omega (arith, linked-small links (IsLiveThere board player) v k, end_is))
             (λ v. get_or (set rings.next last end ++ h ∷ []) v 0) (λ v. get_or (set rings.previous h end ++ last ∷ []) v 0)
-                (IsLinked more (IsLiveThere board player))
+            (IsLinked more (IsLiveThere board player))
             (inr (length links, (link, (end_is, (get-push_last links link, live))))) old new
             (get-push_other (set rings.next last end) h last (other_end last last_other) ∙ get_or-set_same rings.next last end 0 last_less)
             (get_or_push (set rings.next last end) h 0 end longer)

@@ -43,7 +43,7 @@ module _ (head_of next previous : ℕ → ℕ) (Linked : ℕ → Type 0) (r : Ar
     module _ (next' previous' : ℕ → ℕ) (Linked' : ℕ → Type 0) (other : (v : ℕ) → Linked' v → v ≢ i) (was : (v : ℕ) → Linked' v → Linked v)
         (stays : (v : ℕ) → v ≢ i → Linked v → Linked' v)
         (next_at : next' p ≡ n) (next_rest : (v : ℕ) → v ≢ p → next' v ≡ next v) (previous_at : previous' n ≡ p)
-            (previous_rest : (v : ℕ) → v ≢ n → previous' v ≡ previous v) where
+        (previous_rest : (v : ℕ) → v ≢ n → previous' v ≡ previous v) where
       next_other : (v : ℕ) → Linked v → v ≢ p → next v ≢ i
       next_other v h ne e = ne (sym (r.back v h) ∙ ap previous e)
 
@@ -52,9 +52,12 @@ module _ (head_of next previous : ℕ → ℕ) (Linked : ℕ → Type 0) (r : Ar
 
       next_is : (v : ℕ) → (v ≡ p) ⊎ (v ≢ p) → Linked' v → (Linked' (next' v)) × (head_of (next' v) ≡ head_of v) × (previous' (next' v) ≡ v)
       next_is v (inl e) h =
-          let at : next' v ≡ n = ap next' e ∙ next_at in
-          ((let P : ℕ → Type 0 = λ w. Linked' w in subst P (sym at) (stays n after_other n_linked)), ap head_of at
-              ∙ (r.same_head i there ∙ (sym p_head ∙ ap head_of (sym e))), ap previous' at ∙ (previous_at ∙ sym e))
+          let at : next' v ≡ n = ap next' e ∙ next_at in (
+            (let P : ℕ → Type 0 = λ w. Linked' w in subst P (sym at) (stays n after_other n_linked)),
+            ap head_of at
+                ∙ (r.same_head i there ∙ (sym p_head ∙ ap head_of (sym e))),
+            ap previous' at ∙ (previous_at ∙ sym e),
+          )
       next_is v (inr ne) h =
           let at : next' v ≡ next v = next_rest v ne in (
             (let P : ℕ → Type 0 = λ w. Linked' w in
@@ -80,10 +83,10 @@ module _ (head_of next previous : ℕ → ℕ) (Linked : ℕ → Type 0) (r : Ar
       clear_is v u (inl e) h k same =
           let u_head : head_of u ≡ head_of i = same ∙ (ap head_of e ∙ p_head) in
           let a : IsNotBetween p u i = let P : ℕ → Type 0 = λ w. IsNotBetween p u w in
-              subst P (r.forth i there) (r.clear p u p_linked (was u k) (u_head ∙ sym p_head)) in
+          subst P (r.forth i there) (r.clear p u p_linked (was u k) (u_head ∙ sym p_head)) in
           let b : IsNotBetween i u n = r.clear i u there (was u k) u_head in
           let c : IsNotBetween p n i = let P : ℕ → Type 0 = λ w. IsNotBetween p n w in
-              subst P (r.forth i there) (r.clear p n p_linked n_linked (r.same_head i there ∙ sym p_head)) in
+          subst P (r.forth i there) (r.clear p n p_linked n_linked (r.same_head i there ∙ sym p_head)) in
           let d : IsNotBetween i p n = r.clear i p there p_linked p_head in
           let joined : IsNotBetween p u n = clear-joined p i n u (other u k) after_other before_other a b c d in
           let P : ℕ → Type 0 = λ w. IsNotBetween w u (next' w) in
@@ -143,25 +146,32 @@ module _ (head_of next previous : ℕ → ℕ) (Linked : ℕ → Type 0) (r : Ar
       (now : (v : ℕ) → Linked v → Linked' v)
       (next_tail : next' tail ≡ i) (next_new : next' i ≡ h) (next_rest : (v : ℕ) → v ≢ tail → v ≢ i → next' v ≡ next v)
       (previous_head : previous' h ≡ i) (previous_new : previous' i ≡ tail)
-          (previous_rest : (v : ℕ) → v ≢ h → v ≢ i → previous' v ≡ previous v) where
+      (previous_rest : (v : ℕ) → v ≢ h → v ≢ i → previous' v ≡ previous v) where
     not_new : (v : ℕ) → Linked v → v ≢ i
     not_new v k e = new (let P : ℕ → Type 0 = λ w. Linked w in subst P e k)
 
     head_of_new : (v : ℕ) → (v ≡ i) ⊎ (v ≢ i) → Linked' v → (Linked' (head_of v)) × (head_of (head_of v) ≡ head_of v) × (head_of v ≤ v)
     head_of_new v (inl e) k =
-        let at : head_of v ≡ h = ap head_of e ∙ i_head in
-        ((let P : ℕ → Type 0 = λ w. Linked' w in subst P (sym at) (now h h_linked)), ap head_of at ∙ (h_own ∙ sym at),
-            omega (arith, at, e, last h h_linked))
+        let at : head_of v ≡ h = ap head_of e ∙ i_head in (
+          (let P : ℕ → Type 0 = λ w. Linked' w in subst P (sym at) (now h h_linked)),
+          ap head_of at ∙ (h_own ∙ sym at),
+          omega (arith, at, e, last h h_linked),
+        )
     head_of_new v (inr ne) k = (now (head_of v) (r.head_linked v (old v ne k)), r.head_own v (old v ne k), r.above v (old v ne k))
 
     next_is' : (v : ℕ) → (v ≡ i) ⊎ (v ≢ i) → (v ≡ tail) ⊎ (v ≢ tail) → Linked' v → (Linked' (next' v)) × (head_of (next' v) ≡ head_of v)
         × (previous' (next' v) ≡ v)
-    next_is' v (inl e) t k = let at : next' v ≡ h = ap next' e ∙ next_new in
-        ((let P : ℕ → Type 0 = λ w. Linked' w in subst P (sym at) (now h h_linked)), ap head_of at
-            ∙ (h_own ∙ (sym i_head ∙ ap head_of (sym e))), ap previous' at ∙ (previous_head ∙ sym e))
-    next_is' v (inr ne) (inl e) k = let at : next' v ≡ i = ap next' e ∙ next_tail in
-        ((let P : ℕ → Type 0 = λ w. Linked' w in subst P (sym at) (there)), ap head_of at ∙ (i_head ∙ (sym tail_head ∙ ap head_of (sym e))),
-            ap previous' at ∙ (previous_new ∙ sym e))
+    next_is' v (inl e) t k = let at : next' v ≡ h = ap next' e ∙ next_new in (
+      (let P : ℕ → Type 0 = λ w. Linked' w in subst P (sym at) (now h h_linked)),
+      ap head_of at
+          ∙ (h_own ∙ (sym i_head ∙ ap head_of (sym e))),
+      ap previous' at ∙ (previous_head ∙ sym e),
+    )
+    next_is' v (inr ne) (inl e) k = let at : next' v ≡ i = ap next' e ∙ next_tail in (
+      (let P : ℕ → Type 0 = λ w. Linked' w in subst P (sym at) (there)),
+      ap head_of at ∙ (i_head ∙ (sym tail_head ∙ ap head_of (sym e))),
+      ap previous' at ∙ (previous_new ∙ sym e),
+    )
     next_is' v (inr ne) (inr nt) k =
         let at : next' v ≡ next v = next_rest v nt ne in
         let was : Linked v = old v ne k in (
@@ -269,8 +279,11 @@ front-set xs k x y z n e lt =
 -- a node that was put at an end is cut off again
 cut-at : (next previous : List ℕ) (p h i node before after : ℕ) → i ≡ length next → i ≡ length previous → node ≡ i → before ≡ p → after ≡ h
     → p < length next → h < length previous → get_or next p 0 ≡ h → get_or previous h 0 ≡ p
-    → (let r : Rings = record { next = take node (set (set next p i ++ h ∷ []) before after); previous =
-        take node (set (set previous h i ++ p ∷ []) after before) } in r) ≡ record { next = next; previous = previous }
+    → (let r : Rings = record {
+      next = take node (set (set next p i ++ h ∷ []) before after);
+      previous =
+          take node (set (set previous h i ++ p ∷ []) after before);
+    } in r) ≡ record { next = next; previous = previous }
 cut-at next previous p h i node before after e f is_node is_before is_after p_small h_small ends back =
     rw (is_node, is_before, is_after)
     (rings-eq _ _ _ _
@@ -284,11 +297,11 @@ cut-grown r h same h_small p_small ends =
     let p : ℕ = get_or r.previous h 0 in
     let node : length (set r.next p i ++ h ∷ []) - 1 ≡ i = omega (arith, length-append (set r.next p i) (h ∷ []), length-set {A = ℕ}) in
     let long : length (set r.next p i) ≡ length (set r.next p i ++ h ∷ []) - 1 =
-        omega (arith, length-append (set r.next p i) (h ∷ []), length-set {A = ℕ}) in
+    omega (arith, length-append (set r.next p i) (h ∷ []), length-set {A = ℕ}) in
     let long' : length (set r.previous h i) ≡ length (set r.next p i ++ h ∷ []) - 1 =
-        omega (arith, length-append (set r.next p i) (h ∷ []), length-set {A = ℕ}) in
+    omega (arith, length-append (set r.next p i) (h ∷ []), length-set {A = ℕ}) in
     cut-at r.next r.previous p h i _ _ _ refl (sym same) node (get_or_push (set r.previous h i) p 0 _ long')
-        (get_or_push (set r.next p i) h 0 _ long) p_small (omega arith) ends refl
+    (get_or_push (set r.next p i) h 0 _ long) p_small (omega arith) ends refl
 
 -- a node that was taken out keeps its entries
 pub inside-unlinked : (r : Rings) (i : ℕ) → IsInside r i → IsBetween r i → IsInside (unlinked r i) i

@@ -74,7 +74,7 @@ module _ (player : Colour) (link : Link) where
   live-played_all board [] live alone = live
   live-played_all board (s ∷ ss) live alone =
       live-played_all (put board s.0 s.1) ss (live-played board player s.0 s.1 link live (alone 0 s (omega arith)))
-          (λ k d lt. alone (suc k) d (omega arith))
+      (λ k d lt. alone (suc k) d (omega arith))
 
 right-played_all : (player : Colour) (state : State) (stones : List (Colour × ℕ)) → CanPut state.board stones → IsRight player state
     → IsRight player (played_all state stones)

@@ -90,7 +90,7 @@ module _ (set : Standing) (right : IsRight set.player set.present) (threats : Li
       let there : slice_get derived.links new ≡ Some link = derived.gives k place new named at ∙ held in
       let here : IsSomeAnd (slice_get derived.links new) (λ link. has link.carrier cell ≡ true) =
       subst (λ (o : Option ℕ).
-          IfSome o (λ p. IsSomeAnd (slice_get derived.links p) (λ link. has link.carrier cell ≡ true))) at (in_each k) in
+      IfSome o (λ p. IsSomeAnd (slice_get derived.links p) (λ link. has link.carrier cell ≡ true))) at (in_each k) in
       subst (λ (o : Option Link). IsSomeAnd o (λ link. has link.carrier cell ≡ true)) there here
 
   to_answer : (cell : ℕ) → (has cells cell ≡ true) ↔ IsToAnswer board derived.links places cell

@@ -15,11 +15,11 @@ pub none_among-more : (lines : List Line) (i : ℕ) (line : Line) (cell : ℕ) �
     → ¬ (cell_of line ≡ cell) → ¬ Contains (cells_of (take (i + 1) lines)) cell
 none_among-more lines i line cell less is none other found =
     let more : take (i + 1) lines ≡ take i lines ++ line ∷ [] = take_more lines i line less
-        ∙ ap (λ (l : Line). take i lines ++ l ∷ []) (sym is) in
+    ∙ ap (λ (l : Line). take i lines ++ l ∷ []) (sym is) in
     let cells : cells_of (take (i + 1) lines) ≡ cells_of (take i lines) ++ cell_of line ∷ [] = ap cells_of more
-        ∙ map-append cell_of (take i lines) (line ∷ []) in
+    ∙ map-append cell_of (take i lines) (line ∷ []) in
     ⊎_elim none other (Contains-push_cases (cells_of (take i lines)) (cell_of line) cell
-        (subst (λ (cs : List ℕ). Contains cs cell) cells found))
+    (subst (λ (cs : List ℕ). Contains cs cell) cells found))
 
 pub none_among-all : (lines : List Line) (i cell : ℕ) → length lines ≤ i → ¬ Contains (cells_of (take i lines)) cell
     → ¬ Contains (cells_of lines) cell

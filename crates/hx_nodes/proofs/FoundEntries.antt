@@ -19,8 +19,12 @@ pub found-heading : (nodes : List Node) (board : Board) (mover : Colour) (found 
 found-heading nodes board mover found is =
     let P : Option Heading → Type 0 = λ heading. IsSomeAnd heading (IsHeading board mover found.winner) in
     subst P (sym (get-map (λ (n : Node). n.heading) nodes found.index is.first.entry.node is.first.entry.there))
-    (record { same_position = is.first.entry.is_of.same_position; same_mover = is.first.entry.is_of.same_mover; same_winner =
-        sym is.same_winner })
+    (record {
+      same_position = is.first.entry.is_of.same_position;
+      same_mover = is.first.entry.is_of.same_mover;
+      same_winner =
+          sym is.same_winner;
+    })
 
 -- ---- no win
 
@@ -28,5 +32,9 @@ pub other-no_win : (nodes : List Node) (board : Board) (mover player : Colour) (
     → found.winner ≢ player
     → NamesNoWin nodes board mover player
 other-no_win nodes board mover player found is differs =
-    inr (record { found = found; first = is; other =
-        ⊎_elim (λ same. absurd (differs same)) (λ other. other) (one_or_other found.winner player) })
+    inr (record {
+      found = found;
+      first = is;
+      other =
+          ⊎_elim (λ same. absurd (differs same)) (λ other. other) (one_or_other found.winner player);
+    })

@@ -32,18 +32,22 @@ module _ (headings : List Heading) (heading : Heading) (cells : ℕ) (under : Li
   none_gathered = record {
     inside = λ cell member. member;
     earlier = λ done cell is _. absurd (not_done done is);
-    in_order = record { each = λ cell is. absurd (not_done cell is); only = λ k d less. absurd (omega arith); in_order = λ k less.
-        absurd (omega arith) };
+    in_order = record {
+      each = λ cell is. absurd (not_done cell is);
+      only = λ k d less. absurd (omega arith);
+      in_order = λ k less.
+          absurd (omega arith);
+    };
     each = λ k. tt;
     by_child = λ cell is none. absurd (not_done cell is);
   }
 
   pub all_gathered : (size : Extent) (left : ℕ) (lines : List Line) → AreGathered headings heading cells left under lines
       → ((n : ℕ) → has cells n ≡ true → OnBoard size n) → ((n : ℕ) → OnBoard size n → has left n ≡ false)
-          → AreLines headings heading cells under lines
+      → AreLines headings heading cells under lines
   all_gathered size left lines before on_board none =
       let done : (n : ℕ) → has cells n ≡ true → IsDone cells left n = λ n member.
-          record { member = member; gone = none n (on_board n member) } in
+      record { member = member; gone = none n (on_board n member) } in
       record {
         in_order = record {
           each = λ n member. before.in_order.each n (done n member);
@@ -58,13 +62,13 @@ module _ (headings : List Heading) (heading : Heading) (cells : ℕ) (under : Li
       → IsGathered (headings ++ more) heading under line
   gathered-append more (Child cell child) right =
       some_and-append (IsHeading
-          (put heading.position (other_of heading.winner) cell) heading.winner heading.winner) headings more child right
+      (put heading.position (other_of heading.winner) cell) heading.winner heading.winner) headings more child right
   gathered-append more (Under cell better kill) right = right
 
   gathered_all-append : (more : List Heading) (lines : List Line) (line : Line)
       → ((k : ℕ) → IfSome (slice_get lines k) (IsGathered headings heading under))
       → IsGathered (headings ++ more) heading under line → (k : ℕ)
-          → IfSome (slice_get (lines ++ line ∷ []) k) (IsGathered (headings ++ more) heading under)
+      → IfSome (slice_get (lines ++ line ∷ []) k) (IsGathered (headings ++ more) heading under)
   gathered_all-append more [] line each last zero = last
   gathered_all-append more [] line each last (suc k) = tt
   gathered_all-append more (first ∷ lines) line each last zero = gathered-append more first (each 0)
@@ -80,7 +84,7 @@ module _ (headings : List Heading) (heading : Heading) (cells : ℕ) (under : Li
   pub one_more_gathered : (size : Extent) (more : List Heading) (left : ℕ) (lines : List Line) (cell : ℕ) (line : Line)
       → AreGathered headings heading cells left under lines → ((n : ℕ) → has cells n ≡ true → OnBoard size n) → IsLeastOn size left cell
       → IsLineOf (headings ++ more) heading under cell line
-          → AreGathered (headings ++ more) heading cells (remove left cell) under (lines ++ line ∷ [])
+      → AreGathered (headings ++ more) heading cells (remove left cell) under (lines ++ line ∷ [])
   one_more_gathered size more left lines cell line before on_board least is_line = record {
     inside = λ n member. before.inside n (has-remove_before left cell n member);
     earlier = λ done n is member. ⊎_elim
@@ -104,11 +108,11 @@ module _ (headings : List Heading) (heading : Heading) (cells : ℕ) (under : Li
       later : (n : ℕ) → has (remove left cell) n ≡ true → cell < n
       later n member = ⊎_elim
           (λ less. absurd (false≢true
-              (sym (least.first n less (on_board n (before.inside n (has-remove_before left cell n member))))
-              ∙ has-remove_before left cell n member)))
+          (sym (least.first n less (on_board n (before.inside n (has-remove_before left cell n member))))
+          ∙ has-remove_before left cell n member)))
           (λ more_or_same. ⊎_elim (λ less. less)
-              (λ least_too. let same : n ≡ cell = omega arith in absurd (false≢true (sym (removed left cell) ∙ rw same at member)))
-              (cases_lt cell n))
+          (λ least_too. let same : n ≡ cell = omega arith in absurd (false≢true (sym (removed left cell) ∙ rw same at member)))
+          (cases_lt cell n))
           (cases_lt n cell)
 
 -- ---- a cell that lacks an answer

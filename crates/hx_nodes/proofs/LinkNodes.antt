@@ -50,7 +50,7 @@ module _ (set : Standing) (right : IsRight set.player set.present) where
       let last : suc one.0 ≡ length steps = derived.last refl one.0 one.1 in
       let gives : slice_get derived.links one.0 ≡ Some is.link = derived.gives 0 place one.0 refl one.1 ∙ is.there in
       let long : length derived.links ≡ length steps =
-          omega (arith, steps-length set.present.board set.player [] steps derived.links derived.right) in
+      omega (arith, steps-length set.present.board set.player [] steps derived.links derived.right) in
       let here : length derived.links - 1 ≡ one.0 = omega arith in
       record {
         board = right.is_board;

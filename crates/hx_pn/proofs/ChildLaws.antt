@@ -28,7 +28,7 @@ pub phi_sum-more : (xs : List Numbers) (i : ℕ) (d : Numbers) → i < length xs
     → sum_by (λ (x : Numbers). x.phi) (take (i + 1) xs) ≡ sum_by (λ (x : Numbers). x.phi) (take i xs) + (get_or xs i d).phi
 phi_sum-more xs i d less =
     let whole = ap (sum_by (λ (x : Numbers). x.phi)) (take_more xs i d less)
-        ∙ sum_by-append (λ (x : Numbers). x.phi) (take i xs) (get_or xs i d ∷ []) in
+    ∙ sum_by-append (λ (x : Numbers). x.phi) (take i xs) (get_or xs i d ∷ []) in
     omega (arith, whole)
 
 -- ---- the best child
@@ -103,7 +103,7 @@ module _ (xs : List Numbers) (x : Numbers) (best : Best) (is : IsNumbers x) (bef
     };
     second = second ∙ ap (λ (n : ℕ). min n x.delta) before.second
         ∙ sym (ap (second_delta (xs ++ x ∷ [])) place
-            ∙ second_delta-push xs x best.place (slice_get_within xs best.place best.child before.chosen.there) is);
+        ∙ second_delta-push xs x best.place (slice_get_within xs best.place best.child before.chosen.there) is);
   }
 
 -- ---- bounds

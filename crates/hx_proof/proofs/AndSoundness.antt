@@ -32,8 +32,13 @@ record AreParts (first second whole : ℕ → Bool) : Type 0 where
 
 parts-sym : (first second whole : ℕ → Bool) → AreParts first second whole → AreParts second first whole
 parts-sym first second whole parts =
-    record { from_first = parts.from_second; from_second = parts.from_first; in_one = λ n h. ⊎_elim inr inl (parts.in_one n h); apart =
-    λ n x y. parts.apart n y x }
+    record {
+      from_first = parts.from_second;
+      from_second = parts.from_first;
+      in_one = λ n h. ⊎_elim inr inl (parts.in_one n h);
+      apart =
+          λ n x y. parts.apart n y x;
+    }
 
 module _ (player : Colour) where
   abbrev other : Colour
@@ -51,12 +56,12 @@ module _ (player : Colour) where
 
   module _ (board : Board) (next : (who : Colour) (cell : ℕ) → IsEmpty board cell → InReach (put board who cell))
       (G H K : Goal) (stays_g : Stays player G) (stays_h : Stays player H) (both : (b : Board) → G b → H b → K b)
-          (first second whole : ℕ → Bool) (parts : AreParts first second whole) where
+      (first second whole : ℕ → Bool) (parts : AreParts first second whole) where
     answering_from : (one two : Colour) → one ≡ other → two ≡ other → Plays player first G board one → Plays player second H board two
         → Plays player whole K board other
     answering_from one two e d (By_goal _ _ goal) q =
         in_reach_beside_reached player whole G H K stays_g both board other goal
-            (in_reach_in_more_room player H stays_h second whole parts.from_second board other (rw d at q))
+        (in_reach_in_more_room player H stays_h second whole parts.from_second board other (rw d at q))
     answering_from one two e d (By_move _ _ cell own free win) q = absurd (other-differs player (sym own ∙ e))
     answering_from one two e d (By_answers _ _ some o free all) (By_goal _ _ goal) =
         in_reach_beside_reached player whole H G K stays_h (λ b x y. both b y x) board other goal
@@ -67,15 +72,15 @@ module _ (player : Colour) where
         By_answers board other some refl (record { inside = parts.from_first some free.inside; empty = free.empty })
         (λ cell here. ⊎_elim
         (λ (in_first : first cell ≡ true).
-            (next other cell here.empty).moving G H K stays_g stays_h both first second whole parts
-            (all cell (record { inside = in_first; empty = here.empty }))
+        (next other cell here.empty).moving G H K stays_g stays_h both first second whole parts
+        (all cell (record { inside = in_first; empty = here.empty }))
         (in_reach_after_stone_outside player H stays_h second board other cell (parts.apart cell in_first) other
-            (By_answers board other some_too refl free_too all_too)))
+        (By_answers board other some_too refl free_too all_too)))
         (λ (in_second : second cell ≡ true).
-            (next other cell here.empty).moving H G K stays_h stays_g (λ b x y. both b y x) second first whole
-            (parts-sym first second whole parts) (all_too cell (record { inside = in_second; empty = here.empty }))
+        (next other cell here.empty).moving H G K stays_h stays_g (λ b x y. both b y x) second first whole
+        (parts-sym first second whole parts) (all_too cell (record { inside = in_second; empty = here.empty }))
         (in_reach_after_stone_outside player G stays_g first board other cell (λ in_first. parts.apart cell in_first in_second) other
-            (By_answers board other some refl free all)))
+        (By_answers board other some refl free all)))
         (parts.in_one cell here.inside))
 
     moving_from : (one : Colour) → one ≡ player → Plays player first G board one → Plays player second H board other
@@ -83,7 +88,7 @@ module _ (player : Colour) where
     moving_from one e (By_goal _ _ goal) q =
         in_reach_beside_reached player whole G H K stays_g both board player goal
         (in_reach_in_more_room player H stays_h second whole parts.from_second board player
-            (in_reach_with_the_move player H stays_h second board q))
+        (in_reach_with_the_move player H stays_h second board q))
     moving_from one e (By_move _ _ cell own free win) q =
         By_move board player cell refl (record { inside = parts.from_first cell free.inside; empty = free.empty })
         ((next player cell free.empty).answering G H K stays_g stays_h both first second whole parts win
@@ -108,8 +113,13 @@ module _ (player : Colour) where
 
   module _ (first second : ℕ) (from to : Vertex) (apart : ShareNone first second) where
     parts : AreParts (has first) (has second) (has (union first second))
-    parts = record { from_first = has-union_left first second; from_second = has-union_right first second; in_one =
-        has-union_cases first second; apart = λ n x y. lacks second n (apart n x) y }
+    parts = record {
+      from_first = has-union_left first second;
+      from_second = has-union_right first second;
+      in_one =
+          has-union_cases first second;
+      apart = λ n x y. lacks second n (apart n x) y;
+    }
 
     abbrev JoinedToOwn : Vertex → Goal
     JoinedToOwn middle b = IsOwn b player middle × Joined b player from middle
@@ -134,10 +144,10 @@ module _ (player : Colour) where
     and_cell_secures cell board empty outside_first outside_second x y =
         By_move board player cell refl (record { inside = has-insert_same (union first second) cell; empty = empty })
         (in_reach_in_more_room player (IsJoined player from to) (joined_stays player from to) (has (union first second))
-            (has (insert (union first second) cell)) (has-insert_other (union first second) cell)
+        (has (insert (union first second) cell)) (has-insert_other (union first second) cell)
         (put board player cell) other
         (and_stone_secures (Of cell) (put board player cell) ((stones-put board player player cell cell).1 (inl (refl, refl)))
         (in_reach_after_stone_outside player (IsJoined player from (Of cell)) (joined_stays player from (Of cell))
-            (has first) board player cell (lacks first cell outside_first) other x)
+        (has first) board player cell (lacks first cell outside_first) other x)
         (in_reach_after_stone_outside player (IsJoined player (Of cell) to) (joined_stays player (Of cell) to)
-            (has second) board player cell (lacks second cell outside_second) other y)))
+        (has second) board player cell (lacks second cell outside_second) other y)))

@@ -83,9 +83,9 @@ module _ (board : Board) (player : Colour) (cell : ℕ) (is : IsBoard board) (de
   not_both_on_cell : (x v : Vertex) → x ≡ Of cell → v ≡ Of cell → Touches board.size player x v → ⊥
   not_both_on_cell x v same also touch =
       let from_cell : Touches board.size player (Of cell) v =
-          (let P : Vertex → Type 0 = λ z. Touches board.size player z v in subst P same touch) in
+      (let P : Vertex → Type 0 = λ z. Touches board.size player z v in subst P same touch) in
       let to_cell : Touches board.size player (Of cell) (Of cell) =
-          (let P : Vertex → Type 0 = λ z. Touches board.size player (Of cell) z in subst P also from_cell) in
+      (let P : Vertex → Type 0 = λ z. Touches board.size player (Of cell) z in subst P also from_cell) in
       not_touching_itself cell to_cell.2
 
   -- the end of a walk is joined without the stone: with its start, or where that is the cell, with each open neighbour of it
@@ -120,8 +120,11 @@ module _ (board : Board) (player : Colour) (cell : ℕ) (is : IsBoard board) (de
       → IsLedRound from to
   led_round [] from to not walk =
       let touch : Touches board.size player from to = rw size-put at walk in
-      record { from_start = λ _ _. joined-touches board player from to touch; from_neighbours = λ same u a.
-          open_neighbours_joined u to a (open_neighbour from to same touch not) }
+      record {
+        from_start = λ _ _. joined-touches board player from to touch;
+        from_neighbours = λ same u a.
+            open_neighbours_joined u to a (open_neighbour from to same touch not);
+      }
   led_round (v ∷ vs) from to not walk =
       led_round-one_more from v to (rw size-put at walk.0) walk.1 (led_round vs v to not walk.2) (is_same_vertex v (Of cell))
 
@@ -154,13 +157,13 @@ module _ (player : Colour) where
       → Wins player after mover → Wins player (put board other cell) mover
   wins_with_others_stone_on_dead board after mover cell is dead same (By_chain _ _ chain) =
       By_chain (put board other cell) mover
-          (chain-put player board other cell (chain_without_dead board player cell is dead (rw same at chain)))
+      (chain-put player board other cell (chain_without_dead board player cell is dead (rw same at chain)))
   wins_with_others_stone_on_dead board after mover cell is dead same (By_move _ _ m own empty win) =
       let free : IsEmpty board m × (m ≢ cell) = (empty-put board player cell m).0 (rw same at empty) in
       By_move (put board other cell) mover m own ((empty-put board other cell m).1 free)
       (subst (λ (z : Board). Wins player z other) (put-swap board player other m cell)
       (wins_with_others_stone_on_dead (put board player m) (put after player m) other cell (board-put board player m is free.0)
-          (dead_stays board player player m cell (λ e. free.1 (sym e)) dead)
+      (dead_stays board player player m cell (λ e. free.1 (sym e)) dead)
       (ap (λ (z : Board). put z player m) same ∙ put-swap board player player cell m) win))
   wins_with_others_stone_on_dead board after mover cell is dead same (By_answers _ _ some others empty all) =
       let free : IsEmpty board some × (some ≢ cell) = (empty-put board player cell some).0 (rw same at empty) in
@@ -168,6 +171,6 @@ module _ (player : Colour) where
       let left : IsEmpty board m × (m ≢ cell) = (empty-put board other cell m).0 here in
       subst (λ (z : Board). Wins player z player) (put-swap board other other m cell)
       (wins_with_others_stone_on_dead (put board other m) (put after other m) player cell (board-put board other m is left.0)
-          (dead_stays board player other m cell (λ e. left.1 (sym e)) dead)
+      (dead_stays board player other m cell (λ e. left.1 (sym e)) dead)
       (ap (λ (z : Board). put z other m) same ∙ put-swap board player other cell m)
-          (all m (rw same ((empty-put board player cell m).1 left)))))
+      (all m (rw same ((empty-put board player cell m).1 left)))))

@@ -29,7 +29,7 @@ pub wins_without_others_stone : (player : Colour) (board : Board) → IsBoard bo
 wins_without_others_stone player board is cell empty mover win = ⊎_elim
     (λ own. own)
     (λ theirs. absurd (not_both_win (put board (other_of player) cell) (board-put board (other_of player) cell is empty) player mover win
-        (extra_stone (other_of player) board mover cell theirs)))
+    (extra_stone (other_of player) board mover cell theirs)))
     (one_wins board is player mover)
 
 pub fill_wins : (board : Board) → IsBoard board → (player : Colour) (step : FillStep) → MayFill board player step → (mover : Colour)
@@ -37,7 +37,7 @@ pub fill_wins : (board : Board) → IsBoard board → (player : Colour) (step : 
 fill_wins board is player (Other cell) empty mover win = wins_without_others_stone player board is cell empty mover win
 fill_wins board is player (Dead cell) dead mover win =
     wins_without_others_stone player board is cell dead.empty mover
-        (wins_with_others_stone_on_dead player board (put board player cell) mover cell is dead refl win)
+    (wins_with_others_stone_on_dead player board (put board player cell) mover cell is dead refl win)
 fill_wins board is player (Pair a b) pair mover win =
     wins_without_pair player board (put (put board player a) player b) mover a b is pair refl win
 
@@ -47,4 +47,4 @@ pub fills_win : (board : Board) → IsBoard board → (player : Colour) (steps :
 fills_win board is player [] may mover win = win
 fills_win board is player (step ∷ steps) may mover win =
     fill_wins board is player step may.0 mover
-        (fills_win (filled board player step) (board-filled board player is step may.0) player steps may.1 mover win)
+    (fills_win (filled board player step) (board-filled board player is step may.0) player steps may.1 mover win)

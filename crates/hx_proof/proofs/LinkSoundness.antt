@@ -76,7 +76,7 @@ module _ (board : Board) (player : Colour) where
     and_cell_holds left right link g =
         rw (g.kind, g.carrier) (named link (insert (union g.first.carrier g.second.carrier) g.cell) g.from g.to player g.ends
         (and_cell_secures player g.first.carrier g.second.carrier g.from g.to g.meet.apart g.cell board g.empty g.outside_first
-            g.outside_second
+        g.outside_second
         (full_secures left g.first g.from (Of g.cell) g.meet.first_there g.meet.first_full g.meet.first_ends)
         (full_secures right g.second (Of g.cell) g.to g.meet.second_there g.meet.second_full g.meet.second_ends)))
 
@@ -87,7 +87,7 @@ module _ (board : Board) (player : Colour) where
         (λ c w n h. in_carriers g.links w.1.0.0 w.0 w.1.0.1 n (rw w.1.1 h))
         board
         (λ c w. rw (← w.1.1) (between w.0 link.a link.b player (g.same_ends w.0 w.1.0)
-            (rw (g.semi w.0 w.1.0) at (holds w.0 (let at = place_of before places g.links g.there w.1.0.0 w.0 w.1.0.1 in (at.0, at.1.1))))))
+        (rw (g.semi w.0 w.1.0) at (holds w.0 (let at = place_of before places g.links g.there w.1.0.0 w.0 w.1.0.1 in (at.0, at.1.1))))))
         (λ n. let w = g.none_in_all n in (w.0.carrier, ((w.0, (w.1.0, refl)), w.1.1))))
 
     step_holds : (step : Step) (link : Link) → GivesByRule board player before step link → LinkHolds board player link
@@ -123,8 +123,11 @@ module _ (board : Board) (player : Colour) where
   pub who_secures_the_sides_wins : (carrier : ℕ) (mover : Colour) → Secures player carrier First Last board mover → Wins player board mover
   who_secures_the_sides_wins carrier mover secured =
       region_wins player (has carrier) board board mover
-      (record { keeps = (as_good_itself player (has carrier) board).keeps; free = λ n free.
-          inl (record { inside = refl; empty = free.empty }) })
+      (record {
+        keeps = (as_good_itself player (has carrier) board).keeps;
+        free = λ n free.
+            inl (record { inside = refl; empty = free.empty });
+      })
       secured
 
   chain_link_wins : (link : Link) → LinkHolds board player link → IsChainLink link → Wins player board (mover_for player link.kind)
@@ -139,7 +142,7 @@ module _ (board : Board) (player : Colour) where
       ⊎ (mover ≡ player) → Wins player board mover
   chain_link_wins_in_time link holds joins mover (inl full) =
       ⊎_elim (λ own. rw own (chain_link_wins_with_the_move link holds joins))
-          (λ others. rw others (rw full at (chain_link_wins link holds joins))) (one_or_other mover player)
+      (λ others. rw others (rw full at (chain_link_wins link holds joins))) (one_or_other mover player)
   chain_link_wins_in_time link holds joins mover (inr own) = rw own (chain_link_wins_with_the_move link holds joins)
 
   -- ---- right steps that end in a link between the sides
@@ -159,5 +162,5 @@ pub right_links_win : (heading : Heading) (steps : List Step) → AreRightLinks 
 right_links_win heading steps right =
     chain_link_wins_in_time heading.position heading.winner right.shown.last
     (right_steps_give_what_holds heading.position heading.winner steps right.links right.steps_right.right right.shown.last
-        (_, right.shown.is_last))
+    (_, right.shown.is_last))
     right.shown.joins heading.to_move right.shown.in_time

@@ -29,8 +29,11 @@ module _ (player : Colour) where
         → (board : Board) (mover : Colour) → Plays player region G board mover → Plays player larger G board mover
     in_reach_in_more_room region larger more board mover =
         (kept player G stays larger board).better region board mover
-        (record { keeps = (as_good_itself player region board).keeps; free = λ n free.
-            inl (record { inside = more n free.inside; empty = free.empty }) })
+        (record {
+          keeps = (as_good_itself player region board).keeps;
+          free = λ n free.
+              inl (record { inside = more n free.inside; empty = free.empty });
+        })
 
     pub in_reach_with_the_move : (region : ℕ → Bool) (board : Board) → Plays player region G board other
         → Plays player region G board player
@@ -49,15 +52,15 @@ module _ (player : Colour) where
   in_reach_beside_reached region G H K stays both board mover reached (By_move _ _ cell own free win) =
       By_move board mover cell own free
       (in_reach_beside_reached region G H K stays both (put board player cell) other
-          (stays board (put board player cell) (keeps_put player board player cell) reached) win)
+      (stays board (put board player cell) (keeps_put player board player cell) reached) win)
   in_reach_beside_reached region G H K stays both board mover reached (By_answers _ _ some others free all) =
       By_answers board mover some others free
       (λ cell here. in_reach_beside_reached region G H K stays both (put board other cell) player
-          (stays board (put board other cell) (keeps_put player board other cell) reached) (all cell here))
+      (stays board (put board other cell) (keeps_put player board other cell) reached) (all cell here))
 
   -- what is joined is joined both ways
   pub secures-sym : (carrier : ℕ) (from to : Vertex) (board : Board) (mover : Colour) → Secures player carrier from to board mover
       → Secures player carrier to from board mover
   secures-sym carrier from to board mover =
       in_reach_beside_reached (has carrier) (λ b. Unit {0}) (IsJoined player from to) (IsJoined player to from)
-          (λ before after keeps reached. reached) (λ b reached join. joined-sym b player from to join) board mover tt
+      (λ before after keeps reached. reached) (λ b reached join. joined-sym b player from to join) board mover tt

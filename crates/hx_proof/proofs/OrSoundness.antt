@@ -16,7 +16,7 @@ use Rattle.hx_proof.proofs.LocalGame.{in_reach_in_more_room, in_reach_after_ston
 module _ (player : Colour) (whole : ℕ) (from to : Vertex) (IsPart : ℕ → Type 0) (within : (part : ℕ) → IsPart part → IsSubset part whole)
     (board : Board)
     (secured : (part : ℕ) → IsPart part → Secures player part from to board player)
-        (none_in_all : (n : ℕ) → (part : ℕ) × (IsPart part × (has part n ≡ false))) where
+    (none_in_all : (n : ℕ) → (part : ℕ) × (IsPart part × (has part n ≡ false))) where
   abbrev other : Colour
   other = other_of player
 
@@ -24,9 +24,9 @@ module _ (player : Colour) (whole : ℕ) (from to : Vertex) (IsPart : ℕ → Ty
   respond cell =
       let w : (part : ℕ) × (IsPart part × (has part cell ≡ false)) = none_in_all cell in
       in_reach_in_more_room player (IsJoined player from to) (joined_stays player from to) (has w.0) (has whole) (within w.0 w.1.0)
-          (put board other cell) player
+      (put board other cell) player
       (in_reach_after_stone_outside player (IsJoined player from to) (joined_stays player from to) (has w.0) board other cell
-          (λ h. false≢true (sym w.1.1 ∙ h)) player (secured w.0 w.1.0))
+      (λ h. false≢true (sym w.1.1 ∙ h)) player (secured w.0 w.1.0))
 
   -- the carriers have a free cell for the opponent to move to, or the ends are joined
   start : (part : ℕ) → IsPart part → (mover : Colour) → mover ≡ player → Secures player part from to board mover

@@ -21,8 +21,14 @@ module _ (player : Colour) where
 
   pair-sym : (board : Board) (a b : ℕ) → IsPair board player a b → IsPair board player b a
   pair-sym board a b pair =
-      record { a_empty = pair.b_empty; b_empty = pair.a_empty; differ = λ e. pair.differ (sym e); a_dead = pair.b_dead; b_dead =
-      pair.a_dead }
+      record {
+        a_empty = pair.b_empty;
+        b_empty = pair.a_empty;
+        differ = λ e. pair.differ (sym e);
+        a_dead = pair.b_dead;
+        b_dead =
+            pair.a_dead;
+      }
 
   pair_stays : (board : Board) (who : Colour) (m a b : ℕ) → m ≢ a → m ≢ b → IsPair board player a b → IsPair (put board who m) player a b
   pair_stays board who m a b not_a not_b pair = record {
@@ -48,8 +54,8 @@ module _ (player : Colour) where
   wins_by_one board m a differ empty chain =
       By_move (put board other m) player a refl ((empty-put board other m a).1 (empty, λ e. differ (sym e)))
       (By_chain (put (put board other m) player a) other
-          (subst (λ (z : Board). HasChain z player) (put-swap board player other a m)
-          (chain-put player (put board player a) other m chain)))
+      (subst (λ (z : Board). HasChain z player) (put-swap board player other a m)
+      (chain-put player (put board player a) other m chain)))
 
   -- ---- the opponent takes one cell of the pair, and the player the other
 
@@ -59,13 +65,13 @@ module _ (player : Colour) where
       By_move (put board other a) player b refl ((empty-put board other a b).1 (pair.b_empty, λ e. pair.differ (sym e)))
       (subst (λ (z : Board). Wins player z other) (put-swap board player other b a)
       (wins_with_others_stone_on_dead player (put board player b) after other a
-          (board-put board player b is pair.b_empty) pair.a_dead same win))
+      (board-put board player b is pair.b_empty) pair.a_dead same win))
 
   -- with that answer, the opponent's moves elsewhere are left
   wins_after_each : (board after : Board) (a b : ℕ) → IsBoard board → IsPair board player a b → after ≡ put (put board player a) player b
       → Wins player after other
       → ((m : ℕ) → IsEmpty board m → m ≢ a → m ≢ b → Wins player (put board other m) player) → (m : ℕ) → IsEmpty board m
-          → Wins player (put board other m) player
+      → Wins player (put board other m) player
   wins_after_each board after a b is pair same win elsewhere m empty = answer (ℕ_discrete m a) (ℕ_discrete m b)
     where
       answer : Dec (m ≡ a) → Dec (m ≡ b) → Wins player (put board other m) player
@@ -84,19 +90,19 @@ module _ (player : Colour) where
       (λ own. By_move board mover a own pair.a_empty (By_chain (put board player a) other with_one))
       (λ others. By_answers board mover a others pair.a_empty
       (wins_after_each board after a b is pair same (By_chain after other chain)
-          (λ m _ not_a _. wins_by_one board m a not_a pair.a_empty with_one)))
+      (λ m _ not_a _. wins_by_one board m a not_a pair.a_empty with_one)))
       (one_or_other mover player)
   wins_without_pair board after mover a b is pair same (By_move _ _ m own empty win) =
       let not_b : IsEmpty (put board player a) m × (m ≢ b) = (empty-put (put board player a) player b m).0 (rw same at empty) in
       let not_a : IsEmpty board m × (m ≢ a) = (empty-put board player a m).0 not_b.0 in
       By_move board mover m own not_a.0
       (wins_without_pair (put board player m) (put after player m) other a b (board-put board player m is not_a.0)
-          (pair_stays board player m a b not_a.1 not_b.1 pair)
+      (pair_stays board player m a b not_a.1 not_b.1 pair)
       (ap (λ (z : Board). put z player m) same ∙ put-before_two board player player a b m) win)
   wins_without_pair board after mover a b is pair same (By_answers _ _ some others empty all) =
       By_answers board mover a others pair.a_empty
       (wins_after_each board after a b is pair same (By_answers after other some refl empty all) (λ m here not_a not_b.
       wins_without_pair (put board other m) (put after other m) player a b (board-put board other m is here)
-          (pair_stays board other m a b not_a not_b pair)
+      (pair_stays board other m a b not_a not_b pair)
       (ap (λ (z : Board). put z other m) same ∙ put-before_two board player other a b m)
       (all m (rw same ((empty-put (put board player a) player b m).1 ((empty-put board player a m).1 (here, not_a), not_b))))))

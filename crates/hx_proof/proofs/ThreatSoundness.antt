@@ -23,7 +23,7 @@ module _ (board : Board) (player : Colour) where
   link_left_whole_wins link holds joins cell outside =
       who_secures_the_sides_wins (put board (other_of player) cell) player link.carrier player
       (rw (joins.first, joins.last) at (in_reach_after_stone_outside player (IsJoined player link.a link.b)
-          (joined_stays player link.a link.b) (has link.carrier) board (other_of player) cell
+      (joined_stays player link.a link.b) (has link.carrier) board (other_of player) cell
       (λ inside. false≢true (sym outside ∙ inside)) player (link_secures_with_the_move board player link holds)))
 
   pub threat_left_whole_wins : (links : List Link) → AllHold board player links → (threats : List ℕ)
@@ -32,5 +32,5 @@ module _ (board : Board) (player : Colour) where
   threat_left_whole_wins links holds threats each cell outside =
       let Joins : Option Link → Type 0 = λ found. IsSomeAnd found IsChainLink in
       let joins : IsChainLink outside.link =
-          subst Joins outside.there (of_contained (IsThreat links) threats outside.place each outside.is_threat) in
+      subst Joins outside.there (of_contained (IsThreat links) threats outside.place each outside.is_threat) in
       link_left_whole_wins outside.link (holds outside.link (outside.place, outside.there)) joins cell outside.outside

@@ -60,7 +60,7 @@ module _ (before : List Heading) (heading : Heading) (steps : List Step) (threat
   wins_outside_threat cell outside =
       threat_left_whole_wins heading.position heading.winner right.links
       (right_steps_give_what_holds heading.position heading.winner steps right.links right.steps_right.right) threats
-          right.answered.threats_right.each cell outside
+      right.answered.threats_right.each cell outside
 
   wins_by_child : (cell child : ℕ) → IsRight (Child cell child) → WinsAfter cell
   wins_by_child cell child leads = child_wins _ _ _ _ (wins child) leads
@@ -71,11 +71,11 @@ module _ (before : List Heading) (heading : Heading) (steps : List Step) (threat
   line_wins (Under cell better kill) under =
       let after_better : WinsAfter better = ⊎_elim
       (λ has_child. wins_by_child better has_child.0
-          (of_contained IsRight lines (Child better has_child.0) right.answered.lines_right has_child.1))
+      (of_contained IsRight lines (Child better has_child.0) right.answered.lines_right has_child.1))
       (wins_outside_threat better)
       under.answered in
       rw (other-other heading.winner) at (wins_under heading.position is (other_of heading.winner) better cell kill under.dominated
-          (rw (other-other heading.winner) after_better))
+      (rw (other-other heading.winner) after_better))
 
   answer_wins : (rest : List Line) (k cell : ℕ) → k < length (cells_of rest) → get_or (cells_of rest) k cell ≡ cell
       → IfSome (slice_get rest k) IsRight → WinsAfter cell
@@ -89,7 +89,7 @@ module _ (before : List Heading) (heading : Heading) (steps : List Step) (threat
       By_answers heading.position heading.to_move right.some right.mover right.some_empty
       (λ cell empty. ⊎_elim
       (λ (shared : IsInEachThreat right.links threats cell). let found =
-          right.answered.cells.each cell (record { empty = empty; shared = shared }) in
+      right.answered.cells.each cell (record { empty = empty; shared = shared }) in
       answer_wins lines found.0 cell found.1 found.2 (right.answered.lines_right found.0))
       (wins_outside_threat cell)
       (shared_or_outside right.links threats cell right.answered.threats_right.each))

@@ -42,21 +42,21 @@ module _ (board : Board) (mover : Colour) (is : IsBoard board) (better worse : �
       let both : Wins other (put after_better (other_of other) worse) other =
       wins_with_others_stone_on_dead other after_better (put after_better other worse) other worse after_better_is dead refl with_stone in
       wins_without_others_stone other after_worse after_worse_is better
-          ((empty-put board mover worse better).1 (better_empty, differ)) other
+      ((empty-put board mover worse better).1 (better_empty, differ)) other
       (rw (other-other mover) (rw (other-other mover, put-swap board mover mover better worse) at both))
 
   wins_under_pair : (partner : ℕ) → IsPair after_better mover worse partner → Wins other after_better other → Wins other after_worse other
   wins_under_pair partner pair win = ⊎_elim
       (λ movers. absurd (not_both_win after_better after_better_is mover other
       (wins_without_pair mover after_better (put (put after_better mover worse) mover partner) other worse partner after_better_is pair refl
-          (with_both_more movers)) win))
+      (with_both_more movers)) win))
       (λ others. others)
       (one_wins after_worse after_worse_is mover other)
     where
       with_both_more : Wins mover after_worse other → Wins mover (put (put after_better mover worse) mover partner) other
       with_both_more movers = extra_stone mover (put after_better mover worse) other partner
           (subst (λ (z : Board). Wins mover z other) (put-swap board mover mover worse better)
-              (extra_stone mover after_worse other better movers))
+          (extra_stone mover after_worse other better movers))
 
   wins_under_killed : (kill : Kill) → better ≢ worse → IsKilled after_better mover worse kill → Wins other after_better other
       → Wins other after_worse other

@@ -64,7 +64,7 @@ next_of_rule size done opening rule line xs ys less same fits e =
 next_of_nodes : (preamble : Preamble) (head : Head) (done : List Entry) (line : List ℕ) (rest : List (List ℕ)) (more : List Node)
     (count : ℕ)
     (winner : Colour) → IsExtent preamble.size.rows preamble.size.cols → HeadFits preamble head → IsNumber count
-        → length done < entries_told head.opening
+    → length done < entries_told head.opening
     → EachNodeFits preamble more
     → head_line head ∷ (map entry_line done ++ line ∷ rest) ≡ flat_map node_lines more ++ end_line count winner ∷ []
     → IsNext preamble.size head.opening (length done) line
@@ -75,7 +75,7 @@ next_of_nodes preamble head done line rest (node ∷ more) count winner extent f
     let first : head_line head ≡ head_line (head_of node) = cc in
     let later : List (List ℕ) = flat_map node_lines more ++ end_line count winner ∷ [] in
     let tails : map entry_line done ++ line ∷ rest ≡ (map entry_line (entries_of node.rule) ++ flat_map node_lines more)
-        ++ end_line count winner ∷ [] = cc in
+    ++ end_line count winner ∷ [] = cc in
     let heads : head ≡ head_of node = head_injective preamble head (head_of node) extent fits_head fits.0.head first in
     next_of_rule preamble.size done head.opening node.rule line rest later less (ap (λ (h : Head). h.opening) heads) fits.0.entries
     (tails ∙ append_assoc (map entry_line (entries_of node.rule)) (flat_map node_lines more) (end_line count winner ∷ []))
@@ -93,8 +93,12 @@ inside_wrong begun line nodes lines no_entry inside begins =
     let on = aligned begun.so_far.preamble nodes stands.before later begins.1.preamble begins.1.nodes begins.1.winner stands.stands.is_size
     stands.stands.each stands.stands.same (subst (AreTreeLinesOf begins.1.preamble begins.1.nodes begins.1.winner) same begins.1.are) in
     let less : length done < entries_told begun.head.opening =
-    omega (arith, length-entries_for begun.steps.items begun.threats.items begun.lines.items begun.fills.items, stands.in_order.missing,
-        inside.lacks) in
+    omega (
+      arith,
+      length-entries_for begun.steps.items begun.threats.items begun.lines.items begun.fills.items,
+      stands.in_order.missing,
+      inside.lacks,
+    ) in
     let next = next_of_nodes begun.so_far.preamble begun.head done line begins.0 on.on.more (length begins.1.nodes) begins.1.winner
     stands.stands.is_size stands.head begins.1.are.count less on.on.fits on.on.rest_is in
     no_entry next.entry (next.fits, next.kind ∙ sym (kind_due-at begun stands.in_order)) next.same

@@ -207,7 +207,7 @@ module _ (begun : Begun) (order : IsInOrder begun) where
       let no_fills = no_fills_before_answers begun order less in
       let rest = stand_ins begun in
       entries_same (before_none begun.steps.items no_steps) (before_none begun.threats.items no_threats) refl
-          (after_none rest.fills no_fills)
+      (after_none rest.fills no_fills)
       ∙ answers_more begun.steps.items begun.threats.items begun.lines.items rest.lines rest.fills
       ∙ appends_same (entries_same refl refl refl (sym no_fills)) (entries_same (sym no_steps) (sym no_threats) refl refl)
 
@@ -220,7 +220,7 @@ module _ (begun : Begun) (order : IsInOrder begun) where
       let no_lines = no_more_answers last in
       let rest = stand_ins begun in
       entries_same (before_none begun.steps.items no_steps) (before_none begun.threats.items no_threats)
-          (before_none begun.lines.items no_lines) refl
+      (before_none begun.lines.items no_lines) refl
       ∙ fills_more begun.steps.items begun.threats.items begun.lines.items begun.fills.items rest.fills
       ∙ appends_same refl (entries_same (sym no_steps) (sym no_threats) (sym no_lines) refl)
 
@@ -235,7 +235,7 @@ module _ (begun : Begun) (order : IsInOrder begun) where
 module _ (preamble : Preamble) (head : Head) (steps : List Step) (threats : List ℕ) (lines : List Line) (fills : List FillStep)
     (fits : HeadFits preamble head)
     (s : length steps ≡ steps_told head.opening) (t : length threats ≡ threats_told head.opening)
-        (l : length lines ≡ answers_told head.opening)
+    (l : length lines ≡ answers_told head.opening)
     (f : length fills ≡ fills_told head.opening) where
   node_for : Node
   node_for = record { heading = head.heading; rule = rule_for head.opening steps threats lines fills }
@@ -265,21 +265,37 @@ inside_begins_node begun nodes lines inside =
     let order = stands.in_order in
     let preamble : Preamble = begun.so_far.preamble in
     let s : length (all_steps begun) ≡ steps_told begun.head.opening =
-    omega (arith, length-append begun.steps.items (stand_ins begun).steps,
-        length-replicate (steps_told begun.head.opening - length begun.steps.items) any_step, order.steps) in
+    omega (
+      arith,
+      length-append begun.steps.items (stand_ins begun).steps,
+      length-replicate (steps_told begun.head.opening - length begun.steps.items) any_step,
+      order.steps,
+    ) in
     let t : length (all_threats begun) ≡ threats_told begun.head.opening =
-    omega (arith, length-append begun.threats.items (stand_ins begun).threats,
-        length-replicate {A = ℕ} (threats_told begun.head.opening - length begun.threats.items) 0, order.threats) in
+    omega (
+      arith,
+      length-append begun.threats.items (stand_ins begun).threats,
+      length-replicate {A = ℕ} (threats_told begun.head.opening - length begun.threats.items) 0,
+      order.threats,
+    ) in
     let l : length (all_lines begun) ≡ answers_told begun.head.opening =
-    omega (arith, length-append begun.lines.items (stand_ins begun).lines,
-        length-replicate (answers_told begun.head.opening - length begun.lines.items) any_answer, order.answers) in
+    omega (
+      arith,
+      length-append begun.lines.items (stand_ins begun).lines,
+      length-replicate (answers_told begun.head.opening - length begun.lines.items) any_answer,
+      order.answers,
+    ) in
     let f : length (all_fills begun) ≡ fills_told begun.head.opening =
-    omega (arith, length-append begun.fills.items (stand_ins begun).fills,
-        length-replicate (fills_told begun.head.opening - length begun.fills.items) any_fill, order.fills) in
+    omega (
+      arith,
+      length-append begun.fills.items (stand_ins begun).fills,
+      length-replicate (fills_told begun.head.opening - length begun.fills.items) any_fill,
+      order.fills,
+    ) in
     let each : EachEntryFits preamble.size (entries_for (all_steps begun) (all_threats begun) (all_lines begun) (all_fills begun)) =
     subst (EachEntryFits preamble.size) (sym (whole_entries begun order))
     (EachEntryFits-append preamble.size (entries_in begun) (rest_of begun) stands.each
-        (rest_fits begun preamble.size stands.stands.is_size)) in
+    (rest_fits begun preamble.size stands.stands.is_size)) in
     record {
       node = node_for preamble begun.head (all_steps begun) (all_threats begun) (all_lines begun) (all_fills begun) stands.head s t l f;
       fits = node_for-fits preamble begun.head (all_steps begun) (all_threats begun) (all_lines begun)
@@ -321,7 +337,7 @@ in_node_not_whole preamble nodes lines extent each ends are =
     let on = aligned preamble nodes front ends.part are.preamble are.nodes are.winner extent each refl
     (subst (AreTreeLinesOf are.preamble are.nodes are.winner) ends.same are.are) in
     front_not_whole preamble ends.node on.on.more
-        (length are.nodes) are.winner ends.part ends.rest extent ends.fits on.on.fits are.are.count
+    (length are.nodes) are.winner ends.part ends.rest extent ends.fits on.on.fits are.are.count
     ends.parts on.on.rest_is
 
 -- each first line that fits is that of some node that fits
@@ -338,7 +354,7 @@ node_of_head preamble head extent fits =
     let f : length fills ≡ fills_told head.opening = length-replicate (fills_told head.opening) any_fill in
     let each : EachEntryFits preamble.size (entries_for steps threats lines fills) =
     EachEntryFits-entries_for preamble.size steps threats lines fills (steps_fit preamble.size (steps_told head.opening))
-        (threats_fit preamble.size (threats_told head.opening))
+    (threats_fit preamble.size (threats_told head.opening))
     (answers_fit preamble.size (answers_told head.opening) extent) (fills_fit preamble.size (fills_told head.opening) extent) in (
       node_for preamble head steps threats lines fills fits s t l f,
       node_for-fits preamble head steps threats lines fills fits s t l f each,

@@ -142,7 +142,7 @@ kind_due-at begun order = ⊎_elim at_step after_steps (cases_lt (length begun.s
         let neither : length begun.fills.items ≡ 0 = ap length (no_fills_before_threats begun order less) in
         rw (le-ltb (length begun.steps.items) told_steps past, lt-ltb (length begun.threats.items) told_threats less)
         (sym (kind_among_threat told_steps told_threats told_answers _ (omega (arith, count, past))
-            (omega (arith, count, nor, neither, less, order.steps))))
+        (omega (arith, count, nor, neither, less, order.steps))))
 
     at_answer : told_steps ≤ length begun.steps.items → told_threats ≤ length begun.threats.items → length begun.lines.items < told_answers
         → kind_due begun ≡ kind_at begun.head.opening (length (entries_in begun))
@@ -193,7 +193,7 @@ module _ (old new : Begun) (order : IsInOrder old) (lacks : 0 < old.missing) whe
   entries_now (Answer_entry line) added kind =
       let neither = no_fills_before_answers old order (answer_due old order (sym kind)).2 in
       entries_same added.0 added.1 added.2 (added.3 ∙ neither)
-          ∙ answers_more old.steps.items old.threats.items old.lines.items (line ∷ []) []
+      ∙ answers_more old.steps.items old.threats.items old.lines.items (line ∷ []) []
       ∙ ap (λ (front : List Entry). front ++ Answer_entry line ∷ []) (entries_same refl refl refl (sym neither))
   entries_now (Fill_entry fill) added kind =
       entries_same added.0 added.1 added.2 added.3
@@ -209,7 +209,7 @@ module _ (old new : Begun) (order : IsInOrder old) (lacks : 0 < old.missing) whe
         → (0 < f → s ≡ steps_told old.head.opening) → (0 < f → t ≡ threats_told old.head.opening)
         → (0 < f → l ≡ answers_told old.head.opening)
         → s + t + l + f ≡ length old.steps.items + length old.threats.items + length old.lines.items + length old.fills.items + 1
-            → IsInOrder new
+        → IsInOrder new
     in_order_by s t l f es et el ef ls lt ll lf ats aas aat fas fat fal all =
         let told_s = ap (λ (h : Head). steps_told h.opening) head in
         let told_t = ap (λ (h : Head). threats_told h.opening) head in
@@ -252,9 +252,9 @@ module _ (old new : Begun) (order : IsInOrder old) (lacks : 0 < old.missing) whe
         let due = answer_due old order (sym kind) in
         let f : length old.fills.items ≡ 0 = ap length (no_fills_before_answers old order due.2) in
         in_order_by (length old.steps.items) (length old.threats.items) (length old.lines.items + 1) 0 (ap length added.0)
-            (ap length added.1)
+        (ap length added.1)
         (ap length added.2 ∙ length-append old.lines.items (line ∷ [])) (ap length added.3 ∙ f) order.steps order.threats (omega arith)
-            (omega arith)
+        (omega arith)
         (λ h. omega (arith, order.steps, due)) (λ h. omega (arith, order.steps, due)) (λ h. omega (arith, order.threats, due))
         (λ h. absurd (omega arith)) (λ h. absurd (omega arith)) (λ h. absurd (omega arith)) (omega arith)
     in_order_now (Fill_entry fill) added kind =
@@ -265,7 +265,7 @@ module _ (old new : Begun) (order : IsInOrder old) (lacks : 0 < old.missing) whe
         (omega (arith, order.missing, order.steps, order.threats, order.answers, order.fills, lacks, due))
         (λ h. omega (arith, order.steps, due)) (λ h. omega (arith, order.steps, due)) (λ h. omega (arith, order.threats, due))
         (λ h. omega (arith, order.steps, due)) (λ h. omega (arith, order.threats, due)) (λ h. omega (arith, order.answers, due))
-            (omega arith)
+        (omega arith)
 
 -- the lists have room as before
 room_kept : (old new : Begun) → HasSameRoom old new → new.head ≡ old.head → HasRoomForAll old → HasRoomForAll new
@@ -286,8 +286,18 @@ room_for_due begun order room lacks (Threat_entry place) kind full =
 room_for_due begun order room lacks (Answer_entry line) kind full =
     absurd (omega (arith, (answer_due begun order (sym kind)).2, room.answers, full))
 room_for_due begun order room lacks (Fill_entry fill) kind full =
-    absurd (omega (arith, fill_due begun order (sym kind), order.missing, order.steps, order.threats, order.answers, order.fills,
-        room.fills, full, lacks))
+    absurd (omega (
+      arith,
+      fill_due begun order (sym kind),
+      order.missing,
+      order.steps,
+      order.threats,
+      order.answers,
+      order.fills,
+      room.fills,
+      full,
+      lacks,
+    ))
 
 -- the lines with one entry more
 pub stands_with_entry : (old new : Begun) (entry : Entry) (nodes : List Node) (lines : List (List ℕ)) → IsWithEntry old entry new
@@ -357,7 +367,7 @@ whole_node begun nodes lines none stands =
     omega (arith, order.steps, order.threats, order.answers, order.fills, order.missing, none) in
     let head : head_of (node_of begun) ≡ begun.head =
     ap (λ o. let h : Head = record { heading = begun.head.heading; opening = o } in h)
-        (opening_of-rule_for begun.head.opening _ _ _ _ s t l f) in
+    (opening_of-rule_for begun.head.opening _ _ _ _ s t l f) in
     let entries : entries_of (node_of begun).rule ≡ entries_in begun = entries_of-rule_for begun.head.opening _ _ _ _ s t l f in (
       record { head = rw head stands.head; entries = rw entries stands.each },
       stands.same ∙ ap (λ (h : Head). stands.before ++ head_line h ∷ map entry_line (entries_in begun)) (sym head)

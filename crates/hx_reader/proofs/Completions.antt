@@ -67,8 +67,11 @@ with_node preamble nodes node lines rest is extent each fits room rest_is =
 
 -- a node on an empty board
 abbrev plain : Preamble → Node
-plain preamble = record { heading =
-    record { position = record { size = preamble.size; black = 0; white = 0 }; to_move = Black; winner = Black }; rule = Chain }
+plain preamble = record {
+  heading =
+      record { position = record { size = preamble.size; black = 0; white = 0 }; to_move = Black; winner = Black };
+  rule = Chain;
+}
 
 plain_fits : (preamble : Preamble) → IsExtent preamble.size.rows preamble.size.cols → NodeFits preamble (plain preamble)
 plain_fits preamble extent = record {
@@ -124,7 +127,7 @@ Begins-stands (Between so_far) nodes lines stands = (
 Begins-stands (Inside begun) nodes lines stands =
     let so = stands.begun_so.stands in
     Begins-in_node begun.so_far.preamble nodes lines so.is_size so.each (omega (arith, so.room, so.count))
-        (inside_begins_node begun nodes lines stands)
+    (inside_begins_node begun nodes lines stands)
 Begins-stands (After preamble) nodes lines stands = (
   [],
   subst AreTreeLines (sym (append-nil lines))

@@ -128,7 +128,7 @@ kind_in_entries : (steps : List Step) (places : List ℕ) (lines : List Line) (f
     → kind_of entry ≡ kind_among (length steps) (length places) (length lines) k
 kind_in_entries steps places lines fills k entry there =
     found (kind_in_front step_entry Step_kind steps (of_threats places ++ (of_answers lines ++ of_fills fills)) k entry
-        (λ (step : Step). refl)
+    (λ (step : Step). refl)
     (ap (λ (es : List Entry). slice_get es k) (sym (entries_for-parts steps places lines fills)) ∙ there))
   where
     found : ((k < length steps) × (kind_of entry ≡ Step_kind))

@@ -184,7 +184,7 @@ move_reads preamble words rest None first none = λ value fits e. no_move value 
 
 pub all_reads : (preamble : Preamble) (words rest : List (List ℕ)) (found : Option Opening) → words ≡ codes "all" ∷ rest
     → Finds found (λ opening. (steps threats lines : ℕ) × (opening ≡ All steps threats lines) × (steps ≤ MOST_STEPS)
-        × (threats ≤ MOST_THREATS)
+    × (threats ≤ MOST_THREATS)
     × (lines ≤ CELLS) × (rest ≡ decimal steps ∷ decimal threats ∷ decimal lines ∷ []))
     → Reads opening_words (UnturnedFits preamble) words found
 all_reads preamble words rest (Some opening) first is = rw is.3 (((is.4, is.5, is.6), tt), word_then first is.7)
@@ -213,7 +213,7 @@ fills_reads preamble words rest None first none = λ value fits e. no_fills valu
 -- the words of an opening that begin with `turned`, or with no such word
 pub turned_reads : (preamble : Preamble) (words rest : List (List ℕ)) (found : Option Opening) → words ≡ codes "turned" ∷ rest
     → Finds found (λ opening. (child : ℕ) × (opening ≡ Turned child) × (preamble.version ≡ Two) × IsNumber child
-        × (rest ≡ decimal child ∷ []))
+    × (rest ≡ decimal child ∷ []))
     → Reads opening_words (OpeningFits preamble) words found
 turned_reads preamble words rest (Some opening) first is = rw is.1 ((is.2, is.3), word_then first is.4)
 turned_reads preamble words rest None first none = λ value fits e. no_turned value fits e

@@ -49,7 +49,7 @@ EachNodeFits-push preamble (n ∷ nodes) node each fits = (each.0, EachNodeFits-
 pub stands_more : (so_far : SoFar) (node : Node) (count : ℕ) (nodes : List Node) (lines : List (List ℕ))
     → StandsSoFar so_far nodes lines → so_far.count < most_nodes → count ≡ so_far.count + 1 → NodeFits so_far.preamble node
     → StandsSoFar (record { preamble = so_far.preamble; count = count; winner = Some node.heading.winner }) (nodes ++ node ∷ [])
-        (lines ++ node_lines node)
+    (lines ++ node_lines node)
 stands_more so_far node count nodes lines stands under is fits = record {
   is_size = stands.is_size;
   each = EachNodeFits-push so_far.preamble nodes node stands.each fits;
@@ -97,12 +97,12 @@ wrong_after : (so_far : SoFar) (line : List ℕ) (nodes all : List Node) (rest :
     → Aligned so_far.preamble nodes (line ∷ rest) preamble all winner → ⊥
 wrong_after so_far line nodes all rest {preamble} winner {whole} no_head no_end stands are on =
     wrong_more nodes all preamble winner whole on.on.more no_head no_end stands.count stands.winner are on.on.nodes_are on.on.fits
-        on.on.rest_is
+    on.on.rest_is
 
 -- no line is right but a first line of a node, or the last line of the text
 pub between_wrong : (so_far : SoFar) (line : List ℕ) (nodes : List Node) (lines : List (List ℕ)) → IsNoHead so_far.preamble line
     → ((count : ℕ) (winner : Colour) → IsNumber count → line ≡ end_line count winner → count ≡ so_far.count → so_far.winner ≡ Some winner
-        → ⊥)
+    → ⊥)
     → StandsSoFar so_far nodes lines → Begins AreTreeLines (lines ++ line ∷ []) → ⊥
 between_wrong so_far line nodes lines no_head no_end stands begins =
     wrong_after so_far line nodes begins.1.nodes (begins.0) begins.1.winner no_head no_end stands begins.1.are

@@ -32,7 +32,7 @@ pub stands_whole : (old new : SoFar) (head : Head) (node : Node) (line : List �
 stands_whole old new head node line nodes lines stands under fits same whole more =
     subst (λ (now : SoFar). StandsSoFar now (nodes ++ node ∷ []) (lines ++ line ∷ [])) (sym more)
     (subst (λ (ls : List (List ℕ)).
-        StandsSoFar (record { preamble = old.preamble; count = old.count + 1; winner = Some node.heading.winner })
+    StandsSoFar (record { preamble = old.preamble; count = old.count + 1; winner = Some node.heading.winner })
     (nodes ++ node ∷ []) (lines ++ ls))
     (whole_lines head node whole ∙ ap (λ (l : List ℕ). l ∷ []) (sym same))
     (stands_more old node (old.count + 1) nodes lines stands under refl (whole_fits old head node fits whole)))

@@ -41,7 +41,7 @@ module _ (was now : Standing) (g : IsGrown was now) where
         let P : Extent → Type 0 = λ s. (w : Vertex) → IsVertex s w → code_of w < code → from ≤ code_of w → IsSettled now (Base a w) in
         let Q : Extent → Type 0 = λ s. (w : Vertex) → IsVertex s w → code_of w < code + 1 → from ≤ code_of w → IsSettled now (Base a w) in
         subst Q is_size (below-more size (λ w. from ≤ code_of w → IsSettled now (Base a w)) code
-            (subst P (sym is_size) (bases-on a from code before)) extent v at (λ le. here))
+        (subst P (sym is_size) (bases-on a from code before)) extent v at (λ le. here))
 
     pub below-next : AreBasesBelow was code → AreBasesOf now v (code + 1) 123 → AreBasesBelow now (code + 1)
     below-next before here =
@@ -49,7 +49,7 @@ module _ (was now : Standing) (g : IsGrown was now) where
         let Q : Extent → Type 0 = λ s. (w : Vertex) → IsVertex s w → code_of w < code + 1 → AreBasesOf now w (code_of w + 1) 123 in
         let R : ℕ → Type 0 = λ n. AreBasesOf now v (n + 1) 123 in
         subst Q is_size (below-more size (λ w. AreBasesOf now w (code_of w + 1) 123) code
-            (subst P (sym is_size) (below-on code before)) extent v at (subst R (sym at.is_code) here))
+        (subst P (sym is_size) (below-on code before)) extent v at (subst R (sym at.is_code) here))
 
 module _ (set : Standing) (size : Extent) (is_size : size ≡ set.present.board.size) (code : ℕ)
     (none : (v : Vertex) → IsVertexAt size code v → ⊥) where
@@ -68,8 +68,10 @@ module _ (set : Standing) (extent : IsExtent set.present.board.size.rows set.pre
   in_order : (link : Link) → Gives set (Base a b) link → Gives set (Base link.a link.b) link
   in_order link h =
       let g : GivesBase set.present.board set.player a b link = h.gives.rule in record {
-        gives = record { rule = record { joined = joined g.joined g.ends; kind = g.kind; carrier = g.carrier; ends = inl (refl, refl) };
-            link_ok = h.gives.link_ok };
+        gives = record {
+          rule = record { joined = joined g.joined g.ends; kind = g.kind; carrier = g.carrier; ends = inl (refl, refl) };
+          link_ok = h.gives.link_ok;
+        };
         from_live = λ place k. absurd k;
       }
     where
@@ -89,4 +91,4 @@ module _ (set : Standing) (extent : IsExtent set.present.board.size.rows set.pre
       let va = end-vertex set.present.board set.player link.a ok.a_end in
       let vb = end-vertex set.present.board set.player link.b ok.b_end in
       all link.a va (code-small link.a (some-vertex set.present.board.size extent link.a va)) link.b vb
-          (code-small link.b (some-vertex set.present.board.size extent link.b vb)) (omega (arith, ok.lower_first)) link (in_order link h)
+      (code-small link.b (some-vertex set.present.board.size extent link.b vb)) (omega (arith, ok.lower_first)) link (in_order link h)

@@ -12,4 +12,4 @@ pub not_decided : (set : Standing) (to_move : Colour) → ((place : ℕ) → IsL
     → (set.player ≡ to_move → (place : ℕ) → IsLiveOf set Semi First Last place → ⊥) → (place : ℕ) → Decides set to_move place → ⊥
 not_decided set to_move no_full no_semi place decides =
     ⊎_elim (λ full. no_full place full)
-        (λ (semi : IsLiveOf set Semi First Last place × (set.player ≡ to_move)). no_semi semi.1 place semi.0) decides
+    (λ (semi : IsLiveOf set Semi First Last place × (set.player ≡ to_move)). no_semi semi.1 place semi.0) decides

@@ -35,7 +35,7 @@ use Rattle.hx_board.proofs.CountLaws.{count-small, count-less}
 no_difference : (set other : ℕ) → difference set other ≡ 0 → IsSubset set other
 no_difference set other none n h =
     true_from_ne_false (has other n)
-        (λ lacks. false≢true (sym (ap (λ s. has s n) none ∙ has-empty n) ∙ has-difference_both set other n h lacks))
+    (λ lacks. false≢true (sym (ap (λ s. has s n) none ∙ has-empty n) ∙ has-difference_both set other n h lacks))
 
 -- ---- a live Semi link has a cell
 
@@ -51,9 +51,9 @@ module _ (set : Standing) (right : IsRight set.player set.present) (a b : Vertex
   some_cell : (place : ℕ) (is : IsLiveOf set Semi a b place) → (n : ℕ) × (has is.link.carrier n ≡ true)
   some_cell place is =
       let step = get-there set.present.steps place
-          (omega (arith, right.steps_of, slice_get_within set.present.links place is.link is.there)) in
+      (omega (arith, right.steps_of, slice_get_within set.present.links place is.link is.there)) in
       semi_cell set.present.board set.player _ step.0 is.link
-          (right.given place is.link step.0 is.there step.1 is.live).gives.rule is.kind_is
+      (right.given place is.link step.0 is.there step.1 is.live).gives.rule is.kind_is
 
   small_cells : (place : ℕ) (is : IsLiveOf set Semi a b place) (n : ℕ) → has is.link.carrier n ≡ true → n < 121
   small_cells place is n h = on_board-small set.present.board.size n right.is_board.0 (is.live.empty n h).on_board
@@ -80,7 +80,7 @@ module _ (set : Standing) (right : IsRight set.player set.present) (a b : Vertex
     share-one place le semi n h = ⊎_elim
         (λ less. absurd (is.first place (omega arith) less semi))
         (λ more. let same : is.is.link ≡ semi.link =
-            same_link place semi is.is.link (ap (λ k. slice_get set.present.links k) (placed le more) ∙ is.is.there) in
+        same_link place semi is.is.link (ap (λ k. slice_get set.present.links k) (placed le more) ∙ is.is.there) in
         ap (λ (l : Link). has l.carrier n) (sym same) ∙ (ap (λ s. has s n) (sym e) ∙ h))
         (cases_lt place first)
       where
@@ -97,7 +97,7 @@ module _ (set : Standing) (right : IsRight set.player set.present) (a b : Vertex
         (λ high. ⊎_elim
         (λ less. absurd (is.first place high less semi))
         (λ more. let same : is.is.link ≡ semi.link =
-            same_link place semi is.is.link (ap (λ k. slice_get set.present.links k) (placed le more) ∙ is.is.there) in
+        same_link place semi is.is.link (ap (λ k. slice_get set.present.links k) (placed le more) ∙ is.is.there) in
         ap (λ (l : Link). has l.carrier n) (sym same) ∙ (ap (λ s. has s n) (sym e) ∙ held n h))
         (cases_lt place next))
         (cases_lt place (last + 1))
@@ -157,7 +157,7 @@ carriers_lack : (links : List Link) (cell : ℕ) → ((part : Link) → IsOneOf 
 carriers_lack [] cell none = has-empty cell
 carriers_lack (l ∷ ls) cell none = has-union l.carrier (carriers_of ls) cell
     ∙ or_from (has l.carrier cell) (has (carriers_of ls) cell) (none l (0, refl))
-        (carriers_lack ls cell (λ part h. none part (one_of_later part l ls h)))
+    (carriers_lack ls cell (λ part h. none part (one_of_later part l ls h)))
 
 all_outside : (board : Board) (links : List Link) (v : Vertex) → ((part : Link) → IsOneOf part links → IsOutside board part.carrier v)
     → IsOutside board (carriers_of links) v
@@ -255,7 +255,7 @@ module _ (set : Standing) (right : IsRight set.player set.present) (a b : Vertex
   unfolding given
   given_ok =
       let first_ok : IsLink set.present.board set.player first_is.link =
-          live-is_link set right first first_is.link first_is.there first_is.live in
+      live-is_link set right first first_is.link first_is.there first_is.live in
       record {
         lower_first = first_ok.lower_first;
         a_end = first_ok.a_end;

@@ -21,8 +21,14 @@ use Rattle.hx_search.specs.Closed.{IsSettled, IsGrown}
 use Rattle.hx_search.specs.Progress.{IsUnsettled}
 
 pub grown-itself : (set : Standing) → IsGrown set set
-grown-itself set = record { same_player = refl; same_board = refl; same_past = refl; longer = omega arith; links_stay = λ place link e. e;
-    steps_stay = λ place step e. e }
+grown-itself set = record {
+  same_player = refl;
+  same_board = refl;
+  same_past = refl;
+  longer = omega arith;
+  links_stay = λ place link e. e;
+  steps_stay = λ place step e. e;
+}
 
 pub grown-on : (a b c : Standing) → IsGrown a b → IsGrown b c → IsGrown a c
 grown-on a b c g h = record {
@@ -67,16 +73,49 @@ module _ (links more : List Link)
         → GivesByRule board player links step link
     rule_held (Base a b) below g = g
     rule_held (AndStone left right) below g =
-        record { from = g.from; middle = g.middle; to = g.to; first = g.first; second = g.second; meet =
-        meets_held left right g.from g.middle g.to g.first g.second (below left (inl refl)) (below right (inr refl)) g.meet; own =
-        g.own; kind = g.kind; carrier = g.carrier; ends = g.ends }
+        record {
+          from = g.from;
+          middle = g.middle;
+          to = g.to;
+          first = g.first;
+          second = g.second;
+          meet =
+              meets_held left right g.from g.middle g.to g.first g.second (below left (inl refl)) (below right (inr refl)) g.meet;
+          own =
+              g.own;
+          kind = g.kind;
+          carrier = g.carrier;
+          ends = g.ends;
+        }
     rule_held (AndCell left right) below g =
-        record { from = g.from; cell = g.cell; to = g.to; first = g.first; second = g.second; meet =
-        meets_held left right g.from _ g.to g.first g.second (below left (inl refl)) (below right (inr refl)) g.meet; empty = g.empty;
-        outside_first = g.outside_first; outside_second = g.outside_second; kind = g.kind; carrier = g.carrier; ends = g.ends }
+        record {
+          from = g.from;
+          cell = g.cell;
+          to = g.to;
+          first = g.first;
+          second = g.second;
+          meet =
+              meets_held left right g.from _ g.to g.first g.second (below left (inl refl)) (below right (inr refl)) g.meet;
+          empty = g.empty;
+          outside_first = g.outside_first;
+          outside_second = g.outside_second;
+          kind = g.kind;
+          carrier = g.carrier;
+          ends = g.ends;
+        }
     rule_held (Or parts) below g =
-        record { links = g.links; there = parts_held parts g.links (λ k place h. below place (k, h)) g.there; several = g.several; few =
-        g.few; semi = g.semi; same_ends = g.same_ends; none_in_all = g.none_in_all; kind = g.kind; carrier = g.carrier }
+        record {
+          links = g.links;
+          there = parts_held parts g.links (λ k place h. below place (k, h)) g.there;
+          several = g.several;
+          few =
+              g.few;
+          semi = g.semi;
+          same_ends = g.same_ends;
+          none_in_all = g.none_in_all;
+          kind = g.kind;
+          carrier = g.carrier;
+        }
 
     gives_held : (step : Step) → ((place : ℕ) → Names step place → place < length links) → GivesFromLive board player more step link
         → GivesFromLive board player links step link
@@ -92,7 +131,7 @@ gives-before old new step link g below h =
     let P : Board → Type 0 = λ b. GivesFromLive b new.player new.present.links step link in
     let Q : Colour → Type 0 = λ p. GivesFromLive old.present.board p new.present.links step link in
     gives_held old.present.links new.present.links g.links_stay old.present.board old.player link step below
-        (subst Q g.same_player (subst P g.same_board h))
+    (subst Q g.same_player (subst P g.same_board h))
 
 pub covers-on : (old new : Standing) (place : ℕ) (link : Link) → IsGrown old new → Covers old place link → Covers new place link
 covers-on old new place link g c = record {
@@ -124,7 +163,7 @@ module _ (old new : Standing) (step : Step) where
   new-settled place n link h =
       let grown : IsGrown old new = new-grown place n in
       let below : (p : ℕ) → Names step p → p < length old.present.links = λ p k.
-          (let w = n.gives.from_live p k in slice_get_within old.present.links p w.0 w.1.0) in
+      (let w = n.gives.from_live p k in slice_get_within old.present.links p w.0 w.1.0) in
       let was : Gives old step link = gives-before old new step link grown below h in
       let same : n.link ≡ link = step-unique old.present.board old.player old.present.links n.link link step n.gives.gives was.gives in
       let covers : Covers (record old { present = added old.present n.link step }) (length old.present.links) n.link = record {
@@ -140,7 +179,7 @@ module _ (old new : Standing) (step : Step) where
   pub covered-settled : (place : ℕ) → IsCovered old new step place → IsSettled new step
   covered-settled place c = let P : Standing → Type 0 = λ s. IsSettled s step in subst P (sym c.same)
       (λ link h. let same : c.link ≡ link =
-          step-unique old.present.board old.player old.present.links c.link link step c.gives.gives h.gives in
+      step-unique old.present.board old.player old.present.links c.link link step c.gives.gives h.gives in
       let Q : Link → Type 0 = λ l. Covers old place l in (place, subst Q same c.covers))
 
   pub full-unsettled : IsAtLimit old new step → IsUnsettled new step
@@ -164,8 +203,14 @@ module _ (old new : Standing) (g : IsGrown old new) (kind : Kind) (a b : Vertex)
       subst Q g.same_player (subst P g.same_board live)
 
   pub live_of-on : IsLiveOf old kind a b place → IsLiveOf new kind a b place
-  live_of-on is = record { link = is.link; there = g.links_stay place is.link is.there; live = live_on is.link is.live; kind_is =
-      is.kind_is; ends = is.ends }
+  live_of-on is = record {
+    link = is.link;
+    there = g.links_stay place is.link is.there;
+    live = live_on is.link is.live;
+    kind_is =
+        is.kind_is;
+    ends = is.ends;
+  }
 
   -- and at a place that was there it was one
   pub live_of-back : place < length old.present.links → IsLiveOf new kind a b place → IsLiveOf old kind a b place

@@ -27,12 +27,12 @@ fronts limits nodes (r ∷ seats) current (suc k) d less = fronts limits nodes s
 
 closed : (limits : Limits) (id : ℕ) (seats : List Reader) (words : List ℕ) (slots : List (Option Contents)) (held : Option Contents)
     → Final (Seen (IsOneList limits) id (view (map part_of seats))) words slots → length seats ≡ limits.seats
-        → get_elem? slots 0 ≡ some held → IsLast limits seats held
+    → get_elem? slots 0 ≡ some held → IsLast limits seats held
 closed limits id seats words slots held final all at =
     let s = final.0 in let c = final.1.0 in let there = final.1.1 in let v = view (map part_of seats) in
     let whole : sum_by seats_of s.views ≡ seats_of v = c.seats ∙ (sym all ∙ sym (seats-of_seats seats)) in
     let nobody : sum_by holders_of s.views ≡ 0 = sum-whole holders_of seats_of holders-le s.views id v no_parts refl there whole
-        ∙ holders-of_seats seats in record {
+    ∙ holders-of_seats seats in record {
       nodes = c.nodes;
       book = some-injective held (Some (contents limits.slots c.nodes))
           (sym at ∙ final.4 0 (Some (contents limits.slots c.nodes)) (c.home nobody));
@@ -43,7 +43,7 @@ closed limits id seats words slots held final all at =
 pub ended : (limits : Limits) (id : ℕ) (me : Seated) (seats : List Reader) (words : List ℕ) (slots : List (Option Contents))
     (held : Option Contents)
     → me ≡ (view (map part_of seats), []) → Final (Seen (IsOneList limits) id me.0) words slots → length seats ≡ limits.seats
-        → get_elem? slots 0 ≡ some held
+    → get_elem? slots 0 ≡ some held
     → IsLast limits seats held
 ended limits id me seats words slots held whole final all at =
     closed limits id seats words slots held (subst (λ (m : Seated). Final (Seen (IsOneList limits) id m.0) words slots) whole final) all at

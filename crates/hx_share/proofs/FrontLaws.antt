@@ -40,10 +40,10 @@ pub longer-begins : (whole one other : List Node) → Extends whole one → Exte
 longer-begins whole one other first second = dite (dec_le (length one) (length other))
     (λ le. let is : longer one other ≡ other = ap (λ b. if b then other else one) (le-true (length one) (length other) le) in
     subst (IsLonger whole one other) (sym is)
-        (record { front = second; of_one = extends-shorter whole one other first second le; of_other = extends-itself other }))
+    (record { front = second; of_one = extends-shorter whole one other first second le; of_other = extends-itself other }))
     (λ gt. let is : longer one other ≡ one = ap (λ b. if b then other else one) (le-false (length one) (length other) gt) in
     subst (IsLonger whole one other) (sym is)
-        (record { front = first; of_one = extends-itself one; of_other = extends-shorter whole other one second first (omega arith) }))
+    (record { front = first; of_one = extends-itself one; of_other = extends-shorter whole other one second first (omega arith) }))
 
 pub longer-both : (one other : List Node) → AreFronts one other → IsLonger (longer one other) one other (longer one other)
 longer-both one other fronts = let t = longer-begins fronts.whole one other fronts.of_one fronts.of_other in

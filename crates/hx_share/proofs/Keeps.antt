@@ -34,7 +34,7 @@ Table = State (Option Contents) View
 abbrev Goes : Limits → Table → ℕ → Seated → (ℕ → Seated → Type 0) → ℕ → Type 0
 Goes limits s id me tells word =
     (w : View) × (act : Act (Option Contents)) × Valid s.homes me.1 act × IsOneList limits (stepped s 0 word id me.1 w act)
-        × tells (get_or s.words 0 0) (w, carried_after me.1 act)
+    × tells (get_or s.words 0 0) (w, carried_after me.1 act)
 
 current-set : (limits : Limits) (nodes : List Node) (views : List View) (id : ℕ) (w : View) → AreCurrent limits nodes views
     → AreCurrentParts limits nodes w.parts
@@ -52,7 +52,7 @@ module _ (limits : Limits) (s : Table) (c : IsOneList limits s) (id : ℕ) (v w 
   looked holders seats current =
       let same = set-get_or s.words 0 0 in
       let all_holders : sum_by holders_of (set s.views id w) ≡ sum_by holders_of s.views =
-          omega (arith, sum-set holders_of s.views id v w there, holders) in record {
+      omega (arith, sum-set holders_of s.views id v w there, holders) in record {
         nodes = c.nodes;
         few = c.few;
         small = c.small;
@@ -79,12 +79,20 @@ module _ (limits : Limits) (id : ℕ) (seen : List Node) (s : Table) (c : IsOneL
   front = (c.current id waiting there).0.front
 
   more-holders : sum_by holders_of (set s.views id acts) ≡ sum_by holders_of s.views + 1
-  more-holders = omega (arith, sum-set holders_of s.views id waiting acts there, count-one holder_part (part limits.slots Waiting seen),
-      count-one holder_part (part limits.slots Acting c.nodes))
+  more-holders = omega (
+    arith,
+    sum-set holders_of s.views id waiting acts there,
+    count-one holder_part (part limits.slots Waiting seen),
+    count-one holder_part (part limits.slots Acting c.nodes),
+  )
 
   same-seats : sum_by seats_of (set s.views id acts) ≡ sum_by seats_of s.views
-  same-seats = omega (arith, sum-set seats_of s.views id waiting acts there, count-one seat_part (part limits.slots Waiting seen),
-      count-one seat_part (part limits.slots Acting c.nodes))
+  same-seats = omega (
+    arith,
+    sum-set seats_of s.views id waiting acts there,
+    count-one seat_part (part limits.slots Waiting seen),
+    count-one seat_part (part limits.slots Acting c.nodes),
+  )
 
   taken : (new : ℕ) → sum_by holders_of s.views ≡ 0 → new ≡ get_or s.words 0 0 + 1
       → IsOneList limits (record { words = set s.words 0 new; homes = set s.homes 0 none; views = set s.views id acts })
@@ -107,13 +115,13 @@ even-word word twice holders is one even = omega arith
 
 pub takes-keep : (limits : Limits) (slots id : ℕ) (seen : List Node) (old new : ℕ) → old % 2 ≡ 0 → new ≡ old + 1
     → Allows (IsOneList limits) slots id (alone limits.slots Waiting seen) 0 (λ n. either (eqb n old) new n)
-        (takes_book (step slots 0 old new none) (alone limits.slots Waiting seen))
+    (takes_book (step slots 0 old new none) (alone limits.slots Waiting seen))
 takes-keep limits slots id seen old new even next s c _ there _ =
     let v = view (part limits.slots Waiting seen ∷ []) in
     exchanged (get_or s.words 0 0) old new
-        (Goes limits s id (alone limits.slots Waiting seen) (takes_book (step slots 0 old new none) (alone limits.slots Waiting seen)))
+    (Goes limits s id (alone limits.slots Waiting seen) (takes_book (step slots 0 old new none) (alone limits.slots Waiting seen)))
     (λ hit. let nobody = even-word (get_or s.words 0 0) (length c.nodes) (sum_by holders_of s.views) c.word c.one_holder
-        (ap (λ n. n % 2) hit ∙ even) in (
+    (ap (λ n. n % 2) hit ∙ even) in (
       acts limits id seen s c there,
       takes 0 (Some (contents limits.slots c.nodes)),
       c.home nobody,
@@ -140,16 +148,29 @@ module _ (limits : Limits) (id : ℕ) (seen nodes : List Node) (s : Table) (c : 
   whole = (c.current id had_book there).0.whole refl
 
   no-holders : sum_by holders_of (set s.views id gave_back) ≡ 0
-  no-holders = omega (arith, sum-set holders_of s.views id had_book gave_back there, own-book,
-      count-one holder_part (part limits.slots Waiting nodes), c.one_holder)
+  no-holders = omega (
+    arith,
+    sum-set holders_of s.views id had_book gave_back there,
+    own-book,
+    count-one holder_part (part limits.slots Waiting nodes),
+    c.one_holder,
+  )
 
   kept-seats : sum_by seats_of (set s.views id gave_back) ≡ sum_by seats_of s.views
-  kept-seats = omega (arith, sum-set seats_of s.views id had_book gave_back there, count-one seat_part (part limits.slots Waiting nodes),
-      count-one seat_part (part limits.slots Acting seen))
+  kept-seats = omega (
+    arith,
+    sum-set seats_of s.views id had_book gave_back there,
+    count-one seat_part (part limits.slots Waiting nodes),
+    count-one seat_part (part limits.slots Acting seen),
+  )
 
   given : (new : ℕ) → Extends nodes seen → length nodes ≤ limits.slots → new ≡ 2 * length nodes
-      → IsOneList limits (record { words = set s.words 0 new; homes = set s.homes 0 (some (Some (contents limits.slots nodes))); views =
-          set s.views id gave_back })
+      → IsOneList limits (record {
+        words = set s.words 0 new;
+        homes = set s.homes 0 (some (Some (contents limits.slots nodes)));
+        views =
+            set s.views id gave_back;
+      })
   given new grown few is = let longer_now : Extends nodes c.nodes = subst (Extends nodes) whole grown in record {
     nodes = nodes;
     few = few;
@@ -162,8 +183,8 @@ module _ (limits : Limits) (id : ℕ) (seen nodes : List Node) (s : Table) (c : 
     seats = kept-seats ∙ c.seats;
     current = λ other u at. ⊎_elim
         (λ (t : (other ≡ id) × (gave_back ≡ u)).
-            subst (λ (v : View). AreCurrentParts limits nodes v.parts) t.1
-            (current-part limits nodes nodes Waiting refl (extends-itself nodes), tt))
+        subst (λ (v : View). AreCurrentParts limits nodes v.parts) t.1
+        (current-part limits nodes nodes Waiting refl (extends-itself nodes), tt))
         (λ (t : (other ≢ id) × (get_elem? s.views other ≡ some u)). current-more limits c.nodes nodes u.parts longer_now
         (others-none holders_of s.views id other had_book u no_parts refl c.one_holder own-book t.0 there t.1) (c.current other u t.1))
         (at_set s.views id other gave_back u at);
@@ -192,17 +213,23 @@ pub settles-keep : (limits : Limits) (slots id : ℕ) (role : Role) (told own : 
     (settles (step slots 0 0 0 none) (view (part limits.slots Note told ∷ part limits.slots role own ∷ []), []))
 settles-keep limits slots id role told own idle s c _ there _ =
     let note = part limits.slots Note told in let v = view (note ∷ part limits.slots role own ∷ []) in let w =
-        view (part limits.slots role (longer own told) ∷ []) in
+    view (part limits.slots role (longer own told) ∷ []) in
     let both = c.current id v there in
     let long = longer-begins c.nodes own told both.1.0.front both.0.front in (
       w,
       keeps,
       tt,
       looked limits s c id v w there
-          (omega (arith, count-one holder_part (part limits.slots role (longer own told)),
-              count-two holder_part note (part limits.slots role own)))
-          (omega (arith, count-one seat_part (part limits.slots role (longer own told)),
-              count-two seat_part note (part limits.slots role own)))
+          (omega (
+            arith,
+            count-one holder_part (part limits.slots role (longer own told)),
+            count-two holder_part note (part limits.slots role own),
+          ))
+          (omega (
+            arith,
+            count-one seat_part (part limits.slots role (longer own told)),
+            count-two seat_part note (part limits.slots role own),
+          ))
           (current-part limits c.nodes (longer own told) role idle long.front, tt),
       (refl, record { whole = c.nodes; of_one = both.1.0.front; of_other = both.0.front }),
     )
@@ -212,7 +239,7 @@ settles-keep limits slots id role told own idle s c _ there _ =
 split-keeps : (limits : Limits) (id : ℕ) (v left right : View) → holders_of left + holders_of right ≡ holders_of v
     → seats_of left + seats_of right ≡ seats_of v
     → ((nodes : List Node) → AreCurrentParts limits nodes v.parts → AreCurrentParts limits nodes left.parts
-        × AreCurrentParts limits nodes right.parts)
+    × AreCurrentParts limits nodes right.parts)
     → Splits (IsOneList limits) id v left right
 split-keeps limits id v left right holders seats current s c there =
     let views = set s.views id left in
@@ -254,7 +281,7 @@ joins-keep limits id v other w s c there apart also =
     let all : (f : View → ℕ) → sum_by f (set views other no_parts) + f w + f v ≡ sum_by f s.views + f both + f no_parts =
     λ f. omega (arith, sum-set f views other w no_parts also, sum-set f s.views id v both there) in
     let all_holders : sum_by holders_of (set views other no_parts) ≡ sum_by holders_of s.views =
-        omega (arith, all holders_of, count-append holder_part w.parts v.parts) in record {
+    omega (arith, all holders_of, count-append holder_part w.parts v.parts) in record {
       nodes = c.nodes;
       few = c.few;
       small = c.small;
@@ -266,7 +293,7 @@ joins-keep limits id v other w s c there apart also =
       seats = omega (arith, all seats_of, count-append seat_part w.parts v.parts, c.seats);
       current = current-set limits c.nodes views other no_parts
           (current-set limits c.nodes s.views id both c.current
-              (current-append limits c.nodes w.parts v.parts (c.current other w was) (c.current id v there))) tt;
+          (current-append limits c.nodes w.parts v.parts (c.current other w was) (c.current id v there))) tt;
     }
 
 -- ---- the start
@@ -277,7 +304,7 @@ pub opens : (limits : Limits) (words : List ℕ) (books : List (Option Contents)
 opens limits words books small zero_word empty_book =
     let seat = part limits.slots Waiting [] in
     let holders : sum_by holders_of (first_view limits ∷ []) ≡ 0 =
-        omega (arith, sum_by-cons holders_of (first_view limits) [], count-replicate_none holder_part limits.seats seat refl) in
+    omega (arith, sum_by-cons holders_of (first_view limits) [], count-replicate_none holder_part limits.seats seat refl) in
     subst (λ (l : List ℕ). IsOneList limits (opening l books (first_view limits))) (sym zero_word)
     (subst (λ (l : List (Option Contents)). IsOneList limits (opening (0 ∷ []) l (first_view limits))) (sym empty_book) (record {
       nodes = [];

@@ -15,5 +15,12 @@ module _ {A : Type 0} where
   pub sum-whole : (f g : A → ℕ) → ((x : A) → f x ≤ g x) → (xs : List A) (place : ℕ) (x none : A) → g none ≡ 0 → get_elem? xs place ≡ some x
       → sum_by g xs ≡ g x → sum_by f xs ≡ f x
   sum-whole f g less xs place x none is_none there whole =
-      omega (arith, sum-set f xs place x none there, sum-set g xs place x none there, is_none, less none, whole,
-          sum_by-le f g less (set xs place none))
+      omega (
+        arith,
+        sum-set f xs place x none there,
+        sum-set g xs place x none there,
+        is_none,
+        less none,
+        whole,
+        sum_by-le f g less (set xs place none),
+      )

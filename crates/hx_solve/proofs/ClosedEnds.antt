@@ -36,7 +36,7 @@ module _ (settings : Settings) (board : Board) (mover : Colour) (books : List Re
       → IsEnded some.book.seen settings.slots some.seat board mover end → IsClosedEnd nodes granted board mover settings end
   closed are (Proved index winner) some is =
       found-later some.book.seen nodes board mover (record { index = index; winner = winner })
-          (all-get (λ (s : Reader). Extends nodes s.seen) books some.place some.book are.seen some.book_there) is
+      (all-get (λ (s : Reader). Extends nodes s.seen) books some.place some.book are.seen some.book_there) is
   closed are (Spent taken) some is = (
     is.budget ∙ all-get (λ (s : Seat). s.made.limits.budget ≡ settings.budget) counts some.place some.seat are.budgets some.seat_there,
     are.full (any-get (λ (s : Seat). (own s).refused ≡ true) counts some.place some.seat some.seat_there is.refused),
@@ -44,8 +44,8 @@ module _ (settings : Settings) (board : Board) (mover : Colour) (books : List Re
   closed are (NoSlots refusal) some is =
       subst (λ (list : List Node). IsOutOfSlots list settings.slots refusal)
       (sym (no_longer some.book.seen nodes
-          (all-get (λ (s : Reader). Extends nodes s.seen) books some.place some.book are.seen some.book_there)
-          (omega (arith, are.few, is.full))))
+      (all-get (λ (s : Reader). Extends nodes s.seen) books some.place some.book are.seen some.book_there)
+      (omega (arith, are.few, is.full))))
       is
   closed are Memory some is = tt
 
@@ -57,7 +57,7 @@ module _ (settings : Settings) (board : Board) (mover : Colour) (books : List Re
 pub contained-closed : (settings : Settings) (board : Board) (mover : Colour) (slots : ℕ) (made : Origin) (books : List Reader)
     (counts : List Seat) (ends : List Ended) (end : Ended)
     (book : Contents) (granted : ℕ) → slots ≡ settings.slots → made.limits.budget ≡ settings.budget
-        → All (λ (s : Seat). s.made ≡ made) counts
+    → All (λ (s : Seat). s.made ≡ made) counts
     → All (IsEndOfSome slots board mover books counts) ends → Contains ends end
     → IsBook book → book.slots ≡ slots → All (λ (s : Reader). Extends book.nodes s.seen) books
     → (Any (λ (s : Seat). (own s).refused ≡ true) counts → granted ≡ made.limits.budget)
@@ -74,7 +74,7 @@ contained-closed settings board mover slots made books counts ends end book gran
     })
     end
     (subst (λ (n : ℕ). IsEndOfSome n board mover books counts end) same_slots
-        (All-contains (IsEndOfSome slots board mover books counts) ends end all one))
+    (All-contains (IsEndOfSome slots board mover books counts) ends end all one))
 
 -- ---- want of a unit
 
@@ -87,7 +87,7 @@ some-seat Claim [] each some = absurd (omega (arith, some))
 some-seat Claim (s ∷ seats) each some = dite (dec_lt 0 (granted_to s))
     (λ granted. All-head (λ (t : Seat). 0 < granted_to t → Claim) s seats each granted)
     (λ none. some-seat Claim seats (All-tail (λ (t : Seat). 0 < granted_to t → Claim) s seats each)
-        (omega (arith, none, some, sum_by-cons granted_to s seats)))
+    (omega (arith, none, some, sum_by-cons granted_to s seats)))
 
 all-granted : (nodes : List Node) (granted : ℕ) (board : Board) (mover : Colour) (settings : Settings) (end : Ended)
     → IsClosedEnd nodes granted board mover settings end
@@ -101,7 +101,7 @@ all-granted nodes granted board mover settings Memory is spent = absurd spent
 pub no_chain-closed : (board : Board) (mover : Colour) (settings : Settings) (counts : List Seat) (ends : List Ended) (end : Ended)
     (nodes : List Node) (granted : ℕ)
     → AllFoundNoChain board counts ends → IsBeforeAll end ends → IsClosedEnd nodes granted board mover settings end
-        → granted ≡ sum_by granted_to counts
+    → granted ≡ sum_by granted_to counts
     → EndsSpent end → 0 < settings.budget → HasNoChain board
 no_chain-closed board mover settings counts ends end nodes granted none before is sum spent some =
     some-seat (HasNoChain board) counts (none (all-spent end ends spent before))

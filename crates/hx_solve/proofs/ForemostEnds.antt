@@ -41,7 +41,7 @@ foremost-new all before left best next split was less = record {
   one = (0, omega arith, refl);
   first = All-cons (λ (end : Ended). rank next ≤ rank end) next was.passed (omega arith)
       (All-weaker (λ (end : Ended). rank best ≤ rank end) (λ (end : Ended). rank next ≤ rank end)
-          (λ end more. omega (arith, less, more)) was.passed was.first);
+      (λ end more. omega (arith, less, more)) was.passed was.first);
 }
 
 -- where none is left it is the foremost of all

@@ -50,7 +50,7 @@ module _ (slots : ℕ) (board : Board) (mover : Colour) (books : List Reader) (c
       → All (IsEndOfSome slots board mover (books ++ book ∷ []) (counts ++ seat ∷ [])) (ends ++ end ∷ [])
   ends-more ends end same all ended = All-push (IsEndOfSome slots board mover (books ++ book ∷ []) (counts ++ seat ∷ [])) ends end
       (All-weaker (IsEndOfSome slots board mover books counts)
-          (IsEndOfSome slots board mover (books ++ book ∷ []) (counts ++ seat ∷ [])) end-more ends all)
+      (IsEndOfSome slots board mover (books ++ book ∷ []) (counts ++ seat ∷ [])) end-more ends all)
       (end-last end same ended)
 
 pub no_chain-more : (board : Board) (counts : List Seat) (seat : Seat) (ends : List Ended) (end : Ended) → AllFoundNoChain board counts ends

@@ -69,12 +69,12 @@ entry-there nodes granted board mover settings Memory says = tt
 
 pub cause-by : (nodes : List Node) (granted : ℕ) (board : Board) (mover : Colour) (settings : Settings) (ended : Ended) (why : Unsolved)
     → IsBook (contents settings.slots nodes) → IsClosedEnd nodes granted board mover settings ended → SaysWhy ended why
-        → HasCause settings why
+    → HasCause settings why
 cause-by nodes granted board mover settings (Proved index winner) why book says is = subst (HasCause settings) (sym is) tt
 cause-by nodes granted board mover settings (Spent taken) why book says is = subst (HasCause settings) (sym is) says.0
 cause-by nodes granted board mover settings (NoSlots refusal) why book says is =
     subst (HasCause settings) (sym is)
-        (let room : FoundNoRoom settings.slots refusal = record { nodes = nodes; book = book; out_of_slots = says } in room)
+    (let room : FoundNoRoom settings.slots refusal = record { nodes = nodes; book = book; out_of_slots = says } in room)
 cause-by nodes granted board mover settings Memory why book says is = subst (HasCause settings) (sym is) tt
 
 -- a unit is wanting where the end says so

@@ -29,7 +29,7 @@ answered_on board winner left nodes after lines cell child valid before least pr
     let same = ap headings_of proved.grown.same ∙ headings_of-append nodes proved.grown.more in
     rw same
     (one_more_answered (headings_of nodes) (headings_of proved.grown.more)
-        (heading_of board (other_of winner) winner) left lines cell child valid before least
+    (heading_of board (other_of winner) winner) left lines cell child valid before least
     (rw same at (proved_leads _ _ _ _ _ _ proved)))
 
 child_line : (headings : List Heading) (heading : Heading) (line : Line) → IsRightChildLine headings heading line → IsChildLine line

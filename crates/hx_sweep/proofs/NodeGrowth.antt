@@ -26,8 +26,15 @@ use Rattle.hx_sweep.specs.Growth.{IsBegun, HasMoreNodes, IsProved}
 
 pub grown_none : (board : Board) (nodes : List Node) (limit : ℕ) → IsBegun board nodes → HasMoreNodes board.size limit nodes nodes
 grown_none board nodes limit begun =
-    record { more = []; same = sym (append-nil nodes); few = omega arith; right = begun.right; of_size = begun.of_size; by_moves =
-    begun.by_moves }
+    record {
+      more = [];
+      same = sym (append-nil nodes);
+      few = omega arith;
+      right = begun.right;
+      of_size = begun.of_size;
+      by_moves =
+          begun.by_moves;
+    }
 
 pub grown_on : (size : Extent) (first second whole : ℕ) (before between after : List Node) → HasMoreNodes size first before between
     → HasMoreNodes size second between after
@@ -44,8 +51,15 @@ grown_on size first second whole before between after one two enough = record {
 pub grown_less : (size : Extent) (limit whole : ℕ) (before after : List Node) → HasMoreNodes size limit before after → limit ≤ whole
     → HasMoreNodes size whole before after
 grown_less size limit whole before after grown enough =
-    record { more = grown.more; same = grown.same; few = omega (arith, grown.few); right = grown.right; of_size = grown.of_size; by_moves =
-    grown.by_moves }
+    record {
+      more = grown.more;
+      same = grown.same;
+      few = omega (arith, grown.few);
+      right = grown.right;
+      of_size = grown.of_size;
+      by_moves =
+          grown.by_moves;
+    }
 
 -- ---- room for the nodes after a move
 
@@ -75,7 +89,7 @@ count_after board stone cell valid empty = omega (arith, empty_count-put board s
 pub begun_after : (board : Board) (stone : Colour) (cell limit : ℕ) (before after : List Node) → IsBegun board before
     → HasMoreNodes board.size limit before after
     → IsEmpty board cell → limit + sweep_size (empty_count board - 1) ≤ sweep_size (empty_count board)
-        → IsBegun (put board stone cell) after
+    → IsBegun (put board stone cell) after
 begun_after board stone cell limit before after begun grown empty enough = record {
   valid = board-put board stone cell begun.valid empty;
   right = grown.right;
@@ -88,7 +102,7 @@ begun_after board stone cell limit before after begun grown empty enough = recor
 pub grown_after : (board : Board) (stone mover winner : Colour) (cell number : ℕ) (before after : List Node) → IsBoard board
     → IsEmpty board cell
     → IsProved (put board stone cell) mover winner before after number
-        → HasMoreNodes board.size (sweep_size (empty_count board - 1)) before after
+    → HasMoreNodes board.size (sweep_size (empty_count board - 1)) before after
 grown_after board stone mover winner cell number before after valid empty proved =
     rw (size-put board stone cell, count_after board stone cell valid empty) at proved.grown
 
@@ -106,7 +120,7 @@ proved_leads board mover winner before after number proved = rw (proved.last, pr
 
 pub proved_by : (board : Board) (mover winner : Colour) (rule : Rule) (before between after : List Node) (number : ℕ) → IsBoard board
     → HasMoreNodes board.size (sweep_size (empty_count board) - 1) before between
-        → IsRightRule (headings_of between) (heading_of board mover winner) rule
+    → IsRightRule (headings_of between) (heading_of board mover winner) rule
     → IsByMoves rule → after ≡ between ++ (record { heading = heading_of board mover winner; rule = rule }) ∷ [] → number ≡ length between
     → IsProved board mover winner before after number
 proved_by board mover winner rule before between after number valid grown right moves same place = record {

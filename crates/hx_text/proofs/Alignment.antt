@@ -40,7 +40,7 @@ nodes_cancel preamble count winner (a ∷ nodes) [] rest extent small fa fb e =
     absurd (head_not_end preamble (head_of a) count winner extent fa.0.head small first)
 nodes_cancel preamble count winner (a ∷ nodes) (b ∷ all) rest extent small fa fb e =
     let parts = node_cancel preamble a b (flat_map node_lines nodes ++ rest)
-        (flat_map node_lines all ++ end_line count winner ∷ []) extent fa.0 fb.0
+    (flat_map node_lines all ++ end_line count winner ∷ []) extent fa.0 fb.0
     (sym (append_assoc (node_lines a) (flat_map node_lines nodes) rest) ∙ e ∙ append_assoc (node_lines b)
     (flat_map node_lines all) (end_line count winner ∷ [])) in
     goes_on_after a b parts.0 (nodes_cancel preamble count winner nodes all rest extent small fa.1 fb.1 parts.1)

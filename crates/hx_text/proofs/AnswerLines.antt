@@ -18,9 +18,10 @@ AllHigh-reason_words size (Under cell better ByDead) few on =
     (IsHigh-test (codes "dead") refl, (IsHigh-cell_word better (omega (arith, on.row)), tt))
 AllHigh-reason_words size (Under cell better (ByPair partner)) few fits =
     let on : OnBoard size better = fits.0 in
-    let also : OnBoard size partner = fits.1 in
-    (IsHigh-test (codes "pair") refl,
-        (IsHigh-cell_word better (omega (arith, on.row)), (IsHigh-cell_word partner (omega (arith, also.row)), tt)))
+    let also : OnBoard size partner = fits.1 in (
+      IsHigh-test (codes "pair") refl,
+      (IsHigh-cell_word better (omega (arith, on.row)), (IsHigh-cell_word partner (omega (arith, also.row)), tt)),
+    )
 
 pub AllHigh-answer_words : (size : Extent) (line : Line) → size.rows ≤ 11 → AnswerFits size line → AllHigh (answer_words line)
 unfolding is_high

@@ -121,11 +121,11 @@ pub answer_injective : (size : Extent) (a b : Line) → IsExtent size.rows size.
 answer_injective size a b extent fits_a fits_b e =
     let words : answer_words a ≡ answer_words b =
     spaced_injective (answer_words a) (answer_words b) (IsLine-answer_words size a extent.1 fits_a)
-        (IsLine-answer_words size b extent.1 fits_b) e in
+    (IsLine-answer_words size b extent.1 fits_b) e in
     let cells : cell_word (cell_of a) ≡ cell_word (cell_of b) = cc in
     let reasons : reason_words a ≡ reason_words b = cc in
     reason_injective size a b extent.1
-        (cell_injective size (cell_of a) (cell_of b) extent.1 fits_a.0 fits_b.0 cells) fits_a.1 fits_b.1 reasons
+    (cell_injective size (cell_of a) (cell_of b) extent.1 fits_a.0 fits_b.0 cells) fits_a.1 fits_b.1 reasons
 
 -- ---- fill steps
 

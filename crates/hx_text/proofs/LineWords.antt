@@ -61,7 +61,7 @@ pub words_in-size_line : (line : List ℕ) (size : Extent) → IsExtent size.row
     → words_in line ≡ size_words size.rows size.cols
 words_in-size_line line size extent e = ap words_in e
     ∙ words_in-spaced (size_words size.rows size.cols)
-        (IsLine-size_words size.rows size.cols (omega (arith, extent)) (omega (arith, extent)))
+    (IsLine-size_words size.rows size.cols (omega (arith, extent)) (omega (arith, extent)))
 
 -- the last line
 

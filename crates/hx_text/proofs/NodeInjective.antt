@@ -118,7 +118,7 @@ head_not_end preamble head count winner extent fits small e =
 -- a front of entries that are made of as many values, of which each is told by its line
 front_cancel : {X : Type 0} (size : Extent) (entry_for : X → Entry) (a b : List X) (after_a after_b : List Entry) (xs ys : List (List ℕ))
     → ((x y : X) → EntryFits size (entry_for x) → EntryFits size (entry_for y) → entry_line (entry_for x) ≡ entry_line (entry_for y)
-        → x ≡ y)
+    → x ≡ y)
     → EachEntryFits size (map entry_for a ++ after_a) → EachEntryFits size (map entry_for b ++ after_b) → length a ≡ length b
     → map entry_line (map entry_for a ++ after_a) ++ xs ≡ map entry_line (map entry_for b ++ after_b) ++ ys
     → (a ≡ b) × EachEntryFits size after_a × EachEntryFits size after_b × (map entry_line after_a ++ xs ≡ map entry_line after_b ++ ys)
@@ -140,7 +140,7 @@ fills_cancel size a b xs ys extent fits_a fits_b same e =
     let all_b : map fill_entry b ≡ map fill_entry b ++ [] = sym (append-nil (map fill_entry b)) in
     let whole = front_cancel size fill_entry a b [] [] xs ys
     (λ (x y : FillStep) (fits_x : FillFits size x) (fits_y : FillFits size y) (l : fill_line x ≡ fill_line y).
-        fill_injective size x y extent fits_x fits_y l)
+    fill_injective size x y extent fits_x fits_y l)
     (subst (EachEntryFits size) all_a fits_a) (subst (EachEntryFits size) all_b fits_b) same
     (ap (λ (es : List Entry). map entry_line es ++ xs) (sym all_a) ∙ e ∙ ap (λ (es : List Entry). map entry_line es ++ ys) all_b) in
     (whole.0, whole.3)
@@ -158,11 +158,11 @@ record SameLists (steps_a steps_b : List Step) (threats_a threats_b : List ℕ) 
 lists_cancel : (size : Extent) (steps_a steps_b : List Step) (threats_a threats_b : List ℕ) (lines_a lines_b : List Line)
     (fills_a fills_b : List FillStep) (xs ys : List (List ℕ)) → IsExtent size.rows size.cols
     → EachEntryFits size (entries_for steps_a threats_a lines_a fills_a)
-        → EachEntryFits size (entries_for steps_b threats_b lines_b fills_b)
+    → EachEntryFits size (entries_for steps_b threats_b lines_b fills_b)
     → length steps_a ≡ length steps_b → length threats_a ≡ length threats_b → length lines_a ≡ length lines_b
-        → length fills_a ≡ length fills_b
+    → length fills_a ≡ length fills_b
     → map entry_line (entries_for steps_a threats_a lines_a fills_a) ++ xs ≡ map entry_line (entries_for steps_b threats_b lines_b fills_b)
-        ++ ys
+    ++ ys
     → SameLists steps_a steps_b threats_a threats_b lines_a lines_b fills_a fills_b xs ys
 lists_cancel size steps_a steps_b threats_a threats_b lines_a lines_b fills_a fills_b xs ys extent fits_a fits_b many_steps many_threats
     many_lines many_fills e =
@@ -173,7 +173,7 @@ lists_cancel size steps_a steps_b threats_a threats_b lines_a lines_b fills_a fi
     let steps = front_cancel size step_entry steps_a steps_b (map threat_entry threats_a ++ after_threats_a)
     (map threat_entry threats_b ++ after_threats_b) xs ys
     (λ (x y : Step) (fits_x : StepFits size x) (fits_y : StepFits size y) (l : step_line x ≡ step_line y).
-        step_injective size x y extent fits_x fits_y l)
+    step_injective size x y extent fits_x fits_y l)
     (subst (EachEntryFits size) parts_a fits_a) (subst (EachEntryFits size) parts_b fits_b) many_steps
     (ap (λ (es : List Entry). map entry_line es ++ xs) (sym parts_a) ∙ e ∙ ap (λ (es : List Entry). map entry_line es ++ ys) parts_b) in
     let threats = front_cancel size threat_entry threats_a threats_b after_threats_a after_threats_b xs ys
@@ -181,7 +181,7 @@ lists_cancel size steps_a steps_b threats_a threats_b lines_a lines_b fills_a fi
     steps.1 steps.2 many_threats steps.3 in
     let lines = front_cancel size answer_entry lines_a lines_b (map fill_entry fills_a) (map fill_entry fills_b) xs ys
     (λ (x y : Line) (fits_x : AnswerFits size x) (fits_y : AnswerFits size y) (l : answer_line x ≡ answer_line y).
-        answer_injective size x y extent fits_x fits_y l)
+    answer_injective size x y extent fits_x fits_y l)
     threats.1 threats.2 many_lines threats.3 in
     let fills = fills_cancel size fills_a fills_b xs ys extent lines.1 lines.2 many_fills lines.3 in
     record { steps = steps.0; threats = threats.0; lines = lines.0; fills = fills.0; rest = fills.1 }
@@ -234,5 +234,5 @@ node_cancel preamble a b xs ys extent fits_a fits_b e =
     let tails : map entry_line (entries_of a.rule) ++ xs ≡ map entry_line (entries_of b.rule) ++ ys = cc in
     let heads : head_of a ≡ head_of b = head_injective preamble (head_of a) (head_of b) extent fits_a.head fits_b.head firsts in
     let rules = rule_cancel preamble.size a.rule b.rule xs ys extent fits_a.entries fits_b.entries
-        (ap (λ (h : Head). h.opening) heads) tails in
+    (ap (λ (h : Head). h.opening) heads) tails in
     (node_same a b (ap (λ (h : Head). h.heading) heads) rules.0, rules.1)

@@ -45,7 +45,7 @@ TakesFront-more old new held front back cut =
 -- a front was spelled, and then the back, or a part of it
 IsSpelled-joined : {T E : Type 0} (old between new : Option (List ℕ)) (held holds last front back : List ℕ) (result : Result T E)
     → IsOut old between holds (held ++ front) → IsSpelled between holds new last result back
-        → IsSpelled old held new last result (front ++ back)
+    → IsSpelled old held new last result (front ++ back)
 IsSpelled-joined old between new held holds last front back (Ok done) out then =
     IsOut-joined old between new held holds last front back out then
 IsSpelled-joined old between new held holds last front back (Err failed) out then =
@@ -69,7 +69,7 @@ second_cut_short old between new held holds last a b c result failed out cut =
 pub three_spelled : {T E : Type 0} (old first second new : Option (List ℕ)) (held after_first after_second last a b c : List ℕ)
     (result : Result T E)
     → IsOut old first after_first (held ++ a) → IsOut first second after_second (after_first ++ b)
-        → IsSpelled second after_second new last result c
+    → IsSpelled second after_second new last result c
     → IsSpelled old held new last result (a ++ (b ++ c))
 three_spelled old first second new held after_first after_second last a b c result out then rest =
     IsSpelled-joined old first new held after_first last a (b ++ c) result out

@@ -51,7 +51,7 @@ words_in-move_line line mover e = ap words_in e ∙ words_in-spaced (move_words 
 pub move_injective : (a b : Colour) → move_line a ≡ move_line b → a ≡ b
 move_injective a b e =
     let words : move_words a ≡ move_words b =
-        spaced_injective (move_words a) (move_words b) (IsLine-move_words a) (IsLine-move_words b) e in
+    spaced_injective (move_words a) (move_words b) (IsLine-move_words a) (IsLine-move_words b) e in
     let colours : colour_word a ≡ colour_word b = cc in
     colour_injective a b colours
 

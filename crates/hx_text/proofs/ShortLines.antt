@@ -113,8 +113,12 @@ short_opening preamble Chain few fits = omega arith
 short_opening preamble (Links steps) few fits = omega (arith, short_number steps (omega (arith, fits)))
 short_opening preamble (Move cell child) few fits = omega (arith, short_cell preamble.size cell few fits.0, short_number child fits.1)
 short_opening preamble (All_opening steps threats lines) few fits =
-    omega (arith, short_number steps (omega (arith, fits.0)), short_number threats (omega (arith, fits.1)),
-        short_number lines (omega (arith, fits.2)))
+    omega (
+      arith,
+      short_number steps (omega (arith, fits.0)),
+      short_number threats (omega (arith, fits.1)),
+      short_number lines (omega (arith, fits.2)),
+    )
 short_opening preamble (Fill fills child) few fits = omega (arith, short_number fills (omega (arith, fits.0)), short_number child fits.1)
 short_opening preamble (Turned child) few fits = omega (arith, short_number child fits.1)
 
@@ -162,7 +166,7 @@ AllShort-nodes : (preamble : Preamble) (nodes : List Node) → preamble.size.row
 AllShort-nodes preamble [] few each = tt
 AllShort-nodes preamble (node ∷ nodes) few each =
     AllShort-append (node_lines node) (flat_map node_lines nodes) (AllShort-node preamble node few each.0)
-        (AllShort-nodes preamble nodes few each.1)
+    (AllShort-nodes preamble nodes few each.1)
 
 short_title : (version : Version) → length (title_line version) ≤ longest_line
 short_title One = line_of _ _ (omega arith)
@@ -171,8 +175,14 @@ short_title Two = line_of _ _ (omega arith)
 AllShort-front_lines : (preamble : Preamble) → IsExtent preamble.size.rows preamble.size.cols → AllShort (front_lines preamble)
 AllShort-front_lines preamble extent = (
   short_title preamble.version,
-  (line_of _ _ (omega (arith, length-small preamble.size.rows (omega (arith, extent)),
-      length-small preamble.size.cols (omega (arith, extent)))), tt),
+  (
+    line_of _ _ (omega (
+      arith,
+      length-small preamble.size.rows (omega (arith, extent)),
+      length-small preamble.size.cols (omega (arith, extent)),
+    )),
+    tt,
+  ),
 )
 
 short_end : (count : ℕ) (winner : Colour) → IsNumber count → length (end_line count winner) ≤ longest_line

@@ -49,7 +49,7 @@ move_spelled old mover = simp append_assoc
 
 five_lines : (old a b c d e : List ℕ)
     → ((((old ++ (a ++ 10 ∷ [])) ++ (b ++ 10 ∷ [])) ++ (c ++ 10 ∷ [])) ++ (d ++ 10 ∷ [])) ++ (e ++ 10 ∷ []) ≡ old
-        ++ text_of (a ∷ b ∷ c ∷ d ∷ e ∷ [])
+    ++ text_of (a ∷ b ∷ c ∷ d ∷ e ∷ [])
 unfolding text_of
 five_lines old a b c d e = simp append_assoc
 
@@ -111,7 +111,7 @@ base_spelled old a b = simp append_assoc
 -- the line of an And rule, whose word goes with the space after it
 pub and_spelled : (old word : List ℕ) (left right : ℕ)
     → ((((old ++ word) ++ decimal left) ++ codes " ") ++ decimal right) ++ codes "\n" ≡ old
-        ++ (word ++ decimal left ++ 32 ∷ decimal right ++ 10 ∷ [])
+    ++ (word ++ decimal left ++ 32 ∷ decimal right ++ 10 ∷ [])
 and_spelled old word left right = simp append_assoc
 
 pub stone_spelled : (left right : ℕ)
@@ -161,7 +161,7 @@ line_in_parts old a b c d e f g = simp append_assoc
 
 pub under_pair_spelled : (old : List ℕ) (cell better partner : ℕ)
     → ((((((old ++ codes "line ") ++ cell_word cell) ++ codes " pair ") ++ cell_word better) ++ codes " ") ++ cell_word partner)
-        ++ codes "\n"
+    ++ codes "\n"
     ≡ old ++ (answer_line (Under cell better (ByPair partner)) ++ 10 ∷ [])
 unfolding spaced
 under_pair_spelled old cell better partner =
@@ -187,7 +187,7 @@ pair_spelled old a b = simp append_assoc
 
 pub end_spelled : (old : List ℕ) (count : ℕ) (winner : Colour)
     → ((((old ++ codes "end ") ++ decimal count) ++ codes " ") ++ colour_word winner) ++ codes "\n" ≡ old
-        ++ text_of (end_line count winner ∷ [])
+    ++ text_of (end_line count winner ∷ [])
 unfolding spaced text_of
 end_spelled old count winner = simp append_assoc
 
@@ -219,7 +219,7 @@ in_parts old word black white mover winner opening gap end = simp append_assoc
 -- a line of five words and those of an opening
 line_spelled : (old black white mover winner : List ℕ) (opening : Opening)
     → ((((old ++ codes "node ") ++ (black ++ 32 ∷ white ++ 32 ∷ [])) ++ (mover ++ 32 ∷ winner ++ 32 ∷ []))
-        ++ spaced (opening_words opening)) ++ codes "\n"
+    ++ spaced (opening_words opening)) ++ codes "\n"
     ≡ old ++ (spaced (codes "node" ∷ black ∷ white ∷ mover ∷ winner ∷ opening_words opening) ++ 10 ∷ [])
 unfolding spaced
 line_spelled old black white mover winner Chain =

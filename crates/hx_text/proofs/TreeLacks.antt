@@ -46,13 +46,16 @@ AllLack-nodes : (preamble : Preamble) (nodes : List Node) → preamble.size.rows
 AllLack-nodes preamble [] few each = tt
 AllLack-nodes preamble (node ∷ nodes) few each =
     AllLack-append (node_lines node) (flat_map node_lines nodes) (AllLack-node preamble node few each.0)
-        (AllLack-nodes preamble nodes few each.1)
+    (AllLack-nodes preamble nodes few each.1)
 
 AllLack-front_lines : (preamble : Preamble) → IsExtent preamble.size.rows preamble.size.cols → AllLack (front_lines preamble)
 AllLack-front_lines preamble extent = (
   Lacks-spaced (title_words preamble.version) (AllHigh-title_words preamble.version),
-  (Lacks-spaced (size_words preamble.size.rows preamble.size.cols)
-      (AllHigh-size_words preamble.size.rows preamble.size.cols (omega (arith, extent)) (omega (arith, extent))), tt),
+  (
+    Lacks-spaced (size_words preamble.size.rows preamble.size.cols)
+        (AllHigh-size_words preamble.size.rows preamble.size.cols (omega (arith, extent)) (omega (arith, extent))),
+    tt,
+  ),
 )
 
 Lacks-end_line : (count : ℕ) (winner : Colour) → IsNumber count → Lacks 10 (end_line count winner)

@@ -68,7 +68,7 @@ kill_fits board mover cell better (ByPair partner) empty killed =
 line_fits : (size : Extent) (before : List Heading) (heading : Heading) (links : List Link) (threats : List ℕ) (all : List Line)
     (line : Line)
     → heading.position.size ≡ size → length before ≤ most_nodes → OnBoard size (cell_of line)
-        → IsRightLine before heading links threats all line
+    → IsRightLine before heading links threats all line
     → AnswerFits size line
 line_fits size before heading links threats all (Child cell child) same few on right =
     let below : child < length before = holds-inside _ before child right in (on, omega arith)
@@ -151,11 +151,11 @@ opening_fits preamble before heading Chain same is few two right = tt
 opening_fits preamble before heading (Links steps) same is few two right = right.steps_right.few
 opening_fits preamble before heading (Move cell child) same is few two right =
     let below : child < length before = holds-inside _ before child right.leads in
-        (on_this preamble.size heading same cell right.empty, omega arith)
+    (on_this preamble.size heading same cell right.empty, omega arith)
 opening_fits preamble before heading (All steps threats lines) same is few two right =
     let extent : IsExtent preamble.size.rows preamble.size.cols = rw same at is.0 in
     let count = few_cells preamble.size (cells_of lines) (IsToAnswer heading.position right.links threats) extent
-        (λ cell is. on_this preamble.size heading same cell is.empty)
+    (λ cell is. on_this preamble.size heading same cell is.empty)
     right.answered.cells in
     (right.steps_right.few, right.answered.threats_right.few, omega (arith, count, length-map lines cell_of))
 opening_fits preamble before heading (Fill fills child) same is few two right =
@@ -176,12 +176,12 @@ rule_fits size before heading (All steps threats lines) same few right =
     let each : EachEntryFits heading.position.size (map step_entry steps) =
     steps_fit heading.position heading.winner [] steps right.links (omega (arith, right.steps_right.few)) right.steps_right.right in
     let count : length right.links ≡ length steps =
-        omega (arith, steps-length heading.position heading.winner [] steps right.links right.steps_right.right) in
+    omega (arith, steps-length heading.position heading.winner [] steps right.links right.steps_right.right) in
     EachEntryFits-entries_for size steps threats lines [] (rw same at each)
     (threats_fit size right.links threats (omega (arith, count, right.steps_right.few)) right.answered.threats_right.each)
     (lines_fit size before heading right.links threats lines lines same few
     (λ k d less. on_this size heading same (get_or (cells_of lines) k d)
-        (right.answered.cells.only k d less).empty) right.answered.lines_right) tt
+    (right.answered.cells.only k d less).empty) right.answered.lines_right) tt
 rule_fits size before heading (Fill fills child) same few right =
     EachEntryFits-entries_for size [] [] [] fills tt tt tt (fill_steps_fit size heading.position heading.winner fills same right.right)
 rule_fits size before heading (Turned child) same few right = tt
@@ -226,7 +226,7 @@ at_places P (node ∷ nodes) each (suc k) = at_places P nodes (λ j d less. each
 -- turned nodes fit in a text of the second version alone
 pub right_nodes_fit : (preamble : Preamble) (nodes : List Node) → AreRight nodes → length nodes ≤ most_nodes
     → EachItem (λ node. node.heading.position.size ≡ preamble.size) nodes → (HasTurned nodes → preamble.version ≡ Two)
-        → EachNodeFits preamble nodes
+    → EachNodeFits preamble nodes
 right_nodes_fit preamble nodes right few same two =
     each_from_places preamble nodes
     (λ k. node_fits preamble (headings_of (take k nodes)) (slice_get nodes k) (few_before nodes k few) (right k)

@@ -62,7 +62,7 @@ written_text preamble nodes winner =
 pub written_with : (preamble : Preamble) (nodes : List Node) (winner : Colour) → IsExtent preamble.size.rows preamble.size.cols
     → EachNodeFits preamble nodes
     → IsRootWinner nodes winner → IsNumber (length nodes) → (text : IsTreeText (written_tree preamble nodes winner) nodes)
-        × (text.preamble ≡ preamble)
+    × (text.preamble ≡ preamble)
 written_with preamble nodes winner extent each root few = (
   record {
     preamble = preamble;

@@ -12,12 +12,14 @@ pub record IsOut (old new : Option (List ℕ)) (held text : List ℕ) : Type 0 w
 
 -- What the sink took and what is held, before and after: at `Ok` what was held and these bytes have gone or are held;
 -- at `Err` they have gone up to some place before their end.
-abbrev pub IsSpelled : {T E : Type 0} → Option (List ℕ) → List ℕ → Option (List ℕ) → List ℕ → Result T E → List ℕ → Type 0
+abbrev pub IsSpelled : {T E : Type 0} → Option (List ℕ) → List ℕ → Option (List ℕ) → List ℕ
+    → Result T E → List ℕ → Type 0
 IsSpelled old held new holds result bytes =
     MatchResult result (λ _. IsOut old new holds (held ++ bytes)) (λ _. TakesFront old new (held ++ bytes))
 
 -- what a call does that spells these bytes: what the sink took and what is held, and the cause where it failed
-pub record Spells {T E : Type 0} (before now : Writing) (held holds : List ℕ) (result : Result T E) (text : List ℕ) : Type 0 where
+pub record Spells {T E : Type 0} (before now : Writing) (held holds : List ℕ) (result : Result T E)
+    (text : List ℕ) : Type 0 where
   pub bytes : IsSpelled before.taken held now.taken holds result text
   pub cause : HasCause before.faults now.faults result
 

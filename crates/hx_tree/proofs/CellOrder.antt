@@ -116,7 +116,7 @@ module _ (cells : List ℕ) (count taken next set : ℕ) (before : AreTaken cell
   taken_only : taken ≡ set → All (λ cell. has set cell ≡ true) cells
   taken_only same k d less =
       rw same at ((before.members (get_or cells k d)).1
-          (record { place = k; before = omega arith; at = get_or_default cells k (get_or cells k d) d less }))
+      (record { place = k; before = omega arith; at = get_or_default cells k (get_or cells k d) d less }))
 
   all_members : AreInOrder (λ cell. has set cell ≡ true) cells → (cell : ℕ) → has taken cell ≡ true → has set cell ≡ true
   all_members in_order cell member =

@@ -71,15 +71,18 @@ module _ (nodes : List Node) (node : Node) where
   new-only none board mover new place entry = none place (record {
     node = entry.node;
     there = entry.there;
-    is_of = record { same_position = entry.is_of.same_position ∙ sym new.same_position; same_mover = entry.is_of.same_mover
-        ∙ sym new.same_mover };
+    is_of = record {
+      same_position = entry.is_of.same_position ∙ sym new.same_position;
+      same_mover = entry.is_of.same_mover
+          ∙ sym new.same_mover;
+    };
   })
 
   pub distinct-more : AreDistinctEntries nodes → HasNoEntry nodes node.heading.position node.heading.to_move
       → AreDistinctEntries (nodes ++ node ∷ [])
   distinct-more distinct none board mover one other first second = ⊎_elim
       (λ a. ⊎_elim (λ b. distinct board mover one other a b) (λ b. absurd (new-only none board mover b.1 one a))
-          (entry-cases board mover other second))
+      (entry-cases board mover other second))
       (λ a. ⊎_elim (λ b. absurd (new-only none board mover a.1 other b)) (λ b. a.0 ∙ sym b.0) (entry-cases board mover other second))
       (entry-cases board mover one first)
 

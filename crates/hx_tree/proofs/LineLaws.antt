@@ -41,9 +41,11 @@ module _ (lines : List Line) (k set : ℕ) (line : Line) (less : k < length line
       ↔ HasChild (take (k + 1) lines) n
   one_child_more cell child here n = rw up_to (
     (λ member. ⊎_elim
-        (λ (same : n ≡ cell).
-            (child, subst (λ (l : Line). Contains (take k lines ++ line ∷ []) l) (here ∙ ap (λ (c : ℕ). Child c child) (sym same))
-            (Contains-push (take k lines) line)))
+        (λ (same : n ≡ cell). (
+          child,
+          subst (λ (l : Line). Contains (take k lines ++ line ∷ []) l) (here ∙ ap (λ (c : ℕ). Child c child) (sym same))
+              (Contains-push (take k lines) line),
+        ))
         (was_child n)
         (has-insert_cases set cell n member)),
     (λ found. ⊎_elim
@@ -68,7 +70,7 @@ module _ (lines : List Line) (k set : ℕ) (line : Line) (less : k < length line
 module _ (board : Board) (links : List Link) (threats : List ℕ) (lines : List Line) (empties cells children : ℕ)
     (are_empty : (n : ℕ) → (has empties n ≡ true) ↔ IsEmpty board n) (are_threats : AreThreats links threats)
     (are_to_answer : (n : ℕ) → (has cells n ≡ true) ↔ IsToAnswer board links threats n)
-        (have_child : (n : ℕ) → (has children n ≡ true) ↔ HasChild lines n) where
+    (have_child : (n : ℕ) → (has children n ≡ true) ↔ HasChild lines n) where
   abbrev lost : ℕ
   lost = union (difference empties cells) children
 
@@ -99,10 +101,15 @@ module _ (board : Board) (links : List Link) (threats : List ℕ) (lines : List 
     given-right : (line : Line) → IsRightGiven before heading lost line ↔ IsRightLine before heading links threats lines line
     given-right (Child cell child) = ((λ right. right), (λ right. right))
     given-right (Under cell better kill) = (
-      (λ given. record { dominated = given.1; answered =
-          (lost-answered better (subst (λ (b : Board). IsEmpty b better) same given.1.better_empty)).0 given.0 }),
-      (λ right. ((lost-answered better (subst (λ (b : Board). IsEmpty b better) same right.dominated.better_empty)).1 right.answered,
-          right.dominated)),
+      (λ given. record {
+        dominated = given.1;
+        answered =
+            (lost-answered better (subst (λ (b : Board). IsEmpty b better) same given.1.better_empty)).0 given.0;
+      }),
+      (λ right. (
+        (lost-answered better (subst (λ (b : Board). IsEmpty b better) same right.dominated.better_empty)).1 right.answered,
+        right.dominated,
+      )),
     )
 
     of_some : (line : Option Line) → IfSome line (IsRightGiven before heading lost)

@@ -61,8 +61,12 @@ pub none_answered : (headings : List Heading) (heading : Heading) (left : ℕ)
 none_answered headings heading left is_left count = record {
   inside = λ cell member. (is_left cell).0 member;
   earlier = λ done cell is _. absurd (not_done done is);
-  in_order = record { each = λ cell is. absurd (not_done cell is); only = λ k d less. absurd (omega arith); in_order = λ k less.
-      absurd (omega arith) };
+  in_order = record {
+    each = λ cell is. absurd (not_done cell is);
+    only = λ k d less. absurd (omega arith);
+    in_order = λ k less.
+        absurd (omega arith);
+  };
   lines_right = λ k. tt;
   count = omega arith;
 }
@@ -93,7 +97,7 @@ one_more_answered headings more heading left lines cell child valid before least
   inside = λ n member. before.inside n (has-remove_before left cell n member);
   earlier = λ done n is member. ⊎_elim
       (λ same. rw same (later n member)) (λ gone. before.earlier done n (is.0, gone) (has-remove_before left cell n member))
-          (removed_cases left cell done is.1);
+      (removed_cases left cell done is.1);
   in_order = rw (map-append cell_of lines (Child cell child ∷ []))
       (in_order_more (IsDone heading.position left) (IsDone heading.position (remove left cell)) (cells_of lines) cell before.in_order
       (λ n is. before.earlier n cell is least.member)
@@ -109,17 +113,17 @@ one_more_answered headings more heading left lines cell child valid before least
     later : (n : ℕ) → has (remove left cell) n ≡ true → cell < n
     later n member = ⊎_elim
         (λ less. absurd (false≢true
-            (sym (least.first n less (before.inside n (has-remove_before left cell n member)).on_board)
-            ∙ has-remove_before left cell n member)))
+        (sym (least.first n less (before.inside n (has-remove_before left cell n member)).on_board)
+        ∙ has-remove_before left cell n member)))
         (λ more. ⊎_elim (λ less. less)
-            (λ least_too. let same : n ≡ cell = omega arith in absurd (false≢true (sym (removed left cell) ∙ rw same at member)))
-            (cases_lt cell n))
+        (λ least_too. let same : n ≡ cell = omega arith in absurd (false≢true (sym (removed left cell) ∙ rw same at member)))
+        (cases_lt cell n))
         (cases_lt n cell)
 
 -- while a cell is left, fewer are answered than were empty
 pub fewer_answered : (headings : List Heading) (heading : Heading) (left : ℕ) (lines : List Line) (cell : ℕ) → IsBoard heading.position
     → AreAnsweredSoFar headings heading left lines → IsLeastOn heading.position.size left cell
-        → length lines + 1 ≤ empty_count heading.position
+    → length lines + 1 ≤ empty_count heading.position
 fewer_answered headings heading left lines cell valid before least =
     let small : cell < 121 = on_board-small heading.position.size cell valid.0 least.on_board in
     omega (arith, before.count, count_below-remove 128 left cell least.member (omega arith))

@@ -33,7 +33,7 @@ module _ (before more : List Heading) (heading : Heading) where
         → IsRightLine (before ++ more) heading links threats lines line
     line-append (Child cell child) right =
         some_and-append (IsHeading
-            (put heading.position (other_of heading.winner) cell) heading.winner heading.winner) before more child right
+        (put heading.position (other_of heading.winner) cell) heading.winner heading.winner) before more child right
     line-append (Under cell better kill) right = right
 
     found-append : (found : Option Line) → IfSome found (IsRightLine before heading links threats lines)
@@ -80,4 +80,4 @@ right_node-whole nodes count node right =
     let whole : headings_of (take count nodes) ++ headings_of (drop count nodes) ≡ headings_of nodes =
     sym (headings_of-append (take count nodes) (drop count nodes)) ∙ ap headings_of (take-append-drop count nodes) in
     subst (λ (before : List Heading). IsRightNode before node) whole
-        (right_node-append (headings_of (take count nodes)) (headings_of (drop count nodes)) node right)
+    (right_node-append (headings_of (take count nodes)) (headings_of (drop count nodes)) node right)

@@ -65,7 +65,7 @@ module _ (board : Board) (player : Colour) where
     no_links none all given =
         let P : List Step → Type 0 = λ ss. AreRightSteps board player [] ss all in
         let on : GoesOn [] (take place steps) step =
-            next_gives [] (take place steps) step (drop (place + 1) steps) all (subst P whole given.right) in
+        next_gives [] (take place steps) step (drop (place + 1) steps) all (subst P whole given.right) in
         let same : on.links ≡ links = one_list [] (take place steps) on.links links on.right right in
         let Q : List Link → Type 0 = λ ls. StepGives board player ls step on.link in
         none on.link (subst Q same on.gives)

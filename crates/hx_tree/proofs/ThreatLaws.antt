@@ -40,9 +40,15 @@ shared_or_outside links [] cell each = inl none
 shared_or_outside links (place ∷ places) cell each =
     ⊎_elim
     (λ here. ⊎_elim (λ rest. inl (shared here rest)) (λ later. inr (outside_later later))
-        (shared_or_outside links places cell (λ k. each (suc k))))
-    (λ without. inr (record { place = place; is_threat = (0, omega arith, refl); link = without.link; there = without.there; outside =
-        without.outside }))
+    (shared_or_outside links places cell (λ k. each (suc k))))
+    (λ without. inr (record {
+      place = place;
+      is_threat = (0, omega arith, refl);
+      link = without.link;
+      there = without.there;
+      outside =
+          without.outside;
+    }))
     (in_or_outside links place cell (slice_get links place) refl (each zero))
   where
     shared : IsSomeAnd (slice_get links place) (λ link. has link.carrier cell ≡ true) → IsInEachThreat links places cell
@@ -64,7 +70,7 @@ pub outside-not_shared : (links : List Link) (threats : List ℕ) (cell : ℕ) �
 outside-not_shared links threats cell outside shared =
     let Q : Option Link → Type 0 = λ o. IsSomeAnd o (λ link. has link.carrier cell ≡ true) in
     false≢true (sym outside.outside
-        ∙ subst Q outside.there (of_contained (λ (place : ℕ). Q (slice_get links place)) threats outside.place shared outside.is_threat))
+    ∙ subst Q outside.there (of_contained (λ (place : ℕ). Q (slice_get links place)) threats outside.place shared outside.is_threat))
 
 -- ---- threats one after the other
 
@@ -117,7 +123,7 @@ module _ (board : Board) (links : List Link) (threats : List ℕ) where
             λ member.
                 let was = (before.cells cell).0 (has-intersection_left shared carrier cell member) in
                 let here : has threat.link.carrier cell ≡ true = ap (λ c. has c cell) threat.carrier_is
-                    ∙ has-intersection_right shared carrier cell member in
+                ∙ has-intersection_right shared carrier cell member in
                 (was.0, more (IsIn cell) count place less is was.1 (subst (In cell) (sym threat.there) here)),
             λ both.
                 let here : has threat.link.carrier cell ≡ true =

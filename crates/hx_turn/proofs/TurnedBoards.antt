@@ -75,7 +75,7 @@ pub turned-back : (board turned : Board) → IsBoard board → IsTurned board tu
 turned-back board turned is turn =
     mirrors-turned turned board
     (let P : Extent → Type 0 = λ size. Mirrors size turned board in
-        subst P (sym turn.same_size) (exchanged board.size board turned (turned-mirrors board turned is turn)))
+    subst P (sym turn.same_size) (exchanged board.size board turned (turned-mirrors board turned is turn)))
     is
 
 -- a board has one turned board

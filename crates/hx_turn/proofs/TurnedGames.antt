@@ -41,6 +41,7 @@ module _ (size : Extent) (player : Colour) where
 pub keeps_winner : (board : Board) (mover player : Colour) (turned : Board) → IsBoard board → IsTurned board turned
     → KeepsWinner board mover player turned
 keeps_winner board mover player turned is turn =
-    let m = turned-mirrors board turned is turn in
-    (wins-turned board.size player board turned mover m,
-        wins-turned board.size player turned board mover (exchanged board.size board turned m))
+    let m = turned-mirrors board turned is turn in (
+      wins-turned board.size player board turned mover m,
+      wins-turned board.size player turned board mover (exchanged board.size board turned m),
+    )

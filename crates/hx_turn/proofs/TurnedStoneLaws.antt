@@ -57,7 +57,7 @@ comes size set (suc bound) cell below member = ⊎_elim
     (λ (same : cell ≡ bound).
     let P : ℕ → Type 0 = λ n. has (turned_cells size set (suc bound)) (turned_cell size n) ≡ true in
     subst P (sym same) (added_same (has set bound) (turned_cells size set bound) (turned_cell size bound)
-        (ap (has set) (sym same) ∙ member)))
+    (ap (has set) (sym same) ∙ member)))
     (λ (other : cell ≡ bound → ⊥).
     added_other (has set bound) (turned_cells size set bound) (turned_cell size bound) (turned_cell size cell)
     (comes size set bound cell (omega (arith, below, other)) member))
@@ -73,7 +73,7 @@ module _ (size : Extent) (extent : IsExtent size.rows size.cols) (set : ℕ)
         let on : OnBoard size from.cell = inside from.cell from.member in
         let P : ℕ → Type 0 = λ n. OnBoard size n × (has set (turned_cell size n) ≡ true) in
         subst P (sym from.same)
-            (on_board-turned size extent from.cell on, ap (has set) (turned-turned size extent from.cell on) ∙ from.member)),
+        (on_board-turned size extent from.cell on, ap (has set) (turned-turned size extent from.cell on) ∙ from.member)),
     (λ w.
         let turned : OnBoard size (turned_cell size cell) = on_board-turned size extent cell w.0 in
         ap (has (turned_cells size set CELLS)) (sym (turned-turned size extent cell w.0))
@@ -97,7 +97,7 @@ pub turned_of-twice : (board : Board) → IsBoard board → turned_of (turned_of
 turned_of-twice board is =
     let turn : IsTurned board (turned_of board) = turned_of-is board is in
     sym (is-turned_of (turned_of board) board (turned-is_board board (turned_of board) is turn)
-        (turned-back board (turned_of board) is turn))
+    (turned-back board (turned_of board) is turn))
 
 module _ (board : Board) (is : IsBoard board) (cell : ℕ) (empty : IsEmpty board cell) where
   mirrors : Mirrors board.size board (turned_of board)

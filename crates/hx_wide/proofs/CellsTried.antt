@@ -26,9 +26,9 @@ pub one_line-more : (cells left i : ℕ) (lines : List Line) (line : Line) → i
     → AreWithout cells left (take i lines) → AreWithout cells (remove left (cell_of line)) (take (i + 1) lines)
 one_line-more cells left i lines line less is before =
     let more : take (i + 1) lines ≡ take i lines ++ line ∷ [] = take_more lines i line less
-        ∙ ap (λ (l : Line). take i lines ++ l ∷ []) (sym is) in
+    ∙ ap (λ (l : Line). take i lines ++ l ∷ []) (sym is) in
     let split : cells_of (take (i + 1) lines) ≡ cells_of (take i lines) ++ cell_of line ∷ [] = ap cells_of more
-        ∙ map-append cell_of (take i lines) (line ∷ []) in
+    ∙ map-append cell_of (take i lines) (line ∷ []) in
     let among : (cell : ℕ) → Contains (cells_of (take i lines) ++ cell_of line ∷ []) cell → Contains (cells_of (take (i + 1) lines)) cell =
     λ cell found. subst (λ (cs : List ℕ). Contains cs cell) (sym split) found in
     record {
@@ -36,7 +36,7 @@ one_line-more cells left i lines line less is before =
       kept = λ cell member none. has-remove_other left (cell_of line) cell
           (λ same. none (among cell (Contains-append_right (cells_of (take i lines)) (cell_of line ∷ []) cell (0, omega arith, sym same))))
           (before.kept cell member
-              (λ found. none (among cell (Contains-append_left (cells_of (take i lines)) (cell_of line ∷ []) cell found))));
+          (λ found. none (among cell (Contains-append_left (cells_of (take i lines)) (cell_of line ∷ []) cell found))));
     }
 
 -- ---- cells that were tried
@@ -55,10 +55,10 @@ tried-earlier first old new board player grown (inr was) = inr (seen-within _ fi
 pub one_tried-more : (first old new : List Node) (next : ℕ → Board) (player : Colour) (cells left cell : ℕ) → Extends old first
     → Extends new old
     → ((n : ℕ) → has cells n ≡ true → has left n ≡ false → IsListedOrUnserved first old (next n) player)
-        → IsListedOrUnserved old new (next cell) player
+    → IsListedOrUnserved old new (next cell) player
     → (n : ℕ) → has cells n ≡ true → has (remove left cell) n ≡ false → IsListedOrUnserved first new (next n) player
 one_tried-more first old new next player cells left cell one two before now n member gone = ⊎_elim
     (λ same. subst (λ (m : ℕ). IsListedOrUnserved first new (next m) player) (sym same)
-        (tried-earlier first old new (next cell) player one now))
+    (tried-earlier first old new (next cell) player one now))
     (λ out. tried-later first old new (next n) player two (before n member out))
     (removed_cases left cell n gone)

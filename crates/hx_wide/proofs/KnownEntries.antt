@@ -82,24 +82,28 @@ found_known list board mover found is =
     let node : Node = is.first.entry.node in
     get-map (λ (n : Node). n.heading) list found.index node is.first.entry.there
     ∙ ap Some (same_heading node.heading board mover found.winner is.first.entry.is_of.same_position is.first.entry.is_of.same_mover
-        (sym is.same_winner))
+    (sym is.same_winner))
 
 pub wider_known : (list : List Node) (board : Board) (mover : Colour) (wider : Wider)
     → IsWiderFound list board mover wider.found.winner wider
     → slice_get (headings_of list) wider.found.index ≡ Some
-        (record { position = wider.position; to_move = mover; winner = wider.found.winner })
+    (record { position = wider.position; to_move = mover; winner = wider.found.winner })
 wider_known list board mover wider is =
     let node : Node = is.entry.node in
     get-map (λ (n : Node). n.heading) list wider.found.index node is.entry.there
     ∙ ap Some (same_heading node.heading wider.position mover wider.found.winner
-        (sym is.same_position) is.entry.is_wider.same_mover is.entry.is_wider.same_winner)
+    (sym is.same_position) is.entry.is_wider.same_mover is.entry.is_wider.same_winner)
 
 -- it stays so in a list that grew
 pub wider_found-later : (new old : List Node) (board : Board) (mover : Colour) (wider : Wider) → Extends new old
     → IsWiderFound old board mover wider.found.winner wider → IsWiderFound new board mover wider.found.winner wider
 wider_found-later new old board mover wider grown is = record {
-  entry = record { node = is.entry.node; there = node-later new old wider.found.index is.entry.node grown is.entry.there; is_wider =
-      is.entry.is_wider };
+  entry = record {
+    node = is.entry.node;
+    there = node-later new old wider.found.index is.entry.node grown is.entry.there;
+    is_wider =
+        is.entry.is_wider;
+  };
   same_winner = is.same_winner;
   same_position = is.same_position;
 }

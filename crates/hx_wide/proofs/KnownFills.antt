@@ -16,7 +16,7 @@ use Rattle.hx_nodes.proofs.MoveNodes.{node_of}
 pub known_fill_right : (headings : List Heading) (board final : Board) (mover winner : Colour) (steps : List FillStep) (child : ℕ)
     → IsBoard board
     → slice_get headings child ≡ Some (record { position = final; to_move = mover; winner = winner }) → steps ≢ []
-        → LeadTo board winner steps final
+    → LeadTo board winner steps final
     → IsRightNode headings (node_of board mover winner (Fill steps child))
 known_fill_right headings board final mover winner steps child valid there some lead =
     let P : Option Heading → Type 0 = λ heading. IsSomeAnd heading (IsHeading (filled_all board winner steps) mover winner) in

@@ -58,7 +58,7 @@ pub unserved_of : (first old mid new : List Node) (board : Board) (player : Colo
     → Extends old first → Extends mid old
     → Extends new mid → ((cell : ℕ) → has cells cell ≡ true → ¬ HasLineFor under cell → has tried cell ≡ true)
     → ((cell : ℕ) → has tried cell ≡ true → IsListedOrUnserved old mid (put board (other_of player) cell) player)
-        → HasLacking mid new board player cells under
+    → HasLacking mid new board player cells under
     → HasUnservedOf first new board player cells under
 unserved_of first old mid new board player cells tried under one two three all each lacking =
     let next : Board = put board (other_of player) lacking.cell in

@@ -31,7 +31,7 @@ union-moved : (set left cell : ℕ) → has left cell ≡ true → union (insert
 union-moved set left cell member = same_set _ _ (λ n.
     has-union (insert set cell) (remove left cell) n
     ∙ rw (has-insert set cell n, has-remove left cell n)
-        (moved (eqb n cell) (has set n) (has left n) (λ same. ap (λ (x : ℕ). has left x) (eqb-true n cell same) ∙ member))
+    (moved (eqb n cell) (has set n) (has left n) (λ same. ap (λ (x : ℕ). has left x) (eqb-true n cell same) ∙ member))
     ∙ sym (has-union set left n))
   where
     moved : (same here there : Bool) → (same ≡ true → there ≡ true) → ((same || here) || (there && not same)) ≡ (here || there)
@@ -96,8 +96,8 @@ module _ (board : Board) (winner : Colour) (cells : ℕ) where
       let on_board : (n : ℕ) → has left n ≡ true → OnBoard board.size n =
       λ n member. subst (λ (size : Extent). OnBoard size n) (size-filled_all board winner steps) (is.empty n member).on_board in
       let zero : left ≡ 0 =
-          same_set left 0 (λ n. false_from_ne_true _ (λ member. false≢true (sym (none n (on_board n member)) ∙ member))
-          ∙ sym (has-empty n)) in
+      same_set left 0 (λ n. false_from_ne_true _ (λ member. false≢true (sym (none n (on_board n member)) ∙ member))
+      ∙ sym (has-empty n)) in
       record {
         right = is.right;
         same = sym (put_set-none mid (other_of winner)) ∙ ap (put_set mid (other_of winner)) (sym zero) ∙ is.same;
@@ -131,7 +131,7 @@ module _ (board there : Board) (winner : Colour) (is : IsBoard there) (size : th
     (own : stones_of there winner ≡ stones_of board winner)
     (inside : IsSubset (stones_of board (other_of winner)) (stones_of there (other_of winner)))
     (here_empties there_empties : ℕ) (here : (n : ℕ) → (has here_empties n ≡ true) ↔ IsEmpty board n)
-        (after : (n : ℕ) → (has there_empties n ≡ true) ↔ IsEmpty there n) where
+    (after : (n : ℕ) → (has there_empties n ≡ true) ↔ IsEmpty there n) where
   pub missing_empty : (n : ℕ) → has (difference here_empties there_empties) n ≡ true → IsEmpty board n
   missing_empty n member = (here n).0 (has-difference_left here_empties there_empties n member)
 
@@ -141,8 +141,8 @@ module _ (board there : Board) (winner : Colour) (is : IsBoard there) (size : th
       let on : OnBoard there.size n = subst (λ (s : Extent). OnBoard s n) (sym size) empty.on_board in
       let not_own : has (stones_of there winner) n ≡ false = ap (λ (s : ℕ). has s n) own ∙ no_stone board winner n empty in
       true_from_ne_false _ (λ none.
-          false≢true (sym (has-difference_right here_empties there_empties n member)
-          ∙ (after n).1 (empty_of there winner n on not_own none)))
+      false≢true (sym (has-difference_right here_empties there_empties n member)
+      ∙ (after n).1 (empty_of there winner n on not_own none)))
 
   is_missing : (n : ℕ) → has (stones_of there (other_of winner)) n ≡ true → has (stones_of board (other_of winner)) n ≡ false
       → has (difference here_empties there_empties) n ≡ true
@@ -156,7 +156,7 @@ module _ (board there : Board) (winner : Colour) (is : IsBoard there) (size : th
   others : union (stones_of board (other_of winner)) (difference here_empties there_empties) ≡ stones_of there (other_of winner)
   others = same_set _ _ (λ n. same_test _ _
       (λ member. ⊎_elim (inside n) (was_missing n)
-          (has-union_cases (stones_of board (other_of winner)) (difference here_empties there_empties) n member))
+      (has-union_cases (stones_of board (other_of winner)) (difference here_empties there_empties) n member))
       (λ stone. by_member (stones_of board (other_of winner)) n
       (λ member. has-union_left (stones_of board (other_of winner)) (difference here_empties there_empties) n member)
       (λ lacks. has-union_right (stones_of board (other_of winner)) (difference here_empties there_empties) n (is_missing n stone lacks))))
@@ -178,7 +178,7 @@ module _ (board there : Board) (winner : Colour) (is : IsBoard there) (size : th
 pub wider_missing : (list : List Node) (board : Board) (mover : Colour) (wider : Wider)
     → IsWiderFound list board mover wider.found.winner wider → IsBoard wider.position
     → (here_empties there_empties : ℕ) → ((n : ℕ) → (has here_empties n ≡ true) ↔ IsEmpty board n)
-        → ((n : ℕ) → (has there_empties n ≡ true) ↔ IsEmpty wider.position n)
+    → ((n : ℕ) → (has there_empties n ≡ true) ↔ IsEmpty wider.position n)
     → put_set board (other_of wider.found.winner) (difference here_empties there_empties) ≡ wider.position
 wider_missing list board mover wider found is here_empties there_empties here after =
     let winner : Colour = wider.found.winner in
@@ -186,7 +186,7 @@ wider_missing list board mover wider found is here_empties there_empties here af
     (ap (λ (b : Board). b.size) found.same_position ∙ found.entry.is_wider.same_size)
     (ap (λ (b : Board). stones_of b winner) found.same_position ∙ found.entry.is_wider.same_stones)
     (subst (λ (b : Board). IsSubset (stones_of board (other_of winner)) (stones_of b (other_of winner)))
-        (sym found.same_position) found.entry.is_wider.has_opponents)
+    (sym found.same_position) found.entry.is_wider.has_opponents)
     here_empties there_empties here after
 
 -- no step leads nowhere else

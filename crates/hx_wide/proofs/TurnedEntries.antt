@@ -34,7 +34,7 @@ module _ (board other there wide : Board) (player : Colour) (is : IsBoard board)
   pub carried-back : IsSubset (stones_of other player) (stones_of there player) → IsSubset (stones_of board player) (stones_of wide player)
   carried-back inside n member =
       let at : OnBoard other.size n × (has (stones_of other player) (turned_cell other.size n) ≡ true) =
-          ((turned-back board other is turn).stones player n).0 member in
+      ((turned-back board other is turn).stones player n).0 member in
       let P : Extent → Type 0 = λ s. OnBoard s n × (has (stones_of there player) (turned_cell s n) ≡ true) in
       (back.stones player n).1 (subst P (sym size) (at.0, inside (turned_cell other.size n) at.1))
 
@@ -49,7 +49,7 @@ module _ (board other there wide : Board) (player : Colour) (is : IsBoard board)
 -- a heading of the wide position serves the board, where the one of the position that it was turned from serves the turned board
 pub turned_wider : (board other wide : Board) (mover winner : Colour) (from to : Heading) → IsBoard board → IsTurned board other
     → IsTurned from.position wide → IsWider from other mover winner → to.position ≡ wide → to.to_move ≡ mover → to.winner ≡ winner
-        → IsWider to board mover winner
+    → IsWider to board mover winner
 turned_wider board other wide mover winner from to is turn back wider same same_mover same_winner = record {
   same_size = ap (λ (b : Board). b.size) same ∙ back.same_size ∙ wider.same_size ∙ turn.same_size;
   same_mover = same_mover;

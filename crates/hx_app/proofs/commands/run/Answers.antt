@@ -46,7 +46,7 @@ returns-in-Some-Solve-clause-solve g c = λ settings solve.
 pub returns-in-Some-Solve-clause-htp : goal.returns-in-Some-Solve-clause-htp
 returns-in-Some-Solve-clause-htp g c = λ settings session.
     absurd (solved_not_served _ _ settings
-        (rw (c.in-Some-Solve.field-0-is, c.in-Some-Solve.settings-is) at c.in-Some-Solve.ensures.finds) session)
+    (rw (c.in-Some-Solve.field-0-is, c.in-Some-Solve.settings-is) at c.in-Some-Solve.ensures.finds) session)
 
 pub returns-in-Some-Htp-clause-run : goal.returns-in-Some-Htp-clause-run
 returns-in-Some-Htp-clause-run g c =
@@ -67,7 +67,7 @@ returns-in-Some-Htp-clause-htp g c = λ settings session.
     served_kept (g.S.Source.reading c.args.source.now) (g.S.Source.reading c.run_session.new.source)
     (g.K.Sink.writing c.args.sink.now) (g.K.Sink.writing c.run_session.new.sink)
     _ _ _ settings (rw (c.in-Some-Htp.field-0-is, c.in-Some-Htp.settings-is) at c.in-Some-Htp.ensures.finds) session
-        c.run_session.ensures.promises
+    c.run_session.ensures.promises
 
 pub returns-in-None-clause-check : goal.returns-in-None-clause-check
 returns-in-None-clause-check g c = λ check. absurd (c.in-None.ensures.finds Check check)
@@ -85,12 +85,12 @@ returns-in-Some-Check-clause-demo g c = λ seed settings draw.
 pub returns-in-Some-Solve-clause-demo : goal.returns-in-Some-Solve-clause-demo
 returns-in-Some-Solve-clause-demo g c = λ seed settings draw.
     absurd (solved_not_drawn _ seed _ settings
-        (rw (c.in-Some-Solve.field-0-is, c.in-Some-Solve.settings-is) at c.in-Some-Solve.ensures.finds) draw)
+    (rw (c.in-Some-Solve.field-0-is, c.in-Some-Solve.settings-is) at c.in-Some-Solve.ensures.finds) draw)
 
 pub returns-in-Some-Htp-clause-demo : goal.returns-in-Some-Htp-clause-demo
 returns-in-Some-Htp-clause-demo g c = λ seed settings draw.
     absurd (served_not_drawn _ seed _ settings
-        (rw (c.in-Some-Htp.field-0-is, c.in-Some-Htp.settings-is) at c.in-Some-Htp.ensures.finds) draw)
+    (rw (c.in-Some-Htp.field-0-is, c.in-Some-Htp.settings-is) at c.in-Some-Htp.ensures.finds) draw)
 
 pub returns-in-None-clause-demo : goal.returns-in-None-clause-demo
 returns-in-None-clause-demo g c = λ seed settings draw. absurd (c.in-None.ensures.finds (Demo seed settings) draw)
@@ -102,12 +102,12 @@ returns-in-Some-Check-clause-unread g c = λ seed settings draw.
 pub returns-in-Some-Solve-clause-unread : goal.returns-in-Some-Solve-clause-unread
 returns-in-Some-Solve-clause-unread g c = λ seed settings draw.
     absurd (solved_not_drawn _ seed _ settings
-        (rw (c.in-Some-Solve.field-0-is, c.in-Some-Solve.settings-is) at c.in-Some-Solve.ensures.finds) draw)
+    (rw (c.in-Some-Solve.field-0-is, c.in-Some-Solve.settings-is) at c.in-Some-Solve.ensures.finds) draw)
 
 pub returns-in-Some-Htp-clause-unread : goal.returns-in-Some-Htp-clause-unread
 returns-in-Some-Htp-clause-unread g c = λ seed settings draw.
     absurd (served_not_drawn _ seed _ settings
-        (rw (c.in-Some-Htp.field-0-is, c.in-Some-Htp.settings-is) at c.in-Some-Htp.ensures.finds) draw)
+    (rw (c.in-Some-Htp.field-0-is, c.in-Some-Htp.settings-is) at c.in-Some-Htp.ensures.finds) draw)
 
 pub returns-in-None-clause-unread : goal.returns-in-None-clause-unread
 returns-in-None-clause-unread g c = λ seed settings draw. absurd (c.in-None.ensures.finds (Demo seed settings) draw)
@@ -117,7 +117,7 @@ returns-in-Some-Demo-clause-run g c =
     drew_run _ (g.S.Source.reading c.args.source.now) (g.S.Source.reading c.args.source.now)
     (g.K.Sink.writing c.args.sink.now) (g.K.Sink.writing c.run_demo.new.sink)
     _ _ _ (rw (c.in-Some-Demo.field-0-is, c.in-Some-Demo.seed-is, c.in-Some-Demo.settings-is) at c.in-Some-Demo.ensures.finds) refl
-        c.run_demo.ensures.run
+    c.run_demo.ensures.run
 
 pub returns-in-Some-Demo-clause-check : goal.returns-in-Some-Demo-clause-check
 returns-in-Some-Demo-clause-check g c = λ check.
@@ -127,16 +127,16 @@ returns-in-Some-Demo-clause-check g c = λ check.
 pub returns-in-Some-Demo-clause-solve : goal.returns-in-Some-Demo-clause-solve
 returns-in-Some-Demo-clause-solve g c = λ settings solve.
     absurd (solved_not_drawn _ _ settings _ solve
-        (rw (c.in-Some-Demo.field-0-is, c.in-Some-Demo.seed-is, c.in-Some-Demo.settings-is) at c.in-Some-Demo.ensures.finds))
+    (rw (c.in-Some-Demo.field-0-is, c.in-Some-Demo.seed-is, c.in-Some-Demo.settings-is) at c.in-Some-Demo.ensures.finds))
 
 pub returns-in-Some-Demo-clause-htp : goal.returns-in-Some-Demo-clause-htp
 returns-in-Some-Demo-clause-htp g c = λ settings session.
     absurd (served_not_drawn _ _ settings _ session
-        (rw (c.in-Some-Demo.field-0-is, c.in-Some-Demo.seed-is, c.in-Some-Demo.settings-is) at c.in-Some-Demo.ensures.finds))
+    (rw (c.in-Some-Demo.field-0-is, c.in-Some-Demo.seed-is, c.in-Some-Demo.settings-is) at c.in-Some-Demo.ensures.finds))
 
 pub returns-in-Some-Demo-clause-demo : goal.returns-in-Some-Demo-clause-demo
 returns-in-Some-Demo-clause-demo g c = λ seed settings draw.
     drew_kept (g.K.Sink.writing c.args.sink.now) (g.K.Sink.writing c.run_demo.new.sink)
     _ _ _ seed _ settings
-        (rw (c.in-Some-Demo.field-0-is, c.in-Some-Demo.seed-is, c.in-Some-Demo.settings-is) at c.in-Some-Demo.ensures.finds) draw
-        c.run_demo.ensures.promises
+    (rw (c.in-Some-Demo.field-0-is, c.in-Some-Demo.seed-is, c.in-Some-Demo.settings-is) at c.in-Some-Demo.ensures.finds) draw
+    c.run_demo.ensures.promises

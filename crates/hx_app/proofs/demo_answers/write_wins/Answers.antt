@@ -11,4 +11,4 @@ returns-in-Ok g c =
 pub returns-in-Err : goal.returns-in-Err
 returns-in-Err g c =
     WritesAll-cut _ _ _ (numbered_text (codes " black ") c.args.wins.now.black)
-        (numbered_text (codes " white ") c.args.wins.now.white) c.in-Err.ensures
+    (numbered_text (codes " white ") c.args.wins.now.white) c.in-Err.ensures

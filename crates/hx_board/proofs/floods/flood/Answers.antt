@@ -21,4 +21,4 @@ returns-then-eq c =
     rw c.union.ensures.set
     (flood-is _ _ _ _ _ c.own-own.ensures.own c.spread-near.ensures
     (rw (c.union-next.ensures.set, c.meet.ensures.set) at (eqb-true _ _ (sym c.eq.ensures ∙ c.if-eq.true))) _ c.requires
-        c.loop-own.invariant)
+    c.loop-own.invariant)

@@ -19,7 +19,7 @@ returns-then-eq c =
     rw c.union-reach.ensures.set
     (all-are_reached _ _ _ _ _ c.own-own.ensures.own c.spread-near.ensures
     (rw (c.union-next.ensures.set, c.meet.ensures.set) at (eqb-true _ _ (sym c.eq.ensures ∙ c.if-eq.true))) _ _ c.requires
-        c.loop-wanted.invariant)
+    c.loop-wanted.invariant)
 
 pub loop-wanted-smaller : goal.loop-wanted-smaller
 loop-wanted-smaller c =

@@ -11,7 +11,7 @@ loop-vertex-init c = none-reached _ _ _ _
 pub reached_from-requires : goal.reached_from-requires
 reached_from-requires c =
     next-vertex _ c.args.graph.now.player c.own-own.ensures.valid.0 _ c.requires _ _ c.loop-vertex.invariant _
-        c.in-Some.ensures.first.member
+    c.in-Some.ensures.first.member
     c.in-Some.ensures.some
 
 pub returns-then-not-inside : goal.returns-then-not-inside

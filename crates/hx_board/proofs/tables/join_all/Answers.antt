@@ -13,10 +13,14 @@ loop-vertex-init c = joined_none _ _ c.told-sets
 pub loop-vertex-preserved : goal.loop-vertex-preserved
 loop-vertex-preserved c =
     let within : c.code-index.result < length c.loop-vertex.sets = rw c.loop-vertex.invariant.count c.code-index.ensures.small in
-    rw (c.union.ensures.set, read-is c.loop-vertex.sets c.code-index.result c.index-sets-index.result within c.index-sets-index.is,
-        c.without_lowest-waiting.ensures _ c.in-Some.ensures.first, ← c.code-index.ensures.value)
+    rw (
+      c.union.ensures.set,
+      read-is c.loop-vertex.sets c.code-index.result c.index-sets-index.result within c.index-sets-index.is,
+      c.without_lowest-waiting.ensures _ c.in-Some.ensures.first,
+      ← c.code-index.ensures.value,
+    )
     (joined_more _ _ _ _ _ _ c.code-index.ensures.small
-        (rw c.code-index.ensures.value c.in-Some.ensures.first.member) refl c.loop-vertex.invariant)
+    (rw c.code-index.ensures.value c.in-Some.ensures.first.member) refl c.loop-vertex.invariant)
 
 pub loop-vertex-smaller : goal.loop-vertex-smaller
 loop-vertex-smaller c = rw (c.without_lowest-waiting.ensures _ c.in-Some.ensures.first) (remove-lt _ _ c.in-Some.ensures.first.member)

@@ -4,7 +4,7 @@ use Rattle.hx_board.proofs.tables.join_groups.Goals as goal
 pub flood-reach-requires : goal.flood-reach-requires
 flood-reach-requires c =
     start-vertex _ _ c.own-waiting.ensures.valid.0 _ c.own-waiting.ensures.own _ _ _ c.loop-start.invariant c.in-Some.ensures.first.member
-        c.in-Some.ensures.some
+    c.in-Some.ensures.some
 
 pub loop-start-init : goal.loop-start-init
 loop-start-init c = over_none _ _ c.own-waiting.ensures.valid.0 _ c.own-waiting.ensures.own _ c.requires

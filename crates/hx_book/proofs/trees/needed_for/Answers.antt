@@ -21,16 +21,16 @@ loop-bound-preserved-then-index c =
     let was : AreMarkedFrom c.args.nodes.now c.args.root (c.loop-bound.bound - 1 + 1) c.loop-bound.marks.items =
     subst (λ (b : ℕ). AreMarkedFrom c.args.nodes.now c.args.root b c.loop-bound.marks.items) up c.loop-bound.invariant.marked in
     let inside : c.loop-bound.bound - 1 < length c.args.nodes.now =
-        omega (arith, c.loop-bound-test.true, c.loop-bound.invariant.within, c.requires.inside) in
+    omega (arith, c.loop-bound-test.true, c.loop-bound.invariant.within, c.requires.inside) in
     let inside_marks : c.loop-bound.bound - 1 < length c.loop-bound.marks.items =
-        omega (arith, inside, c.loop-bound.invariant.marked.long) in
+    omega (arith, inside, c.loop-bound.invariant.marked.long) in
     let here : IsMarked c.loop-bound.marks.items (c.loop-bound.bound - 1) =
-        read-or c.loop-bound.marks.items (c.loop-bound.bound - 1) c.index.result.now false inside_marks c.index.ensures ∙ c.if-index.true in
+    read-or c.loop-bound.marks.items (c.loop-bound.bound - 1) c.index.result.now false inside_marks c.index.ensures ∙ c.if-index.true in
     let there : slice_get c.args.nodes.now (c.loop-bound.bound - 1) ≡ Some c.index-nodes-bound.result =
     slice_get_read c.args.nodes.now _ (c.loop-bound.bound - 1) c.index-nodes-bound.result refl inside c.index-nodes-bound.is in
     let more : MarksMore (Names c.index-nodes-bound.result.rule) c.loop-bound.marks.items c.mark_children.new.marks.items =
     subst (λ (n : Node). MarksMore (Names n.rule) c.loop-bound.marks.items c.mark_children.new.marks.items)
-        (sym c.index-nodes-bound.is) c.mark_children.ensures in
+    (sym c.index-nodes-bound.is) c.mark_children.ensures in
     record {
       marked = marked-more c.args.nodes.now c.requires.right c.args.root
           (c.loop-bound.bound - 1) c.loop-bound.marks.items was c.index-nodes-bound.result there here c.mark_children.new.marks.items more;
@@ -46,7 +46,7 @@ loop-bound-preserved c =
     omega (arith, c.loop-bound-test.true, c.loop-bound.invariant.within, c.requires.inside, c.loop-bound.invariant.marked.long) in
     let none : IsMarked c.loop-bound.marks.items (c.loop-bound.bound - 1) → ⊥ = λ h.
     false≢true (sym (read-or c.loop-bound.marks.items (c.loop-bound.bound - 1) c.index.result.now false inside_marks c.index.ensures
-        ∙ c.if-index.false) ∙ h) in
+    ∙ c.if-index.false) ∙ h) in
     record {
       marked = marked-skip c.args.nodes.now c.requires.right c.args.root (c.loop-bound.bound - 1) c.loop-bound.marks.items was none;
       within = omega (arith, c.loop-bound.invariant.within);

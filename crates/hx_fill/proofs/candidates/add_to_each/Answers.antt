@@ -18,8 +18,12 @@ loop-place-preserved c =
     rw (c.with.ensures.set, c.without-left.ensures.set, c.index-index.ensures.value)
     (added_more (OnBoard c.args.size) c.args.places c.args.cell c.args.sets.now c.loop-place.sets c.loop-place.left c.in-Some.place
     (get_or c.loop-place.sets c.in-Some.place c.index-sets-index.result) c.index-index.ensures.small
-        (read-is c.loop-place.sets c.in-Some.place c.index-sets-index.result within row) c.loop-place.invariant)
+    (read-is c.loop-place.sets c.in-Some.place c.index-sets-index.result within row) c.loop-place.invariant)
 
 pub returns : goal.returns
-returns c = record { count = c.loop-place.invariant.count; kept = c.loop-place.invariant.kept; added = λ n on here.
-    c.loop-place.invariant.added n on here (c.in_default.ensures n on) }
+returns c = record {
+  count = c.loop-place.invariant.count;
+  kept = c.loop-place.invariant.kept;
+  added = λ n on here.
+      c.loop-place.invariant.added n on here (c.in_default.ensures n on);
+}

@@ -13,7 +13,7 @@ without_lowest-left-requires c = some_member _ _ c.in-Some.ensures.first
 pub narrowed-found-requires-clause-vertex : goal.narrowed-found-requires-clause-vertex
 narrowed-found-requires-clause-vertex c =
     code-vertex _ c.in-Some.vertex
-        (c.requires.around _ (c.loop-vertex.invariant.inside _ c.in-Some.ensures.first.member)) c.in-Some.ensures.some
+    (c.requires.around _ (c.loop-vertex.invariant.inside _ c.in-Some.ensures.first.member)) c.in-Some.ensures.some
 
 pub loop-vertex-smaller : goal.loop-vertex-smaller
 loop-vertex-smaller c = rw (c.without_lowest-left.ensures _ c.in-Some.ensures.first) (remove-lt _ _ c.in-Some.ensures.first.member)
@@ -23,9 +23,10 @@ loop-vertex-preserved c =
     let in_around = c.loop-vertex.invariant.inside _ c.in-Some.ensures.first.member in
     let extent = rw c.position.ensures at c.size-size.ensures.valid.0 in
     rw (c.without_lowest-left.ensures _ c.in-Some.ensures.first) (record {
-      narrowed = narrowed_more _ _ _ _ extent c.loop-vertex.left c.in-Some.vertex c.loop-vertex.found _
-          (code-vertex _ c.in-Some.vertex (c.requires.around _ in_around) c.in-Some.ensures.some,
-              in_around) c.loop-vertex.invariant.narrowed c.narrowed-found.ensures;
+      narrowed = narrowed_more _ _ _ _ extent c.loop-vertex.left c.in-Some.vertex c.loop-vertex.found _ (
+        code-vertex _ c.in-Some.vertex (c.requires.around _ in_around) c.in-Some.ensures.some,
+        in_around,
+      ) c.loop-vertex.invariant.narrowed c.narrowed-found.ensures;
       inside = λ n h. c.loop-vertex.invariant.inside n (has-remove_before c.loop-vertex.left _ n h);
     })
 
@@ -37,7 +38,8 @@ returns-then-has_none c =
     let in_around = c.loop-vertex.invariant.inside _ c.in-Some.ensures.first.member in
     let extent = rw c.position.ensures at c.size-size.ensures.valid.0 in
     narrowed_enough _ _ _ _ _ c.narrowed-found.result (c.has_none.ensures.dead c.if-has_none.true)
-        (c.has_none.ensures.cells c.if-has_none.true)
-    (narrowed_more _ _ _ _ extent c.loop-vertex.left c.in-Some.vertex c.loop-vertex.found _
-    (code-vertex _ c.in-Some.vertex (c.requires.around _ in_around) c.in-Some.ensures.some,
-        in_around) c.loop-vertex.invariant.narrowed c.narrowed-found.ensures)
+    (c.has_none.ensures.cells c.if-has_none.true)
+    (narrowed_more _ _ _ _ extent c.loop-vertex.left c.in-Some.vertex c.loop-vertex.found _ (
+      code-vertex _ c.in-Some.vertex (c.requires.around _ in_around) c.in-Some.ensures.some,
+      in_around,
+    ) c.loop-vertex.invariant.narrowed c.narrowed-found.ensures)

@@ -15,7 +15,7 @@ loop-cell-preserved c = rw (c.without-left.ensures.set, c.union-found.ensures.se
   held = holds-more c.args.view.now.board c.args.view.now.player c.args.cells c.loop-cell.left c.in-Some.cell c.loop-cell.found
       c.reached_around-near.result
       c.loop-cell.invariant.held
-          (holds-open c.args.view.now.board c.args.view.now.player c.in-Some.cell c.open_around-around.result c.reached_around-near.result
+      (holds-open c.args.view.now.board c.args.view.now.player c.in-Some.cell c.open_around-around.result c.reached_around-near.result
       (rw (c.position-in-Some.ensures, c.colour.ensures) at c.open_around-around.ensures) c.reached_around-near.ensures);
 })
 

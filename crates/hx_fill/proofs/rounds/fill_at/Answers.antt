@@ -16,20 +16,20 @@ add-requires c =
     let makers = rw c.requires.colour at c.makers_of-makers.ensures in
     let empty = (c.requires.empties c.args.cell).0 c.requires.empty in
     dead_grown c.args.view.now.board c.args.filled.now.position c.requires.grown c.args.colour c.args.cell empty
-        (makers.dead.0 c.if-makers.true)
+    (makers.dead.0 c.if-makers.true)
 
 pub returns-then-makers-clause-looks : goal.returns-then-makers-clause-looks
 returns-then-makers-clause-looks c =
     let makers = rw c.requires.colour at c.makers_of-makers.ensures in
     let empty = (c.requires.empties c.args.cell).0 c.requires.empty in
     let dead = dead_grown c.args.view.now.board c.args.filled.now.position c.requires.grown c.args.colour c.args.cell empty
-        (makers.dead.0 c.if-makers.true) in
+    (makers.dead.0 c.if-makers.true) in
     fills_dead c.args.view.now.board c.args.filled.now.position _ c.args.colour c.args.cell _ _ dead c.in_ok-add.ensures
 
 pub returns-then-makers-clause-empties : goal.returns-then-makers-clause-empties
 returns-then-makers-clause-empties c =
     rw c.without.ensures.set
-        (empties-dead c.args.filled.now.position _ c.args.colour c.args.cell c.args.empties _ _ c.requires.empties c.in_ok-add.ensures)
+    (empties-dead c.args.filled.now.position _ c.args.colour c.args.cell c.args.empties _ _ c.requires.empties c.in_ok-add.ensures)
 
 pub partner_of-requires-clause-empty : goal.partner_of-requires-clause-empty
 partner_of-requires-clause-empty c =
@@ -43,7 +43,7 @@ add-requires-in-Some c =
     let empty = (c.requires.empties c.args.cell).0 c.requires.empty in
     let other_empty = (c.requires.empties c.in-Some.partner).0 ((makers.cells c.in-Some.partner).0 partner.0).0 in
     pair_grown c.args.view.now.board c.args.filled.now.position c.requires.grown c.args.colour c.args.cell c.in-Some.partner empty
-        other_empty partner.1
+    other_empty partner.1
 
 pub returns-in_ok-add-in-Some-clause-looks : goal.returns-in_ok-add-in-Some-clause-looks
 returns-in_ok-add-in-Some-clause-looks c =
@@ -52,12 +52,12 @@ returns-in_ok-add-in-Some-clause-looks c =
     let empty = (c.requires.empties c.args.cell).0 c.requires.empty in
     let other_empty = (c.requires.empties c.in-Some.partner).0 ((makers.cells c.in-Some.partner).0 partner.0).0 in
     let pair = pair_grown c.args.view.now.board c.args.filled.now.position c.requires.grown c.args.colour c.args.cell c.in-Some.partner
-        empty other_empty partner.1 in
+    empty other_empty partner.1 in
     fills_pair c.args.view.now.board c.args.filled.now.position _ c.args.colour c.args.cell c.in-Some.partner _ _ pair
-        c.in_ok-add-in-Some.ensures
+    c.in_ok-add-in-Some.ensures
 
 pub returns-in_ok-add-in-Some-clause-empties : goal.returns-in_ok-add-in-Some-clause-empties
 returns-in_ok-add-in-Some-clause-empties c =
     rw (c.without-in-Some-2.ensures.set, c.without-in-Some.ensures.set)
     (empties-pair c.args.filled.now.position _ c.args.colour c.args.cell c.in-Some.partner c.args.empties _ _ c.requires.empties
-        c.in_ok-add-in-Some.ensures)
+    c.in_ok-add-in-Some.ensures)

@@ -24,7 +24,7 @@ loop-cell-preserved c = record {
   empties = c.loop-cell.invariant.empties;
   round = rw c.without-left.ensures.set (round_passes _ _ _ c.loop-cell.left c.in-Some.cell _ _
       (λ empty. false≢true (sym c.if-is_empty.false ∙ (c.has-is_empty.ensures ∙ (c.loop-cell.invariant.empties c.in-Some.cell).1 empty)))
-          c.loop-cell.invariant.round);
+      c.loop-cell.invariant.round);
 }
 
 pub returns : goal.returns

@@ -23,5 +23,5 @@ pub returns : goal.returns
 returns c =
     let split = rw c.in-None.ensures.steps.0 at c.loop-place.invariant.split in
     between_sorted c.args.set.now c.loop-place.links.items c.sort_by_key.new.self.items c.live-place-items.result
-        c.loop-place.invariant.each
+    c.loop-place.invariant.each
     (split ∙ c.into_iter-place-iterator.ensures.into_iter_gives) c.live-place-items.ensures.all c.sort_by_key.ensures.permutation

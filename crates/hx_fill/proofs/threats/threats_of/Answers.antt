@@ -25,4 +25,4 @@ pub returns : goal.returns
 returns c = all_taken c.args.set.now c.as_slice-link-items.result.now c.loop-link.link-index c.loop-link.found.places.items
     c.loop-link.found.cells
     (rw (← c.as_slice-link-items.ensures.value) at c.in_ok-links.ensures) c.loop-link-test.false c.loop-link.invariant.threats
-        c.loop-link.invariant.seen
+    c.loop-link.invariant.seen

@@ -9,7 +9,7 @@ loop-fill-preserved c =
     let within = rw c.as_slice-fill-items.ensures.value at c.loop-fill-test.true in
     let item = rw c.as_slice-fill-items.ensures.value at c.fill-item.is in
     c.in_ok-push_steps.ensures
-        ∙ ap (λ xs. xs ++ winner_steps c.args.winner c.fill-item.result.colour c.fill-item.result.step) c.loop-fill.invariant
+    ∙ ap (λ xs. xs ++ winner_steps c.args.winner c.fill-item.result.colour c.fill-item.result.step) c.loop-fill.invariant
     ∙ sym (winner_steps_all-more c.args.winner c.args.filled.now.steps.items c.loop-fill.fill-index c.fill-item.result within item)
 
 pub returns-clause-right : goal.returns-clause-right

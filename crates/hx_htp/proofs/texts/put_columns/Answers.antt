@@ -11,6 +11,9 @@ loop-col-init c = record {
 pub loop-col-preserved : goal.loop-col-preserved
 loop-col-preserved c = record {
   text = put_next _ (32 ∷ []) _ _ _ (λ col. 32 ∷ (97 + col) ∷ []) c.loop-col.invariant.text c.put-in-loop-col.ensures;
-  short = omega (arith, c.loop-col.invariant.short,
-      put_length c.loop-col.text c.put-in-loop-col.new.self (32 ∷ (97 + c.loop-col.col) ∷ []) c.put-in-loop-col.ensures);
+  short = omega (
+    arith,
+    c.loop-col.invariant.short,
+    put_length c.loop-col.text c.put-in-loop-col.new.self (32 ∷ (97 + c.loop-col.col) ∷ []) c.put-in-loop-col.ensures,
+  );
 }

@@ -15,8 +15,8 @@ first_lf bytes (Some place) found = (
   λ lf.
       let below : lf.0 < place = omega (arith, length-take place bytes, lf.1) in
       found.0.before lf.0 (omega arith) below
-          (eq-eqb (get_or bytes lf.0 0) 10
-          (sym (get_or-take place bytes lf.0 0 below) ∙ get_or_default (take place bytes) lf.0 0 10 lf.1 ∙ lf.2)),
+      (eq-eqb (get_or bytes lf.0 0) 10
+      (sym (get_or-take place bytes lf.0 0 below) ∙ get_or_default (take place bytes) lf.0 0 10 lf.1 ∙ lf.2)),
 )
 
 pub returns : goal.returns

@@ -15,12 +15,12 @@ returns-in_default c = λ link g.
 pub returns-in_default-read_parts : goal.returns-in_default-read_parts
 returns-in_default-read_parts c = λ link g.
     no_or-parts _ _ _ c.in-Some.first (slice_get-get_or c.args.places.now 0 0 (omega arith))
-        (sym c.in-Some.ensures) c.in_default-read_parts.ensures link g.rule
+    (sym c.in-Some.ensures) c.in_default-read_parts.ensures link g.rule
 
 pub returns-then-not-none_shared : goal.returns-then-not-none_shared
 returns-then-not-none_shared c = λ link g.
     no_or-shared _ _ _ c.in-Some.first (slice_get-get_or c.args.places.now 0 0 (omega arith))
-        (sym c.in-Some.ensures) _ _ c.in-Some-read_parts.ensures
+    (sym c.in-Some.ensures) _ _ c.in-Some-read_parts.ensures
     (λ e. false≢true (sym c.if-not-none_shared.true ∙ c.is_empty-none_shared.ensures.empty.1 e)) link g.rule
 
 pub returns : goal.returns

@@ -14,7 +14,7 @@ pub returns : goal.returns
 returns c =
     let s : State = record { board = c.args.position.now; links = c.args.links.now; steps = c.args.steps.now } in
     let places : c.in-Ok-names_of.places.items ≡ map (λ (p : ℕ). slice_index c.in-Ok-kept_for.kept.names.items p) c.args.named.now =
-        rw c.as_slice.ensures.value at c.in-Ok-names_of.ensures in
+    rw c.as_slice.ensures.value at c.in-Ok-names_of.ensures in
     rw (places, c.new-steps.ensures)
     (derived c.args.player s c.in-Ok.wanted.marks.items c.args.named.now c.in-Ok.ensures.closed c.in-Ok.ensures.named
-        c.in-Ok-kept_for.kept.steps.items c.in-Ok-kept_for.kept.names.items c.in-Ok-kept_for.ensures)
+    c.in-Ok-kept_for.kept.steps.items c.in-Ok-kept_for.kept.names.items c.in-Ok-kept_for.ensures)

@@ -20,46 +20,54 @@ pub returns : goal.returns
 returns c =
     let s : State = record { board = c.args.position.now; links = c.args.links.now; steps = c.args.steps.now } in
     let none : (place : ℕ) → c.loop-place.bound ≤ place → IsMarked c.args.wanted.now.marks.items place → ⊥ =
-        rw c.as_slice.ensures.value at c.in_default-first_from.ensures in
+    rw c.as_slice.ensures.value at c.in_default-first_from.ensures in
     kept-all c.args.player s c.args.wanted.now.marks.items c.requires.right c.requires.closed c.loop-place.bound c.loop-place.kept.items
-        c.loop-place.names.items c.loop-place.invariant none
+    c.loop-place.names.items c.loop-place.invariant none
 
 pub renamed_step-requires : goal.renamed_step-requires
 renamed_step-requires c = λ part named.
     let s : State = record { board = c.args.position.now; links = c.args.links.now; steps = c.args.steps.now } in
     let at : IsFirstMarkFrom c.args.wanted.now.marks.items c.loop-place.bound c.in-Some.place =
-        rw c.as_slice.ensures.value at c.in-Some.ensures in
+    rw c.as_slice.ensures.value at c.in-Some.ensures in
     let inside : c.in-Some.place < length c.args.steps.now =
-        omega (arith, marked-inside c.args.wanted.now.marks.items c.in-Some.place at.marked, c.requires.closed.long,
-        c.requires.right.steps_of) in
+    omega (
+      arith,
+      marked-inside c.args.wanted.now.marks.items c.in-Some.place at.marked,
+      c.requires.closed.long,
+      c.requires.right.steps_of,
+    ) in
     let there : slice_get c.args.steps.now c.in-Some.place ≡ Some c.index-steps-place.result =
-        slice_get_read c.args.steps.now
-        (length c.args.steps.now) c.in-Some.place c.index-steps-place.result refl inside c.index-steps-place.is in
+    slice_get_read c.args.steps.now
+    (length c.args.steps.now) c.in-Some.place c.index-steps-place.result refl inside c.index-steps-place.is in
     let before = part-before c.args.player s c.requires.right c.in-Some.place c.index-steps-place.result
-        (c.requires.closed.live c.in-Some.place at.marked) there part named in
+    (c.requires.closed.live c.in-Some.place at.marked) there part named in
     rw c.as_slice-in-Some.ensures.value (omega (arith, before.0, inside, c.requires.right.steps_of, c.loop-place.invariant.named))
 
 pub loop-place-preserved : goal.loop-place-preserved
 loop-place-preserved c =
     let s : State = record { board = c.args.position.now; links = c.args.links.now; steps = c.args.steps.now } in
     let at : IsFirstMarkFrom c.args.wanted.now.marks.items c.loop-place.bound c.in-Some.place =
-        rw c.as_slice.ensures.value at c.in-Some.ensures in
+    rw c.as_slice.ensures.value at c.in-Some.ensures in
     let inside : c.in-Some.place < length c.args.steps.now =
-        omega (arith, marked-inside c.args.wanted.now.marks.items c.in-Some.place at.marked, c.requires.closed.long,
-        c.requires.right.steps_of) in
+    omega (
+      arith,
+      marked-inside c.args.wanted.now.marks.items c.in-Some.place at.marked,
+      c.requires.closed.long,
+      c.requires.right.steps_of,
+    ) in
     let there : slice_get c.args.steps.now c.in-Some.place ≡ Some c.index-steps-place.result =
-        slice_get_read c.args.steps.now
-        (length c.args.steps.now) c.in-Some.place c.index-steps-place.result refl inside c.index-steps-place.is in
+    slice_get_read c.args.steps.now
+    (length c.args.steps.now) c.in-Some.place c.index-steps-place.result refl inside c.index-steps-place.is in
     let made : c.in-Ok-renamed_step.step ≡ renamed (λ (p : ℕ). slice_index c.loop-place.names.items p) c.index-steps-place.result =
-        rw c.as_slice-in-Some.ensures.value at c.in-Ok-renamed_step.ensures in
+    rw c.as_slice-in-Some.ensures.value at c.in-Ok-renamed_step.ensures in
     let number : c.len.result ≡ length c.loop-place.kept.items = omega (arith, c.len.ensures, c.loop-place.kept.ok) in
     let ok : is_ok c.push.result ≡ true = rw c.if-is_err.false at c.is_err.ensures.negation in
     let pushed : c.push.new.self.items ≡ c.loop-place.kept.items
-        ++ renamed (λ (p : ℕ). slice_index c.loop-place.names.items p) c.index-steps-place.result ∷ [] =
+    ++ renamed (λ (p : ℕ). slice_index c.loop-place.names.items p) c.index-steps-place.result ∷ [] =
     (rw ok at c.push.ensures.items) ∙ ap (λ (st : Step). c.loop-place.kept.items ++ st ∷ []) made in
     let more : AreKeptBelow c.args.player s c.args.wanted.now.marks.items (c.in-Some.place + 1)
-        (c.loop-place.kept.items ++ renamed (λ (p : ℕ). slice_index c.loop-place.names.items p) c.index-steps-place.result ∷ [])
+    (c.loop-place.kept.items ++ renamed (λ (p : ℕ). slice_index c.loop-place.names.items p) c.index-steps-place.result ∷ [])
     (set c.loop-place.names.items c.in-Some.place (length c.loop-place.kept.items)) =
     kept-more c.args.player s c.args.wanted.now.marks.items c.requires.right c.requires.closed c.loop-place.bound c.loop-place.kept.items
-        c.loop-place.names.items c.loop-place.invariant c.in-Some.place at c.index-steps-place.result there in
+    c.loop-place.names.items c.loop-place.invariant c.in-Some.place at c.index-steps-place.result there in
     rw (pushed, number) more

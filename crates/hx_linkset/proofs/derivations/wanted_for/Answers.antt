@@ -27,28 +27,36 @@ pub mark_parts-requires : goal.mark_parts-requires
 mark_parts-requires c = λ part named.
     let s : State = record { board = c.args.position.now; links = c.args.links.now; steps = c.args.steps.now } in
     let at : IsLastMarkBelow c.loop-place.marks.items c.loop-place.bound c.in-Some.place =
-        rw c.as_slice.ensures.value at c.in-Some.ensures in
+    rw c.as_slice.ensures.value at c.in-Some.ensures in
     let inside : c.in-Some.place < length c.args.steps.now =
-        omega (arith, marked-inside c.loop-place.marks.items c.in-Some.place at.marked, c.loop-place.invariant.closed.long,
-        c.requires.right.steps_of) in
+    omega (
+      arith,
+      marked-inside c.loop-place.marks.items c.in-Some.place at.marked,
+      c.loop-place.invariant.closed.long,
+      c.requires.right.steps_of,
+    ) in
     let there : slice_get c.args.steps.now c.in-Some.place ≡ Some c.index-steps-place.result =
-        slice_get_read c.args.steps.now
-        (length c.args.steps.now) c.in-Some.place c.index-steps-place.result refl inside c.index-steps-place.is in
+    slice_get_read c.args.steps.now
+    (length c.args.steps.now) c.in-Some.place c.index-steps-place.result refl inside c.index-steps-place.is in
     let before = part-before c.args.player s c.requires.right c.in-Some.place c.index-steps-place.result
-        (c.loop-place.invariant.closed.live c.in-Some.place at.marked) there part named in
+    (c.loop-place.invariant.closed.live c.in-Some.place at.marked) there part named in
     omega (arith, before.0, marked-inside c.loop-place.marks.items c.in-Some.place at.marked)
 
 pub loop-place-preserved : goal.loop-place-preserved
 loop-place-preserved c =
     let s : State = record { board = c.args.position.now; links = c.args.links.now; steps = c.args.steps.now } in
     let at : IsLastMarkBelow c.loop-place.marks.items c.loop-place.bound c.in-Some.place =
-        rw c.as_slice.ensures.value at c.in-Some.ensures in
+    rw c.as_slice.ensures.value at c.in-Some.ensures in
     let inside : c.in-Some.place < length c.args.steps.now =
-        omega (arith, marked-inside c.loop-place.marks.items c.in-Some.place at.marked, c.loop-place.invariant.closed.long,
-        c.requires.right.steps_of) in
+    omega (
+      arith,
+      marked-inside c.loop-place.marks.items c.in-Some.place at.marked,
+      c.loop-place.invariant.closed.long,
+      c.requires.right.steps_of,
+    ) in
     let there : slice_get c.args.steps.now c.in-Some.place ≡ Some c.index-steps-place.result =
-        slice_get_read c.args.steps.now
-        (length c.args.steps.now) c.in-Some.place c.index-steps-place.result refl inside c.index-steps-place.is in
+    slice_get_read c.args.steps.now
+    (length c.args.steps.now) c.in-Some.place c.index-steps-place.result refl inside c.index-steps-place.is in
     record {
       closed = closed-more c.args.player s c.requires.right c.loop-place.bound c.in-Some.place c.loop-place.marks.items
           c.mark_parts.new.marks.items c.loop-place.invariant.closed at c.index-steps-place.result there c.mark_parts.ensures;
@@ -62,4 +70,4 @@ pub returns-clause-closed : goal.returns-clause-closed
 returns-clause-closed c =
     let s : State = record { board = c.args.position.now; links = c.args.links.now; steps = c.args.steps.now } in
     closed-all c.args.player s c.requires.right c.loop-place.bound c.loop-place.marks.items c.loop-place.invariant.closed
-        (rw c.as_slice.ensures.value at c.in_default-last_below.ensures)
+    (rw c.as_slice.ensures.value at c.in_default-last_below.ensures)

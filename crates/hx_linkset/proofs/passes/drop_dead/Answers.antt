@@ -16,50 +16,50 @@ loop-place-init c = record {
 pub loop-place-preserved-then-not-drops : goal.loop-place-preserved-then-not-drops
 loop-place-preserved-then-not-drops c =
     let there : slice_get c.args.links.now c.loop-place.place ≡ Some c.index-links-place.result =
-        slice_get_read c.args.links.now
-        (length c.args.links.now) c.loop-place.place c.index-links-place.result refl c.loop-place-test.true c.index-links-place.is in
+    slice_get_read c.args.links.now
+    (length c.args.links.now) c.loop-place.place c.index-links-place.result refl c.loop-place-test.true c.index-links-place.is in
     record {
       passed = passed-kept c.args.links.now c.args.before.now c.args.after.now c.args.player c.loop-place.place c.index-links-place.result
           there _ _ _ _ c.loop-place.invariant.passed
           (c.is_dropped-drops.ensures.kept c.args.before.now c.args.after.now c.args.player c.liveness_of-live.ensures
-              c.liveness_of-kept.ensures c.if-not-drops.true);
+          c.liveness_of-kept.ensures c.if-not-drops.true);
       room = c.loop-place.invariant.room;
     }
 
 pub unlink-requires : goal.unlink-requires
 unlink-requires c =
     let there : slice_get c.args.links.now c.loop-place.place ≡ Some c.index-links-place.result =
-        slice_get_read c.args.links.now
-        (length c.args.links.now) c.loop-place.place c.index-links-place.result refl c.loop-place-test.true c.index-links-place.is in
+    slice_get_read c.args.links.now
+    (length c.args.links.now) c.loop-place.place c.index-links-place.result refl c.loop-place-test.true c.index-links-place.is in
     let live = (c.is_dropped-drops.ensures.dropped c.args.before.now c.args.after.now c.args.player c.liveness_of-live.ensures
-        c.liveness_of-kept.ensures c.if-not-drops.false).0 in
+    c.liveness_of-kept.ensures c.if-not-drops.false).0 in
     passed-inside c.args.links.now c.args.before.now c.args.after.now c.args.player c.loop-place.place c.index-links-place.result there _ _
-        _ _ c.loop-place.invariant.passed
+    _ _ c.loop-place.invariant.passed
     live (live-small c.args.before.now c.size-size.ensures.valid c.args.player c.index-links-place.result live)
 
 pub push_reserved-requires : goal.push_reserved-requires
 push_reserved-requires c =
     let there : slice_get c.args.links.now c.loop-place.place ≡ Some c.index-links-place.result =
-        slice_get_read c.args.links.now
-        (length c.args.links.now) c.loop-place.place c.index-links-place.result refl c.loop-place-test.true c.index-links-place.is in
+    slice_get_read c.args.links.now
+    (length c.args.links.now) c.loop-place.place c.index-links-place.result refl c.loop-place-test.true c.index-links-place.is in
     let live = (c.is_dropped-drops.ensures.dropped c.args.before.now c.args.after.now c.args.player c.liveness_of-live.ensures
-        c.liveness_of-kept.ensures c.if-not-drops.false).0 in
+    c.liveness_of-kept.ensures c.if-not-drops.false).0 in
     let less : length c.loop-place.log.items < length c.args.links.now =
     passed-room c.args.links.now c.args.before.now c.args.after.now c.args.player c.loop-place.place c.index-links-place.result there _ _ _
-        _ c.loop-place.invariant.passed
+    _ c.loop-place.invariant.passed
     live (live-small c.args.before.now c.size-size.ensures.valid c.args.player c.index-links-place.result live) in
     omega arith
 
 pub loop-place-preserved : goal.loop-place-preserved
 loop-place-preserved c =
     let there : slice_get c.args.links.now c.loop-place.place ≡ Some c.index-links-place.result =
-        slice_get_read c.args.links.now
-        (length c.args.links.now) c.loop-place.place c.index-links-place.result refl c.loop-place-test.true c.index-links-place.is in
+    slice_get_read c.args.links.now
+    (length c.args.links.now) c.loop-place.place c.index-links-place.result refl c.loop-place-test.true c.index-links-place.is in
     let drops = c.is_dropped-drops.ensures.dropped c.args.before.now c.args.after.now c.args.player c.liveness_of-live.ensures
-        c.liveness_of-kept.ensures c.if-not-drops.false in
+    c.liveness_of-kept.ensures c.if-not-drops.false in
     let passed : IsPassed _ _ _ _ (c.loop-place.place + 1) _ _ _ _ =
     passed-dropped c.args.links.now c.args.before.now c.args.after.now c.args.player c.loop-place.place c.index-links-place.result there _ _
-        _ _ c.loop-place.invariant.passed
+    _ _ c.loop-place.invariant.passed
     drops.0 (live-small c.args.before.now c.size-size.ensures.valid c.args.player c.index-links-place.result drops.0) drops.1 in
     record {
       passed = rw (c.unlink.ensures, c.push_reserved.ensures.items) passed;

@@ -9,7 +9,7 @@ returns-clause-missing g c =
     let new = (g.P.Proofs.sight c.store_answers.new.proofs).list in
     let found = c.in-Ok.found in
     missing-too (LacksOneOf old new c.args.set.now found.cells found.under)
-        (LacksAnswers old new c.args.set.now c.args.order.now) c.store_answers.result
+    (LacksAnswers old new c.args.set.now c.args.order.now) c.store_answers.result
     (⊎_elim inl (λ lacking. inr (record {
       threats = found.threats;
       cells = found.cells;

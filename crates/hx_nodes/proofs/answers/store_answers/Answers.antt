@@ -18,6 +18,6 @@ store-requires g c =
     let lines = rw c.in-Ok-Some.field-0-is at c.in-Ok-Some.ensures.lines in
     rw (c.other.ensures, c.new.ensures, c.position.ensures, c.colour-winner.ensures)
     (all_right c.args.set.now c.keeps.ensures.right _ _ _ c.requires _ _ derived
-        (headings_of (g.P.Proofs.sight c.lines_for.new.proofs).list) c.in-Ok-Some.lines
+    (headings_of (g.P.Proofs.sight c.lines_for.new.proofs).list) c.in-Ok-Some.lines
     c.in-Some._some (rw c.position.ensures at empty) c.keeps.ensures.few
-        (rw (c.position.ensures, c.colour-winner.ensures, c.items.ensures) at lines))
+    (rw (c.position.ensures, c.colour-winner.ensures, c.items.ensures) at lines))

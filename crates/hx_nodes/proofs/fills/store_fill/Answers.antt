@@ -11,4 +11,4 @@ store-requires g c =
     let filled : c.args.filled.now.steps.items ≢ [] = search rules in
     let right = c.in-Ok.ensures.right c.args.position.now c.args.filled.now.position c.requires.right in
     fill_right _ _ _ _ c.in-Some.found c.in-Ok.steps c.size-size.ensures.valid c.in-Some.ensures.found
-        (λ none. filled (c.in-Ok.ensures.none.0 none)) right
+    (λ none. filled (c.in-Ok.ensures.none.0 none)) right

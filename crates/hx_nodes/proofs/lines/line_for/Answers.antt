@@ -21,7 +21,7 @@ returns-in_default-look-clause-line g c =
 pub returns-then-ne-clause-line : goal.returns-then-ne-clause-line
 returns-then-ne-clause-line g c =
     let is : IsFirstFound (g.P.Proofs.sight c.look.new.self).list c.with-next.result c.args.winner c.in-Some-look.found =
-        c.in-Some-look.ensures.found in
+    c.in-Some-look.ensures.found in
     let differs : c.in-Some-look.found.winner ≢ c.args.winner = search rules in
     record {
       no_line = c.in_default.ensures;
@@ -33,6 +33,6 @@ pub returns-clause-line : goal.returns-clause-line
 returns-clause-line g c =
     let next : c.with-next.result ≡ put c.args.position.now (other_of c.args.winner) c.args.cell = search rules in
     let is : IsFirstFound (g.P.Proofs.sight c.look.new.self).list c.with-next.result c.args.winner c.in-Some-look.found =
-        c.in-Some-look.ensures.found in
+    c.in-Some-look.ensures.found in
     let same : c.in-Some-look.found.winner ≡ c.args.winner = search rules in
     line_by_child _ _ _ _ _ (rw same at (found-heading _ _ _ _ (rw next at is)))

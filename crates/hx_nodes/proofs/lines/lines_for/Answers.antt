@@ -13,7 +13,7 @@ loop-cell-smaller g c =
     let extent = rw (← c.size-size.ensures.value) at c.size-size.ensures.valid.0 in
     let small : c.in-Some.cell < 121 = on_board-small c.size-size.result c.in-Some.cell extent c.in-Some.ensures.on_board in
     rw c.without-left.ensures.set
-        (omega (arith, count_below-remove 128 c.loop-cell.left c.in-Some.cell c.in-Some.ensures.member (omega arith)))
+    (omega (arith, count_below-remove 128 c.loop-cell.left c.in-Some.cell c.in-Some.ensures.member (omega arith)))
 
 pub loop-cell-preserved : goal.loop-cell-preserved
 loop-cell-preserved g c =
@@ -27,7 +27,7 @@ loop-cell-preserved g c =
       gathered =
           rw (grown.1, pushed, c.without-left.ensures.set)
           (one_more_gathered _ _ _ _ c.args.position.now.size grown.0 _ _ _ line before.gathered
-              (λ n member. (c.requires.inside n member).on_board) least
+          (λ n member. (c.requires.inside n member).on_board) least
           (rw grown.1 at c.in-Some-line_for.ensures.line));
     }
 
@@ -35,11 +35,11 @@ pub returns-in_default-line_for-clause-lines : goal.returns-in_default-line_for-
 returns-in_default-line_for-clause-lines g c =
     let before = c.loop-cell.invariant in
     lacking_among _ _ _ _ _ _ _ c.in-Some.cell before.grew.seen
-        (before.gathered.inside c.in-Some.cell c.in-Some.ensures.member) c.in_default-line_for.ensures.line
+    (before.gathered.inside c.in-Some.cell c.in-Some.ensures.member) c.in_default-line_for.ensures.line
 
 pub returns-clause-lines : goal.returns-clause-lines
 returns-clause-lines g c =
     let none = rw c.size-size.ensures.value at c.in_default-least.ensures in
     rw c.new.ensures
     (all_gathered _ _ _ _ c.args.position.now.size c.loop-cell.left _ c.loop-cell.invariant.gathered
-        (λ n member. (c.requires.inside n member).on_board) none)
+    (λ n member. (c.requires.inside n member).on_board) none)

@@ -13,13 +13,13 @@ returns-in_default-clause-missing g c =
 pub returns-then-ne-clause-missing : goal.returns-then-ne-clause-missing
 returns-then-ne-clause-missing g c =
     let is : IsFirstFound (g.P.Proofs.sight c.look.new.self).list c.with-next.result c.other.result c.in-Some.found =
-        c.in-Some.ensures.found in
+    c.in-Some.ensures.found in
     let differs : c.in-Some.found.winner ≢ c.args.to_move = search rules in
     seen-now _ _ _ c.look.ensures.grew.seen (other-no_win _ _ _ _ c.in-Some.found (rw (c.with-next.ensures, c.other.ensures) at is) differs)
 
 pub store-requires : goal.store-requires
 store-requires g c =
     let is : IsFirstFound (g.P.Proofs.sight c.look.new.self).list c.with-next.result c.other.result c.in-Some.found =
-        c.in-Some.ensures.found in
+    c.in-Some.ensures.found in
     let same : c.in-Some.found.winner ≡ c.args.to_move = search rules in
     move_right _ _ _ _ c.in-Some.found c.size-size.ensures.valid c.requires (rw (c.with-next.ensures, c.other.ensures) at is) same

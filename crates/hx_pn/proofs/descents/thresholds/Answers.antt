@@ -8,9 +8,12 @@ overflow_add-best c = omega (arith, c.in_ok-best.ensures.second, second_delta-sm
 
 pub overflow_add-child_limit : goal.overflow_add-child_limit
 overflow_add-child_limit c =
-    omega (arith, c.requires.limit.delta,
-        (numbers_at c.args.children.now c.in_ok-best.best.child c.in_ok-best.best.place c.requires.children
-        c.in_ok-best.ensures.chosen.there).phi)
+    omega (
+      arith,
+      c.requires.limit.delta,
+      (numbers_at c.args.children.now c.in_ok-best.best.child c.in_ok-best.best.place c.requires.children
+          c.in_ok-best.ensures.chosen.there).phi,
+    )
 
 -- the node's delta is below its threshold, so the sum of phi does not stop before, and the child's phi is part of it
 pub returns-clause-numbers : goal.returns-clause-numbers

@@ -4,10 +4,18 @@ use Rattle.hx_pn.proofs.proof_numbers.combine.Goals as goal
 
 pub loop-child-preserved : goal.loop-child-preserved
 loop-child-preserved c = record {
-  phi = omega (arith, c.min-phi.ensures, c.loop-child.invariant.phi,
-      least_delta-more c.args.children.now c.loop-child.child-index (record { phi = 0; delta = 0 }) c.loop-child-test.true c.requires);
-  delta = omega (arith, c.min-delta.ensures, c.loop-child.invariant.delta,
-      phi_sum-more c.args.children.now c.loop-child.child-index (record { phi = 0; delta = 0 }) c.loop-child-test.true);
+  phi = omega (
+    arith,
+    c.min-phi.ensures,
+    c.loop-child.invariant.phi,
+    least_delta-more c.args.children.now c.loop-child.child-index (record { phi = 0; delta = 0 }) c.loop-child-test.true c.requires,
+  );
+  delta = omega (
+    arith,
+    c.min-delta.ensures,
+    c.loop-child.invariant.delta,
+    phi_sum-more c.args.children.now c.loop-child.child-index (record { phi = 0; delta = 0 }) c.loop-child-test.true,
+  );
 }
 
 pub returns-clause-numbers : goal.returns-clause-numbers

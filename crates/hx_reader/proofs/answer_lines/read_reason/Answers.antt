@@ -7,7 +7,7 @@ use Rattle.hx_reader.proofs.answer_lines.read_reason.Goals as goal
 pub returns-then-is_some : goal.returns-then-is_some
 returns-then-is_some c =
     child_reads c.args.size c.args.cell _ _ _
-        (word_taken _ c.keyword.ensures.takes (sym c.if-is_some.true ∙ c.is_some.ensures)) c.read_child.ensures
+    (word_taken _ c.keyword.ensures.takes (sym c.if-is_some.true ∙ c.is_some.ensures)) c.read_child.ensures
 
 pub returns-then-is_some-2 : goal.returns-then-is_some-2
 returns-then-is_some-2 c =
@@ -21,7 +21,7 @@ returns-then-is_some-3 c =
     let after_dead = words_kept _ c.keyword-2.ensures.same (sym c.if-is_some-2.false ∙ c.is_some-2.ensures) in
     pair_reads c.args.size c.args.cell _ _ _
     (sym after_child ∙ sym after_dead
-        ∙ word_taken _ c.keyword-3.ensures.takes (sym c.if-is_some-3.true ∙ c.is_some-3.ensures)) c.read_pair.ensures
+    ∙ word_taken _ c.keyword-3.ensures.takes (sym c.if-is_some-3.true ∙ c.is_some-3.ensures)) c.read_pair.ensures
 
 pub returns : goal.returns
 returns c = λ value fits e.

@@ -12,7 +12,7 @@ pub returns-then-is_some-2 : goal.returns-then-is_some-2
 returns-then-is_some-2 c =
     let after_other = words_kept _ c.keyword.ensures.same (sym c.if-is_some.false ∙ c.is_some.ensures) in
     dead_reads c.args.size _ _ _
-        (sym after_other ∙ word_taken _ c.keyword-2.ensures.takes (sym c.if-is_some-2.true ∙ c.is_some-2.ensures)) c.read_dead.ensures
+    (sym after_other ∙ word_taken _ c.keyword-2.ensures.takes (sym c.if-is_some-2.true ∙ c.is_some-2.ensures)) c.read_dead.ensures
 
 pub returns-then-is_some-3 : goal.returns-then-is_some-3
 returns-then-is_some-3 c =
@@ -20,7 +20,7 @@ returns-then-is_some-3 c =
     let after_dead = words_kept _ c.keyword-2.ensures.same (sym c.if-is_some-2.false ∙ c.is_some-2.ensures) in
     pair_reads c.args.size _ _ _
     (sym after_other ∙ sym after_dead
-        ∙ word_taken _ c.keyword-3.ensures.takes (sym c.if-is_some-3.true ∙ c.is_some-3.ensures)) c.read_pair.ensures
+    ∙ word_taken _ c.keyword-3.ensures.takes (sym c.if-is_some-3.true ∙ c.is_some-3.ensures)) c.read_pair.ensures
 
 pub returns : goal.returns
 returns c = λ value fits e.

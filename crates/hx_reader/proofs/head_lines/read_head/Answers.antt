@@ -63,5 +63,5 @@ returns c = head_reads c.args.preamble.now _ _ _ _ _ _ _ c.rows-rows.ensures.val
     (line_from_words c.of-words.ensures
     (word_then c.in_ok-keyword.ensures.takes.1
     (word_then c.in_ok-black.ensures.1
-        (word_then c.in_ok-white.ensures.1
-        (word_then c.in_ok-to_move.ensures.1 (word_then c.in_ok-winner.ensures.1 (c.in_ok-opening.ensures.1)))))))
+    (word_then c.in_ok-white.ensures.1
+    (word_then c.in_ok-to_move.ensures.1 (word_then c.in_ok-winner.ensures.1 (c.in_ok-opening.ensures.1)))))))

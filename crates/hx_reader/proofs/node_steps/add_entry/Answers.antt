@@ -9,4 +9,4 @@ returns-then-takes c = λ nodes lines stands fits.
 pub returns-else-takes : goal.returns-else-takes
 returns-else-takes c = λ nodes lines stands fits.
     absurd (room_for_due c.args.begun stands.begun_so.in_order stands.begun_so.lists stands.lacks c.args.entry fits.1
-        (c.if-takes.ensures.full refl))
+    (c.if-takes.ensures.full refl))

@@ -10,4 +10,4 @@ returns-in-Some-clause-yes c = λ taken.
     let reads : Reads fill_line (FillFits c.args.begun.now.so_far.preamble.size) c.args.line.now (Some c.in-Some.fill) =
     rw c.size.ensures at c.in-Some.ensures in
     went_on c.args.begun.now _ (Fill_entry c.in-Some.fill) c.args.line.now c.requires.more reads.0 c.requires.due reads.1
-        (c.takes.ensures.yes taken)
+    (c.takes.ensures.yes taken)

@@ -9,4 +9,4 @@ pub returns : goal.returns
 returns c =
     settled_whole c.args.begun _ _ (omega arith)
     (ap (λ (r : Rule). let n : Node = record { heading = c.args.begun.head.heading; rule = r } in n) c.rule_of-rule.ensures)
-        c.with_node.ensures
+    c.with_node.ensures

@@ -10,4 +10,4 @@ returns-in-Ok-Some-clause-yes c = λ taken.
     let reads : Reads step_line (StepFits c.args.begun.now.so_far.preamble.size) c.args.line.now (Some c.in-Ok-Some.step) =
     rw (c.in-Ok-Some.field-0-is, c.size.ensures) at c.in-Ok-Some.ensures.reads in
     went_on c.args.begun.now _ (Step_entry c.in-Ok-Some.step) c.args.line.now c.requires.more reads.0 c.requires.due reads.1
-        (c.takes.ensures.yes taken)
+    (c.takes.ensures.yes taken)

@@ -18,5 +18,5 @@ pub returns-in-Err-clause-says : goal.returns-in-Err-clause-says
 returns-in-Err-clause-says c = λ nodes lines stands.
     rw (c.failed.ensures, c.fault_of.ensures)
     (stopped c.args.place
-        (Failed (fault_of_stop c.in-Err.stop c.args.number) c.version-version.result) c.args.line.now c.args.number nodes _ c.in-Err.stop
-        (c.in-Err.ensures nodes lines stands))
+    (Failed (fault_of_stop c.in-Err.stop c.args.number) c.version-version.result) c.args.line.now c.args.number nodes _ c.in-Err.stop
+    (c.in-Err.ensures nodes lines stands))

@@ -22,7 +22,7 @@ returns-then-is_some-clause-reads c =
 pub returns-in_default-clause-reads : goal.returns-in_default-clause-reads
 returns-in_default-clause-reads c = λ step is.
     no_part_next c.loop.invariant.0
-        (goes_on_here _ c.end.ensures (sym c.if-is_some.false ∙ c.is_some.ensures)) c.in_default.ensures is.0 is.3 is.4
+    (goes_on_here _ c.end.ensures (sym c.if-is_some.false ∙ c.is_some.ensures)) c.in_default.ensures is.0 is.3 is.4
 
 -- what a push that went well says
 at_ok : {T E P : Type 0} (result : Result T E) → true ≡ is_ok result → OnOk result P → P

@@ -11,7 +11,7 @@ returns-then-count-right-clause-tried c =
 pub loop-right-preserved : goal.loop-right-preserved
 loop-right-preserved c =
     let inside : c.loop-right.right < length c.loop-right.set.present.links =
-        omega (arith, c.count-count.ensures, c.if-count-right.false) in
+    omega (arith, c.count-count.ensures, c.if-count-right.false) in
     record {
       grown = grown-on _ _ _ c.loop-right.invariant.grown c.settle_row.ensures.grown;
       settled = rows-more c.loop-right.set c.settle_row.new.set c.loop-right.right c.settle_row.ensures.grown inside

@@ -8,7 +8,7 @@ use Rattle.hx_search.proofs.ands.settle_end.Goals as goal
 pub loop-code-preserved-in_default : goal.loop-code-preserved-in_default
 loop-code-preserved-in_default c =
     let is_size : c.size-size.result ≡ c.loop-code.set.present.board.size =
-        size-on _ _ c.size-size.result c.position.result.now c.loop-code.invariant.grown c.size-size.ensures.value c.position.ensures in
+    size-on _ _ c.size-size.result c.position.result.now c.loop-code.invariant.grown c.size-size.ensures.value c.position.ensures in
     record {
       grown = c.loop-code.invariant.grown;
       settled = end-skip c.loop-code.set c.size-size.result is_size c.loop-code.code c.in_default.ensures c.owns-own.result c.args.end.now
@@ -22,7 +22,7 @@ pub loop-code-preserved : goal.loop-code-preserved
 loop-code-preserved c =
     let grown : IsGrown c.args.set.now c.settle_chain.new.set = grown-on _ _ _ c.loop-code.invariant.grown c.settle_chain.ensures.grown in
     let is_size : c.size-size.result ≡ c.settle_chain.new.set.present.board.size =
-        size-on _ _ c.size-size.result c.position.result.now grown c.size-size.ensures.value c.position.ensures in
+    size-on _ _ c.size-size.result c.position.result.now grown c.size-size.ensures.value c.position.ensures in
     let inside : c.args.right < length c.loop-code.set.present.links = omega (arith, c.loop-code.invariant.grown.longer, c.requires) in
     record {
       grown = grown;
@@ -30,18 +30,18 @@ loop-code-preserved c =
           inside c.size-size.result is_size
           (size-extent c.size-size.result c.position.result.now c.size-size.ensures.value c.size-size.ensures.valid)
           c.loop-code.code c.in-Some.to c.in-Some.ensures c.loop-code.invariant.settled
-              (rw c.in-Ok-Settled.field-0-is at c.in-Ok-Settled.ensures.tried);
+          (rw c.in-Ok-Settled.field-0-is at c.in-Ok-Settled.ensures.tried);
     }
 
 pub returns-clause-tried : goal.returns-clause-tried
 returns-clause-tried c =
     let is_size : c.size-size.result ≡ c.loop-code.set.present.board.size =
-        size-on _ _ c.size-size.result c.position.result.now c.loop-code.invariant.grown c.size-size.ensures.value c.position.ensures in
+    size-on _ _ c.size-size.result c.position.result.now c.loop-code.invariant.grown c.size-size.ensures.value c.position.ensures in
     end-done c.loop-code.set
-        (set-extent c.loop-code.set c.size-size.result is_size
-        (size-extent c.size-size.result c.position.result.now c.size-size.ensures.value c.size-size.ensures.valid))
+    (set-extent c.loop-code.set c.size-size.result is_size
+    (size-extent c.size-size.result c.position.result.now c.size-size.ensures.value c.size-size.ensures.valid))
     c.args.end.now c.args.right c.owns-own.result c.loop-code.code c.loop-code-test.false
     (own-on c.args.set.now c.loop-code.set c.args.end.now c.owns-own.result c.loop-code.invariant.grown
-        (own-is c.args.set.now c.args.end.now c.owns-own.result c.position-2.result.now c.colour.result c.position-2.ensures
-        c.colour.ensures c.owns-own.ensures))
+    (own-is c.args.set.now c.args.end.now c.owns-own.result c.position-2.result.now c.colour.result c.position-2.ensures
+    c.colour.ensures c.owns-own.ensures))
     c.loop-code.invariant.settled

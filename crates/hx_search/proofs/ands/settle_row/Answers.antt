@@ -9,8 +9,8 @@ pub returns-in-Ok-Settled-settle_end-clause-tried : goal.returns-in-Ok-Settled-s
 returns-in-Ok-Settled-settle_end-clause-tried c = λ left less.
     let inside : c.args.right < length c.settle_end.new.set.present.links = omega (arith, c.requires, c.settle_end.ensures.grown.longer) in
     row-full c.settle_end-2.new.set c.args.right c.in-Some.link
-        (c.settle_end-2.ensures.grown.links_stay _ _ (c.settle_end.ensures.grown.links_stay _ _ c.in-Some.ensures.0))
+    (c.settle_end-2.ensures.grown.links_stay _ _ (c.settle_end.ensures.grown.links_stay _ _ c.in-Some.ensures.0))
     (end-on c.settle_end.new.set c.settle_end-2.new.set c.settle_end-2.ensures.grown true c.in-Some.link.a c.args.right inside
-        (rw c.in-Ok-Settled.field-0-is at c.in-Ok-Settled.ensures.tried))
+    (rw c.in-Ok-Settled.field-0-is at c.in-Ok-Settled.ensures.tried))
     (rw c.in-Ok-Settled-settle_end.field-0-is at c.in-Ok-Settled-settle_end.ensures.tried)
     left less

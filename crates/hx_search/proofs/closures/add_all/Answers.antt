@@ -11,21 +11,21 @@ pub returns-in-Ok-Same-clause-tried : goal.returns-in-Ok-Same-clause-tried
 returns-in-Ok-Same-clause-tried c =
     let passed = rw c.in-Ok-Same.field-0-is at c.in-Ok-Same.ensures.passed in
     let bases : AreBasesBelow c.settle_ands.new.set 123 =
-        below-on c.loop-set.set c.settle_ands.new.set c.settle_ands.ensures.grown 123 c.loop-set.invariant.bases in
+    below-on c.loop-set.set c.settle_ands.new.set c.settle_ands.ensures.grown 123 c.loop-set.invariant.bases in
     let rows : AreRowsSettled c.settle_ands.new.set (length c.settle_ands.new.set.present.links) =
-        rw c.in-Ok-Settled-settle_ands.field-0-is at c.in-Ok-Settled-settle_ands.ensures.tried in
+    rw c.in-Ok-Settled-settle_ands.field-0-is at c.in-Ok-Settled-settle_ands.ensures.tried in
     let P : Standing → Type 0 = λ s. AreBasesBelow s 123 in
     let R : Standing → Type 0 = λ s. IsRight s.player s.present in
     let Q : Standing → Type 0 = λ s. AreRowsSettled s (length s.present.links) in
     closed-by c.join_all.new.set (subst R (sym passed.0) c.keeps.ensures.right) (subst P (sym passed.0) bases)
-        (subst Q (sym passed.0) rows) passed.1
+    (subst Q (sym passed.0) rows) passed.1
 
 pub loop-set-preserved : goal.loop-set-preserved
 loop-set-preserved c =
     let bases : AreBasesBelow c.settle_ands.new.set 123 =
-        below-on c.loop-set.set c.settle_ands.new.set c.settle_ands.ensures.grown 123 c.loop-set.invariant.bases in
+    below-on c.loop-set.set c.settle_ands.new.set c.settle_ands.ensures.grown 123 c.loop-set.invariant.bases in
     let rows : AreRowsSettled c.settle_ands.new.set (length c.settle_ands.new.set.present.links) =
-        rw c.in-Ok-Settled-settle_ands.field-0-is at c.in-Ok-Settled-settle_ands.ensures.tried in
+    rw c.in-Ok-Settled-settle_ands.field-0-is at c.in-Ok-Settled-settle_ands.ensures.tried in
     let some : c.count-settled.result ≤ length c.settle_ands.new.set.present.links = omega (arith, c.count-settled.ensures) in
     let P : ℕ → Type 0 = λ n. AreRowsSettled c.settle_ands.new.set n in
     record {

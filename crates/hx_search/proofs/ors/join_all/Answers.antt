@@ -10,7 +10,7 @@ use Rattle.hx_search.proofs.ors.join_all.Goals as goal
 pub loop-code-preserved-in_default : goal.loop-code-preserved-in_default
 loop-code-preserved-in_default c =
     let is_size : c.size-size.result ≡ c.loop-code.set.present.board.size =
-        size-on _ _ c.size-size.result c.position.result.now c.loop-code.invariant.grown c.size-size.ensures.value c.position.ensures in
+    size-on _ _ c.size-size.result c.position.result.now c.loop-code.invariant.grown c.size-size.ensures.value c.position.ensures in
     record {
       grown = c.loop-code.invariant.grown;
       same = c.loop-code.invariant.same;
@@ -23,7 +23,7 @@ pub loop-code-preserved-in-Ok-Same : goal.loop-code-preserved-in-Ok-Same
 loop-code-preserved-in-Ok-Same c =
     let grown : IsGrown c.args.set.now c.join_from.new.set = grown-on _ _ _ c.loop-code.invariant.grown c.join_from.ensures.grown in
     let is_size : c.size-size.result ≡ c.join_from.new.set.present.board.size =
-        size-on _ _ c.size-size.result c.position.result.now grown c.size-size.ensures.value c.position.ensures in
+    size-on _ _ c.size-size.result c.position.result.now grown c.size-size.ensures.value c.position.ensures in
     let passed = rw c.in-Ok-Same.field-0-is at c.in-Ok-Same.ensures.passed in
     let P : Standing → Type 0 = λ s. AreForksBelow s c.loop-code.code in
     record {
@@ -36,6 +36,8 @@ loop-code-preserved-in-Ok-Same c =
     }
 
 pub returns-clause-passed : goal.returns-clause-passed
-returns-clause-passed c =
-    (c.loop-code.invariant.same c.if-more.false, λ a is less.
-    c.loop-code.invariant.settled c.if-more.false a is (omega (arith, less, c.loop-code-test.false)))
+returns-clause-passed c = (
+  c.loop-code.invariant.same c.if-more.false,
+  λ a is less.
+      c.loop-code.invariant.settled c.if-more.false a is (omega (arith, less, c.loop-code-test.false)),
+)

@@ -23,7 +23,7 @@ pub returns : goal.returns
 returns g c =
     let parts = c.take_apart-parts.result in let book = c.close-book.ensures in
     let ended = contained-closed c.args.settings.now c.args.position.now c.args.to_move c.in_ok-shared.shared.made.slots
-        c.in_ok-counts.counts
+    c.in_ok-counts.counts
     parts.books.items parts.counts.items parts.ends.items c.foremost-ended.result c.close-book.result c.close-totals.result.granted
     c.in_ok-shared.ensures.limits.0 (ap (λ (l : Limits). l.budget) c.in_ok-counts.ensures.limits) c.take_apart-parts.ensures.counts
     c.take_apart-parts.ensures.ends c.foremost-ended.ensures.one

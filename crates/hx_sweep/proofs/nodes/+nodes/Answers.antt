@@ -48,7 +48,7 @@ answers-after-requires t c =
     let wins = (answers_all board c.args.winner _ refl c.requires.no_chain c.requires.wins).all c.in-Some.cell empty in
     let room = moves_room (empty_count board) _ (fewer_answered _ _ _ _ _ c.requires.begun.valid before least) in
     let begun = begun_after board (other_of c.args.winner) c.in-Some.cell _ _ _ c.requires.begun c.loop-cell.invariant.grown empty
-        (omega arith) in
+    (omega arith) in
     (omega arith, rw (kept, c.other.ensures, other-other c.args.winner) (c.requires.begun.valid, (empty, (wins, begun))))
 
 pub answers-loop-cell-smaller : goal.answers-loop-cell-smaller
@@ -56,7 +56,7 @@ answers-loop-cell-smaller t c =
     let extent = rw (← c.size-size.ensures.value) at c.requires.begun.valid.0 in
     let small : c.in-Some.cell < 121 = on_board-small c.size-size.result c.in-Some.cell extent c.in-Some.ensures.on_board in
     rw c.without-left.ensures.set
-        (omega (arith, count_below-remove 128 c.loop-cell.left c.in-Some.cell c.in-Some.ensures.member (omega arith)))
+    (omega (arith, count_below-remove 128 c.loop-cell.left c.in-Some.cell c.in-Some.ensures.member (omega arith)))
 
 pub answers-loop-cell-preserved : goal.answers-loop-cell-preserved
 answers-loop-cell-preserved t c =
@@ -82,14 +82,14 @@ answers-loop-cell-preserved t c =
 pub answers-returns-clause-grown : goal.answers-returns-clause-grown
 answers-returns-clause-grown t c =
     grown_less _ _ _ _ _ c.loop-cell.invariant.grown
-        (moves_room (empty_count c.args.position.now) _ (omega (arith, c.loop-cell.invariant.answered.count)))
+    (moves_room (empty_count c.args.position.now) _ (omega (arith, c.loop-cell.invariant.answered.count)))
 
 pub answers-returns-clause-right : goal.answers-returns-clause-right
 answers-returns-clause-right t c =
     let answered = answers_all c.args.position.now c.args.winner _ refl c.requires.no_chain c.requires.wins in
     right_by_lines _ _ _ answered.some refl answered.some_empty
     (all_answered _ _ _ _ c.loop-cell.invariant.answered
-        (rw c.size-size.ensures.value at c.in_default.ensures)) c.loop-cell.invariant.answered.lines_right
+    (rw c.size-size.ensures.value at c.in_default.ensures)) c.loop-cell.invariant.answered.lines_right
 
 pub answers-returns-clause-children : goal.answers-returns-clause-children
 answers-returns-clause-children t c =
@@ -107,7 +107,7 @@ prove-returns-clause-proved t c =
     let node : Node = record { heading = heading_of c.args.position.now c.args.to_move c.args.winner; rule = c.in_ok-rule.rule } in
     let same : c.push.new.self.items ≡ c.rule.new.nodes.items ++ node ∷ [] = search rules in
     proved_by c.args.position.now c.args.to_move c.args.winner c.in_ok-rule.rule c.args.nodes.now.items c.rule.new.nodes.items
-        c.push.new.self.items c.len-number.result
+    c.push.new.self.items c.len-number.result
     c.requires.begun.valid c.in_ok-rule.ensures.grown c.in_ok-rule.ensures.right c.in_ok-rule.ensures.by_moves same (search rules)
 
 pub rule-after-requires : goal.rule-after-requires
@@ -123,15 +123,15 @@ rule-after-requires t c =
 pub rule-unreachable-requires : goal.rule-unreachable-requires
 rule-unreachable-requires t c =
     not_all_refuted c.args.position.now c.args.winner c.args.to_move (search rules) c.requires.begun.valid
-        (λ chain. false≢true (sym c.if-chain.false ∙ c.chain.ensures.1 chain)) c.requires.wins c.in-None.ensures.first
+    (λ chain. false≢true (sym c.if-chain.false ∙ c.chain.ensures.1 chain)) c.requires.wins c.in-None.ensures.first
 
 pub rule-returns-clause-grown : goal.rule-returns-clause-grown
 rule-returns-clause-grown t c =
     let kept = c.in-Some.ensures.kept in
     let empty = c.in-Some.ensures.first.empty in
     grown_less _ _ _ _ _ (grown_after c.args.position.now c.args.winner
-        (other_of c.args.winner) c.args.winner c.in-Some.cell _ _ _ c.requires.begun.valid empty
-        (rw kept at c.in_ok-child-in-Some.ensures.proved))
+    (other_of c.args.winner) c.args.winner c.in-Some.cell _ _ _ c.requires.begun.valid empty
+    (rw kept at c.in_ok-child-in-Some.ensures.proved))
     (move_room c.args.position.now c.in-Some.cell c.requires.begun.valid empty)
 
 pub rule-returns-clause-right : goal.rule-returns-clause-right

@@ -23,13 +23,13 @@ pub winner-returns-in-None-clause-wins : goal.winner-returns-in-None-clause-wins
 winner-returns-in-None-clause-wins t c =
     rw c.other.ensures
     (refuted_all c.args.position.now c.args.to_move c.size-size.ensures.valid
-        (λ chain. false≢true (sym c.if-chain.false ∙ c.chain.ensures.1 chain))
+    (λ chain. false≢true (sym c.if-chain.false ∙ c.chain.ensures.1 chain))
     (λ chain. false≢true (sym c.if-chain-2.false ∙ c.chain-2.ensures.1 chain)) c.in-None.ensures.first)
 
 pub winning_move-winner-found-requires : goal.winning_move-winner-found-requires
 winning_move-winner-found-requires t c =
     let fewer = empty_count-put c.args.position.now c.args.to_move c.in-Some.cell c.size-size.ensures.valid
-        (c.loop-cell.invariant.inside c.in-Some.cell c.in-Some.ensures.member) in
+    (c.loop-cell.invariant.inside c.in-Some.cell c.in-Some.ensures.member) in
     let same : empty_count c.play.new.self ≡ empty_count (put c.args.position.now c.args.to_move c.in-Some.cell) =
     ap empty_count (c.play.ensures ∙ ap (λ (board : Board). put board c.args.to_move c.in-Some.cell) c.loop-cell.invariant.kept) in
     (omega arith, tt)
@@ -43,4 +43,4 @@ winning_move-loop-cell-smaller t c =
     let extent = rw (← c.size-size.ensures.value) at c.size-size.ensures.valid.0 in
     let small : c.in-Some.cell < 121 = on_board-small c.size-size.result c.in-Some.cell extent c.in-Some.ensures.on_board in
     rw c.without-left.ensures.set
-        (omega (arith, count_below-remove 128 c.loop-cell.left c.in-Some.cell c.in-Some.ensures.member (omega arith)))
+    (omega (arith, count_below-remove 128 c.loop-cell.left c.in-Some.cell c.in-Some.ensures.member (omega arith)))

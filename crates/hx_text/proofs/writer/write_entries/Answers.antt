@@ -11,7 +11,7 @@ returns-in_err-write_steps g c = record {
   bytes =
       rw entries_spelled
       (first_cut_short _ _ _ _ _ (each_line threat_line c.args.threats.now)
-          (each_line answer_line c.args.lines.now) _ c.from_residual.ensures.0
+      (each_line answer_line c.args.lines.now) _ c.from_residual.ensures.0
       c.in_err-write_steps.ensures.bytes);
   cause = search rules;
 }
@@ -30,6 +30,6 @@ returns g c = record {
   bytes =
       rw entries_spelled
       (three_spelled _ _ _ _ _ _ _ _ _ _ _ _ c.in_ok-write_steps.ensures.bytes c.in_ok-write_threats.ensures.bytes
-          c.write_answers.ensures.bytes);
+      c.write_answers.ensures.bytes);
   cause = search rules;
 }

@@ -10,7 +10,7 @@ returns-in_err-write_bytes g c = record {
   bytes =
       rw or_spelled
       (first_cut_short _ _ _ _ (codes "or") (parts_text c.args.parts.now)
-          (10 ∷ []) _ c.from_residual.ensures.0 c.in_err-write_bytes.ensures.bytes);
+      (10 ∷ []) _ c.from_residual.ensures.0 c.in_err-write_bytes.ensures.bytes);
   cause = search rules;
 }
 

@@ -18,20 +18,20 @@ loop-line-init c = rw c.empty-answered.ensures (none_taken (cells_of c.args.line
 pub returns-then-index-first_free : goal.returns-then-index-first_free
 returns-then-index-first_free c =
     let at = cell_at c.args.lines.now c.loop-line.line-index c.line-item.result c.cell-cell.result c.loop-line-test.true c.line-item.is
-        c.cell-cell.ensures in
+    c.cell-cell.ensures in
     let wrong = out_of_order (cells_of c.args.lines.now) _ _ _ _ c.loop-line.invariant at _
-        (omega (arith, length-map c.args.lines.now cell_of)) (omega (arith, c.index.ensures.value)) in
+    (omega (arith, length-map c.args.lines.now cell_of)) (omega (arith, c.index.ensures.value)) in
     (λ never. absurd (false≢true never), λ in_order. absurd (wrong in_order))
 
 pub loop-line-preserved : goal.loop-line-preserved
 loop-line-preserved c =
     let at = cell_at c.args.lines.now c.loop-line.line-index c.line-item.result c.cell-cell.result c.loop-line-test.true c.line-item.is
-        c.cell-cell.ensures in
+    c.cell-cell.ensures in
     rw (c.with-answered.ensures.set, c.index-first_free.ensures.value)
     (one_more_taken (cells_of c.args.lines.now) _ _ _ _ c.loop-line.invariant at (omega (arith, c.index.ensures.value)))
 
 pub returns : goal.returns
 returns c =
     let same = all_taken (cells_of c.args.lines.now) _ _ _ c.args.cells c.loop-line.invariant
-        (omega (arith, length-map c.args.lines.now cell_of)) in
+    (omega (arith, length-map c.args.lines.now cell_of)) in
     (λ yes. same.0 (eqb-true _ _ (sym c.eq.ensures ∙ yes)), λ in_order. c.eq.ensures ∙ eq-eqb _ _ (same.1 in_order))

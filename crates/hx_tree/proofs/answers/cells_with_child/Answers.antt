@@ -15,11 +15,11 @@ pub loop-line-preserved : goal.loop-line-preserved
 loop-line-preserved c = elim c.match-line.branch [
   | in-Child w ↦ rw (w.answered-is, w.with-answered.ensures.set)
       (one_child_more c.args.lines.now c.loop-line.line-index c.loop-line.answered c.line-item.result c.loop-line-test.true c.line-item.is
-          c.loop-line.invariant
+      c.loop-line.invariant
       w.in-Child.cell w.in-Child.child w.in-Child.is)
   | in-Under w ↦ rw w.answered-is
       (no_child_more c.args.lines.now c.loop-line.line-index c.loop-line.answered c.line-item.result c.loop-line-test.true c.line-item.is
-          c.loop-line.invariant
+      c.loop-line.invariant
       w.in-Under.cell w.in-Under.better w.in-Under.kill w.in-Under.is)
 ]
 

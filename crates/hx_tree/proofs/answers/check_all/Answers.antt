@@ -14,7 +14,7 @@ use Rattle.hx_tree.proofs.answers.check_all.Goals as goal
 right_all : (before : List Heading) (heading : Heading) (steps : List Step) (threats : List ℕ) (lines : List Line) (links : List Link)
     (answer : Bool)
     → heading.to_move ≡ other_of heading.winner → ((some : ℕ) × IsEmpty heading.position some)
-        → GiveLinks heading.position heading.winner steps links
+    → GiveLinks heading.position heading.winner steps links
     → IsTrue answer ↔ AreAnswered before heading links threats lines → IsTrue answer ↔ IsRightAll before heading steps threats lines
 right_all before heading steps threats lines links answer mover some given answers = (
   λ yes. record { mover = mover; some = some.0; some_empty = some.1; links = links; steps_right = given; answered = answers.0 yes },
@@ -27,5 +27,5 @@ returns-in-Some-clause-right c =
     let given : GiveLinks c.args.heading.now.position c.args.heading.now.winner c.args.steps.now c.in-Some.links.items =
     rw (c.in-Some.is, c.items.ensures) at c.in_ok-links.ensures.links in
     right_all c.args.before.now c.args.heading.now c.args.steps.now c.args.threats.now c.args.lines.now c.in-Some.links.items _
-        (search rules) (search rules) given
+    (search rules) (search rules) given
     (rw (c.as_slice.ensures.value, c.items-in-Some.ensures, c.items-in-Some-2.ensures) at c.check_answers.ensures)

@@ -22,7 +22,7 @@ lines_empty board links threats lines answered k line less =
 all_answered : (before : List Heading) (heading : Heading) (links : List Link) (threats : List ℕ) (lines : List Line) (answer : Bool)
     → AreThreats links threats
     → AreInOrder (IsToAnswer heading.position links threats) (cells_of lines) → IsTrue answer
-        ↔ ((k : ℕ) → IfSome (slice_get lines k) (IsRightLine before heading links threats lines))
+    ↔ ((k : ℕ) → IfSome (slice_get lines k) (IsRightLine before heading links threats lines))
     → IsTrue answer ↔ AreAnswered before heading links threats lines
 all_answered before heading links threats lines answer are cells right = (
   (λ yes. record { threats_right = are; cells = cells; lines_right = right.0 yes }),
@@ -38,9 +38,9 @@ pub returns : goal.returns
 returns c =
     let given = rw (c.union-lost.ensures.set, c.minus-leaves_a_threat.ensures.set) at c.are_right.ensures in
     let same = all_given-right c.args.heading.now.position c.args.links.now c.args.threats.now c.args.lines.now c.empties.result
-        c.in-Some.cells c.cells_with_child.result
+    c.in-Some.cells c.cells_with_child.result
     c.empties.ensures c.in-Some.ensures.0 c.in-Some.ensures.1 c.cells_with_child.ensures c.args.before.now c.args.heading.now refl in
     all_answered c.args.before.now c.args.heading.now c.args.links.now c.args.threats.now c.args.lines.now c.are_right.result
-        c.in-Some.ensures.0
+    c.in-Some.ensures.0
     (same_kind _ _ (cells_of c.args.lines.now) c.in-Some.ensures.1 (c.are_lines_of.ensures.0 c.if-not-are_lines_of.false))
     ((λ yes. same.0 (given.0 yes)), (λ right. given.1 (same.1 right)))

@@ -19,4 +19,4 @@ right_links heading steps links answer given shows = (
 pub returns-in-Some-clause-right : goal.returns-in-Some-clause-right
 returns-in-Some-clause-right c =
     right_links c.args.heading.now c.args.steps.now c.in-Some.links.items _ (rw c.in-Some.is at c.in_ok-links.ensures.links)
-        (rw c.as_slice.ensures.value at c.shows_win.ensures)
+    (rw c.as_slice.ensures.value at c.shows_win.ensures)

@@ -15,7 +15,7 @@ use Rattle.hx_trials_winners.proofs.soundness.shown_by.Goals as goal
 three_end_in_chain_link : (board : Board) (player : Colour) (first second third : Step) (one two last : Link)
     → StepGives board player [] first one → StepGives board player (one ∷ []) second two
     → StepGives board player (one ∷ two ∷ []) third last → IsChainLink last
-        → EndInChainLink board player last.kind (first ∷ second ∷ third ∷ [])
+    → EndInChainLink board player last.kind (first ∷ second ∷ third ∷ [])
 three_end_in_chain_link board player first second third one two last f s t joins = record {
   links = one ∷ two ∷ last ∷ [];
   right = (one, f, (two, s, (last, t, refl)));
@@ -32,9 +32,11 @@ wins_for board player Semi moving without = moving
 
 pub link_sound-requires : goal.link_sound-requires
 link_sound-requires c =
-    let last : Link = c.in-Some-result_of-2.last in
-    (last.kind, three_end_in_chain_link _ _ _ _ _ c.in-Some.one c.in-Some-result_of.two last c.in-Some.ensures c.in-Some-result_of.ensures
-        c.in-Some-result_of-2.ensures (c.joins_sides-joins.ensures.0 c.if-not-joins.false))
+    let last : Link = c.in-Some-result_of-2.last in (
+      last.kind,
+      three_end_in_chain_link _ _ _ _ _ c.in-Some.one c.in-Some-result_of.two last c.in-Some.ensures c.in-Some-result_of.ensures
+          c.in-Some-result_of-2.ensures (c.joins_sides-joins.ensures.0 c.if-not-joins.false),
+    )
 
 pub returns : goal.returns
 returns c =
@@ -42,4 +44,4 @@ returns c =
     wins_for _ _ last.kind c.link_sound.ensures.with_the_move
     (λ full. c.link_sound.ensures.without_it
     (rw full at (three_end_in_chain_link _ _ _ _ _ c.in-Some.one c.in-Some-result_of.two last c.in-Some.ensures c.in-Some-result_of.ensures
-        c.in-Some-result_of-2.ensures (c.joins_sides-joins.ensures.0 c.if-not-joins.false))))
+    c.in-Some-result_of-2.ensures (c.joins_sides-joins.ensures.0 c.if-not-joins.false))))

@@ -13,6 +13,6 @@ returns c =
           subst P same is),
       (λ turn.
           let same : c.turned-expected.result ≡ c.args.other.now =
-              turned-one c.args.position.now c.turned-expected.result c.args.other.now is turn in
+          turned-one c.args.position.now c.turned-expected.result c.args.other.now is turn in
           search rules),
     )

@@ -7,4 +7,4 @@ pub returns-clause-back : goal.returns-clause-back
 returns-clause-back c twice turn =
     let once : IsTurned c.args.position.now c.in-Some.result = search rules in
     turned-one c.in-Some.result twice c.args.position.now turn
-        (turned-back c.args.position.now c.in-Some.result c.size-size.ensures.valid once)
+    (turned-back c.args.position.now c.in-Some.result c.size-size.ensures.valid once)

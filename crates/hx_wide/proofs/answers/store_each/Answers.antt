@@ -14,7 +14,7 @@ loop-cell-smaller g c =
     let extent = rw (← c.size-size.ensures.value) at c.size-size.ensures.valid.0 in
     let small : c.in-Some.cell < 121 = on_board-small c.size-size.result c.in-Some.cell extent c.in-Some.ensures.on_board in
     rw c.without-left.ensures.set
-        (omega (arith, count_below-remove 128 c.loop-cell.left c.in-Some.cell c.in-Some.ensures.member (omega arith)))
+    (omega (arith, count_below-remove 128 c.loop-cell.left c.in-Some.cell c.in-Some.ensures.member (omega arith)))
 
 pub with-next-requires : goal.with-next-requires
 with-next-requires g c = c.requires c.in-Some.cell (c.loop-cell.invariant.inside c.in-Some.cell c.in-Some.ensures.member)
@@ -32,7 +32,7 @@ loop-cell-preserved g c =
       inside = rw c.without-left.ensures.set (λ n member. before.inside n (has-remove_before c.loop-cell.left c.in-Some.cell n member));
       tried = rw c.without-left.ensures.set
           (one_tried-more first old new next c.args.winner c.args.cells c.loop-cell.left c.in-Some.cell before.grew.seen
-              c.store_next.ensures.grew.seen before.tried
+          c.store_next.ensures.grew.seen before.tried
           (rw (c.with-next.ensures, c.other.ensures) at tried));
     }
 

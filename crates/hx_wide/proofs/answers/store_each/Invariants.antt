@@ -12,7 +12,7 @@ invariant-loop-cell g l = record {
   inside : IsSubset l.left l.fn.cells;
   tried : (cell : ℕ) → has l.fn.cells cell ≡ true → has l.left cell ≡ false
       → IsListedOrUnserved (g.P.Proofs.sight l.fn.proofs).list (g.P.Proofs.sight l.proofs).list
-          (put l.fn.position (other_of l.fn.winner) cell) l.fn.winner;
+      (put l.fn.position (other_of l.fn.winner) cell) l.fn.winner;
 }
 
 abbrev pub decreases-loop-cell : goal.decreases-loop-cell

@@ -14,4 +14,4 @@ store-requires g c =
     let right : IsRightNode c.args.known.now.headings.items c.args.node = search rules in
     rw (c.renamed-named.ensures, c.as_slice-in-Ok-true.ensures.value)
     (known_right (g.P.Proofs.sight c.args.proofs.now).list c.args.known.now.headings.items c.args.known.now.places.items c.args.node
-        c.requires right)
+    c.requires right)

@@ -8,7 +8,7 @@ returns-in-Ok-clause-known g c =
     let list = (g.P.Proofs.sight c.look.new.self).list in
     c.in-Ok.ensures.known list
     (known_grown list (g.P.Proofs.sight c.args.proofs.now).list
-        (extends-on _ _ _ c.store_wider-stored.ensures.grew.seen c.look.ensures.grew.seen) _ _ c.requires)
+    (extends-on _ _ _ c.store_wider-stored.ensures.grew.seen c.look.ensures.grew.seen) _ _ c.requires)
     (found_known list c.args.next.now c.args.winner c.in-Some.found c.in-Some.ensures.found)
 
 pub returns-in_default-clause-grew : goal.returns-in_default-clause-grew

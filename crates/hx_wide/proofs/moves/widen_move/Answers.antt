@@ -25,11 +25,11 @@ returns-in-Done-clause-missing g c =
     let player = c.args.to_move in
     let next : Board = put c.args.position.now player c.args.cell in
     let grown : Extends mid old =
-        extends-on old ended mid
-        (extends-on old wide ended c.move_wide-tried.ensures.grew.seen c.end_of.ensures.grew.seen) c.store_wider.ensures.grew.seen in
+    extends-on old ended mid
+    (extends-on old wide ended c.move_wide-tried.ensures.grew.seen c.end_of.ensures.grew.seen) c.store_wider.ensures.grew.seen in
     let has : HasEntry mid c.with-next.result c.other.result = c.in-Done.ensures.stored in
     missing-too (LacksMove mid new c.args.position.now player c.args.cell)
-        (LacksServedMove old new c.args.position.now player c.args.cell) c.store_move.result
+    (LacksServedMove old new c.args.position.now player c.args.cell) c.store_move.result
     (λ was. inr (lost-since old mid new next (other_of player) player grown (rw (c.with-next.ensures, c.other.ensures) at has) was))
     c.store_move.ensures.missing
 
@@ -61,4 +61,4 @@ returns-in-Memory-clause-grew g c =
 pub returns-in-Done-clause-grew : goal.returns-in-Done-clause-grew
 returns-in-Done-clause-grew g c =
     grows-on _ _ _ (grows-on _ _ _
-        (grows-on _ _ _ c.move_wide-tried.ensures.grew c.end_of.ensures.grew) c.store_wider.ensures.grew) c.store_move.ensures.grew
+    (grows-on _ _ _ c.move_wide-tried.ensures.grew c.end_of.ensures.grew) c.store_wider.ensures.grew) c.store_move.ensures.grew

@@ -35,11 +35,11 @@ unreachable-requires g c =
     let wider = c.in-Some-look_wider_either.wider in
     let wide = c.turned-wide.result in
     let found : IsWiderFound list c.turned-other.result c.args.to_move wider.found.winner wider =
-        c.in-Some-look_wider_either.ensures.found in
+    c.in-Some-look_wider_either.ensures.found in
     let Cause : Type 0 = IsNeitherFound list new wide c.args.to_move in
     ⊎_elim
     (λ missing. either_there list c.args.position.now c.turned-other.result c.args.to_move wider found new wide
-        c.store_turned.ensures.grew.seen c.turned-wide.ensures.back
+    c.store_turned.ensures.grew.seen c.turned-wide.ensures.back
     (subst (λ (stored : Stored). MissingFor Cause stored) missing c.store_turned.ensures.missing))
     (λ memory. subst (λ (stored : Stored). HadMemory stored) memory c.store_turned.ensures.memory)
     c.in-Missing.is
@@ -53,16 +53,16 @@ returns-in-None-clause-missing g c =
     let new = (g.P.Proofs.sight c.look_wider_either-in-Done.new.proofs).list in
     let wider = c.in-Some-look_wider_either.wider in
     let found : IsWiderFound list c.turned-other.result c.args.to_move wider.found.winner wider =
-        c.in-Some-look_wider_either.ensures.found in
+    c.in-Some-look_wider_either.ensures.found in
     let unserved : WasUnservedByEach mid new c.args.position.now c.args.to_move = c.in-None.ensures.none in
     let grown : Extends mid old =
-        extends-on old before mid c.end_of.ensures.grew.seen
-        (extends-on before list mid c.look_wider_either.ensures.grew.seen c.store_turned.ensures.grew.seen) in (
+    extends-on old before mid c.end_of.ensures.grew.seen
+    (extends-on before list mid c.look_wider_either.ensures.grew.seen c.store_turned.ensures.grew.seen) in (
       unserved_by_each-within old mid new new c.args.position.now c.args.to_move grown (extends-itself new) unserved,
       inr (clash list c.args.position.now c.turned-other.result c.args.to_move wider found mid new c.turned-wide.result
           c.size-size.ensures.valid
           c.turned-other.ensures.turned c.turned-wide.ensures.turned c.store_turned.ensures.grew.seen
-              c.look_wider_either-in-Done.ensures.grew.seen c.in-Done.ensures.stored unserved),
+          c.look_wider_either-in-Done.ensures.grew.seen c.in-Done.ensures.stored unserved),
     )
 
 pub returns-in_default-look_wider_either-clause-grew : goal.returns-in_default-look_wider_either-clause-grew
@@ -75,11 +75,11 @@ returns-in-Refused-clause-grew g c =
 pub returns-in-None-clause-grew : goal.returns-in-None-clause-grew
 returns-in-None-clause-grew g c =
     grows-on _ _ _ (grows-on _ _ _
-        (grows-on _ _ _ c.end_of.ensures.grew c.look_wider_either.ensures.grew) c.store_turned.ensures.grew)
-        c.look_wider_either-in-Done.ensures.grew
+    (grows-on _ _ _ c.end_of.ensures.grew c.look_wider_either.ensures.grew) c.store_turned.ensures.grew)
+    c.look_wider_either-in-Done.ensures.grew
 
 pub returns-in-Some-look_wider_either-2-clause-grew : goal.returns-in-Some-look_wider_either-2-clause-grew
 returns-in-Some-look_wider_either-2-clause-grew g c =
     grows-on _ _ _ (grows-on _ _ _
-        (grows-on _ _ _ c.end_of.ensures.grew c.look_wider_either.ensures.grew) c.store_turned.ensures.grew)
-        c.look_wider_either-in-Done.ensures.grew
+    (grows-on _ _ _ c.end_of.ensures.grew c.look_wider_either.ensures.grew) c.store_turned.ensures.grew)
+    c.look_wider_either-in-Done.ensures.grew

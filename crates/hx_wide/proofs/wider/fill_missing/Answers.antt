@@ -11,7 +11,7 @@ returns-then-is_empty-clause-stored g c =
     let board = c.args.position.now in
     let wider = c.args.wider.now in
     let whole = wider_missing list board c.args.to_move wider c.requires c.size-size.ensures.valid _ _ c.empties.ensures
-        c.empties-2.ensures in
+    c.empties-2.ensures in
     let lead = rw (c.minus-missing.ensures.set, whole) at c.in-Ok.ensures in
     let none : length c.in-Ok.steps.items ≡ 0 = search rules in (
       wider.found.index,
@@ -24,6 +24,6 @@ pub unreachable-requires : goal.unreachable-requires
 unreachable-requires g c =
     let list = (g.P.Proofs.sight c.args.proofs.now).list in
     let whole = wider_missing list c.args.position.now c.args.to_move c.args.wider.now c.requires c.size-size.ensures.valid _ _
-        c.empties.ensures c.empties-2.ensures in
+    c.empties.ensures c.empties-2.ensures in
     let lead = rw (c.minus-missing.ensures.set, whole) at c.in-Ok.ensures in
     c.in-None.ensures.wrong (rw c.new-steps.ensures lead)

@@ -10,7 +10,7 @@ returns-in-None-clause-none g c =
     let first : HasNoWider mid c.args.position.now c.args.to_move c.args.to_move = c.in_default.ensures.found in
     let second : HasNoWider new c.args.position.now c.args.to_move c.other.result = c.in-None.ensures.found in
     unserved-twice (g.P.Proofs.sight c.args.proofs.now).list mid new c.args.position.now c.args.to_move c.args.to_move
-        c.look_wider.ensures.grew.seen c.look_wider-2.ensures.grew.seen
+    c.look_wider.ensures.grew.seen c.look_wider-2.ensures.grew.seen
     first (rw c.other.ensures at second)
 
 pub returns-in-Some-look_wider-clause-grew : goal.returns-in-Some-look_wider-clause-grew

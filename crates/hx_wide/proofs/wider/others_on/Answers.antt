@@ -10,14 +10,14 @@ loop-cell-smaller c =
     let extent = rw (← c.size-size.ensures.value) at c.size-size.ensures.valid.0 in
     let small : c.in-Some.cell < 121 = on_board-small c.size-size.result c.in-Some.cell extent c.in-Some.ensures.on_board in
     rw c.without-left.ensures.set
-        (omega (arith, count_below-remove 128 c.loop-cell.left c.in-Some.cell c.in-Some.ensures.member (omega arith)))
+    (omega (arith, count_below-remove 128 c.loop-cell.left c.in-Some.cell c.in-Some.ensures.member (omega arith)))
 
 pub loop-cell-preserved : goal.loop-cell-preserved
 loop-cell-preserved c =
     let pushed : c.push.new.self.items ≡ c.loop-cell.steps.items ++ Other c.in-Some.cell ∷ [] = search rules in
     rw (pushed, c.without-left.ensures.set)
     (one_more c.args.position.now c.args.winner c.args.cells c.loop-cell.left c.in-Some.cell c.loop-cell.steps.items c.loop-cell.invariant
-        c.in-Some.ensures.member)
+    c.in-Some.ensures.member)
 
 pub returns : goal.returns
 returns c =

@@ -40,4 +40,4 @@ returns-in_err-seed-in-demo-clause-finds c =
 pub returns-in_ok-seed-in-demo-clause-limits : goal.returns-in_ok-seed-in-demo-clause-limits
 returns-in_ok-seed-in-demo-clause-limits c =
     SeedAndOptions-limits
-        (words_of c.in_ok-name.rest.now) c.in_ok-seed-in-demo.seed c.in_ok-seed-in-demo.settings c.in_ok-seed-in-demo.ensures
+    (words_of c.in_ok-name.rest.now) c.in_ok-seed-in-demo.seed c.in_ok-seed-in-demo.settings c.in_ok-seed-in-demo.ensures

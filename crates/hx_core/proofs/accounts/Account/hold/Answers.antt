@@ -7,4 +7,4 @@ pub returns : goal.returns
 returns c =
     rw (← c.self.view_is) (ap (λ (held : List ℕ). account c.self.inside.granted c.self.inside.refused held)
     (set-changed (λ (n : ℕ). n + 1) c.self.inside.held.items c.args.word c.index_mut.result.now
-        (rw (← c.self.view_is) at c.requires.inside) c.index_mut.ensures.value))
+    (rw (← c.self.view_is) at c.requires.inside) c.index_mut.ensures.value))

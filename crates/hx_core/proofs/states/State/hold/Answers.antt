@@ -8,8 +8,8 @@ pub invariant_of-self : goal.invariant_of-self
 invariant_of-self c =
     fields-written c.self.inside.slots c.self.inside.nodes.items c.self.inside.seen.items c.self.inside.budget c.self.inside.accounts.items
     (HoldWord c.args.worker c.args.word) (rw (← c.self.view_is) at c.requires)
-        (holding c.args.word) refl c.index_mut.result.now c.hold.new.self c.index_mut.ensures.value c.hold.ensures
-        (vec_capacity c.self.inside.nodes) c.self.invariant
+    (holding c.args.word) refl c.index_mut.result.now c.hold.new.self c.index_mut.ensures.value c.hold.ensures
+    (vec_capacity c.self.inside.nodes) c.self.invariant
 
 pub returns : goal.returns
 returns c =
@@ -17,5 +17,5 @@ returns c =
       refl,
       step-written c.self.inside.slots c.self.inside.nodes.items c.self.inside.seen.items c.self.inside.budget c.self.inside.accounts.items
           (HoldWord c.args.worker c.args.word) (rw (← c.self.view_is) at c.requires)
-              (holding c.args.word) refl c.index_mut.result.now c.hold.new.self c.index_mut.ensures.value c.hold.ensures,
+          (holding c.args.word) refl c.index_mut.result.now c.hold.new.self c.index_mut.ensures.value c.hold.ensures,
     )

@@ -8,8 +8,8 @@ pub invariant_of-self : goal.invariant_of-self
 invariant_of-self c =
     fields-written c.self.inside.slots c.self.inside.nodes.items c.self.inside.seen.items c.self.inside.budget c.self.inside.accounts.items
     (ReleaseWord c.args.worker c.args.word) (rw (← c.self.view_is) at c.requires)
-        (releasing c.args.word) refl c.index_mut.result.now c.release.new.self c.index_mut.ensures.value c.release.ensures
-        (vec_capacity c.self.inside.nodes) c.self.invariant
+    (releasing c.args.word) refl c.index_mut.result.now c.release.new.self c.index_mut.ensures.value c.release.ensures
+    (vec_capacity c.self.inside.nodes) c.self.invariant
 
 pub returns : goal.returns
 returns c =
@@ -17,5 +17,5 @@ returns c =
       refl,
       step-written c.self.inside.slots c.self.inside.nodes.items c.self.inside.seen.items c.self.inside.budget c.self.inside.accounts.items
           (ReleaseWord c.args.worker c.args.word) (rw (← c.self.view_is) at c.requires)
-              (releasing c.args.word) refl c.index_mut.result.now c.release.new.self c.index_mut.ensures.value c.release.ensures,
+          (releasing c.args.word) refl c.index_mut.result.now c.release.new.self c.index_mut.ensures.value c.release.ensures,
     )

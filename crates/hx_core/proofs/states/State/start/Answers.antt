@@ -5,7 +5,7 @@ use Rattle.hx_core.proofs.states.State.start.Goals as goal
 pub invariant_of-result : goal.invariant_of-result
 invariant_of-result c =
     fields-begun c.args.workers c.args.slots c.args.budget c.args.words
-        (vec_capacity c.in-Ok.nodes) c.in-Ok.nodes.items c.in-Ok-vec.seen.items c.in_ok-accounts.accounts.items
+    (vec_capacity c.in-Ok.nodes) c.in-Ok.nodes.items c.in-Ok-vec.seen.items c.in_ok-accounts.accounts.items
     (record {
       some_worker = c.requires.some_worker;
       few_workers = c.requires.few_workers;
@@ -15,4 +15,4 @@ invariant_of-result c =
       few_words = c.requires.few_words;
     })
     c.in-Ok.ensures.items (c.in-Ok-vec.ensures.items_if_clones_equal (λ y same. same)) c.in_ok-accounts.ensures
-        (omega (arith, c.in-Ok.ensures.exact))
+    (omega (arith, c.in-Ok.ensures.exact))

@@ -16,9 +16,9 @@ invariant_of-self-2 c =
     let held : c.len-held.result ≡ length c.self.inside.nodes.items = omega (arith, c.len-held.ensures, c.self.inside.nodes.ok) in
     rw (c.push_reserved.ensures.items, c.push_reserved.ensures.capacity)
     (fields-added c.self.inside.slots c.self.inside.nodes.items c.self.inside.seen.items c.self.inside.budget c.self.inside.accounts.items
-        (vec_capacity c.self.inside.nodes) c.self.invariant
+    (vec_capacity c.self.inside.nodes) c.self.invariant
     c.args.worker c.len-held.result c.args.node held c.if-held-self.false (rw (← c.self.view_is) at c.requires).1
-        (rw c.as_slice.ensures.value at c.in_default.ensures))
+    (rw c.as_slice.ensures.value at c.in_default.ensures))
 
 pub returns : goal.returns
 returns c =
@@ -26,6 +26,6 @@ returns c =
     rw (← c.self.view_is, c.push_reserved.ensures.items) (
       added-step c.self.inside.slots c.self.inside.nodes.items c.self.inside.seen.items c.args.worker c.len-held.result held c.args.node
           (rw c.as_slice.ensures.value at c.in_default.ensures) c.if-held-self.false
-              (omega (arith, c.self.invariant.kept.book.held, c.self.invariant.kept.book.same_slots)),
+          (omega (arith, c.self.invariant.kept.book.held, c.self.invariant.kept.book.same_slots)),
       refl,
     )

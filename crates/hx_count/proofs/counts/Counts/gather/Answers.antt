@@ -7,9 +7,9 @@ use Rattle.hx_count.proofs.counts.Counts.gather.Goals as goal
 pub join_seat-requires : goal.join_seat-requires
 join_seat-requires c =
     let i = c.loop-other.invariant in let table = ap (λ w. w.table) c.self.view_is in let other = c.in-Some-pop.other in let v =
-        c.into_seat.ensures in
+    c.into_seat.ensures in
     let of : other.made ≡ c.args.self.now =
-        (All-pop (λ s. s.made ≡ c.args.self.now) _ _ (Some other) c.in-Some-pop.ensures.items i.left).1 in (
+    (All-pop (λ s. s.made ≡ c.args.self.now) _ _ (Some other) c.in-Some-pop.ensures.items i.left).1 in (
       i.table ∙ sym table,
       v.table ∙ (ap (λ m. m.table) of ∙ sym table),
       ap (λ m. m.1) v.part,

@@ -16,7 +16,7 @@ unwrap-requires c =
     let board : Board = record { size = c.board_size.result; black = c.stones-black.result; white = c.stones-white.result } in
     found-some c.from_masks.result board c.args.self.now
     (two_parts _ _ board _ _ c.board_size.ensures c.cells_in_order-left.ensures c.stones-black.ensures.cells c.stones-black.ensures.rest
-        c.stones-black.ensures.further c.stones-white.ensures.cells)
+    c.stones-black.ensures.further c.stones-white.ensures.cells)
     c.from_masks.ensures
 
 found : (c : goal.After-unwrap) → c.unwrap.result ≡ with_stones (black_cells c.args.self.now) (white_cells c.args.self.now)
@@ -25,7 +25,7 @@ found c =
     let answer = rw c.unwrap.ensures at c.from_masks.ensures in
     answer.1
     ∙ two_parts _ _ board _ _ c.board_size.ensures c.cells_in_order-left.ensures c.stones-black.ensures.cells c.stones-black.ensures.rest
-        c.stones-black.ensures.further c.stones-white.ensures.cells
+    c.stones-black.ensures.further c.stones-white.ensures.cells
 
 pub returns-clause-drawn : goal.returns-clause-drawn
 returns-clause-drawn c = found c ∙ sym (drawn_position-parts c.args.self.now)

@@ -9,4 +9,4 @@ returns-in-None c = adds_none c.args.self.now.choices c.args.cell c.args.lines.n
 pub returns-in-Some : goal.returns-in-Some
 returns-in-Some c = on_ok_weaker c.push.result
     (adds_one c.args.self.now.choices c.args.cell c.in-Some.better
-        (sym c.get.ensures ∙ c.in-Some.is) c.args.lines.now.items c.push.new.lines.items) c.push.ensures
+    (sym c.get.ensures ∙ c.in-Some.is) c.args.lines.now.items c.push.new.lines.items) c.push.ensures

@@ -20,12 +20,12 @@ loop-cell-preserved c =
     let given = c.requires.given c.in-Some.cell (so_far.left_inside c.in-Some.cell c.in-Some.ensures.member) in
     rw (c.without-left.ensures.set, c.in_ok-add_line.ensures given.0 given.1)
     (lines_more c.args.self.now.choices
-        (difference c.args.self.now.cells c.args.self.now.without_line) c.loop-cell.left c.in-Some.cell _ so_far c.in-Some.ensures.member
-        above
+    (difference c.args.self.now.cells c.args.self.now.without_line) c.loop-cell.left c.in-Some.cell _ so_far c.in-Some.ensures.member
+    above
     given.0.cell given.0.kill given.1)
 
 pub returns : goal.returns
 returns c = rw c.new.ensures
     (lines_all c.args.self.now.choices (difference c.args.self.now.cells c.args.self.now.without_line) c.loop-cell.left _
     (λ n h. c.in_default.ensures n
-        (c.requires.on_board n (has-difference_left c.args.self.now.cells c.args.self.now.without_line n h))) c.loop-cell.invariant)
+    (c.requires.on_board n (has-difference_left c.args.self.now.cells c.args.self.now.without_line n h))) c.loop-cell.invariant)

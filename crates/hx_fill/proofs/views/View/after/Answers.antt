@@ -6,4 +6,4 @@ invariant_of-result c =
     let joint = rw c.requires.groups at c.joined_with-joint.ensures in
     rw (c.requires.groups, c.with.ensures)
     (tells-after c.args.position.now c.args.colour c.args.who c.args.cell c.requires.empty.on_board c.joined_with-joint.result joint
-        c.own_stone.result c.own_stone.ensures.own c.own_stone.ensures.others)
+    c.own_stone.result c.own_stone.ensures.own c.own_stone.ensures.others)

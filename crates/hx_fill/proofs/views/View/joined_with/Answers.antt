@@ -13,7 +13,7 @@ returns-in-None c =
 pub returns-then-is_joined : goal.returns-then-is_joined
 returns-then-is_joined c =
     let now = joined-widened _ _ _ c.self.inside.stone c.self.inside.joint c.self.invariant c.in-Some.cell c.in-Some.is c.args.vertex
-        c.joined_with-joined.result
+    c.joined_with-joined.result
     c.joined_with-joined.ensures true (sym c.if-is_joined.true ∙ c.has-is_joined.ensures) in
     let P : Grouped → Type 0 = λ g. IsSetOf g.board.size (Joined g.board g.player c.args.vertex) c.union.result in
     subst P c.self.view_is (rw c.union.ensures.set now)
@@ -21,7 +21,7 @@ returns-then-is_joined c =
 pub returns-else-is_joined : goal.returns-else-is_joined
 returns-else-is_joined c =
     let now = joined-widened _ _ _ c.self.inside.stone c.self.inside.joint c.self.invariant c.in-Some.cell c.in-Some.is c.args.vertex
-        c.joined_with-joined.result
+    c.joined_with-joined.result
     c.joined_with-joined.ensures false (sym c.if-is_joined.false ∙ c.has-is_joined.ensures) in
     let P : Grouped → Type 0 = λ g. IsSetOf g.board.size (Joined g.board g.player c.args.vertex) c.joined_with-joined.result in
     subst P c.self.view_is now

@@ -11,7 +11,7 @@ put-requires c = omega (arith, length-digits c.args.self.now c.loop-place.self _
 pub loop-place-preserved : goal.loop-place-preserved
 loop-place-preserved c =
     hex_next c.args.self.now c.put.new.self c.bits-bits.result c.loop-place.place c.hex_digit_of.result c.loop-place-test.true
-        c.loop-place.auto.place
+    c.loop-place.auto.place
     (c.put.ensures ∙ ap (λ (xs : List ℕ). xs ++ c.hex_digit_of.result ∷ []) c.loop-place.invariant) c.hex_digit_of.ensures
 
 pub returns-clause-long : goal.returns-clause-long

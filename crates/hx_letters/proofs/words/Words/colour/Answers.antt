@@ -7,7 +7,7 @@ use Rattle.hx_letters.proofs.words.Words.colour.Goals as goal
 -- a word that is neither is no colour's
 neither : (words : List (List ℕ)) → ((rest : List (List ℕ)) → words ≡ colour_word Black ∷ rest → ⊥)
     → ((rest : List (List ℕ)) → words ≡ colour_word White ∷ rest → ⊥) → (colour : Colour) (rest : List (List ℕ))
-        → words ≡ colour_word colour ∷ rest → ⊥
+    → words ≡ colour_word colour ∷ rest → ⊥
 neither words black white Black rest e = black rest e
 neither words black white White rest e = white rest e
 

@@ -36,5 +36,5 @@ returns-else-mark-ne32-clause-takes c =
           ∙ prefix_then 32 c.self.inside.rest.now c.args.expected.now c.in-Some.later.now c.requires
           (parts ∙ ap (λ (t : List ℕ). c.args.expected.now ++ t) next)
           ∙ ap (λ (words : List (List ℕ)). c.args.expected.now ∷ words)
-              (sym (words_left-some_more _ c.in-Some.later.now c.if-not-self.false)),
+          (sym (words_left-some_more _ c.in-Some.later.now c.if-not-self.false)),
     )

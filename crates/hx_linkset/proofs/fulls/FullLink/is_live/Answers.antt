@@ -10,7 +10,7 @@ pub returns-then-inside : goal.returns-then-inside
 returns-then-inside c =
     let carrier = c.args.self.now.carrier in
     let inside : nat_eq (intersection carrier c.args.empties) carrier ≡ true =
-        eq-eqb _ _ (is_subset-intersection carrier c.args.empties (c.inside.ensures.0 c.if-inside.true)) in
+    eq-eqb _ _ (is_subset-intersection carrier c.args.empties (c.inside.ensures.0 c.if-inside.true)) in
     c.has.ensures ∙ sym (ap (λ (b : Bool). b && has c.args.ends (code_of c.args.self.now.to)) inside)
 
 pub returns-else-inside : goal.returns-else-inside
@@ -18,5 +18,5 @@ returns-else-inside c =
     let carrier = c.args.self.now.carrier in
     let outside : nat_eq (intersection carrier c.args.empties) carrier ≡ false =
     false_from_ne_true _ (λ e.
-        false≢true (sym c.if-inside.false ∙ c.inside.ensures.1 (intersection-is_subset carrier c.args.empties (eqb-true _ _ e)))) in
+    false≢true (sym c.if-inside.false ∙ c.inside.ensures.1 (intersection-is_subset carrier c.args.empties (eqb-true _ _ e)))) in
     c.if-inside.false ∙ sym (ap (λ (b : Bool). b && has c.args.ends (code_of c.args.self.now.to)) outside)

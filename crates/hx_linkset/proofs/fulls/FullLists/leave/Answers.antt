@@ -6,9 +6,9 @@ use Rattle.hx_linkset.proofs.fulls.FullLists.leave.Goals as goal
 pub returns-then-first-second : goal.returns-then-first-second
 returns-then-first-second c = λ links are.
     let same : code_of c.args.link.now.a ≡ code_of c.args.link.now.b = sym c.code-first.ensures.value
-        ∙ (c.if-first-second.true ∙ c.code-second.ensures.value) in
+    ∙ (c.if-first-second.true ∙ c.code-second.ensures.value) in
     rw (c.pop.ensures, c.code-first.ensures.value)
-        (cut-once links c.args.link.now c.args.self.now are c.requires c.code-first.ensures.some c.code-second.ensures.some same)
+    (cut-once links c.args.link.now c.args.self.now are c.requires c.code-first.ensures.some c.code-second.ensures.some same)
 
 pub returns : goal.returns
 returns c = λ links are.

@@ -9,5 +9,5 @@ returns c =
     let long : vec_len old ≡ length old.items = search rules in
     let inside : c.args.code < length c.self.inside.lists.items = omega (arith, c.self.invariant, c.requires) in
     contents-written c.self.inside.lists.items c.args.self.now c.args.code old c.pop-last.new.self without_last c.self.view_is inside
-        c.index_mut.ensures.value
+    c.index_mut.ensures.value
     (c.pop-last.ensures.rest ∙ ap (λ (n : ℕ). take (n - 1) old.items) long)

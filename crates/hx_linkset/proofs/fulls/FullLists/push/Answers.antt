@@ -10,7 +10,7 @@ returns-clause-ok c =
     let inside : c.args.code < length c.self.inside.lists.items = omega (arith, c.self.invariant, c.requires) in
     let one_more : c.extend_from_slice.new.self.items ≡ old.items ++ c.args.full ∷ [] = search rules in
     contents-written c.self.inside.lists.items c.args.self.now c.args.code old c.extend_from_slice.new.self
-        (λ (fulls : List FullLink). fulls ++ c.args.full ∷ []) c.self.view_is inside c.index_mut.ensures.value one_more
+    (λ (fulls : List FullLink). fulls ++ c.args.full ∷ []) c.self.view_is inside c.index_mut.ensures.value one_more
 
 pub returns-then-is_err-clause-err : goal.returns-then-is_err-clause-err
 returns-then-is_err-clause-err c =
@@ -18,5 +18,5 @@ returns-then-is_err-clause-err c =
     let inside : c.args.code < length c.self.inside.lists.items = omega (arith, c.self.invariant, c.requires) in
     let same : c.extend_from_slice.new.self.items ≡ old.items = search rules in
     contents-written c.self.inside.lists.items c.args.self.now c.args.code old c.extend_from_slice.new.self
-        (λ (fulls : List FullLink). fulls) c.self.view_is inside c.index_mut.ensures.value same
+    (λ (fulls : List FullLink). fulls) c.self.view_is inside c.index_mut.ensures.value same
     ∙ set-get_or c.args.self.now c.args.code []

@@ -16,10 +16,10 @@ pub grow-requires-clause-inside : goal.grow-requires-clause-inside
 grow-requires-clause-inside c =
     let P : Standing → Type 0 = λ s. Gives s c.args.step c.in-Some.link in
     let g : GivesFromLive c.self.inside.position c.self.inside.colour c.self.inside.links.items c.args.step c.in-Some.link =
-        subst P (sym c.self.view_is) c.in-Some.ensures in
+    subst P (sym c.self.view_is) c.in-Some.ensures in
     rw c.head_for-head.ensures.value
     (head-inside _ _ _ _ _ (now _ _ _ _ _ _ _ _ _ _ _ _ c.self.invariant) c.in-Some.link (from_live-live _ _ _ c.args.step c.in-Some.link g)
-        (added-small _ _ _ _ _ _ _ _ _ _ _ _ c.self.invariant c.in-Some.link c.args.step g))
+    (added-small _ _ _ _ _ _ _ _ _ _ _ _ c.self.invariant c.in-Some.link c.args.step g))
 
 pub grow-requires-clause-room : goal.grow-requires-clause-room
 grow-requires-clause-room c =
@@ -30,13 +30,13 @@ pub invariant_of-self-2 : goal.invariant_of-self-2
 invariant_of-self-2 c =
     let P : Standing → Type 0 = λ s. Gives s c.args.step c.in-Some.link in
     let g : GivesFromLive c.self.inside.position c.self.inside.colour c.self.inside.links.items c.args.step c.in-Some.link =
-        subst P (sym c.self.view_is) c.in-Some.ensures in
+    subst P (sym c.self.view_is) c.in-Some.ensures in
     let count : c.len-count.result ≡ length c.self.inside.links.items = search rules in
     let few : length c.self.inside.links.items ≤ 8192 = c.self.invariant.keeps.few in
     let other : c.len-count.result ≢ 8192 = c.if-count-eq-MOST_LINKS.false in
     let rings : c.grow.new.self ≡ grown c.self.inside.chains c.head_for-head.result = search rules in
     let lists : (links : List Link) → length links ≡ c.len-count.result → AreFullLists links c.self.inside.fulls
-        → AreFullLists (links ++ c.in-Some.link ∷ []) c.add.new.self = search rules in
+    → AreFullLists (links ++ c.in-Some.link ∷ []) c.add.new.self = search rules in
     fields-added _ _ _ _ _ _ _ _ _ _ _ _ c.self.invariant c.in-Some.link c.args.step g _ _ c.grow.new.self
     (rw (c.push_reserved.ensures.items, c.reserve.ensures.items) refl)
     (rw (c.push_reserved-2.ensures.items, c.reserve-2.ensures.items) refl)
@@ -47,7 +47,7 @@ invariant_of-self-then-is_err-4 c =
     let count : c.len-count.result ≡ length c.self.inside.links.items = search rules in
     let rings : c.grow.new.self ≡ c.self.inside.chains = search rules in
     let lists : (links : List Link) → length links ≡ c.len-count.result → AreFullLists links c.self.inside.fulls
-        → AreFullLists (links ++ c.in-Some.link ∷ []) c.add.new.self = search rules in
+    → AreFullLists (links ++ c.in-Some.link ∷ []) c.add.new.self = search rules in
     fields-same _ _ _ _ _ _ _ _ _ _ _ _ c.self.invariant _ _ _ _ c.reserve.ensures.items c.reserve-2.ensures.items rings
     (c.cut.ensures c.self.inside.links.items (lists c.self.inside.links.items (sym count) c.self.invariant.fulls_are))
 
@@ -55,7 +55,7 @@ pub returns-clause-added : goal.returns-clause-added
 returns-clause-added c =
     let P : Standing → Type 0 = λ s. Gives s c.args.step c.in-Some.link in
     let g : GivesFromLive c.self.inside.position c.self.inside.colour c.self.inside.links.items c.args.step c.in-Some.link =
-        subst P (sym c.self.view_is) c.in-Some.ensures in
+    subst P (sym c.self.view_is) c.in-Some.ensures in
     let count : c.len-count.result ≡ length c.self.inside.links.items = search rules in
     let few : length c.self.inside.links.items ≤ 8192 = c.self.invariant.keeps.few in
     let other : c.len-count.result ≢ 8192 = c.if-count-eq-MOST_LINKS.false in

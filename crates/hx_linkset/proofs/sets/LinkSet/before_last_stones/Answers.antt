@@ -8,10 +8,19 @@ use Rattle.hx_linkset.proofs.sets.LinkSet.before_last_stones.Goals as goal
 
 pub returns : goal.returns
 returns c =
-    let now : Stage = record { position = c.self.inside.position; count = length c.self.inside.links.items; logged =
-        length c.self.inside.log.items } in
+    let now : Stage = record {
+      position = c.self.inside.position;
+      count = length c.self.inside.links.items;
+      logged =
+          length c.self.inside.log.items;
+    } in
     let first_is : c.before_last.result ≡ stage_before now (reverse c.self.inside.plays.items) =
-    rw (c.before_last.ensures, c.stage_of-now.ensures, c.as_slice.ensures.value, c.as_slice-2.ensures.value,
-        c.as_slice-3.ensures.value) refl in
+    rw (
+      c.before_last.ensures,
+      c.stage_of-now.ensures,
+      c.as_slice.ensures.value,
+      c.as_slice-2.ensures.value,
+      c.as_slice-3.ensures.value,
+    ) refl in
     let P : Standing → Type 0 = λ s. c.before_last.result.position ≡ board_before (length s.present.links) s.present.board s.past in
     subst P c.self.view_is (ap (λ (first : Stage). first.position) first_is ∙ first-board _ _ _ _ _ _ _ _ _ _ _ _ c.self.invariant)

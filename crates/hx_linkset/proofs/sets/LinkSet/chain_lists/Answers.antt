@@ -9,6 +9,6 @@ pub returns : goal.returns
 returns c =
     let P : Standing → Type 0 = λ s. ChainLists s c.args.kind c.args.a c.args.b in
     subst P c.self.view_is
-        (chain-lists _ c.args.kind c.args.a c.args.b (right _ _ _ _ _ _ _ _ _ _ _ _ c.self.invariant) c.self.inside.chains
-        (now _ _ _ _ _ _ _ _ _ _ _ _ c.self.invariant).hold
+    (chain-lists _ c.args.kind c.args.a c.args.b (right _ _ _ _ _ _ _ _ _ _ _ _ c.self.invariant) c.self.inside.chains
+    (now _ _ _ _ _ _ _ _ _ _ _ _ c.self.invariant).hold
     c.head_between-head.result c.head_between-head.ensures.between)

@@ -19,8 +19,8 @@ pub loop-node-init : goal.loop-node-init
 loop-node-init c =
     let held = (now _ _ _ _ _ _ _ _ _ _ _ _ c.self.invariant).hold in
     rw c.after-node.ensures
-        (walk-start _ _ _ held c.head_for-head.result c.head_for-head.ensures.small
-        (λ (link : Link). IsSubset link.carrier c.args.link.now.carrier))
+    (walk-start _ _ _ held c.head_for-head.result c.head_for-head.ensures.small
+    (λ (link : Link). IsSubset link.carrier c.args.link.now.carrier))
 
 pub index-requires : goal.index-requires
 index-requires c =
@@ -34,18 +34,18 @@ pub returns-then-covers : goal.returns-then-covers
 returns-then-covers c =
     let held = (now _ _ _ _ _ _ _ _ _ _ _ _ c.self.invariant).hold in
     let walked : WalkedTo c.self.inside.links.items (IsLiveThere c.self.inside.position c.self.inside.colour)
-        (λ (link : Link). IsSubset link.carrier c.args.link.now.carrier) c.head_for-head.result c.loop-node.node = c.loop-node.invariant in
+    (λ (link : Link). IsSubset link.carrier c.args.link.now.carrier) c.head_for-head.result c.loop-node.node = c.loop-node.invariant in
     let at : LinkAt c.self.inside.links.items (IsLiveThere c.self.inside.position c.self.inside.colour)
-        (head_of c.args.link.now) c.loop-node.node =
+    (head_of c.args.link.now) c.loop-node.node =
     rw c.head_for-head.ensures.value at (walk-link _ _ _ held c.head_for-head.result c.head_for-head.ensures.small _ c.loop-node.node walked
-        c.loop-node-test.true) in
+    c.loop-node-test.true) in
     let same : c.index.result.now ≡ at.link =
-        read-at _ _ _ c.loop-node.node (c.loop-node.node - 30258) at c.index.result.now refl c.index.ensures in
+    read-at _ _ _ c.loop-node.node (c.loop-node.node - 30258) at c.index.result.now refl c.index.ensures in
     let P : Link → Type 0 = λ link. IsSubset link.carrier c.args.link.now.carrier in
     let Q : Standing → Type 0 = λ s. Covers s (c.loop-node.node - 30258) c.args.link.now in
     subst Q c.self.view_is
-        (covers-at _ (right _ _ _ _ _ _ _ _ _ _ _ _ c.self.invariant).is_board c.args.link.now c.head_for-head.ensures.a
-        c.head_for-head.ensures.b
+    (covers-at _ (right _ _ _ _ _ _ _ _ _ _ _ _ c.self.invariant).is_board c.args.link.now c.head_for-head.ensures.a
+    c.head_for-head.ensures.b
     c.loop-node.node (c.loop-node.node - 30258) refl at (subst P same (c.inside-covers.ensures.0 c.if-covers.true)))
 
 pub after-node-requires-in-loop-node : goal.after-node-requires-in-loop-node
@@ -60,18 +60,18 @@ loop-node-smaller c =
     let held = (now _ _ _ _ _ _ _ _ _ _ _ _ c.self.invariant).hold in
     rw c.after-node-in-loop-node.ensures
     (walk-falls _ _ _ held c.head_for-head.result c.head_for-head.ensures.small _ c.loop-node.node c.loop-node.invariant
-        c.loop-node-test.true c.self.invariant.keeps.few)
+    c.loop-node-test.true c.self.invariant.keeps.few)
 
 pub loop-node-preserved : goal.loop-node-preserved
 loop-node-preserved c =
     let held = (now _ _ _ _ _ _ _ _ _ _ _ _ c.self.invariant).hold in
     let walked : WalkedTo c.self.inside.links.items (IsLiveThere c.self.inside.position c.self.inside.colour)
-        (λ (link : Link). IsSubset link.carrier c.args.link.now.carrier) c.head_for-head.result c.loop-node.node = c.loop-node.invariant in
+    (λ (link : Link). IsSubset link.carrier c.args.link.now.carrier) c.head_for-head.result c.loop-node.node = c.loop-node.invariant in
     let at : LinkAt c.self.inside.links.items
-        (IsLiveThere c.self.inside.position c.self.inside.colour) c.head_for-head.result c.loop-node.node =
+    (IsLiveThere c.self.inside.position c.self.inside.colour) c.head_for-head.result c.loop-node.node =
     walk-link _ _ _ held c.head_for-head.result c.head_for-head.ensures.small _ c.loop-node.node walked c.loop-node-test.true in
     let same : c.index.result.now ≡ at.link =
-        read-at _ _ _ c.loop-node.node (c.loop-node.node - 30258) at c.index.result.now refl c.index.ensures in
+    read-at _ _ _ c.loop-node.node (c.loop-node.node - 30258) at c.index.result.now refl c.index.ensures in
     let P : Link → Type 0 = λ link. IsSubset link.carrier c.args.link.now.carrier in
     rw c.after-node-in-loop-node.ensures
     (walk-on _ _ _ held c.head_for-head.result c.head_for-head.ensures.small _ c.loop-node.node walked c.loop-node-test.true

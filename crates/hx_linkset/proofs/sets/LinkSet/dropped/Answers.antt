@@ -8,26 +8,48 @@ use Rattle.hx_linkset.proofs.sets.LinkSet.dropped.Goals as goal
 
 pub logged_from-requires : goal.logged_from-requires
 logged_from-requires c =
-    let now : Stage = record { position = c.self.inside.position; count = length c.self.inside.links.items; logged =
-        length c.self.inside.log.items } in
+    let now : Stage = record {
+      position = c.self.inside.position;
+      count = length c.self.inside.links.items;
+      logged =
+          length c.self.inside.log.items;
+    } in
     let first_is : c.before_last-first.result ≡ stage_before now (reverse c.self.inside.plays.items) =
-    rw (c.before_last-first.ensures, c.stage_of-now.ensures, c.as_slice.ensures.value, c.as_slice-2.ensures.value,
-        c.as_slice-3.ensures.value) refl in
-    omega (arith, ap (λ (first : Stage). first.logged) first_is, first-fits _ _ _ _ _ _ _ _ _ _ _ _ c.self.invariant,
-        c.as_slice-4.ensures.len)
+    rw (
+      c.before_last-first.ensures,
+      c.stage_of-now.ensures,
+      c.as_slice.ensures.value,
+      c.as_slice-2.ensures.value,
+      c.as_slice-3.ensures.value,
+    ) refl in
+    omega (
+      arith,
+      ap (λ (first : Stage). first.logged) first_is,
+      first-fits _ _ _ _ _ _ _ _ _ _ _ _ c.self.invariant,
+      c.as_slice-4.ensures.len,
+    )
 
 pub returns : goal.returns
 returns c =
-    let now : Stage = record { position = c.self.inside.position; count = length c.self.inside.links.items; logged =
-        length c.self.inside.log.items } in
+    let now : Stage = record {
+      position = c.self.inside.position;
+      count = length c.self.inside.links.items;
+      logged =
+          length c.self.inside.log.items;
+    } in
     let first_is : c.before_last-first.result ≡ stage_before now (reverse c.self.inside.plays.items) =
-    rw (c.before_last-first.ensures, c.stage_of-now.ensures, c.as_slice.ensures.value, c.as_slice-2.ensures.value,
-        c.as_slice-3.ensures.value) refl in
+    rw (
+      c.before_last-first.ensures,
+      c.stage_of-now.ensures,
+      c.as_slice.ensures.value,
+      c.as_slice-2.ensures.value,
+      c.as_slice-3.ensures.value,
+    ) refl in
     let since_is : c.logged_from.result.now ≡ drop (stage_before now (reverse c.self.inside.plays.items)).logged c.self.inside.log.items =
     rw (c.logged_from.ensures, first_is, c.as_slice-4.ensures.value) refl in
     let P : Standing → Type 0 = λ s. AreDropped s c.logged_from.result.now in
     let Q : List ℕ → Type 0 = λ places.
-        AreDropped (standing c.self.inside.colour
-        (record { board = c.self.inside.position; links = c.self.inside.links.items; steps = c.self.inside.steps.items })
-        c.self.inside.plays.items) places in
+    AreDropped (standing c.self.inside.colour
+    (record { board = c.self.inside.position; links = c.self.inside.links.items; steps = c.self.inside.steps.items })
+    c.self.inside.plays.items) places in
     subst P c.self.view_is (subst Q (sym since_is) (first-dropped _ _ _ _ _ _ _ _ _ _ _ _ c.self.invariant))

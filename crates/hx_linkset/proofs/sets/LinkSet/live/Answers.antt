@@ -16,5 +16,5 @@ returns c =
     let P : Standing → Type 0 = λ s. AreLivePairs s c.args.a c.args.b c.new.result in
     subst P c.self.view_is (rw (c.new.ensures, most)
     (live-pairs _ (right _ _ _ _ _ _ _ _ _ _ _ _ c.self.invariant) c.args.a c.args.b _ _ c.in_order-low.ensures.order
-        c.in_order-low.ensures.low c.in_order-low.ensures.high
+    c.in_order-low.ensures.low c.in_order-low.ensures.high
     c.self.inside.chains (now _ _ _ _ _ _ _ _ _ _ _ _ c.self.invariant).hold))

@@ -23,31 +23,39 @@ pub invariant_of-self : goal.invariant_of-self
 invariant_of-self c =
     let P : Standing → Type 0 = λ s. HasMore s.present.board c.args.after.now in
     let more : HasMore c.self.inside.position c.args.after.now = subst P (sym c.self.view_is) c.requires in
-    let stage : Stage = record { position = c.self.inside.position; count = length c.self.inside.links.items; logged =
-        length c.self.inside.log.items } in
+    let stage : Stage = record {
+      position = c.self.inside.position;
+      count = length c.self.inside.links.items;
+      logged =
+          length c.self.inside.log.items;
+    } in
     let stage_is : c.stage_of-now.result ≡ stage = rw (c.stage_of-now.ensures, c.as_slice.ensures.value, c.as_slice-2.ensures.value) refl in
     let passed : IsPassed c.self.inside.links.items c.self.inside.position c.args.after.now c.self.inside.colour
-        (length c.self.inside.links.items) c.self.inside.chains c.drop_dead.new.chains c.self.inside.log.items c.drop_dead.new.log.items =
+    (length c.self.inside.links.items) c.self.inside.chains c.drop_dead.new.chains c.self.inside.log.items c.drop_dead.new.log.items =
     rw c.as_slice-3.ensures.value at c.drop_dead.ensures.passed in
     fields-played _ _ _ _ _ _ _ _ _ _ _ _ c.self.invariant c.args.after.now more _ _ passed _ _ _ _ _ c.of-self-inside.ensures
-        c.liveness_of-self-inside.ensures
+    c.liveness_of-self-inside.ensures
     (c.push_reserved.ensures.items
-        ∙ ap (λ (s : Stage). c.self.inside.plays.items ++ s ∷ []) stage_is) c.push_reserved.ensures.capacity c.drop_dead.ensures.room
+    ∙ ap (λ (s : Stage). c.self.inside.plays.items ++ s ∷ []) stage_is) c.push_reserved.ensures.capacity c.drop_dead.ensures.room
 
 pub returns : goal.returns
 returns c =
     let P : Standing → Type 0 = λ s. HasMore s.present.board c.args.after.now in
     let more : HasMore c.self.inside.position c.args.after.now = subst P (sym c.self.view_is) c.requires in
-    let stage : Stage = record { position = c.self.inside.position; count = length c.self.inside.links.items; logged =
-        length c.self.inside.log.items } in
+    let stage : Stage = record {
+      position = c.self.inside.position;
+      count = length c.self.inside.links.items;
+      logged =
+          length c.self.inside.log.items;
+    } in
     let stage_is : c.stage_of-now.result ≡ stage = rw (c.stage_of-now.ensures, c.as_slice.ensures.value, c.as_slice-2.ensures.value) refl in
     let passed : IsPassed c.self.inside.links.items c.self.inside.position c.args.after.now c.self.inside.colour
-        (length c.self.inside.links.items) c.self.inside.chains c.drop_dead.new.chains c.self.inside.log.items c.drop_dead.new.log.items =
+    (length c.self.inside.links.items) c.self.inside.chains c.drop_dead.new.chains c.self.inside.log.items c.drop_dead.new.log.items =
     rw c.as_slice-3.ensures.value at c.drop_dead.ensures.passed in
     seen-played _ _ _ _ _ _ _ _ _ _ _ _ c.self.invariant c.args.after.now more _ _ passed _ _ _ _ _ c.of-self-inside.ensures
-        c.liveness_of-self-inside.ensures
+    c.liveness_of-self-inside.ensures
     (c.push_reserved.ensures.items
-        ∙ ap (λ (s : Stage). c.self.inside.plays.items ++ s ∷ []) stage_is) c.push_reserved.ensures.capacity c.drop_dead.ensures.room
+    ∙ ap (λ (s : Stage). c.self.inside.plays.items ++ s ∷ []) stage_is) c.push_reserved.ensures.capacity c.drop_dead.ensures.room
     ∙ ap (λ (s : Standing). let t : Standing =
-        record { player = s.player; present = record s.present { board = c.args.after.now }; past = s.present ∷ s.past } in
-        t) c.self.view_is
+    record { player = s.player; present = record s.present { board = c.args.after.now }; past = s.present ∷ s.past } in
+    t) c.self.view_is

@@ -17,7 +17,7 @@ join_seat-requires c = let table = sym (ap (λ w. w.made.table) c.self.view_is) 
 pub load-requires : goal.load-requires
 load-requires c =
     let t = c.join_seat.ensures in let own = first_part c.args.seat.now.me.0 in let told = first_part c.args.note.me.0 in let room =
-        c.args.self.now.made.slots in
+    c.args.self.now.made.slots in
     let both : c.join_seat.new.seat.me ≡ (view (part room Note told.seen ∷ part room own.role own.seen ∷ []), []) =
     t.2 ∙ λ k. (joined (c.requires.own k).0 (c.requires.note k).0, (c.requires.own k).1) in (
       t.0 ∙ (c.requires.tables.0 ∙ sym (ap (λ w. w.made.table) c.self.view_is)),
@@ -25,5 +25,5 @@ load-requires c =
       may-settle c.self.inside.table.shared.key room
           (sym (ap (λ w. w.made.slots) c.self.view_is) ∙ sym (ap (λ l. l.slots) c.self.invariant.2))
           c.self.inside.table.shared.table_id.slots c.join_seat.new.seat.id c.join_seat.new.seat.me own.role told.seen own.seen both
-              c.requires.waits,
+          c.requires.waits,
     )

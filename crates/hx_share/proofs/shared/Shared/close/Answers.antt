@@ -10,7 +10,7 @@ pub unwrap-book-requires : goal.unwrap-book-requires
 unwrap-book-requires c =
     let o = c.self.invariant in
     let last = ended c.self.inside.table.shared.key c.gather-seat.result.id c.gather-seat.result.me c.args.seats.items _ _ c.take.result
-        c.gather-seat.ensures.parts c.close_with-closed.ensures.values.2
+    c.gather-seat.ensures.parts c.close_with-closed.ensures.values.2
     (c.requires.all ∙ (sym (ap (λ w. w.seats) c.self.view_is) ∙ sym (ap (λ l. l.seats) o.2))) c.take.ensures.value in
     subst IsSome (sym last.book) refl
 
@@ -18,7 +18,7 @@ pub returns-clause-seen : goal.returns-clause-seen
 returns-clause-seen c =
     let o = c.self.invariant in
     let last = ended c.self.inside.table.shared.key c.gather-seat.result.id c.gather-seat.result.me c.args.seats.items _ _ c.take.result
-        c.gather-seat.ensures.parts c.close_with-closed.ensures.values.2
+    c.gather-seat.ensures.parts c.close_with-closed.ensures.values.2
     (c.requires.all ∙ (sym (ap (λ w. w.seats) c.self.view_is) ∙ sym (ap (λ l. l.seats) o.2))) c.take.ensures.value in
     let is : c.unwrap-book.result ≡ contents c.self.inside.table.shared.key.slots last.nodes = cc (c.unwrap-book.ensures, last.book) in
     λ k d near. subst (λ (l : List Node). Extends l (get_or c.args.seats.items k d).seen) (sym (ap (λ b. b.nodes) is)) (last.seen k d near)
@@ -27,7 +27,7 @@ pub returns-clause-slots : goal.returns-clause-slots
 returns-clause-slots c =
     let o = c.self.invariant in
     let last = ended c.self.inside.table.shared.key c.gather-seat.result.id c.gather-seat.result.me c.args.seats.items _ _ c.take.result
-        c.gather-seat.ensures.parts c.close_with-closed.ensures.values.2
+    c.gather-seat.ensures.parts c.close_with-closed.ensures.values.2
     (c.requires.all ∙ (sym (ap (λ w. w.seats) c.self.view_is) ∙ sym (ap (λ l. l.seats) o.2))) c.take.ensures.value in
     let is : c.unwrap-book.result ≡ contents c.self.inside.table.shared.key.slots last.nodes = cc (c.unwrap-book.ensures, last.book) in
     ap (λ b. b.slots) is ∙ (ap (λ l. l.slots) o.2 ∙ ap (λ w. w.made.slots) c.self.view_is)

@@ -8,7 +8,7 @@ use Rattle.hx_share.proofs.shared.Shared.give_back.Goals as goal
 pub store-requires : goal.store-requires
 store-requires c =
     let t = c.exchange.ensures in let room = c.args.self.now.made.slots in let nodes = c.args.book.nodes in let seen =
-        (first_part c.args.seat.now.me.0).seen in
+    (first_part c.args.seat.now.me.0).seen in
     let holds : c.exchange.new.seat.me ≡ acting room seen (Some (contents room nodes)) =
     t.3 ∙ λ k. ((c.requires.acts k).0, (0, Some (contents (c.requires.slots k) nodes)) ∷ rest (c.requires.acts k).1) in (
       t.0 ∙ (c.requires.table ∙ sym (ap (λ w. w.made.table) c.self.view_is)),

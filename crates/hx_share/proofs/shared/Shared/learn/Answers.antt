@@ -12,17 +12,17 @@ pub returns-clause-seen : goal.returns-clause-seen
 returns-clause-seen c =
     let own = (first_part c.seat.inside.seat.me.0).seen in let told = (first_part c.into_seat.result.me.0).seen in
     subst (λ (l : List Node). Extends l c.args.seat.now.seen)
-        (sym (alone-seen c.args.self.now.made.slots (first_part c.seat.inside.seat.me.0).role
-        (longer own told) c.absorb.new.seat.me c.absorb.ensures.own))
+    (sym (alone-seen c.args.self.now.made.slots (first_part c.seat.inside.seat.me.0).role
+    (longer own told) c.absorb.new.seat.me c.absorb.ensures.own))
     (subst (λ (l : List Node). Extends (longer own told) l) (ap (λ r. r.seen) c.seat.view_is)
-        (longer-both own told c.absorb.ensures.fronts).of_one)
+    (longer-both own told c.absorb.ensures.fronts).of_one)
 
 pub returns-clause-told : goal.returns-clause-told
 returns-clause-told c =
     let own = (first_part c.seat.inside.seat.me.0).seen in let told = (first_part c.into_seat.result.me.0).seen in
     subst (λ (l : List Node). Extends l c.args.note.seen)
-        (sym (alone-seen c.args.self.now.made.slots (first_part c.seat.inside.seat.me.0).role
-        (longer own told) c.absorb.new.seat.me c.absorb.ensures.own))
+    (sym (alone-seen c.args.self.now.made.slots (first_part c.seat.inside.seat.me.0).role
+    (longer own told) c.absorb.new.seat.me c.absorb.ensures.own))
     (subst (λ (l : List Node). Extends (longer own told) l)
-        (alone-seen c.args.note.made.slots Note c.args.note.seen c.into_seat.result.me c.into_seat.ensures.part)
-        (longer-both own told c.absorb.ensures.fronts).of_other)
+    (alone-seen c.args.note.made.slots Note c.args.note.seen c.into_seat.result.me c.into_seat.ensures.part)
+    (longer-both own told c.absorb.ensures.fronts).of_other)

@@ -9,4 +9,4 @@ pub returns-clause-found : goal.returns-clause-found
 returns-clause-found g c =
     subst (λ (l : List Node). FindsFirst l c.args.position.now c.args.to_move c.find-found.result)
     (sym (alone-seen c.args.self.now.made.slots Waiting c.take_book-book.result.nodes c.give_back.new.seat.me c.give_back.ensures.waits))
-        c.find-found.ensures
+    c.find-found.ensures

@@ -9,4 +9,4 @@ pub returns-clause-found : goal.returns-clause-found
 returns-clause-found g c =
     subst (λ (l : List Node). FindsWider l c.args.position.now c.args.to_move c.args.winner c.find_wider-wider.result)
     (sym (alone-seen c.args.self.now.made.slots Waiting c.take_book-book.result.nodes c.give_back.new.seat.me c.give_back.ensures.waits))
-        c.find_wider-wider.ensures
+    c.find_wider-wider.ensures

@@ -14,7 +14,7 @@ loop-place-preserved c =
     let last = after-done crew.shared.now.made crew.counts.now crew.position crew.to_move c.in-Some.place done c.in-After.is
     (All-pop (IsAfter crew.shared.now.made crew.counts.now crew.position crew.to_move) _ _ (Some c.in-Some.place) d.items i.left).1 in
     let as_many : length parts.books.items ≡ length parts.counts.items =
-        omega (arith, i.books, i.counts, parts.books.ok, parts.counts.ok) in record {
+    omega (arith, i.books, i.counts, parts.books.ok, parts.counts.ok) in record {
       books = omega (arith, i.books, d.cases, b.len);
       counts = omega (arith, i.counts, d.cases, s.len);
       ends = omega (arith, i.ends, d.cases, e.len);
@@ -29,7 +29,7 @@ loop-place-preserved c =
           (All-push (λ (s : Seat). s.made ≡ crew.counts.now) parts.counts.items done.counts i.same_counts last.same_counts);
       some_ends = rw (b.items, s.items, e.items)
           (ends-more crew.shared.now.made.slots crew.position crew.to_move parts.books.items parts.counts.items done.book done.counts
-              parts.ends.items done.ended as_many i.some_ends last.ended);
+          parts.ends.items done.ended as_many i.some_ends last.ended);
       no_chain = rw (s.items, e.items)
           (no_chain-more crew.position parts.counts.items done.counts parts.ends.items done.ended i.no_chain last.no_chain);
     }

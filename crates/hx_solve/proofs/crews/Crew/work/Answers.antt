@@ -14,5 +14,5 @@ returns g c =
       no_chain = λ spent some.
           (c.work-ended.ensures.tried (subst EndsSpent back.ended spent)
           (subst (λ (s : Seat). (own c.args.seats.counts).granted < (own s).granted) back.counts
-              (omega (arith, some, c.requires.seats.nothing.granted)))).no_chain;
+          (omega (arith, some, c.requires.seats.nothing.granted)))).no_chain;
     }
