@@ -1,5 +1,5 @@
 -- What the two searches of a book look for, and what they find.
-use Rattle.std.proofs.Common.{◌≡◌, ℕ, List, refl, sym, ap, ◌∙◌, arith, Some}
+use Rattle.std.proofs.Common.{◌≡◌, ℕ, List, refl, sym, ap, ◌∙◌, arith, Some, false}
 use Rattle.std.specs.Prelude.{slice_get}
 use Rattle.hx_board.specs.declared.colours.Colour.{Colour}
 use Rattle.hx_board.specs.declared.colours.Colour.TheVariants.{Black, White}
@@ -57,7 +57,7 @@ wider-bucket buckets board mover winner bucket is_bucket node has =
 
 module _ (nodes : List Node) (board : Board) (mover winner : Colour) where
   pub wider-found : (place : ℕ) (node : Node) → slice_get nodes place ≡ Some node → HasWider board mover winner node
-      → IsWiderFound nodes board mover winner
+      → IsWiderFound false nodes board mover winner
       (record { found = record { index = place; winner = winner }; position = node.heading.position })
   wider-found place node there has = record {
     entry = record { node = node; there = there; is_wider = has };
@@ -66,5 +66,5 @@ module _ (nodes : List Node) (board : Board) (mover winner : Colour) where
   }
 
   pub wider-none : ((place : ℕ) (node : Node) → slice_get nodes place ≡ Some node → HasWider board mover winner node → ⊥)
-      → HasNoWider nodes board mover winner
+      → HasNoWider false nodes board mover winner
   wider-none none place entry = none place entry.node entry.there entry.is_wider

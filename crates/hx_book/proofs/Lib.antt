@@ -8,3 +8,5 @@ pub mod NeedLaws
 pub mod RenamingLaws
 pub mod KeptLaws
 pub mod SightLaws
+pub mod PlainTrees
+pub mod OwnEntries

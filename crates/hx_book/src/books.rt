@@ -5,10 +5,11 @@
 //! `find` answers does not depend on the buckets, nor does whether `find_wider` answers. All memory is taken at the start, but
 //! for what `into_tree` takes.
 
-ghost use Rattle.std.specs.Prelude.{◌≡◌, ◌≢◌, ◌<◌, ◌≤◌, ◌↔◌, IsTrue, [], length, IfOk};
+ghost use Rattle.std.specs.Prelude.{◌≡◌, ◌≢◌, ◌<◌, ◌≤◌, ◌↔◌, IsTrue, false, [], length, IfOk};
 ghost use Rattle.hx_tree.specs.Rules.{IsRightNode};
 ghost use Rattle.hx_tree.specs.Trees.{headings_of, IsValidTree};
 ghost use Rattle.hx_tree.specs.Entries.{FindsFirst};
+ghost use Rattle.hx_tree.specs.Plain.{ArePlain};
 ghost use Rattle.hx_book.specs.Entries.{contents, IsBook};
 ghost use Rattle.hx_book.specs.WiderEntry.{FindsWider};
 ghost use Rattle.hx_book.specs.Puts.{Puts};
@@ -133,7 +134,7 @@ impl Book {
     /// An entry of this mover and winner that serves the position: its winner has the same stones, and the opponent's stones of
     /// the position are all in the entry's. None exactly where there is no such entry.
     pub fn find_wider(&self, position: &Position, to_move: Colour, winner: Colour) -> Option<Wider>
-        ensures { FindsWider self.now.nodes position.now to_move winner result }
+        ensures { FindsWider false self.now.nodes position.now to_move winner result }
     {
         let number = stones_bucket(self.by_stones.buckets(), position, to_move, winner);
         let mut link = self.by_stones.newest(number);
@@ -182,10 +183,12 @@ impl Book {
         Ok(held)
     }
 
-    /// The tree of an entry: the nodes that it needs, in their order, with new numbers for their children.
+    /// The tree of an entry: the nodes that it needs, in their order, with new numbers for their children. Where all nodes of the
+    /// book are plain those of the tree are.
     pub fn into_tree(self, index: u32) -> Result<Vec<Node>, Memory>
         requires { index < length self.nodes }
-        ensures { IfOk result (λ tree. IsTreeOf self.nodes index tree.items) }
+        ensures tree { IfOk result (λ tree. IsTreeOf self.nodes index tree.items) }
+        ensures plain { ArePlain self.nodes → IfOk result (λ tree. ArePlain tree.items) }
     {
         let alloc = *self.nodes.allocator();
         tree_of(alloc, self.nodes, index)
