@@ -10,7 +10,7 @@ use Rattle.hx_tree.specs.Entries.{IsEntry, HasNoEntry, AreDistinctEntries, IsFir
 use Rattle.hx_book.specs.WiderEntry.{IsWiderEntry, HasNoWider, IsWiderFound}
 
 module _ (nodes : List Node) (board : Board) (mover winner : Colour) where
-  own-entry : (place : ℕ) → IsWiderEntry true nodes board mover winner place → IsEntry nodes board mover place
+  pub own-entry : (place : ℕ) → IsWiderEntry true nodes board mover winner place → IsEntry nodes board mover place
   own-entry place entry = record {
     node = entry.node;
     there = entry.there;

@@ -13,3 +13,4 @@ pub mod CandidateLaws
 pub mod ComingLaws
 pub mod UnderLaws
 pub mod LineLaws
+pub mod NoLines

@@ -21,7 +21,7 @@ use Rattle.hx_tree.specs.declared.nodes.Line.TheVariants.{Child, Under}
 use Rattle.hx_tree.specs.Answers.{cell_of, cells_of}
 use Rattle.hx_tree.proofs.CellOrder.{increasing-push}
 use Rattle.hx_fill.specs.declared.choices.Better.{Better}
-use Rattle.hx_fill.specs.Unders.{IsUnderLine, HasLineFor, IsBetterIn, AreUnder, ComesBefore, AreByOrder, better_for, HasBetter, IsSifted}
+use Rattle.hx_fill.specs.Unders.{IsUnderLine, HasLineFor, IsBetterIn, AreUnder, LeaveNoneDominated, ComesBefore, AreByOrder, better_for, HasBetter, IsSifted}
 use Rattle.hx_fill.specs.Unders.{AreGiven, AddsLine, IsLineFor, AreLinesFor}
 
 -- an element of a mapped list is that of some element
@@ -189,9 +189,11 @@ module _ (board : Board) (mover : Colour) (cells : ℕ) (order : List ℕ) (choi
         let P : ℕ → Type 0 = λ x. has betters x ≡ true in
         let h : has without_line cell ≡ true = sifted.betters_inside cell (subst P w.1.0 w.0.among) in
         (sifted.inside cell h, no_line cell h);
-    no_other = λ cell here lacks_line no_better other both. sifted.settled cell (open_without cell here lacks_line)
-        (false_from_ne_true _ (λ h. no_better (better_named cell h))) other (open_without other both.0 both.1, none_waits other);
   }
+
+  pub sifted-none_dominated : LeaveNoneDominated board mover cells lines
+  sifted-none_dominated cell here lacks_line no_better other both = sifted.settled cell (open_without cell here lacks_line)
+      (false_from_ne_true _ (λ h. no_better (better_named cell h))) other (open_without other both.0 both.1, none_waits other)
 
   pub sifted-by_order : AreByOrder board mover cells order lines
   sifted-by_order = record {

@@ -37,7 +37,6 @@ NothingLeft board = (player : Colour) → HasNone board player
 pub record IsFillIn (board : Board) (fills : List Fill) (final : Board) : Type 0 where
   pub dead_or_pairs : AreDeadOrPairs fills
   pub right : FillsTo board fills final
-  pub nothing_left : NothingLeft final
 
 -- the stones of a step as stones of the winner's opponent, one by one
 abbrev pub single_stones : FillStep → List FillStep

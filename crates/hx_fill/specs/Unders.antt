@@ -40,15 +40,18 @@ abbrev pub IsDominatedByNone : Board → Colour → ℕ → (ℕ → Type 0) →
 IsDominatedByNone board mover cell IsIn = (better : ℕ) → IsIn better → (kill : Kill)
     → IsDominated board mover better cell kill → ⊥
 
--- right lines in cell order, for some of the cells. A better cell is one of these that has no line; and one of these
--- without a line that is no better cell is dominated by none of these without a line.
+-- right lines in cell order, for some of the cells. A better cell is one of these that has no line.
 pub record AreUnder (board : Board) (mover : Colour) (cells : ℕ) (lines : List Line) : Type 0 where
   pub right : All (IsUnderLine board mover) lines
   pub in_order : IsStrictlyIncreasing (cells_of lines)
   pub among : (cell : ℕ) → HasLineFor lines cell → has cells cell ≡ true
   pub betters : (cell : ℕ) → IsBetterIn lines cell → (has cells cell ≡ true) × ¬ HasLineFor lines cell
-  pub no_other : (cell : ℕ) → has cells cell ≡ true → ¬ HasLineFor lines cell → ¬ IsBetterIn lines cell
-      → IsDominatedByNone board mover cell (λ better. (has cells better ≡ true) × ¬ HasLineFor lines better)
+
+-- a cell without a line that is no better cell is dominated by none of those without a line
+abbrev pub LeaveNoneDominated : Board → Colour → ℕ → List Line → Type 0
+LeaveNoneDominated board mover cells lines =
+    (cell : ℕ) → has cells cell ≡ true → ¬ HasLineFor lines cell → ¬ IsBetterIn lines cell
+    → IsDominatedByNone board mover cell (λ better. (has cells better ≡ true) × ¬ HasLineFor lines better)
 
 -- one cell comes before another one: it stands at a place of the order up to which the other one does not stand; and
 -- cells that the order leaves out come last, in cell order

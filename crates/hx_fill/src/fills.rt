@@ -1,11 +1,13 @@
 //! What fill-in leaves behind: the steps that were done and the position after them.
 
-ghost use Rattle.std.specs.Prelude.{OnOk};
+ghost use Rattle.std.specs.Prelude.{◌≡◌, [], OnOk};
 ghost use Rattle.hx_inferior.specs.Inferior.{MayFill};
+ghost use Rattle.hx_fill.specs.Fills.{IsFillIn};
 ghost use Rattle.hx_fill.specs.Rounds.{DoesStep};
 
 use hx_board::{Colour, Memory, Position};
 use hx_inferior::{FillStep, after_fill};
+use std::alloc::Global;
 
 /// One step of fill-in, and the player whose stones it puts.
 #[derive(Clone, Copy, PartialEq, Eq, Debug)]
@@ -28,6 +30,18 @@ pub struct Filled {
 }
 
 impl Filled {
+    /// A position in which nothing is filled.
+    pub fn none(alloc: Global, position: &Position) -> Filled
+        ensures position { result.position ≡ position.now }
+        ensures steps { result.steps.items ≡ [] }
+        ensures fills { IsFillIn position.now result.steps.items result.position }
+    {
+        Filled {
+            position: *position,
+            steps: Vec::new(alloc),
+        }
+    }
+
     /// Does a step that is right for the player.
     pub(crate) fn add(&mut self, colour: Colour, step: FillStep) -> Result<(), Memory>
         requires { MayFill self.old.position colour step }

@@ -18,7 +18,7 @@ mod views;
 mod winners_steps;
 
 pub use fills::{Fill, Filled};
-pub use mustplay::must;
+pub use mustplay::{must, must_for};
 pub use musts::Must;
 pub use rounds::fill_in;
 pub use tried_cells::without_lines;

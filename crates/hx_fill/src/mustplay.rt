@@ -1,16 +1,16 @@
 //! The moves of a player's opponent that must be answered, by the live links of the player.
 
-ghost use Rattle.std.specs.Prelude.{IfOk};
+ghost use Rattle.std.specs.Prelude.{◌≡◌, [], true, false, IfOk};
 ghost use Rattle.hx_board.specs.Colours.{other_of};
 ghost use Rattle.hx_fill.specs.Musts.{IsMust};
-ghost use Rattle.hx_fill.specs.Unders.{AreByOrder};
+ghost use Rattle.hx_fill.specs.Unders.{LeaveNoneDominated, AreByOrder};
 
 use crate::musts;
 use crate::threats::{KeptThreats, threats_of};
 use crate::unders::under_lines;
 use hx_board::{Cell, Memory};
 use hx_linkset::LinkSet;
-use hx_tree::Threats;
+use hx_tree::{Lines, Threats};
 
 /// What the opponent of the set's player must try: the cells that all live links between the player's two sides share, and which of
 /// them another one is better than. The threats share the same cells, and are few.
@@ -20,6 +20,8 @@ use hx_tree::Threats;
 /// order: so with an empty order the cells are gone through in cell order. Cells that are not among those to try are passed over.
 pub fn must(set: &LinkSet, order: &[Cell]) -> Result<musts::Must, Memory>
     ensures must { IfOk result (λ must. IsMust set.now must.threats must.cells must.under) }
+    ensures none_dominated { IfOk result (λ must. LeaveNoneDominated set.now.present.board
+        (other_of set.now.player) must.cells must.under) }
     ensures order { IfOk result (λ must. AreByOrder set.now.present.board
         (other_of set.now.player) must.cells order.now must.under) }
 {
@@ -32,4 +34,34 @@ pub fn must(set: &LinkSet, order: &[Cell]) -> Result<musts::Must, Memory>
         cells,
         under,
     })
+}
+
+/// What the opponent of the set's player must try, with a line for none of the cells: so each of them is to be tried.
+fn must_without_lines(set: &LinkSet) -> Result<musts::Must, Memory>
+    ensures must { IfOk result (λ must. IsMust set.now must.threats must.cells must.under) }
+    ensures no_lines { IfOk result (λ must. must.under ≡ []) }
+{
+    let found = threats_of(set)?;
+    let KeptThreats { places, cells } = found;
+    Ok(musts::Must {
+        threats: Threats::new(places),
+        cells,
+        under: Lines::new(Vec::new(set.allocator())),
+    })
+}
+
+/// The same for whoever stores the proof: a plain one answers each of the cells by a child, so there no cell has a line, and else as
+/// `must` says.
+pub fn must_for(set: &LinkSet, order: &[Cell], plain: bool) -> Result<musts::Must, Memory>
+    ensures must { IfOk result (λ must. IsMust set.now must.threats must.cells must.under) }
+    ensures no_lines { IfOk result (λ must. plain ≡ true → must.under ≡ []) }
+    ensures none_dominated { IfOk result (λ must. plain ≡ false
+        → LeaveNoneDominated set.now.present.board (other_of set.now.player) must.cells must.under) }
+    ensures order { IfOk result (λ must. plain ≡ false → AreByOrder set.now.present.board
+        (other_of set.now.player) must.cells order.now must.under) }
+{
+    if plain {
+        return must_without_lines(set);
+    }
+    must(set, order)
 }

@@ -6,7 +6,7 @@
 
 ghost use Rattle.std.specs.Prelude.{◌≡◌, IfOk, OnOk, true};
 ghost use Rattle.hx_board.specs.Sets.{has};
-ghost use Rattle.hx_fill.specs.Fills.{IsFillIn};
+ghost use Rattle.hx_fill.specs.Fills.{IsFillIn, NothingLeft};
 ghost use Rattle.hx_fill.specs.Rounds.{AreAllEmpties, HasNoStoneLess, LooksAt, IsRound};
 
 use crate::fills::Filled;
@@ -19,12 +19,11 @@ use std::alloc::Global;
 /// Fills what is dead or a captured pair, for either player, until no such cells are left. Each step is right for its own player
 /// where it is done. Hayward, van Rijswijck, Arneson and Henderson call this fill-in.
 pub fn fill_in(alloc: Global, position: &Position) -> Result<Filled, Memory>
-    ensures { IfOk result (λ filled. IsFillIn position.now filled.steps.items filled.position) }
+    ensures fills { IfOk result (λ filled.
+        IsFillIn position.now filled.steps.items filled.position) }
+    ensures nothing_left { IfOk result (λ filled. NothingLeft filled.position) }
 {
-    let mut filled = Filled {
-        position: *position,
-        steps: Vec::new(alloc),
-    };
+    let mut filled = Filled::none(alloc, position);
     let mut colour = Colour::Black;
     let mut has_other_none = false;
     loop {

@@ -12,7 +12,7 @@ ghost use Rattle.hx_board.specs.Cells.{OnBoard};
 ghost use Rattle.hx_board.specs.Positions.{IsEmpty};
 ghost use Rattle.hx_tree.specs.declared.nodes.Line.TheVariants.{Under};
 ghost use Rattle.hx_fill.specs.declared.choices.Better.{Better as Given};
-ghost use Rattle.hx_fill.specs.Unders.{AreEmpties, AreUnder, AreByOrder, AreSetsOf, HoldDominated, AreKilled, AreWithKiller, IsSifted, NoneWaits, Comes, AreGiven, AddsLine, AreLinesFor};
+ghost use Rattle.hx_fill.specs.Unders.{AreEmpties, AreUnder, LeaveNoneDominated, AreByOrder, AreSetsOf, HoldDominated, AreKilled, AreWithKiller, IsSifted, NoneWaits, Comes, AreGiven, AddsLine, AreLinesFor};
 
 use crate::candidates::candidates_of;
 use crate::choices::{Better, Choices};
@@ -51,6 +51,8 @@ pub(crate) fn under_lines(
 ) -> Result<Lines, Memory>
     requires { AreEmpties position.now cells }
     ensures under { IfOk result (λ lines. AreUnder position.now mover cells lines) }
+    ensures none_dominated { IfOk result (λ lines.
+        LeaveNoneDominated position.now mover cells lines) }
     ensures order { IfOk result (λ lines. AreByOrder position.now mover cells order.now lines) }
 {
     let both = BothGroups::of(position, mover);

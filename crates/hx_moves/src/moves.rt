@@ -15,7 +15,7 @@ use crate::stones::after;
 use crate::unseen_moves::first_numbers;
 use hx_board::{Cell, Mask, Memory};
 use hx_count::Hints;
-use hx_fill::{Must, must, without_lines};
+use hx_fill::{Must, must_for, without_lines};
 use hx_linkset::LinkSet;
 use hx_pn::Numbers;
 
@@ -31,19 +31,20 @@ pub struct Moves {
 
 impl Moves {
     /// The moves that must be tried, by the links of both players: no link of the other player answers them, and no other move
-    /// is better.
+    /// is better. In a plain search a move is tried though another one is better, since the proof has to answer it too.
     pub fn of(
         hints: &Hints,
         replies: &Replies,
         own: &LinkSet,
         others: &LinkSet,
         situation: &Situation,
+        plain: bool,
     ) -> Result<Moves, Memory>
         ensures { IfOk result (λ moves. All (IsChildOf situation.now) moves.children.items) }
     {
         let earlier = replies.earlier(situation, own.position().empties());
         let order = in_order(own, others, &earlier)?;
-        let must = must(others, order.as_slice())?;
+        let must = must_for(others, order.as_slice(), plain)?;
         let tried = tried_cells(&must);
         let mut children = Vec::with_capacity(own.allocator(), order.len()).map_err(|_| Memory)?;
         for cell in order.as_slice() {

@@ -1,6 +1,6 @@
 -- A node that answers each move of the opponent is right: its threats are links of the derivation, its lines are for the cells
 -- that all threats share, and a better cell has a line with a child.
-use Rattle.std.proofs.Common.{◌≡◌, ℕ, ◌<◌, ◌≤◌, true, List, length, get_or, refl, sym, ap, ◌∙◌, subst, arith, inl, Option, Some, None, ◌↔◌}
+use Rattle.std.proofs.Common.{◌≡◌, ℕ, ◌<◌, ◌≤◌, true, List, [], length, get_or, refl, sym, ap, ◌∙◌, subst, arith, inl, Option, Some, None, ◌↔◌}
 use Rattle.std.specs.Prelude.{slice_get, IfSome, IsSomeAnd, Contains}
 use Rattle.std.proofs.lemmas.Option.{slice_get-get_or, slice_get_within, get_or_from_slice_get}
 use Rattle.std.proofs.lemmas.List.Elements.{All-contains}
@@ -18,6 +18,7 @@ use Rattle.hx_tree.specs.declared.nodes.Line.TheVariants.{Child, Under}
 use Rattle.hx_tree.specs.declared.nodes.Rule.TheVariants.{All}
 use Rattle.hx_tree.specs.Steps.{IsThreat, AreThreats, IsInEachThreat}
 use Rattle.hx_tree.specs.Answers.{IsToAnswer, IsRightLine, cells_of}
+use Rattle.hx_tree.specs.Plain.{IsChildLine, AreChildLines}
 use Rattle.hx_tree.specs.Rules.{IsRightNode}
 use Rattle.hx_tree.proofs.CellOrder.{same_kind}
 use Rattle.std.specs.List.{All as Each}
@@ -129,6 +130,17 @@ module _ (set : Standing) (right : IsRight set.player set.present) (threats : Li
             dominated = All-contains (IsUnderLine board (other_of set.player)) under (Under cell better kill) must.under_lines.right is;
             answered = inl (are.by_child better free.0 free.1);
           }
+
+-- where no line names a better cell each line leads to a child
+gathered-child : (headings : List Heading) (heading : Heading) (found : Option Line) → IfSome found (IsGathered headings heading [])
+    → IfSome found IsChildLine
+gathered-child headings heading None is = tt
+gathered-child headings heading (Some (Child cell child)) is = tt
+gathered-child headings heading (Some (Under cell better kill)) is = absurd (omega (arith, is.1))
+
+pub gathered-children : (headings : List Heading) (heading : Heading) (lines : List Line)
+    → ((k : ℕ) → IfSome (slice_get lines k) (IsGathered headings heading [])) → AreChildLines lines
+gathered-children headings heading lines each k = gathered-child headings heading (slice_get lines k) (each k)
 
 -- threats are live links
 pub threats-live : (set : Standing) (threats : List ℕ) → Each (IsLivePair set First Last) threats → (index : ℕ) → StandsIn threats index

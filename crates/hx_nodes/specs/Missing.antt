@@ -1,5 +1,5 @@
 -- What a proof lacks, in a list of nodes that only grows.
-use Rattle.std.specs.Prelude.{◌≡◌, ◌⊎◌, ℕ, true, List, []}
+use Rattle.std.specs.Prelude.{◌≡◌, ◌⊎◌, ℕ, Bool, true, List, []}
 use Rattle.hx_board.specs.declared.colours.Colour.{Colour}
 use Rattle.hx_board.specs.Colours.{other_of}
 use Rattle.hx_board.specs.Sets.{has}
@@ -11,8 +11,7 @@ use Rattle.hx_tree.specs.Entries.{HasNoEntry, IsFirstFound, WasSeen}
 use Rattle.hx_book.specs.EitherEntry.{WasMissed}
 use Rattle.hx_linkset.specs.States.{Standing}
 use Rattle.hx_fill.specs.declared.fills.Fill.{Fill}
-use Rattle.hx_fill.specs.Musts.{IsMust}
-use Rattle.hx_fill.specs.Unders.{HasLineFor, AreByOrder}
+use Rattle.hx_fill.specs.Unders.{HasLineFor}
 
 -- the first entry of the position and mover names the player's opponent as the winner
 pub record NamesOther (nodes : List Node) (board : Board) (mover player : Colour) : Type 0 where
@@ -37,9 +36,9 @@ LacksMove old new board player cell = WasNotWon old new (put board player cell) 
 abbrev pub LacksAnswer : List Node → List Node → Board → Colour → ℕ → Type 0
 LacksAnswer old new board player cell = WasNotWon old new (put board (other_of player) cell) player player
 
--- nothing was filled, or the filled position was missed
-abbrev pub LacksFill : List Node → List Node → List Fill → Board → Colour → Type 0
-LacksFill old new fills filled mover = (fills ≡ []) ⊎ WasMissed old new filled mover
+-- the list is plain, or nothing was filled, or the filled position was missed
+abbrev pub LacksFill : Bool → List Node → List Node → List Fill → Board → Colour → Type 0
+LacksFill plain old new fills filled mover = (plain ≡ true) ⊎ ((fills ≡ []) ⊎ WasMissed old new filled mover)
 
 -- a cell with no line among these, where the player was not seen to win after the opponent's move to it
 pub record IsLacking (old new : List Node) (board : Board) (player : Colour) (under : List Line) (cell : ℕ)
@@ -58,16 +57,3 @@ pub record HasLacking (old new : List Node) (board : Board) (player : Colour) (c
 abbrev pub LacksOneOf : List Node → List Node → Standing → ℕ → List Line → Type 0
 LacksOneOf old new set cells under =
     IsFull set.present.board ⊎ HasLacking old new set.present.board set.player cells under
-
--- one of the cells that must be answered lacks an answer, where the better cells were gone through in the order
-pub record HasUnanswered (old new : List Node) (set : Standing) (order : List ℕ) : Type 0 where
-  pub threats : List ℕ
-  pub cells : ℕ
-  pub under : List Line
-  pub must : IsMust set threats cells under
-  pub by_order : AreByOrder set.present.board (other_of set.player) cells order under
-  pub lacking : HasLacking old new set.present.board set.player cells under
-
--- the opponent of the set's player has no move, or one that is not answered
-abbrev pub LacksAnswers : List Node → List Node → Standing → List ℕ → Type 0
-LacksAnswers old new set order = IsFull set.present.board ⊎ HasUnanswered old new set order

@@ -1,50 +1,32 @@
 //! Proofs that whichever move the opponent makes, a player wins after it.
 
+ghost use Rattle.std.specs.Prelude.{◌≡◌, true, []};
 ghost use Rattle.hx_board.specs.Colours.{other_of};
 ghost use Rattle.hx_nodes.specs.Stored.{TellsStored, MissingFor};
 ghost use Rattle.hx_fill.specs.Musts.{IsMust};
 ghost use Rattle.hx_book.specs.Sights.{Grows};
-ghost use Rattle.hx_nodes.specs.Missing.{LacksOneOf, LacksAnswers};
+ghost use Rattle.hx_nodes.specs.Missing.{LacksOneOf};
 
 use crate::lines::lines_for;
 use crate::stored::{Stored, store};
-use hx_board::{Cell, Memory};
+use hx_board::Memory;
 use hx_book::Proofs;
-use hx_fill::{Must, must};
+use hx_fill::Must;
 use hx_linkset::{Derived, LinkSet};
 use hx_tree::{Heading, Node, Rule, Threats};
 use std::sync::Wait;
 
-/// Stores that a set's player wins with the opponent to move, where an entry says so of the position after each move that has to
-/// be tried. Of two moves each of which is better than the other, the one that comes first in the order is tried. Missing only
-/// where the board is full, or no entry says so after one of the moves that are to be tried.
-pub fn store_all<P: Proofs, R: Wait>(
-    rt: &R,
-    proofs: &mut P,
-    set: &LinkSet,
-    order: &[Cell],
-) -> Stored
-    ensures grew { Grows (P.sight proofs.old) (P.sight proofs.new) }
-    ensures stored { TellsStored (P.sight proofs.new).list (P.sight proofs.new).slots
-        set.now.present.board (other_of set.now.player) result }
-    ensures missing { MissingFor (LacksAnswers (P.sight proofs.old).list (P.sight proofs.new).list
-        set.now order.now) result }
-{
-    let Ok(found) = must(set, order) else {
-        return Stored::Memory;
-    };
-    store_answers(rt, proofs, set, found)
-}
-
-/// Stores the same, where what the opponent must answer was found before. Missing only where the board is full, or no entry says so
-/// after the move to one of the cells that has no line by a better one.
+/// Stores that a set's player wins with the opponent to move, where an entry says so of the position after each move that has to be
+/// answered. Missing only where the board is full, or no entry says so after the move to one of the cells that has no line by a
+/// better one.
 pub fn store_answers<P: Proofs, R: Wait>(
     rt: &R,
     proofs: &mut P,
     set: &LinkSet,
     found: Must,
 ) -> Stored
-    requires { IsMust set.now found.threats found.cells found.under }
+    requires must { IsMust set.now found.threats found.cells found.under }
+    requires no_lines { P.is_plain ≡ true → found.under ≡ [] }
     ensures grew { Grows (P.sight proofs.old) (P.sight proofs.new) }
     ensures stored { TellsStored (P.sight proofs.new).list (P.sight proofs.new).slots
         set.now.present.board (other_of set.now.player) result }

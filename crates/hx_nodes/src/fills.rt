@@ -13,8 +13,8 @@ use hx_tree::{Heading, Node, Rule};
 use std::alloc::Global;
 use std::sync::Wait;
 
-/// Stores who wins a position, where an entry says who wins it after fill-in. Missing only where none says so, or where nothing
-/// was filled.
+/// Stores who wins a position, where an entry says who wins it after fill-in. Missing only where none says so, where nothing was
+/// filled, or where the list is plain.
 pub fn store_fill<P: Proofs, R: Wait>(
     rt: &R,
     alloc: Global,
@@ -27,12 +27,12 @@ pub fn store_fill<P: Proofs, R: Wait>(
     ensures grew { Grows (P.sight proofs.old) (P.sight proofs.new) }
     ensures stored { TellsStored (P.sight proofs.new).list (P.sight proofs.new).slots
         position.now to_move result }
-    ensures missing { MissingFor (LacksFill (P.sight proofs.old).list (P.sight proofs.new).list
+    ensures missing { MissingFor (LacksFill P.is_plain (P.sight proofs.old).list (P.sight proofs.new).list
         filled.now.steps.items filled.now.position to_move) result }
 {
     // The proof takes from here that the position's board is one.
     let _size = position.size();
-    if filled.steps.is_empty() {
+    if proofs.plain() || filled.steps.is_empty() {
         return Stored::Missing;
     }
     let Some(found) = proofs.look(rt, &filled.position, to_move) else {

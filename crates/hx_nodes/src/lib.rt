@@ -13,7 +13,7 @@ mod moves;
 mod stored;
 mod turns;
 
-pub use answers::{store_all, store_answers};
+pub use answers::store_answers;
 pub use chains::store_chain;
 pub use fills::store_fill;
 pub use lines::line_among;

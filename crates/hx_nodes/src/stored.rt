@@ -1,5 +1,7 @@
 //! What became of a proof.
 
+ghost use Rattle.std.specs.Prelude.{◌≡◌, true};
+ghost use Rattle.hx_tree.specs.Plain.{IsPlain};
 ghost use Rattle.hx_tree.specs.Rules.{IsRightNode};
 ghost use Rattle.hx_tree.specs.Trees.{headings_of};
 ghost use Rattle.hx_book.specs.Sights.{Grows};
@@ -25,10 +27,11 @@ pub enum Stored {
     Memory,
 }
 
-/// Stores a right node. Done where the list of proofs has an entry of its position and mover then, be it this node or an earlier
+/// Stores a right node, which is plain where the list is. Done where the list of proofs has an entry of its position and mover then, be it this node or an earlier
 /// one; Refused, with the node, where no slot is left.
 pub fn store<P: Proofs, R: Wait>(rt: &R, proofs: &mut P, node: Node) -> Stored
-    requires { IsRightNode (headings_of (P.sight proofs.old).list) node }
+    requires right { IsRightNode (headings_of (P.sight proofs.old).list) node }
+    requires plain { P.is_plain ≡ true → IsPlain node }
     ensures grew { Grows (P.sight proofs.old) (P.sight proofs.new) }
     ensures stored { TellsStored (P.sight proofs.new).list (P.sight proofs.new).slots
         node.heading.position node.heading.to_move result }

@@ -11,7 +11,7 @@ use hx_tree::{Heading, Node, Rule};
 use std::sync::Wait;
 
 /// Looks the position up in both orientations, and where the turned one alone has an entry stores who wins by it. Missing only
-/// where neither has one.
+/// where neither has one. In a plain list the position itself is looked up alone.
 pub fn store_turned<P: Proofs, R: Wait>(
     rt: &R,
     proofs: &mut P,
@@ -21,7 +21,7 @@ pub fn store_turned<P: Proofs, R: Wait>(
     ensures grew { Grows (P.sight proofs.old) (P.sight proofs.new) }
     ensures stored { TellsStored (P.sight proofs.new).list (P.sight proofs.new).slots
         position.now to_move result }
-    ensures missing { MissingFor (IsNeitherFound (P.sight proofs.old).list (P.sight proofs.new).list
+    ensures missing { MissingFor (IsNeitherFound P.is_plain (P.sight proofs.old).list (P.sight proofs.new).list
         position.now to_move) result }
     ensures memory { HadMemory result }
 {

@@ -1,5 +1,5 @@
 -- Cells that are tried one by one: those of a set that have no line. What was tried stays so while the list grows.
-use Rattle.std.proofs.Common.{◌≡◌, ℕ, ◌+◌, ◌<◌, true, false, List, [], ◌∷◌, ◌++◌, length, take, get_or, sym, ap, ◌∙◌, subst, inl, inr}
+use Rattle.std.proofs.Common.{◌≡◌, ℕ, Bool, ◌+◌, ◌<◌, true, false, List, [], ◌∷◌, ◌++◌, length, take, get_or, sym, ap, ◌∙◌, subst, inl, inr}
 use Rattle.std.proofs.Common.{⊎_elim, arith}
 use Rattle.std.specs.Prelude.{Contains}
 use Rattle.std.proofs.lemmas.List.{map-append, take_more}
@@ -41,24 +41,24 @@ one_line-more cells left i lines line less is before =
 
 -- ---- cells that were tried
 
-pub tried-later : (first old new : List Node) (board : Board) (player : Colour) → Extends new old
-    → IsListedOrUnserved first old board player → IsListedOrUnserved first new board player
+pub tried-later : {plain : Bool} → (first old new : List Node) (board : Board) (player : Colour) → Extends new old
+    → IsListedOrUnserved plain first old board player → IsListedOrUnserved plain first new board player
 tried-later first old new board player grown (inl has) = inl (has.0, entry-later new old board player has.0 grown has.1)
 tried-later first old new board player grown (inr was) = inr (seen-within _ first first old new (extends-itself first) grown was)
 
-pub tried-earlier : (first old new : List Node) (board : Board) (player : Colour) → Extends old first
-    → IsListedOrUnserved old new board player → IsListedOrUnserved first new board player
+pub tried-earlier : {plain : Bool} → (first old new : List Node) (board : Board) (player : Colour) → Extends old first
+    → IsListedOrUnserved plain old new board player → IsListedOrUnserved plain first new board player
 tried-earlier first old new board player grown (inl has) = inl has
 tried-earlier first old new board player grown (inr was) = inr (seen-within _ first old new new grown (extends-itself new) was)
 
 -- each cell of the set that is not left was tried, and then one more
-pub one_tried-more : (first old new : List Node) (next : ℕ → Board) (player : Colour) (cells left cell : ℕ) → Extends old first
+pub one_tried-more : (plain : Bool) (first old new : List Node) (next : ℕ → Board) (player : Colour) (cells left cell : ℕ) → Extends old first
     → Extends new old
-    → ((n : ℕ) → has cells n ≡ true → has left n ≡ false → IsListedOrUnserved first old (next n) player)
-    → IsListedOrUnserved old new (next cell) player
-    → (n : ℕ) → has cells n ≡ true → has (remove left cell) n ≡ false → IsListedOrUnserved first new (next n) player
-one_tried-more first old new next player cells left cell one two before now n member gone = ⊎_elim
-    (λ same. subst (λ (m : ℕ). IsListedOrUnserved first new (next m) player) (sym same)
+    → ((n : ℕ) → has cells n ≡ true → has left n ≡ false → IsListedOrUnserved plain first old (next n) player)
+    → IsListedOrUnserved plain old new (next cell) player
+    → (n : ℕ) → has cells n ≡ true → has (remove left cell) n ≡ false → IsListedOrUnserved plain first new (next n) player
+one_tried-more plain first old new next player cells left cell one two before now n member gone = ⊎_elim
+    (λ same. subst (λ (m : ℕ). IsListedOrUnserved plain first new (next m) player) (sym same)
     (tried-earlier first old new (next cell) player one now))
     (λ out. tried-later first old new (next n) player two (before n member out))
     (removed_cases left cell n gone)

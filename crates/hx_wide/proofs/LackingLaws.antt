@@ -1,5 +1,5 @@
 -- What a proof lacks in a list, where the list is taken from earlier on, or until later.
-use Rattle.std.proofs.Common.{◌≡◌, ℕ, true, List, [], inl, inr, ⊎_elim, subst, sym}
+use Rattle.std.proofs.Common.{◌≡◌, ℕ, Bool, true, List, [], inl, inr, ⊎_elim, ◌⊎◌, subst, sym}
 use Rattle.hx_board.specs.declared.colours.Colour.{Colour}
 use Rattle.hx_board.specs.Colours.{other_of}
 use Rattle.hx_board.specs.Sets.{has}
@@ -19,16 +19,16 @@ use Rattle.hx_tree.proofs.EntryLaws.{extends-itself, extends-on, entry-later, se
 
 -- ---- what serves a position
 
-pub unserved_by_each-within : (first old new last : List Node) (board : Board) (mover : Colour) → Extends old first → Extends last new
-    → WasUnservedByEach old new board mover → WasUnservedByEach first last board mover
+pub unserved_by_each-within : {plain : Bool} → (first old new last : List Node) (board : Board) (mover : Colour) → Extends old first → Extends last new
+    → WasUnservedByEach plain old new board mover → WasUnservedByEach plain first last board mover
 unserved_by_each-within first old new last board mover from to was winner = seen-within _ first old new last from to (was winner)
 
 -- two looks, one after the other, the second for the other player
-pub unserved-twice : (old mid new : List Node) (board : Board) (mover player : Colour) → Extends mid old → Extends new mid
-    → HasNoWider mid board mover player
-    → HasNoWider new board mover (other_of player) → WasUnservedByEach old new board mover
+pub unserved-twice : {plain : Bool} → (old mid new : List Node) (board : Board) (mover player : Colour) → Extends mid old → Extends new mid
+    → HasNoWider plain mid board mover player
+    → HasNoWider plain new board mover (other_of player) → WasUnservedByEach plain old new board mover
 unserved-twice old mid new board mover player one two first second winner =
-    let P : Colour → Type 0 = λ who. WasUnserved old new board mover who in
+    let P : Colour → Type 0 = λ who. WasUnserved _ old new board mover who in
     ⊎_elim
     (λ same. subst P (sym same) (seen-within _ old old mid new (extends-itself old) two (seen-now _ old mid one first)))
     (λ same. subst P (sym same) (seen-now _ old new (extends-on old mid new one two) second))
@@ -47,19 +47,20 @@ lost-since first old new board mover player grown has was = record {
 }
 
 -- a position that has an entry was not missed
-pub fill_lacks-nothing : (old new : List Node) (fills : List Fill) (filled : Board) (mover : Colour) → HasEntry old filled mover
-    → LacksFill old new fills filled mover → fills ≡ []
-fill_lacks-nothing old new fills filled mover has (inl none) = none
-fill_lacks-nothing old new fills filled mover has (inr was) =
+pub fill_lacks-nothing : (plain : Bool) (old new : List Node) (fills : List Fill) (filled : Board) (mover : Colour)
+    → HasEntry old filled mover → LacksFill plain old new fills filled mover → (plain ≡ true) ⊎ (fills ≡ [])
+fill_lacks-nothing plain old new fills filled mover has (inl is) = inl is
+fill_lacks-nothing plain old new fills filled mover has (inr (inl none)) = inr none
+fill_lacks-nothing plain old new fills filled mover has (inr (inr was)) =
     absurd (was.fact has.0 (entry-later was.seen old filled mover has.0 was.after_old has.1))
 
 -- where each of the cells without a line was tried, the one that lacks an answer is unserved
-pub unserved_of : (first old mid new : List Node) (board : Board) (player : Colour) (cells tried : ℕ) (under : List Line)
+pub unserved_of : {plain : Bool} → (first old mid new : List Node) (board : Board) (player : Colour) (cells tried : ℕ) (under : List Line)
     → Extends old first → Extends mid old
     → Extends new mid → ((cell : ℕ) → has cells cell ≡ true → ¬ HasLineFor under cell → has tried cell ≡ true)
-    → ((cell : ℕ) → has tried cell ≡ true → IsListedOrUnserved old mid (put board (other_of player) cell) player)
+    → ((cell : ℕ) → has tried cell ≡ true → IsListedOrUnserved plain old mid (put board (other_of player) cell) player)
     → HasLacking mid new board player cells under
-    → HasUnservedOf first new board player cells under
+    → HasUnservedOf plain first new board player cells under
 unserved_of first old mid new board player cells tried under one two three all each lacking =
     let next : Board = put board (other_of player) lacking.cell in
     record {

@@ -176,7 +176,7 @@ module _ (board there : Board) (winner : Colour) (is : IsBoard there) (size : th
 
 -- what was found of a board is what its missing stones lead to
 pub wider_missing : (list : List Node) (board : Board) (mover : Colour) (wider : Wider)
-    → IsWiderFound list board mover wider.found.winner wider → IsBoard wider.position
+    → IsWiderFound false list board mover wider.found.winner wider → IsBoard wider.position
     → (here_empties there_empties : ℕ) → ((n : ℕ) → (has here_empties n ≡ true) ↔ IsEmpty board n)
     → ((n : ℕ) → (has there_empties n ≡ true) ↔ IsEmpty wider.position n)
     → put_set board (other_of wider.found.winner) (difference here_empties there_empties) ≡ wider.position

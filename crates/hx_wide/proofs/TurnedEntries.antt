@@ -63,7 +63,7 @@ turned_wider board other wide mover winner from to is turn back wider same same_
 -- ---- the entry that was found for the turned board
 
 module _ (old : List Node) (board other : Board) (mover : Colour) (wider : Wider)
-    (found : IsWiderFound old other mover wider.found.winner wider) where
+    (found : IsWiderFound false old other mover wider.found.winner wider) where
   pub own_entry : IsEntry old wider.position mover wider.found.index
   own_entry = record {
     node = found.entry.node;
@@ -73,7 +73,7 @@ module _ (old : List Node) (board other : Board) (mover : Colour) (wider : Wider
 
   -- it is one of the turned wide position, so one of the two is there
   pub either_there : (new : List Node) (wide : Board) → Extends new old → ((twice : Board) → IsTurned wide twice → twice ≡ wider.position)
-      → ¬ IsNeitherFound old new wide mover
+      → ¬ IsNeitherFound false old new wide mover
   either_there new wide grown back neither =
       let same : neither.turned ≡ wider.position = back neither.turned neither.is_turned in
       neither.none wider.found.index (subst (λ (b : Board). IsEntry new b mover wider.found.index) (sym same)
@@ -82,7 +82,7 @@ module _ (old : List Node) (board other : Board) (mover : Colour) (wider : Wider
   -- where the wide position has an entry, and yet the board was not served, the two entries clash
   pub clash : (mid new : List Node) (wide : Board) → IsBoard board → IsTurned board other → IsTurned wider.position wide → Extends mid old
       → Extends new mid
-      → HasEntry mid wide mover → WasUnservedByEach mid new board mover → HasClash new mover
+      → HasEntry mid wide mover → WasUnservedByEach false mid new board mover → HasClash new mover
   clash mid new wide is turn back before after has_entry unserved =
       let winner : Colour = wider.found.winner in
       let was = unserved winner in

@@ -1,6 +1,6 @@
 -- What some headings say, what a try to store an answer leaves, and how it ends. These words are for the functions
 -- inside the crate alone.
-use Rattle.std.specs.Prelude.{◌≡◌, ◌⊎◌, ℕ, List, [], ◌∷◌, slice_get}
+use Rattle.std.specs.Prelude.{◌≡◌, ◌⊎◌, ℕ, Bool, List, [], ◌∷◌, slice_get}
 use Rattle.std.specs.declared.option.Option.TheVariants.{Some}
 use Rattle.hx_board.specs.declared.colours.Colour.{Colour}
 use Rattle.hx_board.specs.declared.colours.Colour.TheVariants.{Black, White}
@@ -28,8 +28,8 @@ put_set board Black cells = record board { black = union board.black cells }
 put_set board White cells = record board { white = union board.white cells }
 
 -- with the player to move the position has an entry, or no entry of the player's was seen to serve it
-abbrev pub IsListedOrUnserved : List Node → List Node → Board → Colour → Type 0
-IsListedOrUnserved old new board player = HasEntry new board player ⊎ WasUnserved old new board player player
+abbrev pub IsListedOrUnserved : Bool → List Node → List Node → Board → Colour → Type 0
+IsListedOrUnserved plain old new board player = HasEntry new board player ⊎ WasUnserved plain old new board player player
 
 -- no slot was left, or memory was wanting
 abbrev pub EndsStores : List Node → ℕ → Stored → Type 0

@@ -1,5 +1,5 @@
 -- Proofs that serve a position though they may be of one with more stones of the opponent.
-use Rattle.std.specs.Prelude.{ℕ, List}
+use Rattle.std.specs.Prelude.{ℕ, Bool, List}
 use Rattle.hx_board.specs.declared.colours.Colour.{Colour}
 use Rattle.hx_board.specs.Positions.{Board}
 use Rattle.hx_tree.specs.declared.nodes.Node.{Node}
@@ -8,18 +8,18 @@ use Rattle.hx_nodes.specs.Stored.{IsOutOfSlots}
 use Rattle.hx_nodes.specs.declared.stored.Stored.{Stored}
 use Rattle.hx_nodes.specs.declared.stored.Stored.TheVariants.{Done, Refused, Missing, Memory}
 
--- some entry serves this position and mover
-pub record IsServed (list : List Node) (board : Board) (mover : Colour) : Type 0 where
+-- some entry serves this position and mover, in a list of this kind
+pub record IsServed (plain : Bool) (list : List Node) (board : Board) (mover : Colour) : Type 0 where
   pub winner : Colour
   pub place : ℕ
-  pub entry : IsWiderEntry list board mover winner place
+  pub entry : IsWiderEntry plain list board mover winner place
 
 -- what an answer says of the list, where a proof that serves this position and mover was to be stored
-abbrev pub IsStoredWide : List Node → ℕ → Board → Colour → Stored → Type 0
-IsStoredWide list slots board mover Done = IsServed list board mover
-IsStoredWide list slots board mover (Refused refusal) = IsOutOfSlots list slots refusal
-IsStoredWide list slots board mover Missing = Unit {0}
-IsStoredWide list slots board mover Memory = Unit {0}
+abbrev pub IsStoredWide : Bool → List Node → ℕ → Board → Colour → Stored → Type 0
+IsStoredWide plain list slots board mover Done = IsServed plain list board mover
+IsStoredWide plain list slots board mover (Refused refusal) = IsOutOfSlots list slots refusal
+IsStoredWide plain list slots board mover Missing = Unit {0}
+IsStoredWide plain list slots board mover Memory = Unit {0}
 
 -- ---- words for the functions inside the crate alone
 

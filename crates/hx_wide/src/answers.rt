@@ -20,7 +20,7 @@ use crate::widened::widened;
 use crate::wider::{end_of, store_wider};
 use hx_board::{CELLS, Cell, Colour, Mask, Memory, Position};
 use hx_book::Proofs;
-use hx_fill::{Must, must, without_lines};
+use hx_fill::{Must, must_for, without_lines};
 use hx_linkset::LinkSet;
 use hx_nodes::{Stored, store_answers};
 use hx_tree::{Heading, Line, Lines, Node, Rule, Threats};
@@ -125,6 +125,9 @@ fn all_wide<P: Proofs, R: Wait>(
     ensures refusal { IfSome result
         (IsTrueRefusal (P.sight proofs.new).list (P.sight proofs.new).slots) }
 {
+    if proofs.plain() {
+        return None;
+    }
     let alloc = set.allocator();
     let winner = set.colour();
     let Some(position) = position_for(rt, proofs, set, found) else {
@@ -167,7 +170,7 @@ fn store_each<P: Proofs, R: Wait>(
     ensures grew { Grows (P.sight proofs.old) (P.sight proofs.new) }
     ensures end { IfSome result (EndsStores (P.sight proofs.new).list (P.sight proofs.new).slots) }
     ensures tried { IfNone result ((cell : ℕ) → has cells cell ≡ true →
-        IsListedOrUnserved (P.sight proofs.old).list (P.sight proofs.new).list
+        IsListedOrUnserved P.is_plain (P.sight proofs.old).list (P.sight proofs.new).list
         (put position.now (other_of winner) cell) winner) }
 {
     let size = position.size();
@@ -194,7 +197,7 @@ fn store_next<P: Proofs, R: Wait>(
     ensures grew { Grows (P.sight proofs.old) (P.sight proofs.new) }
     ensures end { IfSome result (EndsStores (P.sight proofs.new).list (P.sight proofs.new).slots) }
     ensures tried { IfNone result
-        (IsListedOrUnserved (P.sight proofs.old).list (P.sight proofs.new).list next.now winner) }
+        (IsListedOrUnserved P.is_plain (P.sight proofs.old).list (P.sight proofs.new).list next.now winner) }
 {
     match store_wider(rt, alloc, proofs, next, winner, winner) {
         Stored::Refused(refusal) => Some(Stored::Refused(refusal)),
@@ -213,12 +216,12 @@ pub fn widen_all<P: Proofs, R: Wait>(
     order: &[Cell],
 ) -> Stored
     ensures grew { Grows (P.sight proofs.old) (P.sight proofs.new) }
-    ensures stored { IsStoredWide (P.sight proofs.new).list (P.sight proofs.new).slots
+    ensures stored { IsStoredWide P.is_plain (P.sight proofs.new).list (P.sight proofs.new).slots
         set.now.present.board (other_of set.now.player) result }
-    ensures missing { MissingFor (LacksServedAnswers (P.sight proofs.old).list
+    ensures missing { MissingFor (LacksServedAnswers P.is_plain (P.sight proofs.old).list
         (P.sight proofs.new).list set.now order.now) result }
 {
-    let Ok(found) = must(set, order) else {
+    let Ok(found) = must_for(set, order, proofs.plain()) else {
         return Stored::Memory;
     };
     let tried = all_wide(rt, proofs, set, &found);

@@ -25,6 +25,9 @@ fn chain_wide<P: Proofs, R: Wait>(
     ensures refusal { IfSome result
         (IsTrueRefusal (P.sight proofs.new).list (P.sight proofs.new).slots) }
 {
+    if proofs.plain() {
+        return None;
+    }
     let Some(wide) = widened(position, winner, Mask::empty()) else {
         return None;
     };
@@ -45,7 +48,7 @@ pub fn widen_chain<P: Proofs, R: Wait>(
 ) -> Stored
     requires { HasChain position.now winner }
     ensures grew { Grows (P.sight proofs.old) (P.sight proofs.new) }
-    ensures stored { IsStoredWide (P.sight proofs.new).list (P.sight proofs.new).slots
+    ensures stored { IsStoredWide P.is_plain (P.sight proofs.new).list (P.sight proofs.new).slots
         position.now to_move result }
     ensures answered { IsAnswered result }
     ensures memory { HadMemory result }

@@ -57,12 +57,15 @@ fn fill_wide<P: Proofs, R: Wait>(
     filled: &Filled,
     wider: &Wider,
 ) -> Option<Stored>
-    requires { IsWiderFound (P.sight proofs.old).list filled.now.position to_move
+    requires { IsWiderFound P.is_plain (P.sight proofs.old).list filled.now.position to_move
         wider.now.found.winner wider.now }
     ensures grew { Grows (P.sight proofs.old) (P.sight proofs.new) }
     ensures refusal { IfSome result
         (IsTrueRefusal (P.sight proofs.new).list (P.sight proofs.new).slots) }
 {
+    if proofs.plain() {
+        return None;
+    }
     let winner = wider.found.winner;
     let Ok(steps) = own_steps(alloc, filled.steps.as_slice(), winner) else {
         return None;
@@ -90,9 +93,9 @@ pub fn widen_fill<P: Proofs, R: Wait>(
 ) -> Stored
     requires { IsFillIn position.now filled.now.steps.items filled.now.position }
     ensures grew { Grows (P.sight proofs.old) (P.sight proofs.new) }
-    ensures stored { IsStoredWide (P.sight proofs.new).list (P.sight proofs.new).slots
+    ensures stored { IsStoredWide P.is_plain (P.sight proofs.new).list (P.sight proofs.new).slots
         position.now to_move result }
-    ensures missing { MissingFor (LacksServedFill (P.sight proofs.old).list
+    ensures missing { MissingFor (LacksServedFill P.is_plain (P.sight proofs.old).list
         (P.sight proofs.new).list filled.now.steps.items filled.now.position to_move) result }
 {
     let Some(wider) = look_wider_either(rt, proofs, &filled.position, to_move) else {

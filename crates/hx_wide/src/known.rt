@@ -3,7 +3,7 @@
 //! What a node at a widened position needs is a guess. So such a node names its children by their places in a short list of
 //! entries, is judged by the checker over their headings, and is stored only where the checker says that it is right.
 
-ghost use Rattle.std.specs.Prelude.{◌≡◌, List, [], slice_get, OnOk, OnErr, IfOk, IfSome, IfNone};
+ghost use Rattle.std.specs.Prelude.{◌≡◌, false, List, [], slice_get, OnOk, OnErr, IfOk, IfSome, IfNone};
 ghost use Rattle.std.specs.declared.option.Option.TheVariants.{Some};
 ghost use Rattle.hx_tree.specs.declared.nodes.Node.{Node as Proof};
 ghost use Rattle.hx_tree.specs.Rules.{IsRightNode};
@@ -61,7 +61,8 @@ impl Known {
     }
 }
 
-/// Stores a node, where the checker says that it is right after the known entries. None only where it is not.
+/// Stores a node in a list that is not plain, where the checker says that it is right after the known entries. None only where it is
+/// not.
 pub(crate) fn store_known<P: Proofs, R: Wait>(
     rt: &R,
     alloc: Global,
@@ -69,7 +70,9 @@ pub(crate) fn store_known<P: Proofs, R: Wait>(
     known: &Known,
     node: Node,
 ) -> Option<Stored>
-    requires { AreKnown (P.sight proofs.old).list known.now.headings.items known.now.places.items }
+    requires known { AreKnown (P.sight proofs.old).list known.now.headings.items
+        known.now.places.items }
+    requires ordinary { P.is_plain ≡ false }
     ensures grew { Grows (P.sight proofs.old) (P.sight proofs.new) }
     ensures stored { IfSome result (TellsStored (P.sight proofs.new).list (P.sight proofs.new).slots
         node.heading.position node.heading.to_move) }

@@ -29,6 +29,9 @@ fn links_wide<P: Proofs, R: Wait>(
     ensures refusal { IfSome result
         (IsTrueRefusal (P.sight proofs.new).list (P.sight proofs.new).slots) }
 {
+    if proofs.plain() {
+        return None;
+    }
     let alloc = set.allocator();
     let winner = set.colour();
     let Ok(derived) = set.derivation(&[index]) else {
@@ -58,7 +61,7 @@ pub fn widen_links<P: Proofs, R: Wait>(
 ) -> Stored
     requires { Decides set.now to_move index }
     ensures grew { Grows (P.sight proofs.old) (P.sight proofs.new) }
-    ensures stored { IsStoredWide (P.sight proofs.new).list (P.sight proofs.new).slots
+    ensures stored { IsStoredWide P.is_plain (P.sight proofs.new).list (P.sight proofs.new).slots
         set.now.present.board to_move result }
     ensures answered { IsAnswered result }
 {

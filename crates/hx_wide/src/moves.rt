@@ -27,6 +27,9 @@ fn move_wide<P: Proofs, R: Wait>(
     ensures refusal { IfSome result
         (IsTrueRefusal (P.sight proofs.new).list (P.sight proofs.new).slots) }
 {
+    if proofs.plain() {
+        return None;
+    }
     let Some(wider) = proofs.look_wider(rt, next, to_move.other(), to_move) else {
         return None;
     };
@@ -54,9 +57,9 @@ pub fn widen_move<P: Proofs, R: Wait>(
 ) -> Stored
     requires { IsEmpty position.now cell }
     ensures grew { Grows (P.sight proofs.old) (P.sight proofs.new) }
-    ensures stored { IsStoredWide (P.sight proofs.new).list (P.sight proofs.new).slots
+    ensures stored { IsStoredWide P.is_plain (P.sight proofs.new).list (P.sight proofs.new).slots
         position.now to_move result }
-    ensures missing { MissingFor (LacksServedMove (P.sight proofs.old).list
+    ensures missing { MissingFor (LacksServedMove P.is_plain (P.sight proofs.old).list
         (P.sight proofs.new).list position.now to_move cell) result }
 {
     let next = position.with(to_move, cell);

@@ -29,7 +29,7 @@ pub fn store_root<P: Proofs, R: Wait>(
     ensures grew { Grows (P.sight proofs.old) (P.sight proofs.new) }
     ensures stored { TellsStored (P.sight proofs.new).list (P.sight proofs.new).slots
         position.now to_move result }
-    ensures missing { MissingFor (WasUnserved (P.sight proofs.old).list (P.sight proofs.new).list
+    ensures missing { MissingFor (WasUnserved P.is_plain (P.sight proofs.old).list (P.sight proofs.new).list
         position.now to_move winner) result }
 {
     let stored = by_some_move(rt, alloc, proofs, position, to_move, winner);

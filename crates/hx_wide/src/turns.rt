@@ -13,8 +13,8 @@ use hx_turn::turned;
 use std::sync::Wait;
 
 /// Looks for an entry that serves the position, and where there is none for one that serves the turned position, by which it
-/// stores a proof. Missing only where for each player nothing was seen that serves the position; and nothing that serves the
-/// turned one either, or entries of two positions that are turned into one another name different winners.
+/// stores a proof. Missing only where for each player nothing was seen that serves the position; and the list is plain, or nothing
+/// that serves the turned one was seen either, or entries of two positions that are turned into one another name different winners.
 pub fn widen_turned<P: Proofs, R: Wait>(
     rt: &R,
     proofs: &mut P,
@@ -22,9 +22,9 @@ pub fn widen_turned<P: Proofs, R: Wait>(
     to_move: Colour,
 ) -> Stored
     ensures grew { Grows (P.sight proofs.old) (P.sight proofs.new) }
-    ensures stored { IsStoredWide (P.sight proofs.new).list (P.sight proofs.new).slots
+    ensures stored { IsStoredWide P.is_plain (P.sight proofs.new).list (P.sight proofs.new).slots
         position.now to_move result }
-    ensures missing { MissingFor (LacksTurned (P.sight proofs.old).list (P.sight proofs.new).list
+    ensures missing { MissingFor (LacksTurned P.is_plain (P.sight proofs.old).list (P.sight proofs.new).list
         position.now to_move) result }
     ensures memory { HadMemory result }
 {
@@ -32,6 +32,9 @@ pub fn widen_turned<P: Proofs, R: Wait>(
     let _size = position.size();
     if let Some(stored) = end_of(rt, proofs, position, to_move, None) {
         return stored;
+    }
+    if proofs.plain() {
+        return Stored::Missing;
     }
     let other = turned(position);
     let Some(wider) = look_wider_either(rt, proofs, &other, to_move) else {

@@ -1,6 +1,6 @@
 //! Entries of wider positions: of one that a proof serves, whether any does, and a node of its own for it.
 
-ghost use Rattle.std.specs.Prelude.{◌≡◌, ◌≢◌, ℕ, true, [], IfSome, IfNone, IfOk};
+ghost use Rattle.std.specs.Prelude.{◌≡◌, ◌≢◌, ℕ, true, false, [], IfSome, IfNone, IfOk};
 ghost use Rattle.hx_board.specs.Colours.{other_of};
 ghost use Rattle.hx_board.specs.Sets.{has};
 ghost use Rattle.hx_board.specs.Positions.{Board, IsEmpty};
@@ -31,9 +31,9 @@ pub fn look_wider_either<P: Proofs, R: Wait>(
 ) -> Option<Wider>
     ensures grew { Grows (P.sight proofs.old) (P.sight proofs.new) }
     ensures found { IfSome result (λ wider.
-        IsWiderFound (P.sight proofs.new).list position.now to_move wider.found.winner wider) }
+        IsWiderFound P.is_plain (P.sight proofs.new).list position.now to_move wider.found.winner wider) }
     ensures none { IfNone result
-        (WasUnservedByEach (P.sight proofs.old).list (P.sight proofs.new).list
+        (WasUnservedByEach P.is_plain (P.sight proofs.old).list (P.sight proofs.new).list
         position.now to_move) }
 {
     if let Some(wider) = proofs.look_wider(rt, position, to_move, to_move) {
@@ -58,11 +58,11 @@ pub(crate) fn end_of<P: Proofs, R: Wait>(
     requires { IfSome tried (IsTrueRefusal (P.sight proofs.old).list (P.sight proofs.old).slots) }
     ensures grew { Grows (P.sight proofs.old) (P.sight proofs.new) }
     ensures stored { IfSome result
-        (IsStoredWide (P.sight proofs.new).list (P.sight proofs.new).slots position.now to_move) }
+        (IsStoredWide P.is_plain (P.sight proofs.new).list (P.sight proofs.new).slots position.now to_move) }
     ensures answered { IfSome result IsAnswered }
     ensures memory { IfSome result HadMemory }
     ensures none { IfNone result
-        (WasUnservedByEach (P.sight proofs.old).list (P.sight proofs.new).list
+        (WasUnservedByEach P.is_plain (P.sight proofs.old).list (P.sight proofs.new).list
         position.now to_move) }
 {
     if let Some(Stored::Refused(refusal)) = tried {
@@ -112,7 +112,7 @@ pub fn store_wider<P: Proofs, R: Wait>(
     ensures grew { Grows (P.sight proofs.old) (P.sight proofs.new) }
     ensures stored { TellsStored (P.sight proofs.new).list (P.sight proofs.new).slots
         position.now to_move result }
-    ensures missing { MissingFor (WasUnserved (P.sight proofs.old).list (P.sight proofs.new).list
+    ensures missing { MissingFor (WasUnserved P.is_plain (P.sight proofs.old).list (P.sight proofs.new).list
         position.now to_move winner) result }
 {
     if let Some(_found) = proofs.look(rt, position, to_move) {
@@ -133,13 +133,17 @@ pub(crate) fn fill_missing<P: Proofs, R: Wait>(
     wider: &Wider,
     to_move: Colour,
 ) -> Stored
-    requires { IsWiderFound (P.sight proofs.old).list position.now to_move
+    requires { IsWiderFound P.is_plain (P.sight proofs.old).list position.now to_move
         wider.now.found.winner wider.now }
     ensures grew { Grows (P.sight proofs.old) (P.sight proofs.new) }
     ensures stored { TellsStored (P.sight proofs.new).list (P.sight proofs.new).slots
         position.now to_move result }
     ensures answered { IsAnswered result }
 {
+    if proofs.plain() {
+        // The entry is of the position itself.
+        return Stored::Done;
+    }
     // The proof takes from here that the board of the entry's position is one.
     let _size = wider.position.size();
     let missing = position.empties().minus(wider.position.empties());
@@ -168,8 +172,9 @@ pub(crate) fn fill_to<P: Proofs, R: Wait>(
     steps: FillSteps,
 ) -> Option<Stored>
     requires found { (board : Board)
-        × IsWiderFound (P.sight proofs.old).list board to_move wider.now.found.winner wider.now }
+        × IsWiderFound P.is_plain (P.sight proofs.old).list board to_move wider.now.found.winner wider.now }
     requires some { steps ≢ [] }
+    requires ordinary { P.is_plain ≡ false }
     ensures grew { Grows (P.sight proofs.old) (P.sight proofs.new) }
     ensures stored { IfSome result
         (TellsStored (P.sight proofs.new).list (P.sight proofs.new).slots position.now to_move) }

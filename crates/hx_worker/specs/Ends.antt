@@ -1,5 +1,5 @@
 -- How a worker's work ends.
-use Rattle.std.specs.Prelude.{◌≡◌, ℕ, List, length, ◌⊎◌}
+use Rattle.std.specs.Prelude.{◌≡◌, ℕ, Bool, true, false, List, length, ◌⊎◌}
 use Rattle.hx_board.specs.declared.colours.Colour.{Colour}
 use Rattle.hx_board.specs.Positions.{Board}
 use Rattle.hx_board.specs.Graph.{HasNoChain}
@@ -42,11 +42,16 @@ pub record IsOpenSet (set : Standing) (mover : Colour) : Type 0 where
   pub open_set : (place : ℕ) → Decides set mover place → ⊥
 
 -- neither the position nor the turned one had an entry when it was looked up
-pub record WasUnlisted (old new : List Node) (board : Board) (mover : Colour) : Type 0 where
+pub record WereUnlisted (old new : List Node) (board : Board) (mover : Colour) : Type 0 where
   pub missed : WasMissed old new board mover
   pub turned : Board
   pub is_turned : IsTurned board turned
   pub turned_missed : WasMissed old new turned mover
+
+-- the position had no entry when it was looked up, and where the list is not plain the turned one had none either
+abbrev pub WasUnlisted : Bool → List Node → List Node → Board → Colour → Type 0
+WasUnlisted true old new board mover = WasMissed old new board mover
+WasUnlisted false old new board mover = WereUnlisted old new board mover
 
 -- the position is decided neither by a chain nor by the links of the sets, which were closed as far as that goes
 pub record IsTried (board : Board) (mover : Colour) (black white : Standing) : Type 0 where

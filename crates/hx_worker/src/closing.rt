@@ -45,7 +45,7 @@ fn by_entry<P: Proofs, R: Wait>(
         (IsEnded (P.sight proofs.new).list (P.sight proofs.new).slots seat position.now to_move) }
     ensures not_spent { IfSome result (λ ended. ¬ EndsSpent ended) }
     ensures unlisted { result ≡ None
-        → WasUnlisted (P.sight proofs.old).list (P.sight proofs.new).list position.now to_move }
+        → WasUnlisted P.is_plain (P.sight proofs.old).list (P.sight proofs.new).list position.now to_move }
 {
     match store_turned(rt, proofs, position, to_move) {
         Stored::Done => found_by(rt, proofs, position, to_move),
@@ -126,7 +126,7 @@ fn decide<P: Proofs, R: Wait>(
     ensures not_spent { IfSome result (λ ended. ¬ EndsSpent ended) }
     ensures tried { result ≡ None → IsTried position.now to_move black.new white.new }
     ensures unlisted { result ≡ None
-        → WasUnlisted (P.sight proofs.old).list (P.sight proofs.new).list position.now to_move }
+        → WasUnlisted P.is_plain (P.sight proofs.old).list (P.sight proofs.new).list position.now to_move }
 {
     if let Some(ended) = by_entry(rt, proofs, position, to_move) {
         return Some(ended);
@@ -162,7 +162,7 @@ pub(crate) fn close_and_end<P: Proofs, R: Wait>(
         result }
     ensures tried { EndsSpent result → IsTried position.now to_move black.new white.new }
     ensures unlisted { EndsSpent result
-        → WasUnlisted (P.sight proofs.old).list (P.sight proofs.new).list position.now to_move }
+        → WasUnlisted P.is_plain (P.sight proofs.old).list (P.sight proofs.new).list position.now to_move }
 {
     match decide(rt, proofs, position, to_move, black, white) {
         Some(ended) => ended,

@@ -70,7 +70,7 @@ pub fn work<P: Proofs, G: Gate, R: Wait>(rt: &R, job: &mut Job<'_, P>, gate: &G)
     ensures tried { EndsSpent result → (own job.old.seat).granted < (own job.new.seat).granted
         → IsTried job.old.position job.old.to_move job.new.black job.new.white }
     ensures unlisted { EndsSpent result → (own job.old.seat).granted < (own job.new.seat).granted
-        → WasUnlisted (P.sight job.old.proofs).list (P.sight job.new.proofs).list
+        → WasUnlisted P.is_plain (P.sight job.old.proofs).list (P.sight job.new.proofs).list
         job.old.position job.old.to_move }
 {
     let worker = Worker {

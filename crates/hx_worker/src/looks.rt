@@ -1,12 +1,14 @@
 //! What is known of a position before its moves are tried: what the proofs, the chains and the links say of it.
 
-ghost use Rattle.std.specs.Prelude.{◌≡◌, IfSome};
+ghost use Rattle.std.specs.Prelude.{◌≡◌, IfOk, IfSome};
+ghost use Rattle.hx_fill.specs.Fills.{IsFillIn};
 ghost use Rattle.hx_worker.specs.Searches.{Keeps, Tells};
 
 use crate::outcomes::{Outcome, outcome_of};
 use crate::searches::Search;
 use hx_board::{Colour, Memory, Position, chain};
 use hx_book::Proofs;
+use hx_fill::{Filled, fill_in};
 use hx_io::Gate;
 use hx_linkset::LinkSet;
 use hx_moves::Situation;
@@ -32,6 +34,17 @@ impl<P: Proofs, G: Gate, R: Wait> Search<'_, P, G, R, Workspace, LinkSet> {
             return outcome_of(widen_chain(rt, self.proofs, position, to_move, Colour::White));
         }
         None
+    }
+
+    /// The position after fill-in. For a plain proof nothing is filled, since it cannot lead on by fill steps.
+    pub(crate) fn fill(&self, position: &Position) -> Result<Filled, Memory>
+        ensures { IfOk result (λ filled.
+            IsFillIn position.now filled.steps.items filled.position) }
+    {
+        if self.proofs.plain() {
+            return Ok(Filled::none(self.worker.alloc, position));
+        }
+        fill_in(self.worker.alloc, position)
     }
 
     /// Does the same after fill-in, where anything was filled.

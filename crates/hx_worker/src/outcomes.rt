@@ -1,6 +1,6 @@
 //! How a turn ends.
 
-ghost use Rattle.std.specs.Prelude.{◌≡◌, ℕ, List, IfSome};
+ghost use Rattle.std.specs.Prelude.{◌≡◌, ℕ, Bool, List, IfSome};
 ghost use Rattle.hx_board.specs.declared.colours.Colour.{Colour};
 ghost use Rattle.hx_board.specs.Positions.{Board};
 ghost use Rattle.hx_tree.specs.declared.nodes.Node.{Node as Proof};
@@ -34,8 +34,8 @@ pub(crate) enum Outcome {
 
 /// The end of a turn by what became of a proof. None where there is no such proof yet.
 pub(crate) fn outcome_of(stored: Stored) -> Option<Outcome>
-    ensures { (list : List Proof) (slots : ℕ) (board : Board) (mover : Colour) (seat : Seat)
-        → IsStoredWide list slots board mover stored → IfSome result (IsOutcome list slots seat) }
+    ensures { (plain : Bool) (list : List Proof) (slots : ℕ) (board : Board) (mover : Colour) (seat : Seat)
+        → IsStoredWide plain list slots board mover stored → IfSome result (IsOutcome list slots seat) }
 {
     match stored {
         Stored::Done => Some(Outcome::Proved),

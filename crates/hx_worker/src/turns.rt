@@ -14,7 +14,7 @@ use crate::searches::Search;
 use crate::sets::{put, take_back};
 use crate::workers::ask;
 use hx_book::Proofs;
-use hx_fill::{Filled, fill_in};
+use hx_fill::Filled;
 use hx_io::Gate;
 use hx_linkset::LinkSet;
 use hx_moves::{Choice, Down, Moves, Situation, Start, choose, loss_word};
@@ -49,7 +49,7 @@ impl<P: Proofs, G: Gate, R: Wait> Search<'_, P, G, R, Workspace, LinkSet> {
             leave(self.worker.hints, &start.here, start.to_move, &outcome);
             return outcome;
         }
-        let Ok(filled) = fill_in(self.worker.alloc, position) else {
+        let Ok(filled) = self.fill(position) else {
             return Outcome::Memory;
         };
         let Ok(situation) = Situation::of(self.worker.alloc, start, &filled) else {
@@ -118,6 +118,7 @@ impl<P: Proofs, G: Gate, R: Wait> Search<'_, P, G, R, Workspace, LinkSet> {
             &self.own,
             &self.others,
             situation,
+            self.proofs.plain(),
         ) else {
             return Outcome::Memory;
         };

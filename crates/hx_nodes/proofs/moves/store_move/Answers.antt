@@ -17,8 +17,8 @@ returns-then-ne-clause-missing g c =
     let differs : c.in-Some.found.winner ≢ c.args.to_move = search rules in
     seen-now _ _ _ c.look.ensures.grew.seen (other-no_win _ _ _ _ c.in-Some.found (rw (c.with-next.ensures, c.other.ensures) at is) differs)
 
-pub store-requires : goal.store-requires
-store-requires g c =
+pub store-requires-clause-right : goal.store-requires-clause-right
+store-requires-clause-right g c =
     let is : IsFirstFound (g.P.Proofs.sight c.look.new.self).list c.with-next.result c.other.result c.in-Some.found =
     c.in-Some.ensures.found in
     let same : c.in-Some.found.winner ≡ c.args.to_move = search rules in

@@ -26,12 +26,12 @@ loop-cell-preserved g c =
     let old = (g.P.Proofs.sight c.loop-cell.proofs).list in
     let new = (g.P.Proofs.sight c.store_next.new.proofs).list in
     let next : ℕ → Board = λ cell. put c.args.position.now (other_of c.args.winner) cell in
-    let tried : IsListedOrUnserved old new c.with-next.result c.args.winner = c.in_default-store_next.ensures.tried in
+    let tried : IsListedOrUnserved g.P.Proofs.is_plain old new c.with-next.result c.args.winner = c.in_default-store_next.ensures.tried in
     record {
       grew = grows-on _ _ _ before.grew c.store_next.ensures.grew;
       inside = rw c.without-left.ensures.set (λ n member. before.inside n (has-remove_before c.loop-cell.left c.in-Some.cell n member));
       tried = rw c.without-left.ensures.set
-          (one_tried-more first old new next c.args.winner c.args.cells c.loop-cell.left c.in-Some.cell before.grew.seen
+          (one_tried-more g.P.Proofs.is_plain first old new next c.args.winner c.args.cells c.loop-cell.left c.in-Some.cell before.grew.seen
           c.store_next.ensures.grew.seen before.tried
           (rw (c.with-next.ensures, c.other.ensures) at tried));
     }

@@ -11,7 +11,7 @@ invariant-loop-cell g l = record {
   grew : Grows (g.P.Proofs.sight l.fn.proofs) (g.P.Proofs.sight l.proofs);
   inside : IsSubset l.left l.fn.cells;
   tried : (cell : ℕ) → has l.fn.cells cell ≡ true → has l.left cell ≡ false
-      → IsListedOrUnserved (g.P.Proofs.sight l.fn.proofs).list (g.P.Proofs.sight l.proofs).list
+      → IsListedOrUnserved g.P.Proofs.is_plain (g.P.Proofs.sight l.fn.proofs).list (g.P.Proofs.sight l.proofs).list
       (put l.fn.position (other_of l.fn.winner) cell) l.fn.winner;
 }
 

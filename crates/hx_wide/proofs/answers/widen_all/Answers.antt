@@ -1,4 +1,4 @@
-use Rattle.std.proofs.Common.{inl, inr, ⊎_elim}
+use Rattle.std.proofs.Common.{◌∙◌, inl, inr, ⊎_elim}
 use Rattle.hx_tree.specs.Entries.{Extends}
 use Rattle.hx_nodes.specs.Missing.{LacksOneOf}
 use Rattle.hx_tree.proofs.EntryLaws.{extends-on}
@@ -14,13 +14,13 @@ store_each-requires g c =
     λ cell member. rw c.position-2.ensures ((c.in-Ok.ensures.must.shared cell).0 (c.without_lines-cells.ensures.inside cell member)).empty
 
 pub returns-in-Some-store_each-clause-stored : goal.returns-in-Some-store_each-clause-stored
-returns-in-Some-store_each-clause-stored g c = end_stored _ _ _ _ _ c.in-Some-store_each.ensures.end
+returns-in-Some-store_each-clause-stored g c = end_stored _ _ _ _ _ _ c.in-Some-store_each.ensures.end
 
 pub returns-in-Some-store_each-clause-missing : goal.returns-in-Some-store_each-clause-missing
 returns-in-Some-store_each-clause-missing g c = end_answered _ _ _ _ c.in-Some-store_each.ensures.end
 
 pub returns-clause-stored : goal.returns-clause-stored
-returns-clause-stored g c = stored_wide _ _ _ _ _ c.store_answers.ensures.stored
+returns-clause-stored g c = stored_wide _ _ _ _ _ _ c.store_answers.ensures.stored
 
 pub returns-clause-missing : goal.returns-clause-missing
 returns-clause-missing g c =
@@ -32,13 +32,14 @@ returns-clause-missing g c =
     let set = c.args.set.now in
     let found = c.in-Ok.found in
     let grown : Extends ended old = extends-on old wide ended c.all_wide-tried.ensures.grew.seen c.end_of.ensures.grew.seen in
-    missing-too (LacksOneOf mid new set found.cells found.under) (LacksServedAnswers old new set c.args.order.now) c.store_answers.result
+    missing-too (LacksOneOf mid new set found.cells found.under) (LacksServedAnswers g.P.Proofs.is_plain old new set c.args.order.now) c.store_answers.result
     (⊎_elim inl (λ lacking. inr (record {
       threats = found.threats;
       cells = found.cells;
       under = found.under;
       must = c.in-Ok.ensures.must;
-      by_order = c.in-Ok.ensures.order;
+      no_lines = λ plain. c.in-Ok.ensures.no_lines (c.plain.ensures ∙ plain);
+      by_order = λ ordinary. c.in-Ok.ensures.order (c.plain.ensures ∙ ordinary);
       unserved = unserved_of old ended mid new set.present.board set.player found.cells c.without_lines-cells.result found.under grown
           c.store_each.ensures.grew.seen
           c.store_answers.ensures.grew.seen (rw c.items.ensures at c.without_lines-cells.ensures.kept)
@@ -57,3 +58,6 @@ pub returns-clause-grew : goal.returns-clause-grew
 returns-clause-grew g c =
     grows-on _ _ _ (grows-on _ _ _ (grows-on _ _ _ c.all_wide-tried.ensures.grew c.end_of.ensures.grew) c.store_each.ensures.grew)
     c.store_answers.ensures.grew
+
+pub store_answers-requires-clause-no_lines : goal.store_answers-requires-clause-no_lines
+store_answers-requires-clause-no_lines g c = λ plain. c.in-Ok.ensures.no_lines (c.plain.ensures ∙ plain)

@@ -1,4 +1,4 @@
-use Rattle.std.proofs.Common.{inl}
+use Rattle.std.proofs.Common.{inl, inr, ⊎_elim}
 use Rattle.hx_tree.specs.Entries.{Extends}
 use Rattle.hx_nodes.specs.Missing.{LacksFill}
 use Rattle.hx_tree.proofs.EntryLaws.{extends-on}
@@ -19,7 +19,7 @@ fill_missing-requires g c =
     wider_found-later ended found c.args.filled.now.position c.args.to_move c.in-Some.wider grown c.in-Some.ensures.found
 
 pub returns-in-Done-clause-stored : goal.returns-in-Done-clause-stored
-returns-in-Done-clause-stored g c = stored_wide _ _ _ _ _ c.store_fill.ensures.stored
+returns-in-Done-clause-stored g c = stored_wide _ _ _ _ _ _ c.store_fill.ensures.stored
 
 pub returns-in-Done-clause-missing : goal.returns-in-Done-clause-missing
 returns-in-Done-clause-missing g c =
@@ -28,8 +28,9 @@ returns-in-Done-clause-missing g c =
     let new = (g.P.Proofs.sight c.store_fill.new.proofs).list in
     let fills = c.args.filled.now.steps.items in
     let filled = c.args.filled.now.position in
-    missing-too (LacksFill mid new fills filled c.args.to_move) (LacksServedFill old new fills filled c.args.to_move) c.store_fill.result
-    (λ lacks. inl (fill_lacks-nothing mid new fills filled c.args.to_move c.in-Done.ensures.stored lacks))
+    missing-too (LacksFill g.P.Proofs.is_plain mid new fills filled c.args.to_move) (LacksServedFill g.P.Proofs.is_plain old new fills filled c.args.to_move) c.store_fill.result
+    (λ lacks. ⊎_elim inl (λ none. inr (inl none))
+    (fill_lacks-nothing g.P.Proofs.is_plain mid new fills filled c.args.to_move c.in-Done.ensures.stored lacks))
     c.store_fill.ensures.missing
 
 pub returns-in-Some-end_of-clause-grew : goal.returns-in-Some-end_of-clause-grew

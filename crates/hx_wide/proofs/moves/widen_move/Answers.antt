@@ -13,7 +13,7 @@ use Rattle.hx_wide.proofs.WideLaws.{stored_wide}
 use Rattle.hx_wide.proofs.moves.widen_move.Goals as goal
 
 pub returns-in-Done-clause-stored : goal.returns-in-Done-clause-stored
-returns-in-Done-clause-stored g c = stored_wide _ _ _ _ _ c.store_move.ensures.stored
+returns-in-Done-clause-stored g c = stored_wide _ _ _ _ _ _ c.store_move.ensures.stored
 
 pub returns-in-Done-clause-missing : goal.returns-in-Done-clause-missing
 returns-in-Done-clause-missing g c =
@@ -29,7 +29,7 @@ returns-in-Done-clause-missing g c =
     (extends-on old wide ended c.move_wide-tried.ensures.grew.seen c.end_of.ensures.grew.seen) c.store_wider.ensures.grew.seen in
     let has : HasEntry mid c.with-next.result c.other.result = c.in-Done.ensures.stored in
     missing-too (LacksMove mid new c.args.position.now player c.args.cell)
-    (LacksServedMove old new c.args.position.now player c.args.cell) c.store_move.result
+    (LacksServedMove g.P.Proofs.is_plain old new c.args.position.now player c.args.cell) c.store_move.result
     (λ was. inr (lost-since old mid new next (other_of player) player grown (rw (c.with-next.ensures, c.other.ensures) at has) was))
     c.store_move.ensures.missing
 
@@ -40,7 +40,7 @@ returns-in-Missing-clause-missing g c =
     let ended = (g.P.Proofs.sight c.end_of.new.proofs).list in
     let new = (g.P.Proofs.sight c.store_wider.new.proofs).list in
     let grown : Extends ended old = extends-on old wide ended c.move_wide-tried.ensures.grew.seen c.end_of.ensures.grew.seen in
-    let was : WasUnserved ended new c.with-next.result c.other.result c.args.to_move = c.in-Missing.ensures.missing in
+    let was : WasUnserved g.P.Proofs.is_plain ended new c.with-next.result c.other.result c.args.to_move = c.in-Missing.ensures.missing in
     inl (seen-within _ old ended new new grown (extends-itself new) (rw (c.with-next.ensures, c.other.ensures) at was))
 
 pub returns-in-Some-clause-grew : goal.returns-in-Some-clause-grew

@@ -13,7 +13,7 @@ returns-clause-missing g c =
     let mid = (g.P.Proofs.sight c.by_some_move-stored.new.proofs).list in
     let new = (g.P.Proofs.sight c.store_wider.new.proofs).list in
     let board = c.args.position.now in
-    missing-too (WasUnserved mid new board c.args.to_move c.args.winner)
-    (WasUnserved old new board c.args.to_move c.args.winner) c.store_wider.result
+    missing-too (WasUnserved g.P.Proofs.is_plain mid new board c.args.to_move c.args.winner)
+    (WasUnserved g.P.Proofs.is_plain old new board c.args.to_move c.args.winner) c.store_wider.result
     (seen-within _ old mid new new c.by_some_move-stored.ensures.grew.seen (extends-itself new))
     c.store_wider.ensures.missing

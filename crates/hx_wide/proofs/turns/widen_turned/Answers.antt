@@ -1,4 +1,4 @@
-use Rattle.std.proofs.Common.{inl, inr, ⊎_elim, subst}
+use Rattle.std.proofs.Common.{◌≡◌, Bool, false, sym, ◌∙◌, inl, inr, ⊎_elim, subst}
 use Rattle.hx_tree.specs.Entries.{Extends}
 use Rattle.hx_book.specs.EitherEntry.{IsNeitherFound}
 use Rattle.hx_book.specs.WiderEntry.{IsWiderFound}
@@ -16,16 +16,16 @@ returns-in_default-look_wider_either-clause-missing g c =
     let old = (g.P.Proofs.sight c.args.proofs.now).list in
     let mid = (g.P.Proofs.sight c.end_of.new.proofs).list in
     let new = (g.P.Proofs.sight c.look_wider_either.new.proofs).list in
-    let here : WasUnservedByEach old mid c.args.position.now c.args.to_move = c.in_default.ensures.none in
-    let turned : WasUnservedByEach mid new c.turned-other.result c.args.to_move = c.in_default-look_wider_either.ensures.none in (
+    let here : WasUnservedByEach g.P.Proofs.is_plain old mid c.args.position.now c.args.to_move = c.in_default.ensures.none in
+    let turned : WasUnservedByEach g.P.Proofs.is_plain mid new c.turned-other.result c.args.to_move = c.in_default-look_wider_either.ensures.none in (
       unserved_by_each-within old old mid new c.args.position.now c.args.to_move
           (extends-itself old) c.look_wider_either.ensures.grew.seen here,
-      inl (record {
+      inr (inl (record {
         turned = c.turned-other.result;
         is_turned = c.turned-other.ensures.turned;
         unserved = unserved_by_each-within old mid new new c.turned-other.result c.args.to_move c.end_of.ensures.grew.seen
             (extends-itself new) turned;
-      }),
+      })),
     )
 
 pub unreachable-requires : goal.unreachable-requires
@@ -34,13 +34,16 @@ unreachable-requires g c =
     let new = (g.P.Proofs.sight c.store_turned.new.proofs).list in
     let wider = c.in-Some-look_wider_either.wider in
     let wide = c.turned-wide.result in
-    let found : IsWiderFound list c.turned-other.result c.args.to_move wider.found.winner wider =
+    let ordinary : g.P.Proofs.is_plain ≡ false = sym c.plain.ensures ∙ c.if-plain.false in
+    let found : IsWiderFound false list c.turned-other.result c.args.to_move wider.found.winner wider =
+    subst (λ (kind : Bool). IsWiderFound kind list c.turned-other.result c.args.to_move wider.found.winner wider) ordinary
     c.in-Some-look_wider_either.ensures.found in
-    let Cause : Type 0 = IsNeitherFound list new wide c.args.to_move in
+    let Cause : Bool → Type 0 = λ kind. IsNeitherFound kind list new wide c.args.to_move in
     ⊎_elim
     (λ missing. either_there list c.args.position.now c.turned-other.result c.args.to_move wider found new wide
     c.store_turned.ensures.grew.seen c.turned-wide.ensures.back
-    (subst (λ (stored : Stored). MissingFor Cause stored) missing c.store_turned.ensures.missing))
+    (subst Cause ordinary
+    (subst (λ (stored : Stored). MissingFor (Cause g.P.Proofs.is_plain) stored) missing c.store_turned.ensures.missing)))
     (λ memory. subst (λ (stored : Stored). HadMemory stored) memory c.store_turned.ensures.memory)
     c.in-Missing.is
 
@@ -52,17 +55,20 @@ returns-in-None-clause-missing g c =
     let mid = (g.P.Proofs.sight c.store_turned.new.proofs).list in
     let new = (g.P.Proofs.sight c.look_wider_either-in-Done.new.proofs).list in
     let wider = c.in-Some-look_wider_either.wider in
-    let found : IsWiderFound list c.turned-other.result c.args.to_move wider.found.winner wider =
+    let ordinary : g.P.Proofs.is_plain ≡ false = sym c.plain.ensures ∙ c.if-plain.false in
+    let found : IsWiderFound false list c.turned-other.result c.args.to_move wider.found.winner wider =
+    subst (λ (kind : Bool). IsWiderFound kind list c.turned-other.result c.args.to_move wider.found.winner wider) ordinary
     c.in-Some-look_wider_either.ensures.found in
-    let unserved : WasUnservedByEach mid new c.args.position.now c.args.to_move = c.in-None.ensures.none in
+    let unserved : WasUnservedByEach g.P.Proofs.is_plain mid new c.args.position.now c.args.to_move = c.in-None.ensures.none in
     let grown : Extends mid old =
     extends-on old before mid c.end_of.ensures.grew.seen
     (extends-on before list mid c.look_wider_either.ensures.grew.seen c.store_turned.ensures.grew.seen) in (
       unserved_by_each-within old mid new new c.args.position.now c.args.to_move grown (extends-itself new) unserved,
-      inr (clash list c.args.position.now c.turned-other.result c.args.to_move wider found mid new c.turned-wide.result
+      inr (inr (clash list c.args.position.now c.turned-other.result c.args.to_move wider found mid new c.turned-wide.result
           c.size-size.ensures.valid
           c.turned-other.ensures.turned c.turned-wide.ensures.turned c.store_turned.ensures.grew.seen
-          c.look_wider_either-in-Done.ensures.grew.seen c.in-Done.ensures.stored unserved),
+          c.look_wider_either-in-Done.ensures.grew.seen c.in-Done.ensures.stored
+          (subst (λ (kind : Bool). WasUnservedByEach kind mid new c.args.position.now c.args.to_move) ordinary unserved))),
     )
 
 pub returns-in_default-look_wider_either-clause-grew : goal.returns-in_default-look_wider_either-clause-grew
@@ -83,3 +89,6 @@ returns-in-Some-look_wider_either-2-clause-grew g c =
     grows-on _ _ _ (grows-on _ _ _
     (grows-on _ _ _ c.end_of.ensures.grew c.look_wider_either.ensures.grew) c.store_turned.ensures.grew)
     c.look_wider_either-in-Done.ensures.grew
+
+pub returns-then-plain-clause-missing : goal.returns-then-plain-clause-missing
+returns-then-plain-clause-missing g c = (c.in_default.ensures.none, inl (sym c.plain.ensures ∙ c.if-plain.true))

@@ -7,8 +7,8 @@ pub returns-in-None-clause-none : goal.returns-in-None-clause-none
 returns-in-None-clause-none g c =
     let mid = (g.P.Proofs.sight c.look_wider.new.self).list in
     let new = (g.P.Proofs.sight c.look_wider-2.new.self).list in
-    let first : HasNoWider mid c.args.position.now c.args.to_move c.args.to_move = c.in_default.ensures.found in
-    let second : HasNoWider new c.args.position.now c.args.to_move c.other.result = c.in-None.ensures.found in
+    let first : HasNoWider g.P.Proofs.is_plain mid c.args.position.now c.args.to_move c.args.to_move = c.in_default.ensures.found in
+    let second : HasNoWider g.P.Proofs.is_plain new c.args.position.now c.args.to_move c.other.result = c.in-None.ensures.found in
     unserved-twice (g.P.Proofs.sight c.args.proofs.now).list mid new c.args.position.now c.args.to_move c.args.to_move
     c.look_wider.ensures.grew.seen c.look_wider-2.ensures.grew.seen
     first (rw c.other.ensures at second)

@@ -10,7 +10,7 @@ fill_missing-requires g c =
     let is = c.in-Some-look_wider.ensures.found in
     subst
     (λ (winner : Colour).
-    IsWiderFound (g.P.Proofs.sight c.look_wider.new.self).list c.args.position.now c.args.to_move winner c.in-Some-look_wider.wider)
+    IsWiderFound g.P.Proofs.is_plain (g.P.Proofs.sight c.look_wider.new.self).list c.args.position.now c.args.to_move winner c.in-Some-look_wider.wider)
     (sym is.same_winner) is
 
 pub returns-in-None-clause-missing : goal.returns-in-None-clause-missing

@@ -7,4 +7,4 @@ returns-in-Done-clause-grew g c = grows-on _ _ _ c.store_turned.ensures.grew c.f
 
 pub returns-in-Missing-clause-unlisted : goal.returns-in-Missing-clause-unlisted
 returns-in-Missing-clause-unlisted g c = λ none.
-    neither-unlisted _ _ _ _ c.store_turned.ensures.grew.seen (rw c.in-Missing.is at c.store_turned.ensures.missing)
+    neither-unlisted _ _ _ _ _ c.store_turned.ensures.grew.seen (rw c.in-Missing.is at c.store_turned.ensures.missing)

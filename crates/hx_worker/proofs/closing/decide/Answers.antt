@@ -38,4 +38,4 @@ pub returns-clause-unlisted : goal.returns-clause-unlisted
 returns-clause-unlisted g c = λ none.
     let chains = grows-on _ _ _ c.by_chain.ensures.grew c.by_chain-2.ensures.grew in
     let closed = grows-on _ _ _ (grows-on _ _ _ chains c.by_closed.ensures.grew) c.by_closed-2.ensures.grew in
-    unlisted-wider _ _ _ _ _ _ (extends-itself _) closed.seen (c.by_entry.ensures.unlisted c.in_default.is)
+    unlisted-wider _ _ _ _ _ _ _ (extends-itself _) closed.seen (c.by_entry.ensures.unlisted c.in_default.is)

@@ -8,4 +8,4 @@ returns-in-Spent-clause-grew g c = grows-on _ _ _ c.search_position-ended.ensure
 
 pub returns-in-Spent-clause-unlisted : goal.returns-in-Spent-clause-unlisted
 returns-in-Spent-clause-unlisted g c = λ spent more.
-    unlisted-wider _ _ _ _ _ _ c.search_position-ended.ensures.grew.seen (extends-itself _) (c.close_and_end.ensures.unlisted spent)
+    unlisted-wider _ _ _ _ _ _ _ c.search_position-ended.ensures.grew.seen (extends-itself _) (c.close_and_end.ensures.unlisted spent)

@@ -8,4 +8,4 @@ pub returns-clause-keeps : goal.returns-clause-keeps
 returns-clause-keeps g c = keeps-grown _ _ _ c.widen_move.ensures.grew
 
 pub returns-clause-outcome : goal.returns-clause-outcome
-returns-clause-outcome g c = c.outcome_of.ensures _ _ _ _ c.args.self.now.seat.now c.widen_move.ensures.stored
+returns-clause-outcome g c = c.outcome_of.ensures g.P.Proofs.is_plain _ _ _ _ c.args.self.now.seat.now c.widen_move.ensures.stored

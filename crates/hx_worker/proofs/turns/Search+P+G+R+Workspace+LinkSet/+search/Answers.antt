@@ -72,8 +72,8 @@ turn-visit-requires g t c κs within =
 pub turn-returns-clause-keeps : goal.turn-returns-clause-keeps
 turn-returns-clause-keeps g t c = keeps-on _ _ _ _ (keeps-seat _ _ _ c.ask.ensures.seat) c.visit.ensures.keeps
 
-pub visit-returns-in_default-fill_in-clause-keeps : goal.visit-returns-in_default-fill_in-clause-keeps
-visit-returns-in_default-fill_in-clause-keeps g t c = c.look_up.ensures.keeps
+pub visit-returns-in_default-fill-clause-keeps : goal.visit-returns-in_default-fill-clause-keeps
+visit-returns-in_default-fill-clause-keeps g t c = c.look_up.ensures.keeps
 
 pub visit-returns-in_default-of-clause-keeps : goal.visit-returns-in_default-of-clause-keeps
 visit-returns-in_default-of-clause-keeps g t c = c.look_up.ensures.keeps
