@@ -18,13 +18,19 @@ pub struct Desk<'a> {
 }
 
 impl<'a> Proofs for Desk<'a> {
-    ghost use Rattle.std.specs.Prelude.{Some};
+    ghost use Rattle.std.specs.Prelude.{Some, false};
+
+    ghost is_plain = { false };
 
     ghost sight = { λ d. record {
       list = d.seat.seen;
       slots = d.seat.made.slots;
       over = Some d.seat.made.table;
     } };
+
+    fn plain(&self) -> bool {
+        false
+    }
 
     fn look<R: Wait>(&mut self, rt: &R, position: &Position, to_move: Colour) -> Option<Found> {
         self.shared.look(rt, &mut self.seat, position, to_move)

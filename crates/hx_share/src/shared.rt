@@ -138,7 +138,7 @@ impl Shared {
         requires { seat.old.made ≡ self.now.made }
         ensures made { seat.new.made ≡ seat.old.made }
         ensures seen { Extends seat.new.seen seat.old.seen }
-        ensures found { FindsWider seat.new.seen position.now to_move winner result }
+        ensures found { FindsWider false seat.new.seen position.now to_move winner result }
     {
         let book = self.take_book(rt, &mut seat.seat);
         book.keeps();

@@ -15,7 +15,7 @@ use Rattle.hx_tree.specs.Trees.{headings_of}
 use Rattle.hx_tree.proofs.TreeGrowth.{headings_of-append}
 use Rattle.hx_tree.specs.Headings.{heading_of}
 use Rattle.hx_sweep.specs.Growth.{IsProved}
-use Rattle.hx_sweep.specs.Moves.{IsChildLine}
+use Rattle.hx_tree.specs.Plain.{IsChildLine}
 use Rattle.hx_tree.proofs.LinesInOrder.{AreAnsweredSoFar, IsRightChildLine, one_more_answered}
 use Rattle.hx_sweep.proofs.NodeGrowth.{proved_leads}
 

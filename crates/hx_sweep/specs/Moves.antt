@@ -1,16 +1,10 @@
 -- When a node is by moves alone.
 use Rattle.std.specs.Prelude.{◌≡◌, List, []}
 use Rattle.std.specs.List.{All}
-use Rattle.hx_tree.specs.declared.nodes.Line.{Line}
-use Rattle.hx_tree.specs.declared.nodes.Line.TheVariants.{Child, Under}
 use Rattle.hx_tree.specs.declared.nodes.Node.{Node}
 use Rattle.hx_tree.specs.declared.nodes.Rule.{Rule}
 use Rattle.hx_tree.specs.declared.nodes.Rule.TheVariants.{Chain, Links, Move, All as Answers, Fill, Turned}
-
--- the line answers its cell by a child
-abbrev pub IsChildLine : Line → Type 0
-IsChildLine (Child cell child) = Unit {0}
-IsChildLine (Under cell better kill) = ⊥
+use Rattle.hx_tree.specs.Plain.{IsChildLine}
 
 -- a rule that shows a chain, a move of the winner, or an answer by a child to each move of the opponent, and uses no
 -- link

@@ -14,7 +14,8 @@ ghost use Rattle.hx_board.specs.Game.{Wins};
 ghost use Rattle.hx_tree.specs.Answers.{IsRightAll};
 ghost use Rattle.hx_tree.specs.Rules.{IsRightRule};
 ghost use Rattle.hx_tree.specs.Trees.{headings_of};
-ghost use Rattle.hx_sweep.specs.Moves.{IsByMoves, IsChildLine};
+ghost use Rattle.hx_tree.specs.Plain.{IsChildLine};
+ghost use Rattle.hx_sweep.specs.Moves.{IsByMoves};
 ghost use Rattle.hx_tree.specs.Headings.{heading_of};
 ghost use Rattle.hx_sweep.specs.Growth.{IsBegun, HasMoreNodes, IsProved};
 

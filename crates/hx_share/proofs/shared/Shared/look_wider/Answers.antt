@@ -1,4 +1,4 @@
-use Rattle.std.proofs.Common.{sym, subst, List}
+use Rattle.std.proofs.Common.{sym, subst, List, false}
 use Rattle.hx_tree.specs.declared.nodes.Node.{Node}
 use Rattle.hx_book.specs.WiderEntry.{FindsWider}
 use Rattle.hx_share.specs.declared.views.Role.TheVariants.{Waiting}
@@ -7,6 +7,6 @@ use Rattle.hx_share.proofs.shared.Shared.look_wider.Goals as goal
 
 pub returns-clause-found : goal.returns-clause-found
 returns-clause-found g c =
-    subst (λ (l : List Node). FindsWider l c.args.position.now c.args.to_move c.args.winner c.find_wider-wider.result)
+    subst (λ (l : List Node). FindsWider false l c.args.position.now c.args.to_move c.args.winner c.find_wider-wider.result)
     (sym (alone-seen c.args.self.now.made.slots Waiting c.take_book-book.result.nodes c.give_back.new.seat.me c.give_back.ensures.waits))
     c.find_wider-wider.ensures
