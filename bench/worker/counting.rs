@@ -28,9 +28,15 @@ fn is_leading(node: &Node) -> bool {
 }
 
 impl Proofs for Counting {
-    ghost use Rattle.std.specs.Prelude.{None};
+    ghost use Rattle.std.specs.Prelude.{None, false};
+
+    ghost is_plain = { false };
 
     ghost sight = { λ c. record { list = c.book.nodes; slots = c.book.slots; over = None } };
+
+    fn plain(&self) -> bool {
+        false
+    }
 
     fn look<R: Wait>(&mut self, rt: &R, position: &Position, to_move: Colour) -> Option<Found> {
         self.book.look(rt, position, to_move)

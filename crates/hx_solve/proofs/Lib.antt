@@ -4,3 +4,5 @@ pub mod PartedEnds
 pub mod ForemostEnds
 pub mod ClosedEnds
 pub mod TreeSolutions
+pub mod LoneEnds
+pub mod PlainSweeps

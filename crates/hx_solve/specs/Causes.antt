@@ -32,3 +32,7 @@ abbrev pub LacksMemory : Unsolved → Type 0
 LacksMemory (Budget taken) = ⊥
 LacksMemory (Slots refusal) = ⊥
 LacksMemory Memory = Unit {0}
+
+-- the settings of one worker alone
+abbrev pub lone : ℕ → ℕ → Settings
+lone budget slots = record { workers = 1; budget = budget; slots = slots }

@@ -5,7 +5,7 @@ use Rattle.hx_board.specs.Positions.{Board}
 use Rattle.hx_board.specs.Graph.{HasNoChain}
 use Rattle.hx_tree.specs.declared.nodes.Node.{Node}
 use Rattle.hx_tree.specs.Entries.{IsFirstFound}
-use Rattle.hx_book.specs.Entries.{IsBook}
+use Rattle.hx_book.specs.Entries.{Contents, IsBook}
 use Rattle.hx_book.specs.Trees.{IsTreeOf}
 use Rattle.hx_nodes.specs.Stored.{IsOutOfSlots}
 use Rattle.hx_worker.specs.Ends.{EndsSpent}
@@ -13,6 +13,7 @@ use Rattle.hx_worker.specs.declared.ended.Ended.{Ended}
 use Rattle.hx_worker.specs.declared.ended.Ended.TheVariants.{Proved, Spent, NoSlots, Memory}
 use Rattle.hx_settings.specs.declared.settings.Settings.{Settings}
 use Rattle.hx_solve.specs.declared.searches.Searched.{Searched}
+use Rattle.hx_solve.specs.declared.lone_searches.SearchedAlone.{SearchedAlone}
 use Rattle.hx_solve.specs.declared.unsolved.Unsolved.{Unsolved}
 use Rattle.hx_solve.specs.declared.unsolved.Unsolved.TheVariants.{Budget, Slots, Memory as NoMemory}
 
@@ -25,13 +26,23 @@ IsClosedEnd nodes granted board mover settings (Spent taken) =
 IsClosedEnd nodes granted board mover settings (NoSlots refusal) = IsOutOfSlots nodes settings.slots refusal
 IsClosedEnd nodes granted board mover settings Memory = Unit {0}
 
--- the closed book has the slots of the settings, and the end says what it should of the book and of the counts; where
--- units are wanting though there were some, neither player has a chain
-pub record IsSearched (board : Board) (mover : Colour) (settings : Settings) (searched : Searched) : Type 0 where
-  pub book : IsBook searched.book
-  pub slots : searched.book.slots ≡ settings.slots
-  pub ended : IsClosedEnd searched.book.nodes searched.totals.granted board mover settings searched.ended
-  pub no_chain : EndsSpent searched.ended → 0 < settings.budget → HasNoChain board
+-- the closed book has the slots of the settings, and the end says what it should of the book and of how many units were
+-- granted; where units are wanting though there were some, neither player has a chain
+pub record IsSearchEnd (board : Board) (mover : Colour) (settings : Settings) (book : Contents) (granted : ℕ) (end : Ended)
+    : Type 0 where
+  pub is_book : IsBook book
+  pub slots : book.slots ≡ settings.slots
+  pub ended : IsClosedEnd book.nodes granted board mover settings end
+  pub no_chain : EndsSpent end → 0 < settings.budget → HasNoChain board
+
+-- by all workers, and by one over a plain book
+abbrev pub IsSearched : Board → Colour → Settings → Searched → Type 0
+IsSearched board mover settings searched =
+    IsSearchEnd board mover settings searched.book searched.totals.granted searched.ended
+
+abbrev pub IsSearchedAlone : Board → Colour → Settings → SearchedAlone → Type 0
+IsSearchedAlone board mover settings searched =
+    IsSearchEnd board mover settings searched.book searched.totals.granted searched.ended
 
 -- where the end is a proof, the list has its place
 abbrev pub HasEntryFor : List Node → Ended → Type 0

@@ -8,17 +8,16 @@
 //! Where there are several workers the caller's thread only waits. It may be the program's first thread, whose stack the system gives
 //! where it is written to: it would end the program where the stacks of the other threads, each there as a whole, have left no memory.
 
-ghost use Rattle.std.specs.Prelude.{◌≡◌, ◌<◌, IfOk, length};
+ghost use Rattle.std.specs.Prelude.{◌≡◌, ◌<◌, length};
 ghost use Rattle.std.specs.List.{All};
 ghost use denote.Param.Send.{IsSync};
-ghost use Rattle.hx_worker.specs.Sets.{AreOn};
 ghost use Rattle.hx_solve.specs.Seats.{AreNewSeats, IsDone, IsBefore, IsAfter};
 
+use crate::new_sets::new_sets;
 use crate::seats::{Done, Place, Seats};
 use hx_board::{Colour, Memory, Position};
 use hx_count::{Counts, Hints};
 use hx_io::Gate;
-use hx_linkset::LinkSet;
 use hx_moves::{LOSS_WORDS, Replies};
 use hx_share::{Desk, Shared};
 use hx_worker::{Ended, Job, work};
@@ -114,7 +113,7 @@ impl Crew<'_> {
         ensures { IsDone self.now.shared.now.made self.now.counts.now self.now.position
             self.now.to_move result }
     {
-        let Ok((black, white)) = self.new_sets(alloc) else {
+        let Ok((black, white)) = new_sets(alloc, &self.position) else {
             return Done {
                 book: seats.book,
                 counts: seats.counts,
@@ -138,15 +137,6 @@ impl Crew<'_> {
         };
         let ended = work(rt, &mut job, gate);
         seats_back(job, ended)
-    }
-
-    /// Sets of links of both players, Black's first, with no link yet.
-    fn new_sets(&self, alloc: Global) -> Result<(LinkSet, LinkSet), Memory>
-        ensures { IfOk result (λ sets. AreOn self.now.position sets.0 sets.1) }
-    {
-        let black = LinkSet::new(alloc, &self.position, Colour::Black)?;
-        let white = LinkSet::new(alloc, &self.position, Colour::White)?;
-        Ok((black, white))
     }
 }
 

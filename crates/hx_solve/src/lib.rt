@@ -10,7 +10,10 @@ mod deals;
 mod ends;
 mod hint_words;
 mod laws;
+mod lone_searches;
+mod new_sets;
 mod parts;
+mod plain_solves;
 mod searches;
 mod seats;
 mod small_positions;
@@ -21,6 +24,7 @@ mod unsolved;
 
 pub use hx_settings::Settings;
 pub use laws::same_winner;
+pub use plain_solves::solve_plain;
 pub use solves::solve;
 pub use tallies::Tally;
 pub use unsolved::Unsolved;

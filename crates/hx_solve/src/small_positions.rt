@@ -3,6 +3,7 @@
 
 ghost use Rattle.std.specs.Prelude.{◌≡◌, ◌≤◌, ◌↔◌, IsTrue, IfOk, IfErr};
 ghost use Rattle.hx_board.specs.Counts.{empty_count, sweep_size, IsSmall};
+ghost use Rattle.hx_tree.specs.Plain.{ArePlain};
 ghost use Rattle.hx_solve.specs.Solutions.{IsSolution};
 ghost use Rattle.hx_solve.specs.Causes.{LacksMemory};
 
@@ -46,6 +47,7 @@ pub(crate) fn by_sweep(
 ) -> Result<Vec<Node>, Unsolved>
     requires { empty_count position.now ≤ 9 }
     ensures tree { IfOk result (λ tree. IsSolution position.now to_move tree.items) }
+    ensures plain { IfOk result (λ tree. ArePlain tree.items) }
     ensures memory { IfErr result LacksMemory }
 {
     match sweep(alloc, position, to_move) {

@@ -28,7 +28,7 @@ returns g c =
     c.in_ok-shared.ensures.limits.0 (ap (λ (l : Limits). l.budget) c.in_ok-counts.ensures.limits) c.take_apart-parts.ensures.counts
     c.take_apart-parts.ensures.ends c.foremost-ended.ensures.one
     c.keeps.ensures.book book.slots book.seen c.close-totals.ensures.refused in record {
-      book = c.keeps.ensures.book;
+      is_book = c.keeps.ensures.book;
       slots = book.slots ∙ c.in_ok-shared.ensures.limits.0;
       ended = ended;
       no_chain = no_chain-closed c.args.position.now c.args.to_move c.args.settings.now parts.counts.items parts.ends.items

@@ -1,0 +1,25 @@
+use Rattle.std.proofs.Common.{◌<◌, arith}
+use Rattle.std.proofs.lemmas.Result.{IfErr-weaker, IfOk-weaker}
+use Rattle.hx_board.specs.Graph.{HasNoChain}
+use Rattle.hx_solve.specs.Solutions.{IsSolution}
+use Rattle.hx_solve.specs.Causes.{LacksUnit}
+use Rattle.hx_solve.specs.Searches.{IsTreeFrom, SaysWhy}
+use Rattle.hx_solve.proofs.TreeSolutions.{spent-by, tree-solves}
+use Rattle.hx_solve.proofs.plain_solves.by_one_worker.Goals as goal
+
+pub returns-in-Ok-clause-tree : goal.returns-in-Ok-clause-tree
+returns-in-Ok-clause-tree g c =
+    let searched = c.in-Ok.searched in let is = c.in-Ok.ensures in
+    IfOk-weaker c.conclude.result (λ tree. IsTreeFrom searched.book.nodes searched.ended tree.items)
+    (λ tree. IsSolution c.args.position.now c.args.to_move tree.items)
+    (λ tree from. tree-solves searched.book.nodes tree.items searched.totals.granted c.args.position.now c.args.to_move c.args.settings.now
+    searched.ended (omega (arith, is.is_book.held, is.is_book.small)) is.ended from)
+    c.conclude.ensures.tree
+
+pub returns-in-Ok-clause-no_chain : goal.returns-in-Ok-clause-no_chain
+returns-in-Ok-clause-no_chain g c =
+    let searched = c.in-Ok.searched in
+    IfErr-weaker c.conclude.result (SaysWhy searched.ended)
+    (λ why. LacksUnit why → 0 < c.args.settings.now.budget → HasNoChain c.args.position.now)
+    (λ why says lacks some. c.in-Ok.ensures.no_chain (spent-by searched.ended why says lacks) some)
+    c.conclude.ensures.cause

@@ -1,0 +1,102 @@
+//! Who wins a position, with a tree of plain nodes that proves it.
+
+ghost use Rattle.std.specs.Prelude.{◌<◌, ◌≤◌, IfOk, IfErr};
+ghost use Rattle.hx_board.specs.Counts.{IsSmall};
+ghost use Rattle.hx_board.specs.Graph.{HasNoChain};
+ghost use Rattle.hx_settings.specs.declared.settings.TheConstants.{MOST_UNITS, MOST_PROOFS};
+ghost use Rattle.hx_settings.specs.Settings.{AreSettings};
+ghost use Rattle.hx_tree.specs.Plain.{ArePlain};
+ghost use Rattle.hx_solve.specs.Solutions.{IsSolution};
+ghost use Rattle.hx_solve.specs.Causes.{HasCause, LacksMemory, LacksUnit, lone};
+ghost use Rattle.hx_solve.specs.Searches.{HasEntryFor, IsTreeFrom, SaysWhy};
+
+use crate::lone_searches::{SearchedAlone, search_alone};
+use crate::small_positions::{by_sweep, is_small};
+use crate::unsolved::Unsolved;
+use hx_board::{Colour, Memory, Position};
+use hx_io::Gate;
+use hx_settings::Settings;
+use hx_tree::Node;
+use hx_worker::Ended;
+use std::alloc::Global;
+use std::sync::Wait;
+
+/// The tree of a position and mover, of plain nodes alone, by one worker on the caller's thread and, where it comes to no proof of a
+/// small position, by a full search. Else it is answered what was wanting, as by `solve`. At most 2^40 units, and 1,048,576 slots.
+///
+/// Before each of its turns the worker calls the gate.
+pub fn solve_plain<G: Gate, R: Wait>(
+    rt: &R,
+    alloc: Global,
+    position: &Position,
+    to_move: Colour,
+    budget: u64,
+    slots: u32,
+    gate: &G,
+) -> Result<Vec<Node>, Unsolved>
+    requires budget { budget ≤ MOST_UNITS }
+    requires slots { slots ≤ MOST_PROOFS }
+    ensures tree { IfOk result (λ tree. IsSolution position.now to_move tree.items) }
+    ensures plain { IfOk result (λ tree. ArePlain tree.items) }
+    // A refusal carries the budget or the slots.
+    ensures cause { IfErr result (HasCause (lone budget slots)) }
+    // Where units are wanting though there were some, neither player has a chain.
+    ensures no_chain { IfErr result (λ why. LacksUnit why → 0 < budget → HasNoChain position.now) }
+    ensures small { IsSmall position.now budget → IfErr result LacksMemory }
+{
+    let settings = Settings {
+        workers: 1,
+        budget,
+        slots,
+    };
+    let answer = by_one_worker(rt, alloc, position, to_move, &settings, gate);
+    if answer.is_err() && is_small(position, budget) {
+        return by_sweep(alloc, position, to_move);
+    }
+    answer
+}
+
+/// The plain tree of a position and mover by one worker alone, or what was wanting.
+fn by_one_worker<G: Gate, R: Wait>(
+    rt: &R,
+    alloc: Global,
+    position: &Position,
+    to_move: Colour,
+    settings: &Settings,
+    gate: &G,
+) -> Result<Vec<Node>, Unsolved>
+    requires { AreSettings settings.now }
+    ensures tree { IfOk result (λ tree. IsSolution position.now to_move tree.items) }
+    ensures plain { IfOk result (λ tree. ArePlain tree.items) }
+    ensures cause { IfErr result (HasCause settings.now) }
+    ensures no_chain { IfErr result
+        (λ why. LacksUnit why → 0 < settings.now.budget → HasNoChain position.now) }
+{
+    match search_alone(rt, alloc, position, to_move, settings, gate) {
+        Ok(searched) => conclude(searched),
+        Err(Memory) => Err(Unsolved::Memory),
+    }
+}
+
+/// The tree that the book has, where the end is a proof, and else what was wanting.
+fn conclude(searched: SearchedAlone) -> Result<Vec<Node>, Unsolved>
+    requires { HasEntryFor searched.book.nodes searched.ended }
+    ensures tree { IfOk result (λ tree. IsTreeFrom searched.book.nodes searched.ended tree.items) }
+    ensures plain { IfOk result (λ tree. ArePlain tree.items) }
+    ensures cause { IfErr result (SaysWhy searched.ended) }
+{
+    let SearchedAlone {
+        book,
+        totals: _,
+        ended,
+    } = searched;
+    match ended {
+        Ended::Proved { index, winner: _ } => match book.into_tree(index) {
+            Ok(tree) => Ok(tree),
+            Err(Memory) => Err(Unsolved::Memory),
+        },
+        Ended::Memory => Err(Unsolved::Memory),
+        Ended::NoSlots(refusal) => Err(Unsolved::Slots(refusal)),
+        Ended::Spent(refusal) => Err(Unsolved::Budget(refusal)),
+    }
+}
