@@ -28,8 +28,8 @@ IsClosedEnd nodes granted board mover settings Memory = Unit {0}
 
 -- the closed book has the slots of the settings, and the end says what it should of the book and of how many units were
 -- granted; where units are wanting though there were some, neither player has a chain
-pub record IsSearchEnd (board : Board) (mover : Colour) (settings : Settings) (book : Contents) (granted : ℕ) (end : Ended)
-    : Type 0 where
+pub record IsSearchEnd (board : Board) (mover : Colour) (settings : Settings) (book : Contents) (granted : ℕ)
+    (end : Ended) : Type 0 where
   pub is_book : IsBook book
   pub slots : book.slots ≡ settings.slots
   pub ended : IsClosedEnd book.nodes granted board mover settings end
