@@ -1,6 +1,6 @@
--- A look for an entry that serves a position. In a plain list that is the position's own. In any other it may lead on by
--- fill steps: in the entry's position the winner has the same stones and the opponent has all of the board's and maybe
--- more, so from the board one stone of the opponent's after another leads there.
+-- A look for an entry that serves a position. In a plain list that is the position's own. In any other it may lead on
+-- by fill steps: in the entry's position the winner has the same stones and the opponent has all of the board's and
+-- maybe more, so from the board one stone of the opponent's after another leads there.
 use Rattle.std.specs.Prelude.{◌≡◌, ℕ, List, slice_get, Bool, true, false, Option, MatchOption}
 use Rattle.std.specs.declared.option.Option.TheVariants.{Some}
 use Rattle.hx_board.specs.declared.colours.Colour.{Colour}

@@ -47,8 +47,8 @@ pub trait Proofs {
         ensures grew { Grows (sight self.old) (sight self.new) }
         ensures found { FindsWider is_plain (sight self.new).list position.now to_move winner result };
 
-    /// Stores a node that is right after those that were seen, and plain where the list is. The index of the entry of its position and mover, of the nodes
-    /// that are now seen. The node comes back exactly where there is no such entry and each slot is taken.
+    /// Stores a node that is right after those that were seen, and plain where the list is. The index of the entry of its position
+    /// and mover, of the nodes that are now seen. The node comes back exactly where there is no such entry and each slot is taken.
     fn store<R: Wait>(&mut self, rt: &R, node: Node) -> Result<u32, NoSlot>
         requires right { IsRightNode (headings_of (sight self.old).list) node }
         requires plain { is_plain ≡ true → IsPlain node }

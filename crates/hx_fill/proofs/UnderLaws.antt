@@ -21,7 +21,8 @@ use Rattle.hx_tree.specs.declared.nodes.Line.TheVariants.{Child, Under}
 use Rattle.hx_tree.specs.Answers.{cell_of, cells_of}
 use Rattle.hx_tree.proofs.CellOrder.{increasing-push}
 use Rattle.hx_fill.specs.declared.choices.Better.{Better}
-use Rattle.hx_fill.specs.Unders.{IsUnderLine, HasLineFor, IsBetterIn, AreUnder, LeaveNoneDominated, ComesBefore, AreByOrder, better_for, HasBetter, IsSifted}
+use Rattle.hx_fill.specs.Unders.{IsUnderLine, HasLineFor, IsBetterIn, AreUnder, LeaveNoneDominated, ComesBefore, AreByOrder}
+use Rattle.hx_fill.specs.Unders.{better_for, HasBetter, IsSifted}
 use Rattle.hx_fill.specs.Unders.{AreGiven, AddsLine, IsLineFor, AreLinesFor}
 
 -- an element of a mapped list is that of some element

@@ -50,8 +50,8 @@ fn must_without_lines(set: &LinkSet) -> Result<musts::Must, Memory>
     })
 }
 
-/// The same for whoever stores the proof: a plain one answers each of the cells by a child, so there no cell has a line, and else as
-/// `must` says.
+/// What a mover must play, for a list of proofs. In a plain one each of the cells is answered by a child, so none has a line; for any
+/// other it is as `must` says.
 pub fn must_for(set: &LinkSet, order: &[Cell], plain: bool) -> Result<musts::Must, Memory>
     ensures must { IfOk result (λ must. IsMust set.now must.threats must.cells must.under) }
     ensures no_lines { IfOk result (λ must. plain ≡ true → must.under ≡ []) }

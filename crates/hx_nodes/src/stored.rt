@@ -27,8 +27,8 @@ pub enum Stored {
     Memory,
 }
 
-/// Stores a right node, which is plain where the list is. Done where the list of proofs has an entry of its position and mover then, be it this node or an earlier
-/// one; Refused, with the node, where no slot is left.
+/// Stores a right node, which is plain where the list is. Done where the list of proofs has an entry of its position and mover then,
+/// be it this node or an earlier one; Refused, with the node, where no slot is left.
 pub fn store<P: Proofs, R: Wait>(rt: &R, proofs: &mut P, node: Node) -> Stored
     requires right { IsRightNode (headings_of (P.sight proofs.old).list) node }
     requires plain { P.is_plain ≡ true → IsPlain node }

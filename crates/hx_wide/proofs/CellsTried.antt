@@ -52,8 +52,8 @@ tried-earlier first old new board player grown (inl has) = inl has
 tried-earlier first old new board player grown (inr was) = inr (seen-within _ first old new new grown (extends-itself new) was)
 
 -- each cell of the set that is not left was tried, and then one more
-pub one_tried-more : (plain : Bool) (first old new : List Node) (next : ℕ → Board) (player : Colour) (cells left cell : ℕ) → Extends old first
-    → Extends new old
+pub one_tried-more : (plain : Bool) (first old new : List Node) (next : ℕ → Board) (player : Colour) (cells left cell : ℕ)
+    → Extends old first → Extends new old
     → ((n : ℕ) → has cells n ≡ true → has left n ≡ false → IsListedOrUnserved plain first old (next n) player)
     → IsListedOrUnserved plain old new (next cell) player
     → (n : ℕ) → has cells n ≡ true → has (remove left cell) n ≡ false → IsListedOrUnserved plain first new (next n) player

@@ -19,7 +19,8 @@ use Rattle.hx_tree.proofs.EntryLaws.{extends-itself, extends-on, entry-later, se
 
 -- ---- what serves a position
 
-pub unserved_by_each-within : {plain : Bool} → (first old new last : List Node) (board : Board) (mover : Colour) → Extends old first → Extends last new
+pub unserved_by_each-within : {plain : Bool} → (first old new last : List Node) (board : Board) (mover : Colour)
+    → Extends old first → Extends last new
     → WasUnservedByEach plain old new board mover → WasUnservedByEach plain first last board mover
 unserved_by_each-within first old new last board mover from to was winner = seen-within _ first old new last from to (was winner)
 

@@ -29,7 +29,8 @@ put_set board White cells = record board { white = union board.white cells }
 
 -- with the player to move the position has an entry, or no entry of the player's was seen to serve it
 abbrev pub IsListedOrUnserved : Bool → List Node → List Node → Board → Colour → Type 0
-IsListedOrUnserved plain old new board player = HasEntry new board player ⊎ WasUnserved plain old new board player player
+IsListedOrUnserved plain old new board player =
+    HasEntry new board player ⊎ WasUnserved plain old new board player player
 
 -- no slot was left, or memory was wanting
 abbrev pub EndsStores : List Node → ℕ → Stored → Type 0

@@ -59,7 +59,8 @@ LacksWin plain old new board mover player =
 
 -- it is so of the position after the player's move to the cell
 abbrev pub LacksServedMove : Bool → List Node → List Node → Board → Colour → ℕ → Type 0
-LacksServedMove plain old new board player cell = LacksWin plain old new (put board player cell) (other_of player) player
+LacksServedMove plain old new board player cell =
+    LacksWin plain old new (put board player cell) (other_of player) player
 
 -- the list is plain, or nothing was filled, or for each winner nothing was seen that serves the filled position
 abbrev pub LacksServedFill : Bool → List Node → List Node → List Fill → Board → Colour → Type 0

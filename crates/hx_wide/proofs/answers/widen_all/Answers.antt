@@ -32,7 +32,8 @@ returns-clause-missing g c =
     let set = c.args.set.now in
     let found = c.in-Ok.found in
     let grown : Extends ended old = extends-on old wide ended c.all_wide-tried.ensures.grew.seen c.end_of.ensures.grew.seen in
-    missing-too (LacksOneOf mid new set found.cells found.under) (LacksServedAnswers g.P.Proofs.is_plain old new set c.args.order.now) c.store_answers.result
+    missing-too (LacksOneOf mid new set found.cells found.under)
+    (LacksServedAnswers g.P.Proofs.is_plain old new set c.args.order.now) c.store_answers.result
     (⊎_elim inl (λ lacking. inr (record {
       threats = found.threats;
       cells = found.cells;

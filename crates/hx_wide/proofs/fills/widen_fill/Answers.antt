@@ -28,7 +28,8 @@ returns-in-Done-clause-missing g c =
     let new = (g.P.Proofs.sight c.store_fill.new.proofs).list in
     let fills = c.args.filled.now.steps.items in
     let filled = c.args.filled.now.position in
-    missing-too (LacksFill g.P.Proofs.is_plain mid new fills filled c.args.to_move) (LacksServedFill g.P.Proofs.is_plain old new fills filled c.args.to_move) c.store_fill.result
+    missing-too (LacksFill g.P.Proofs.is_plain mid new fills filled c.args.to_move)
+    (LacksServedFill g.P.Proofs.is_plain old new fills filled c.args.to_move) c.store_fill.result
     (λ lacks. ⊎_elim inl (λ none. inr (inl none))
     (fill_lacks-nothing g.P.Proofs.is_plain mid new fills filled c.args.to_move c.in-Done.ensures.stored lacks))
     c.store_fill.ensures.missing

@@ -17,7 +17,8 @@ returns-in_default-look_wider_either-clause-missing g c =
     let mid = (g.P.Proofs.sight c.end_of.new.proofs).list in
     let new = (g.P.Proofs.sight c.look_wider_either.new.proofs).list in
     let here : WasUnservedByEach g.P.Proofs.is_plain old mid c.args.position.now c.args.to_move = c.in_default.ensures.none in
-    let turned : WasUnservedByEach g.P.Proofs.is_plain mid new c.turned-other.result c.args.to_move = c.in_default-look_wider_either.ensures.none in (
+    let turned : WasUnservedByEach g.P.Proofs.is_plain mid new c.turned-other.result c.args.to_move =
+    c.in_default-look_wider_either.ensures.none in (
       unserved_by_each-within old old mid new c.args.position.now c.args.to_move
           (extends-itself old) c.look_wider_either.ensures.grew.seen here,
       inr (inl (record {

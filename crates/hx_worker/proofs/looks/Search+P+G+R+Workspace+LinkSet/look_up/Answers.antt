@@ -6,13 +6,15 @@ pub returns-then-is_some-clause-keeps : goal.returns-then-is_some-clause-keeps
 returns-then-is_some-clause-keeps g c = keeps-grown _ _ _ c.widen_turned.ensures.grew
 
 pub returns-then-is_some-clause-outcome : goal.returns-then-is_some-clause-outcome
-returns-then-is_some-clause-outcome g c = c.outcome_of-known.ensures g.P.Proofs.is_plain _ _ _ _ c.args.self.now.seat.now c.widen_turned.ensures.stored
+returns-then-is_some-clause-outcome g c =
+    c.outcome_of-known.ensures g.P.Proofs.is_plain _ _ _ _ c.args.self.now.seat.now c.widen_turned.ensures.stored
 
 pub returns-then-chain-clause-keeps : goal.returns-then-chain-clause-keeps
 returns-then-chain-clause-keeps g c = keeps-grown _ _ _ (grows-on _ _ _ c.widen_turned.ensures.grew c.widen_chain.ensures.grew)
 
 pub returns-then-chain-clause-outcome : goal.returns-then-chain-clause-outcome
-returns-then-chain-clause-outcome g c = c.outcome_of.ensures g.P.Proofs.is_plain _ _ _ _ c.args.self.now.seat.now c.widen_chain.ensures.stored
+returns-then-chain-clause-outcome g c =
+    c.outcome_of.ensures g.P.Proofs.is_plain _ _ _ _ c.args.self.now.seat.now c.widen_chain.ensures.stored
 
 pub returns-then-chain-2-clause-keeps : goal.returns-then-chain-2-clause-keeps
 returns-then-chain-2-clause-keeps g c =

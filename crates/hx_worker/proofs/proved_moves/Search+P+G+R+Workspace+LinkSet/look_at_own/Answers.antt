@@ -11,4 +11,5 @@ pub returns-else-is_none-clause-keeps : goal.returns-else-is_none-clause-keeps
 returns-else-is_none-clause-keeps g c = keeps-grown _ _ _ c.widen_turned.ensures.grew
 
 pub returns-else-is_none-clause-outcome : goal.returns-else-is_none-clause-outcome
-returns-else-is_none-clause-outcome g c = c.outcome_of-known.ensures g.P.Proofs.is_plain _ _ _ _ c.args.self.now.seat.now c.widen_turned.ensures.stored
+returns-else-is_none-clause-outcome g c =
+    c.outcome_of-known.ensures g.P.Proofs.is_plain _ _ _ _ c.args.self.now.seat.now c.widen_turned.ensures.stored
