@@ -1,6 +1,6 @@
 -- What a run of `solve` says with each status: each answer fits its cause alone, since an input that one answer is true of is
 -- not an input that another is true of.
-use Rattle.std.proofs.Common.{◌≡◌, ◌↔◌, ℕ, ◌<◌, ◌≤◌, inl, inr, List, length, refl, sym, ap, ◌∙◌, subst, arith}
+use Rattle.std.proofs.Common.{◌≡◌, ◌↔◌, ℕ, ◌<◌, ◌≤◌, Bool, inl, inr, List, length, refl, sym, ap, ◌∙◌, subst, arith}
 use Rattle.std.specs.Prelude.{Option, None, Some, IfSome}
 use Rattle.hx_io.specs.Sources.{Reading, SomeReadFailed}
 use Rattle.hx_io.specs.Sinks.{Writing, SomeWriteFailed, append}
@@ -25,12 +25,14 @@ use Rattle.hx_app.specs.Positions.{IsSmallPosition, IsOpenPosition, IsPositionWi
 use Rattle.hx_app.specs.Answers.{IsSolved, IsDue, IsSolveStatus, preamble_of, answer_text, solution_text, bad_position_line, status_of}
 use Rattle.hx_app.specs.Answers.{tally_of}
 use Rattle.hx_app.specs.Promises.{SaysSolved, SaysUnknown, KeepsPromises}
+use Rattle.hx_app.proofs.PlainTexts.{plain_first_version}
 use Rattle.hx_app.proofs.Positions.{small_not_open, not_bad, position_text_short}
 use Rattle.std.proofs.lemmas.Option.{IfSome_then}
 
-says_solved : (input : List ℕ) (solution : Solution) (taken_before taken_now : Option (List ℕ)) → IsSolved input solution
-    → taken_now ≡ append taken_before (solution_text solution) → SaysSolved input taken_before taken_now
-says_solved input solution taken_before taken_now is output =
+says_solved : (plain_tree : Bool) (input : List ℕ) (solution : Solution) (taken_before taken_now : Option (List ℕ))
+    → IsSolved plain_tree input solution → taken_now ≡ append taken_before (solution_text solution)
+    → SaysSolved plain_tree input taken_before taken_now
+says_solved plain_tree input solution taken_before taken_now is output =
     let text = written_with (preamble_of solution) solution.nodes.items solution.winner (rw is.size is.text.is_board.0) is.fits
     (record { root = is.tree.root; last = is.tree.last; same = sym is.winner }) (omega (arith, is.tree.few)) in
     let HasVersion : Preamble → Type 0 = λ preamble. (preamble.version ≡ Two) ↔ HasTurned solution.nodes.items in
@@ -48,16 +50,19 @@ says_solved input solution taken_before taken_now is output =
       tree = solution_text solution;
       is_text = text.0;
       version = subst HasVersion (sym text.1) is.version;
+      plain = is.plain;
+      first_version = λ asked.
+          plain_first_version _ solution.nodes.items (subst HasVersion (sym text.1) is.version) (is.plain asked);
       output = output;
       wins = root_wins solution.nodes.items is.tree.root is.tree.valid is.tree.last;
     }
 
 -- ---- what an answer says of an input that the source tells
 
-module _ (settings : Settings) (input : List ℕ) (rose : Type 0) where
-  solved_of : (answer : Answer) (before now : Option (List ℕ)) → status_of answer ≡ 0 → IsDue settings (Some input) rose answer
-      → now ≡ append before (answer_text answer) → SaysSolved input before now
-  solved_of (Solved solution) before now zero due written = says_solved input solution before now due.1 written
+module _ (settings : Settings) (plain_tree : Bool) (input : List ℕ) (rose : Type 0) where
+  solved_of : (answer : Answer) (before now : Option (List ℕ)) → status_of answer ≡ 0 → IsDue settings plain_tree (Some input) rose answer
+      → now ≡ append before (answer_text answer) → SaysSolved plain_tree input before now
+  solved_of (Solved solution) before now zero due written = says_solved plain_tree input solution before now due.1 written
   solved_of (UnknownBudget budget) before now zero due written = absurd (omega arith)
   solved_of (UnknownProofs slots) before now zero due written = absurd (omega arith)
   solved_of (BadPosition line) before now zero due written = absurd (omega arith)
@@ -65,7 +70,7 @@ module _ (settings : Settings) (input : List ℕ) (rose : Type 0) where
   solved_of OutOfMemory before now zero due written = absurd (omega arith)
   solved_of TooLong before now zero due written = absurd (omega arith)
 
-  small_of : (answer : Answer) → IsSmallPosition settings.budget input → IsDue settings (Some input) rose answer
+  small_of : (answer : Answer) → IsSmallPosition settings.budget input → IsDue settings plain_tree (Some input) rose answer
       → IsUnlessStopped (status_of answer) 0
   small_of (Solved solution) small due = inl refl
   small_of (UnknownBudget budget) small due = absurd (small_not_open settings.budget input small due.1.1.open_position)
@@ -75,9 +80,10 @@ module _ (settings : Settings) (input : List ℕ) (rose : Type 0) where
   small_of OutOfMemory small due = inr (inr (inr refl))
   small_of TooLong small due = absurd (omega (arith, due, position_text_short small.text))
 
-  no_position_of : (answer : Answer) → length input ≤ most_bytes → IsNoPosition input → IsDue settings (Some input) rose answer
+  no_position_of : (answer : Answer) → length input ≤ most_bytes → IsNoPosition input → IsDue settings plain_tree (Some input) rose answer
       → IsUnlessStopped (status_of answer) 4
-  no_position_of (Solved solution) short none due = let is : IsSolved input solution = due.1 in absurd (none is.board is.mover is.text)
+  no_position_of (Solved solution) short none due =
+      let is : IsSolved plain_tree input solution = due.1 in absurd (none is.board is.mover is.text)
   no_position_of (UnknownBudget budget) short none due =
       let is : IsOpenPosition settings.budget input = due.1.1.open_position in absurd (none is.board is.mover is.text)
   no_position_of (UnknownProofs slots) short none due =
@@ -88,10 +94,10 @@ module _ (settings : Settings) (input : List ℕ) (rose : Type 0) where
   no_position_of TooLong short none due = absurd (omega arith)
 
   position_line_of : (answer : Answer) (line : ℕ) (before now : Option (List ℕ)) → now ≡ append before (answer_text answer)
-      → length input ≤ most_bytes → IsBadPosition input line → IsDue settings (Some input) rose answer
+      → length input ≤ most_bytes → IsBadPosition input line → IsDue settings plain_tree (Some input) rose answer
       → AnswersUnlessStopped (bad_position_line line) 4 before now (status_of answer)
   position_line_of (Solved solution) line before now written short bad due =
-      let is : IsSolved input solution = due.1 in absurd (not_bad input is.board is.mover line is.text bad)
+      let is : IsSolved plain_tree input solution = due.1 in absurd (not_bad input is.board is.mover line is.text bad)
   position_line_of (UnknownBudget budget) line before now written short bad due =
       let is : IsOpenPosition settings.budget input = due.1.1.open_position in absurd (not_bad input is.board is.mover line is.text bad)
   position_line_of (UnknownProofs slots) line before now written short bad due =
@@ -102,7 +108,8 @@ module _ (settings : Settings) (input : List ℕ) (rose : Type 0) where
   position_line_of OutOfMemory line before now written short bad due = inr (inr (inr refl))
   position_line_of TooLong line before now written short bad due = absurd (omega arith)
 
-  long_of : (answer : Answer) → most_bytes < length input → IsDue settings (Some input) rose answer → IsUnlessStopped (status_of answer) 8
+  long_of : (answer : Answer) → most_bytes < length input → IsDue settings plain_tree (Some input) rose answer
+      → IsUnlessStopped (status_of answer) 8
   long_of (Solved solution) long due = absurd (omega (arith, long, due.0))
   long_of (UnknownBudget budget) long due = absurd (omega (arith, long, due.1.0))
   long_of (UnknownProofs slots) long due = absurd (omega (arith, long, due.1.0))
@@ -113,9 +120,9 @@ module _ (settings : Settings) (input : List ℕ) (rose : Type 0) where
 
 -- ---- what a status says of what was left, whatever the answer
 
-module _ (settings : Settings) (rose : Type 0) where
+module _ (settings : Settings) (plain_tree : Bool) (rose : Type 0) where
   unknown_of : (left : Option (List ℕ)) (answer : Answer) (finish : Finish) (before now : Option (List ℕ)) → status_of answer ≡ 3
-      → IsDue settings left rose answer → now ≡ append before (answer_text answer) → finish.tally ≡ tally_of settings answer
+      → IsDue settings plain_tree left rose answer → now ≡ append before (answer_text answer) → finish.tally ≡ tally_of settings answer
       → IfSome left (IsOpenPosition settings.budget) × SaysUnknown settings before now finish.tally
   unknown_of left (Solved solution) finish before now three due written counted = absurd (omega arith)
   unknown_of left (UnknownBudget budget) finish before now three due written counted = (
@@ -132,7 +139,7 @@ module _ (settings : Settings) (rose : Type 0) where
   unknown_of left TooLong finish before now three due written counted = absurd (omega arith)
 
   no_chain_of : (before : Option (List ℕ)) (answer : Answer) (tally : Tallied) → status_of answer ≡ 3 → tally ≡ tally_of settings answer
-      → tally.budgets ≡ 1 → 0 < settings.budget → IsDue settings before rose answer → IfSome before IsPositionWithoutChain
+      → tally.budgets ≡ 1 → 0 < settings.budget → IsDue settings plain_tree before rose answer → IfSome before IsPositionWithoutChain
   no_chain_of None answer tally three counted one some due = tt
   no_chain_of (Some input) (Solved solution) tally three counted one some due = absurd (omega arith)
   no_chain_of (Some input) (UnknownBudget budget) tally three counted one some due = due.1.1.no_chain some
@@ -143,7 +150,7 @@ module _ (settings : Settings) (rose : Type 0) where
   no_chain_of (Some input) OutOfMemory tally three counted one some due = absurd (omega arith)
   no_chain_of (Some input) TooLong tally three counted one some due = absurd (omega arith)
 
-  bad_of : (before : Option (List ℕ)) (answer : Answer) → status_of answer ≡ 4 → IsDue settings before rose answer
+  bad_of : (before : Option (List ℕ)) (answer : Answer) → status_of answer ≡ 4 → IsDue settings plain_tree before rose answer
       → IfSome before IsNoPosition
   bad_of None answer four due = tt
   bad_of (Some input) (Solved solution) four due = absurd (omega arith)
@@ -154,7 +161,7 @@ module _ (settings : Settings) (rose : Type 0) where
   bad_of (Some input) OutOfMemory four due = absurd (omega arith)
   bad_of (Some input) TooLong four due = absurd (omega arith)
 
-  too_long_of : (before : Option (List ℕ)) (answer : Answer) → status_of answer ≡ 8 → IsDue settings before rose answer
+  too_long_of : (before : Option (List ℕ)) (answer : Answer) → status_of answer ≡ 8 → IsDue settings plain_tree before rose answer
       → IfSome before (λ input. most_bytes < length input)
   too_long_of before (Solved solution) eight due = absurd (omega arith)
   too_long_of before (UnknownBudget budget) eight due = absurd (omega arith)
@@ -164,7 +171,7 @@ module _ (settings : Settings) (rose : Type 0) where
   too_long_of before OutOfMemory eight due = absurd (omega arith)
   too_long_of before TooLong eight due = due
 
-  read_fault_of : (before : Option (List ℕ)) (answer : Answer) → status_of answer ≡ 5 → IsDue settings before rose answer → rose
+  read_fault_of : (before : Option (List ℕ)) (answer : Answer) → status_of answer ≡ 5 → IsDue settings plain_tree before rose answer → rose
   read_fault_of before (Solved solution) five due = absurd (omega arith)
   read_fault_of before (UnknownBudget budget) five due = absurd (omega arith)
   read_fault_of before (UnknownProofs slots) five due = absurd (omega arith)
@@ -183,11 +190,11 @@ status_of_solve OutOfMemory = inr (omega arith, omega arith)
 status_of_solve TooLong = inr (omega arith, omega arith)
 
 -- each clause of an input that the source tells
-of_input : (settings : Settings) (left : Option (List ℕ)) (rose : Type 0) (answer : Answer) (Says : List ℕ → Type 0)
-    → IsDue settings left rose answer
-    → ((input : List ℕ) → IsDue settings (Some input) rose answer → Says input) → IfSome left Says
-of_input settings None rose answer Says due says = tt
-of_input settings (Some input) rose answer Says due says = says input due
+of_input : (settings : Settings) (plain_tree : Bool) (left : Option (List ℕ)) (rose : Type 0) (answer : Answer) (Says : List ℕ → Type 0)
+    → IsDue settings plain_tree left rose answer
+    → ((input : List ℕ) → IsDue settings plain_tree (Some input) rose answer → Says input) → IfSome left Says
+of_input settings plain_tree None rose answer Says due says = tt
+of_input settings plain_tree (Some input) rose answer Says due says = says input due
 
 status_not_6 : (answer : Answer) → status_of answer ≡ 6 → ⊥
 status_not_6 (Solved solution) six = omega arith
@@ -198,41 +205,43 @@ status_not_6 ReadFault six = omega arith
 status_not_6 OutOfMemory six = omega arith
 status_not_6 TooLong six = omega arith
 
-module _ (settings : Settings) (source source_now : Reading) (sink sink_now : Writing) (answer : Answer) (finish : Finish) where
+module _ (settings : Settings) (plain_tree : Bool) (source source_now : Reading) (sink sink_now : Writing) (answer : Answer)
+    (finish : Finish) where
   abbrev FailedHere : Type 0
   FailedHere = SomeReadFailed source source_now
 
   -- each clause of an input that the source tells
-  told : (Says : List ℕ → Type 0) → IsDue settings source.left FailedHere answer
-      → ((input : List ℕ) → IsDue settings (Some input) FailedHere answer → Says input) → IfSome source.left Says
-  told Says due says = of_input settings source.left FailedHere answer Says due says
+  told : (Says : List ℕ → Type 0) → IsDue settings plain_tree source.left FailedHere answer
+      → ((input : List ℕ) → IsDue settings plain_tree (Some input) FailedHere answer → Says input) → IfSome source.left Says
+  told Says due says = of_input settings plain_tree source.left FailedHere answer Says due says
 
-  kept_whole : IsDue settings source.left FailedHere answer → (status_of answer ≡ 0 → IsReadToEnd source.left source_now.left)
+  kept_whole : IsDue settings plain_tree source.left FailedHere answer → (status_of answer ≡ 0 → IsReadToEnd source.left source_now.left)
       → finish.tally ≡ tally_of settings answer → finish.status ≡ status_of answer
-      → sink_now.taken ≡ append sink.taken (answer_text answer) → KeepsPromises settings source source_now sink sink_now finish
+      → sink_now.taken ≡ append sink.taken (answer_text answer) → KeepsPromises settings plain_tree source source_now sink sink_now finish
   kept_whole due read counted same written = record {
     solved = λ zero. told _ due
-        (λ input is. solved_of settings input FailedHere answer sink.taken sink_now.taken (sym same ∙ zero) is written);
+        (λ input is. solved_of settings plain_tree input FailedHere answer sink.taken sink_now.taken (sym same ∙ zero) is written);
     read_to_end = λ zero. read (sym same ∙ zero);
-    small = told _ due (λ input is small. rw same (small_of settings input FailedHere answer small is));
+    small = told _ due (λ input is small. rw same (small_of settings plain_tree input FailedHere answer small is));
     unknown = λ three.
-        unknown_of settings FailedHere source.left answer finish sink.taken sink_now.taken (sym same ∙ three) due written counted;
+        unknown_of settings plain_tree FailedHere source.left answer finish sink.taken sink_now.taken (sym same ∙ three) due
+        written counted;
     no_chain = λ three one some.
-        no_chain_of settings FailedHere source.left answer finish.tally (sym same ∙ three) counted one some due;
-    no_position = told _ due (λ input is short none. rw same (no_position_of settings input FailedHere answer short none is));
+        no_chain_of settings plain_tree FailedHere source.left answer finish.tally (sym same ∙ three) counted one some due;
+    no_position = told _ due (λ input is short none. rw same (no_position_of settings plain_tree input FailedHere answer short none is));
     position_line = told _ due
         (λ input is line short bad.
-        rw same (position_line_of settings input FailedHere answer line sink.taken sink_now.taken written short bad is));
-    bad_position = λ four. bad_of settings FailedHere source.left answer (sym same ∙ four) due;
-    long = told _ due (λ input is long. rw same (long_of settings input FailedHere answer long is));
-    too_long = λ eight. too_long_of settings FailedHere source.left answer (sym same ∙ eight) due;
-    read_fault = λ five. read_fault_of settings FailedHere source.left answer (sym same ∙ five) due;
+        rw same (position_line_of settings plain_tree input FailedHere answer line sink.taken sink_now.taken written short bad is));
+    bad_position = λ four. bad_of settings plain_tree FailedHere source.left answer (sym same ∙ four) due;
+    long = told _ due (λ input is long. rw same (long_of settings plain_tree input FailedHere answer long is));
+    too_long = λ eight. too_long_of settings plain_tree FailedHere source.left answer (sym same ∙ eight) due;
+    read_fault = λ five. read_fault_of settings plain_tree FailedHere source.left answer (sym same ∙ five) due;
     write_fault = λ six. absurd (status_not_6 answer (sym same ∙ six));
     none_else = rw same (status_of_solve answer);
   }
 
   -- the sink failed before it took all of an answer
-  kept_cut : finish.status ≡ 6 → SomeWriteFailed sink sink_now → KeepsPromises settings source source_now sink sink_now finish
+  kept_cut : finish.status ≡ 6 → SomeWriteFailed sink sink_now → KeepsPromises settings plain_tree source source_now sink sink_now finish
   kept_cut six failed = record {
     solved = λ zero. absurd (omega (arith, six, zero));
     read_to_end = λ zero. absurd (omega (arith, six, zero));
@@ -249,8 +258,8 @@ module _ (settings : Settings) (source source_now : Reading) (sink sink_now : Wr
     none_else = inr (omega (arith, six), omega (arith, six));
   }
 
-  pub kept : IsDue settings source.left FailedHere answer → (status_of answer ≡ 0 → IsReadToEnd source.left source_now.left)
+  pub kept : IsDue settings plain_tree source.left FailedHere answer → (status_of answer ≡ 0 → IsReadToEnd source.left source_now.left)
       → finish.tally ≡ tally_of settings answer → IsWritten sink sink_now (answer_text answer) (status_of answer) finish.status
-      → KeepsPromises settings source source_now sink sink_now finish
+      → KeepsPromises settings plain_tree source source_now sink sink_now finish
   kept due read counted (Whole same written) = kept_whole due read counted same written
   kept due read counted (Cut six failed front) = kept_cut six failed

@@ -2,6 +2,7 @@ pub mod NodesOut
 pub mod Positions
 pub mod SolvedTrees
 pub mod OpenPositions
+pub mod PlainTexts
 pub mod KeptPromises
 pub mod SearcherLaws
 pub mod SessionPromises

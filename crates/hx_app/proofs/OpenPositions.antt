@@ -1,5 +1,5 @@
 -- What is said where a search ended without a tree is true of the input.
-use Rattle.std.proofs.Common.{ℕ, ◌<◌, List, refl}
+use Rattle.std.proofs.Common.{ℕ, ◌<◌, List, Bool, refl}
 use Rattle.hx_board.specs.declared.colours.Colour.{Colour}
 use Rattle.hx_board.specs.Positions.{Board}
 use Rattle.hx_board.specs.Graph.{HasNoChain}
@@ -12,16 +12,17 @@ use Rattle.hx_app.specs.declared.answers.Answer.{Answer}
 use Rattle.hx_app.specs.Positions.{IsPositionText}
 use Rattle.hx_app.specs.Answers.{IsFound, SaysWhy}
 
-pub left_open_found : (settings : Settings) (input : List ℕ) (board : Board) (mover : Colour) (why : Unsolved) (answer : Answer)
+pub left_open_found : (settings : Settings) (plain_tree : Bool) (input : List ℕ) (board : Board) (mover : Colour) (why : Unsolved)
+    (answer : Answer)
     → IsPositionText input board mover → (IsSmall board settings.budget → LacksMemory why)
-    → (LacksUnit why → 0 < settings.budget → HasNoChain board) → SaysWhy settings why answer → IsFound settings input answer
-left_open_found settings input board mover (Budget taken) answer text small none says = rw says (
+    → (LacksUnit why → 0 < settings.budget → HasNoChain board) → SaysWhy settings why answer → IsFound settings plain_tree input answer
+left_open_found settings plain_tree input board mover (Budget taken) answer text small none says = rw says (
   refl,
   record {
     open_position = record { board = board; mover = mover; text = text; not_small = small };
     no_chain = λ some. record { board = board; mover = mover; text = text; no_chain = none tt some };
   },
 )
-left_open_found settings input board mover (Slots refusal) answer text small none says =
+left_open_found settings plain_tree input board mover (Slots refusal) answer text small none says =
     rw says (refl, record { board = board; mover = mover; text = text; not_small = small })
-left_open_found settings input board mover Memory answer text small none says = rw says tt
+left_open_found settings plain_tree input board mover Memory answer text small none says = rw says tt

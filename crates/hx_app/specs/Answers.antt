@@ -1,11 +1,12 @@
 -- What `solve` answers, and when.
-use Rattle.std.specs.Prelude.{◌≡◌, ◌↔◌, ◌⊎◌, ℕ, ◌<◌, ◌≤◌, List, length, flat_map, codes, Option, IfSome}
+use Rattle.std.specs.Prelude.{◌≡◌, ◌↔◌, ◌⊎◌, ℕ, ◌<◌, ◌≤◌, List, length, flat_map, codes, Option, IfSome, Bool, true}
 use Rattle.std.specs.List.{All}
 use Rattle.hx_io.specs.Sources.{Reading, SomeReadFailed}
 use Rattle.hx_io.specs.Sinks.{Writing}
 use Rattle.hx_board.specs.declared.colours.Colour.{Colour}
 use Rattle.hx_board.specs.Positions.{Board}
 use Rattle.hx_tree.specs.declared.nodes.Node.{Node}
+use Rattle.hx_tree.specs.Plain.{ArePlain}
 use Rattle.hx_text.specs.declared.versions.Version.{Version}
 use Rattle.hx_text.specs.declared.versions.Version.TheVariants.{Two}
 use Rattle.hx_text.specs.declared.versions.Preamble.{Preamble}
@@ -76,12 +77,13 @@ abbrev pub IsVersionOf : Version → List Node → Type 0
 IsVersionOf version nodes = (version ≡ Two) ↔ HasTurned nodes
 
 -- the input is the text of a position, and the solution is a tree that solves it, with its root's winner and the
--- version of its text
-pub record IsSolved (input : List ℕ) (solution : Solution) : Type 0 where
+-- version of its text, and of plain nodes where it is to be plain
+pub record IsSolved (plain_tree : Bool) (input : List ℕ) (solution : Solution) : Type 0 where
   pub board : Board
   pub mover : Colour
   pub text : IsPositionText input board mover
   pub tree : IsSolution board mover solution.nodes.items
+  pub plain : plain_tree ≡ true → ArePlain solution.nodes.items
   pub size : solution.size ≡ board.size
   pub version : IsVersionOf solution.version solution.nodes.items
   pub fits : EachNodeFits (preamble_of solution) solution.nodes.items
@@ -98,23 +100,24 @@ abbrev pub WithinLimit : Option (List ℕ) → (List ℕ → Type 0) → Type 0
 WithinLimit left says = IfSome left (λ input. (length input ≤ most_bytes) × says input)
 
 -- When each answer comes: what the source had left before, and whether its faults rose.
-abbrev pub IsDue : Settings → Option (List ℕ) → Type 0 → Answer → Type 0
-IsDue settings before rose (Solved solution) = WithinLimit before (λ input. IsSolved input solution)
-IsDue settings before rose (UnknownBudget budget) =
+abbrev pub IsDue : Settings → Bool → Option (List ℕ) → Type 0 → Answer → Type 0
+IsDue settings plain_tree before rose (Solved solution) =
+    WithinLimit before (λ input. IsSolved plain_tree input solution)
+IsDue settings plain_tree before rose (UnknownBudget budget) =
     (budget ≡ settings.budget) × WithinLimit before (IsLeftOpen settings.budget)
-IsDue settings before rose (UnknownProofs slots) =
+IsDue settings plain_tree before rose (UnknownProofs slots) =
     (slots ≡ settings.slots) × WithinLimit before (IsOpenPosition settings.budget)
-IsDue settings before rose (BadPosition line) = WithinLimit before (λ input. IsBadPosition input line)
-IsDue settings before rose ReadFault = rose
-IsDue settings before rose OutOfMemory = Unit {0}
-IsDue settings before rose TooLong = IfSome before (λ input. most_bytes < length input)
+IsDue settings plain_tree before rose (BadPosition line) = WithinLimit before (λ input. IsBadPosition input line)
+IsDue settings plain_tree before rose ReadFault = rose
+IsDue settings plain_tree before rose OutOfMemory = Unit {0}
+IsDue settings plain_tree before rose TooLong = IfSome before (λ input. most_bytes < length input)
 
 -- A run of `solve`: some answer is due, for a tree the input was read to its end, the answer was written, and the tally
 -- has the refusals behind it.
-pub record IsSolveRun (settings : Settings) (source source_now : Reading) (sink sink_now : Writing)
-    (finish : Finish) : Type 0 where
+pub record IsSolveRun (settings : Settings) (plain_tree : Bool) (source source_now : Reading)
+    (sink sink_now : Writing) (finish : Finish) : Type 0 where
   pub answer : Answer
-  pub due : IsDue settings source.left (SomeReadFailed source source_now) answer
+  pub due : IsDue settings plain_tree source.left (SomeReadFailed source source_now) answer
   pub read_to_end : status_of answer ≡ 0 → IsReadToEnd source.left source_now.left
   pub written : IsWritten sink sink_now (answer_text answer) (status_of answer) finish.status
   pub counted : finish.tally ≡ tally_of settings answer
@@ -130,14 +133,16 @@ abbrev pub nodes_text : List Node → List ℕ
 nodes_text nodes = flat_map (λ node. text_of (node_lines node)) nodes
 
 -- what each answer says of the input
-abbrev pub IsFound : Settings → List ℕ → Answer → Type 0
-IsFound settings input (Solved solution) = IsSolved input solution
-IsFound settings input (UnknownBudget budget) = (budget ≡ settings.budget) × IsLeftOpen settings.budget input
-IsFound settings input (UnknownProofs slots) = (slots ≡ settings.slots) × IsOpenPosition settings.budget input
-IsFound settings input (BadPosition line) = IsBadPosition input line
-IsFound settings input ReadFault = ⊥
-IsFound settings input OutOfMemory = Unit {0}
-IsFound settings input TooLong = ⊥
+abbrev pub IsFound : Settings → Bool → List ℕ → Answer → Type 0
+IsFound settings plain_tree input (Solved solution) = IsSolved plain_tree input solution
+IsFound settings plain_tree input (UnknownBudget budget) =
+    (budget ≡ settings.budget) × IsLeftOpen settings.budget input
+IsFound settings plain_tree input (UnknownProofs slots) =
+    (slots ≡ settings.slots) × IsOpenPosition settings.budget input
+IsFound settings plain_tree input (BadPosition line) = IsBadPosition input line
+IsFound settings plain_tree input ReadFault = ⊥
+IsFound settings plain_tree input OutOfMemory = Unit {0}
+IsFound settings plain_tree input TooLong = ⊥
 
 -- the tree of a solution is within the limits of a text
 abbrev pub CanBeWritten : Answer → Type 0

@@ -1,12 +1,13 @@
 -- What a run of `solve` is good for: who is named wins, and what is left open has its cause.
-use Rattle.std.specs.Prelude.{◌≡◌, ◌↔◌, ◌⊎◌, ℕ, ◌<◌, ◌≤◌, List, length, Option, IfSome}
+use Rattle.std.specs.Prelude.{◌≡◌, ◌↔◌, ◌⊎◌, ℕ, ◌<◌, ◌≤◌, List, length, Option, IfSome, Bool, true}
 use Rattle.hx_io.specs.Sources.{Reading, SomeReadFailed}
 use Rattle.hx_io.specs.Sinks.{Writing, SomeWriteFailed, append}
 use Rattle.hx_board.specs.declared.colours.Colour.{Colour}
 use Rattle.hx_board.specs.Positions.{Board}
 use Rattle.hx_tree.specs.declared.nodes.Node.{Node}
+use Rattle.hx_tree.specs.Plain.{ArePlain}
 use Rattle.hx_tree.specs.Trees.{IsValidTree, IsRoot}
-use Rattle.hx_text.specs.declared.versions.Version.TheVariants.{Two}
+use Rattle.hx_text.specs.declared.versions.Version.TheVariants.{One, Two}
 use Rattle.hx_text.specs.Versions.{HasTurned}
 use Rattle.hx_text.specs.TreeTexts.{IsTreeText}
 use Rattle.hx_text.specs.Lengths.{most_nodes}
@@ -23,8 +24,8 @@ use Rattle.hx_app.specs.Answers.{IsSolveStatus, bad_position_line}
 
 -- The input is the text of a position, the output is the text of a valid tree of that position and mover, and the
 -- root's winner, which its last line names, wins and the other does not. The text is of the first version where no node
--- is turned, and else of the second.
-pub record SaysSolved (input : List ℕ) (taken_before taken_now : Option (List ℕ)) : Type 0 where
+-- is turned, and else of the second. A tree that is to be plain has plain nodes alone, so its text is of the first.
+pub record SaysSolved (plain_tree : Bool) (input : List ℕ) (taken_before taken_now : Option (List ℕ)) : Type 0 where
   pub board : Board
   pub mover : Colour
   pub text : IsPositionText input board mover
@@ -38,6 +39,8 @@ pub record SaysSolved (input : List ℕ) (taken_before taken_now : Option (List 
   pub tree : List ℕ
   pub is_text : IsTreeText tree nodes
   pub version : (is_text.preamble.version ≡ Two) ↔ HasTurned nodes
+  pub plain : plain_tree ≡ true → ArePlain nodes
+  pub first_version : plain_tree ≡ true → is_text.preamble.version ≡ One
   pub output : taken_now ≡ append taken_before tree
   pub wins : OnlyWinner root.heading
 
@@ -48,13 +51,14 @@ SaysUnknown settings before now tally =
     ((now ≡ append before (unknown_budget_line settings.budget)) × (tally.budgets ≡ 1))
     ⊎ ((now ≡ append before (unknown_proofs_line settings.slots)) × (tally.proofs ≡ 1))
 
--- The promises of `solve` with its settings, by how far its source was read before and is now, how far was written to
--- its sink, and how it ended. What is said of an input is said of sources that tell what they have left.
-pub record KeepsPromises (settings : Settings) (source source_now : Reading) (sink sink_now : Writing)
-    (finish : Finish) : Type 0 where
+-- The promises of `solve` with its settings, and whether the tree is to be plain, by how far its source was read before
+-- and is now, how far was written to its sink, and how it ended. What is said of an input is said of sources that tell
+-- what they have left.
+pub record KeepsPromises (settings : Settings) (plain_tree : Bool) (source source_now : Reading)
+    (sink sink_now : Writing) (finish : Finish) : Type 0 where
   -- with status 0 the input is the text of a position, the output is the text of a valid tree of it, and the winner of
   -- the tree wins and the other player does not
-  pub solved : finish.status ≡ 0 → IfSome source.left (λ input. SaysSolved input sink.taken sink_now.taken)
+  pub solved : finish.status ≡ 0 → IfSome source.left (λ input. SaysSolved plain_tree input sink.taken sink_now.taken)
   -- and the input was read to its end
   pub read_to_end : finish.status ≡ 0 → IsReadToEnd source.left source_now.left
   -- a position that is small under the budget is answered with 0

@@ -1,5 +1,5 @@
 -- A run of the program: its words are a command, which then ran, or they are none.
-use Rattle.std.specs.Prelude.{◌≡◌, ℕ, List, codes}
+use Rattle.std.specs.Prelude.{◌≡◌, ℕ, List, codes, Bool}
 use Rattle.hx_io.specs.Sources.{Reading}
 use Rattle.hx_io.specs.Sinks.{Writing}
 use Rattle.hx_settings.specs.declared.settings.Settings.{Settings}
@@ -17,9 +17,9 @@ use Rattle.hx_app.specs.DemoAnswers.{IsDemoRun}
 abbrev pub IsCheck : List (List ℕ) → Type 0
 IsCheck words = Asks Check words
 
--- the words are `solve` with these settings
-abbrev pub IsSolve : Settings → List (List ℕ) → Type 0
-IsSolve settings words = Asks (Solve settings) words
+-- the words are `solve` with these settings, and with the flag where the tree is to be plain
+abbrev pub IsSolve : Settings → Bool → List (List ℕ) → Type 0
+IsSolve settings plain_tree words = Asks (Solve settings plain_tree) words
 
 -- the words are `htp` with these settings
 abbrev pub IsSession : Settings → List (List ℕ) → Type 0
@@ -51,8 +51,8 @@ pub data IsRun (words : List (List ℕ)) (source source_now : Reading) (sink sin
   Checked : IsCheck words → CountsNothing finish
       → IsCheckRun source source_now sink sink_now finish.status
       → IsRun words source source_now sink sink_now finish
-  Searched : (settings : Settings) → IsSolve settings words
-      → IsSolveRun settings source source_now sink sink_now finish
+  Searched : (settings : Settings) (plain_tree : Bool) → IsSolve settings plain_tree words
+      → IsSolveRun settings plain_tree source source_now sink sink_now finish
       → IsRun words source source_now sink sink_now finish
   Served : (settings : Settings) → IsSession settings words
       → IsSessionRun settings source source_now sink sink_now finish

@@ -1,6 +1,6 @@
 //! The top call: from the words of the command line to the exit status.
 
-ghost use Rattle.std.specs.Prelude.{◌≡◌, ◌⊎◌, ℕ};
+ghost use Rattle.std.specs.Prelude.{◌≡◌, ◌⊎◌, ℕ, Bool};
 ghost use Rattle.hx_io.specs.Sinks.{SomeWriteFailed};
 ghost use Rattle.hx_settings.specs.declared.settings.Settings.{Settings as Bounds};
 ghost use Rattle.hx_words.specs.Words.{words_of};
@@ -58,9 +58,10 @@ pub fn run<S: Source, K: Sink, G: Gate + Sync, R: Threads + Wait + Sync>(
 
     // `solve` keeps its promises: with status 0 the input was read to its end, the output is the text of a valid tree of the
     // input's position, and the player that it names wins and the other does not; `unknown` comes only where a refusal of a
-    // unit or of a slot was counted, of a unit only for a position without a chain, unless the budget is 0.
-    ensures solve { (settings : Bounds) → IsSolve settings (words_of words.now)
-        → SolvesAsPromised settings
+    // unit or of a slot was counted, of a unit only for a position without a chain, unless the budget is 0. A tree that is to be plain
+    // has plain nodes alone.
+    ensures solve { (settings : Bounds) (plain_tree : Bool) → IsSolve settings plain_tree (words_of words.now)
+        → SolvesAsPromised settings plain_tree
         (S.reading source.old) (S.reading source.new)
         (K.writing sink.old) (K.writing sink.new) result }
 
@@ -91,7 +92,12 @@ pub fn run<S: Source, K: Sink, G: Gate + Sync, R: Threads + Wait + Sync>(
 {
     match command_of(words) {
         Some(Command::Check) => uncounted(run_check(alloc, source, sink)),
-        Some(Command::Solve(settings)) => run_solve(rt, alloc, settings, source, sink, gate),
+        Some(
+            Command::Solve {
+                settings,
+                plain_tree,
+            },
+        ) => run_solve(rt, alloc, settings, plain_tree, source, sink, gate),
         Some(Command::Htp(settings)) => run_session(rt, alloc, settings, source, sink),
         Some(Command::Demo { seed, settings }) => run_demo(rt, alloc, seed, settings, sink, gate),
         None => uncounted(refuse(sink)),

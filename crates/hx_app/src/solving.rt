@@ -1,12 +1,17 @@
-//! The command `solve`: a position is read, workers search it, and the tree that they come to is written, or why there is none.
+//! The command `solve`: a position is read, workers search it, and the tree that they come to is written, or why there is none. Where
+//! the tree is to be plain, one worker searches.
 
-ghost use Rattle.std.specs.Prelude.{◌≡◌};
+ghost use Rattle.std.specs.Prelude.{◌≡◌, ◌<◌, true, IfOk, IfErr};
+ghost use Rattle.hx_board.specs.Counts.{IsSmall};
+ghost use Rattle.hx_board.specs.Graph.{HasNoChain};
 ghost use Rattle.hx_io.specs.Sources.{SomeReadFailed};
 ghost use Rattle.hx_tree.specs.declared.nodes.Node.{Node as TreeNode};
+ghost use Rattle.hx_tree.specs.Plain.{ArePlain};
 ghost use Rattle.hx_tree.specs.Trees.{IsValidTree, IsRoot};
 ghost use Rattle.hx_settings.specs.Settings.{AreSettings};
 ghost use Rattle.hx_solve.specs.Tallies.{tallied};
-ghost use Rattle.hx_solve.specs.Causes.{HasCause};
+ghost use Rattle.hx_solve.specs.Causes.{HasCause, LacksMemory, LacksUnit};
+ghost use Rattle.hx_solve.specs.Solutions.{IsSolution};
 ghost use Rattle.hx_answers.specs.Endings.{IsReadToEnd, IsWritten};
 ghost use Rattle.hx_app.specs.Answers.{CanBeWritten, IsDue, IsFound, IsSolveRun, IsVersionOf, answer_text, status_of, tally_of, SaysWhy};
 ghost use Rattle.hx_app.specs.Promises.{KeepsPromises};
@@ -16,11 +21,11 @@ use crate::finishes::Finish;
 use crate::roots::root_winner;
 use crate::solutions::Solution;
 use hx_answers::{Unread, WRITE_FAULT, read_all};
-use hx_board::Position;
+use hx_board::{Colour, Position};
 use hx_io::{Failed, Gate, Sink, Source};
 use hx_lines::LONGEST;
 use hx_reader::read_position;
-use hx_solve::{Settings, Tally, Unsolved, solve};
+use hx_solve::{Settings, Tally, Unsolved, solve, solve_plain};
 use hx_text::version_of;
 use hx_tree::Node;
 use std::alloc::Global;
@@ -40,19 +45,20 @@ pub(crate) fn run_solve<S: Source, K: Sink, G: Gate + Sync, R: Threads + Wait + 
     rt: &R,
     alloc: Global,
     settings: Settings,
+    plain_tree: bool,
     source: &mut S,
     sink: &mut K,
     gate: &G,
 ) -> Finish
     requires { AreSettings settings }
-    ensures run { IsSolveRun settings
+    ensures run { IsSolveRun settings plain_tree
         (S.reading source.old) (S.reading source.new)
         (K.writing sink.old) (K.writing sink.new) result }
-    ensures promises { KeepsPromises settings
+    ensures promises { KeepsPromises settings plain_tree
         (S.reading source.old) (S.reading source.new)
         (K.writing sink.old) (K.writing sink.new) result }
 {
-    let Finding { answer, tally } = settle(rt, alloc, settings, source, gate);
+    let Finding { answer, tally } = settle(rt, alloc, settings, plain_tree, source, gate);
     let status = say(sink, &answer);
     Finish { status, tally }
 }
@@ -74,11 +80,12 @@ fn settle<S: Source, G: Gate + Sync, R: Threads + Wait + Sync>(
     rt: &R,
     alloc: Global,
     settings: Settings,
+    plain_tree: bool,
     source: &mut S,
     gate: &G,
 ) -> Finding
     requires { AreSettings settings }
-    ensures due { IsDue settings (S.reading source.old).left
+    ensures due { IsDue settings plain_tree (S.reading source.old).left
         (SomeReadFailed (S.reading source.old) (S.reading source.new)) result.answer }
     ensures read_to_end { status_of result.answer ≡ 0
         → IsReadToEnd (S.reading source.old).left (S.reading source.new).left }
@@ -86,7 +93,7 @@ fn settle<S: Source, G: Gate + Sync, R: Threads + Wait + Sync>(
     ensures writable { CanBeWritten result.answer }
 {
     match read_all(alloc, source, LONGEST) {
-        Ok(bytes) => found(rt, alloc, settings, &bytes, gate),
+        Ok(bytes) => found(rt, alloc, settings, plain_tree, &bytes, gate),
         Err(Unread::Failed) => without_refusal(settings, Answer::ReadFault),
         Err(Unread::TooLong) => without_refusal(settings, Answer::TooLong),
         Err(Unread::OutOfMemory) => without_refusal(settings, Answer::OutOfMemory),
@@ -109,11 +116,12 @@ fn found<G: Gate + Sync, R: Threads + Wait + Sync>(
     rt: &R,
     alloc: Global,
     settings: Settings,
+    plain_tree: bool,
     input: &[u8],
     gate: &G,
 ) -> Finding
     requires { AreSettings settings }
-    ensures found { IsFound settings input.now result.answer }
+    ensures found { IsFound settings plain_tree input.now result.answer }
     ensures counted { result.tally ≡ tally_of settings result.answer }
     ensures writable { CanBeWritten result.answer }
 {
@@ -123,9 +131,42 @@ fn found<G: Gate + Sync, R: Threads + Wait + Sync>(
             return without_refusal(settings, Answer::BadPosition { line: fault.line });
         }
     };
-    match solve(rt, alloc, &position, to_move, settings, gate) {
+    match search(rt, alloc, &position, to_move, settings, plain_tree, gate) {
         Ok(nodes) => without_refusal(settings, Answer::Solved(solution_of(&position, nodes))),
         Err(why) => left_open(settings, why),
+    }
+}
+
+/// The tree of a position and mover, of plain nodes where it is to be plain, or what was wanting.
+fn search<G: Gate + Sync, R: Threads + Wait + Sync>(
+    rt: &R,
+    alloc: Global,
+    position: &Position,
+    to_move: Colour,
+    settings: Settings,
+    plain_tree: bool,
+    gate: &G,
+) -> Result<Vec<Node>, Unsolved>
+    requires { AreSettings settings }
+    ensures tree { IfOk result (λ tree. IsSolution position.now to_move tree.items) }
+    ensures plain { plain_tree ≡ true → IfOk result (λ tree. ArePlain tree.items) }
+    ensures cause { IfErr result (HasCause settings) }
+    ensures no_chain { IfErr result
+        (λ why. LacksUnit why → 0 < settings.budget → HasNoChain position.now) }
+    ensures small { IsSmall position.now settings.budget → IfErr result LacksMemory }
+{
+    if plain_tree {
+        solve_plain(
+            rt,
+            alloc,
+            position,
+            to_move,
+            settings.budget,
+            settings.slots,
+            gate,
+        )
+    } else {
+        solve(rt, alloc, position, to_move, settings, gate)
     }
 }
 

@@ -61,10 +61,10 @@ pub(crate) fn search_alone<G: Gate, R: Wait>(
     requires { AreSettings settings.now }
     ensures { IfOk result (IsSearchedAlone position.now to_move settings.now) }
 {
-    let book = PlainBook::with_slots(alloc, settings.slots)?;
     let words = hint_words(settings.budget, position.empty_count());
     let hints = Hints::with_words(alloc, words)?;
     let replies = Replies::new(alloc)?;
+    let book = PlainBook::with_slots(alloc, settings.slots)?;
     let (counts, mut seats) = Counts::start(alloc, settings.budget, LOSS_WORDS, 1)?;
     let Some(seat) = seats.pop() else {
         unreachable!()

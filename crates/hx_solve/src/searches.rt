@@ -41,12 +41,12 @@ pub(crate) fn search<G: Gate + Sync, R: Threads + Wait + Sync>(
     ensures { IfOk result (IsSearched position.now to_move settings.now) }
 {
     let workers = settings.workers;
-    let (shared, books) = Shared::start(alloc, settings.slots, workers)?;
-    let (counts, count_seats) = Counts::start(alloc, settings.budget, LOSS_WORDS, workers)?;
     let words = hint_words(settings.budget, position.empty_count());
     let hints = Hints::with_words(alloc, words)?;
     let replies = Replies::new(alloc)?;
     let room = Parts::with_room(alloc, workers)?;
+    let (shared, books) = Shared::start(alloc, settings.slots, workers)?;
+    let (counts, count_seats) = Counts::start(alloc, settings.budget, LOSS_WORDS, workers)?;
     let crew = Crew {
         position: *position,
         to_move,

@@ -15,6 +15,8 @@ mod made_nodes;
 #[cfg(test)]
 mod numbers;
 #[cfg(test)]
+mod plain_books;
+#[cfg(test)]
 mod states;
 #[cfg(test)]
 mod wider;

@@ -1,12 +1,14 @@
 -- Words are one command at most: the first tells which, and the others its seed and its settings.
-use Rattle.std.proofs.Common.{◌≡◌, ◌≢◌, ℕ, List, [], ◌∷◌, get_or, codes, refl, ap, ◌∙◌, subst, arith}
+use Rattle.std.proofs.Common.{◌≡◌, ◌≢◌, ℕ, List, [], ◌∷◌, Bool, get_or, codes, refl, ap, ◌∙◌, subst, arith}
 use Rattle.hx_settings.specs.declared.settings.Settings.{Settings}
 use Rattle.hx_words.specs.declared.commands.Command.{Command}
 use Rattle.hx_words.specs.declared.commands.Command.TheVariants.{Check, Solve, Htp, Demo}
 use Rattle.hx_words.specs.Choices.{AreOptions}
 use Rattle.hx_words.specs.Seeds.{SeedAndOptions}
-use Rattle.hx_words.specs.Commands.{Asks, NameAndOptions, IsDemo}
+use Rattle.hx_words.specs.Searches.{AreSearchOptions}
+use Rattle.hx_words.specs.Commands.{Asks, NameAndOptions, IsSolve, IsDemo}
 use Rattle.hx_words.proofs.Leads.{AreOptions-one}
+use Rattle.hx_words.proofs.SearchWords.{search-settings, search-flag}
 use Rattle.hx_words.proofs.SeedWords.{SeedAndOptions-seed, SeedAndOptions-settings}
 
 -- words do not begin with two names that differ in their first letters
@@ -66,17 +68,25 @@ no_options words rest name settings is none asks =
     let same : asks.0 ≡ rest = cc in
     none settings (subst P same asks.2)
 
+-- nor is `solve` one where the words after it do not ask for a search
+no_search : (words rest : List (List ℕ)) (settings : Settings) (plain_tree : Bool) → words ≡ codes "solve" ∷ rest
+    → ((found : Settings × Bool) → AreSearchOptions found.1 found.0 rest → ⊥) → IsSolve settings plain_tree words → ⊥
+no_search words rest settings plain_tree is none asks =
+    let P : List (List ℕ) → Type 0 = λ ws. AreSearchOptions plain_tree settings ws in
+    let same : asks.0 ≡ rest = cc in
+    none (settings, plain_tree) (subst P same asks.2)
+
 pub Asks-solve : (words rest : List (List ℕ)) → words ≡ codes "solve" ∷ rest
-    → ((settings : Settings) → AreOptions rest settings → ⊥) → (command : Command) → Asks command words → ⊥
+    → ((found : Settings × Bool) → AreSearchOptions found.1 found.0 rest → ⊥) → (command : Command) → Asks command words → ⊥
 Asks-solve words rest solve none Check asks = check_is_not_solve words [] rest asks solve
-Asks-solve words rest solve none (Solve settings) asks = no_options words rest (codes "solve") settings solve none asks
+Asks-solve words rest solve none (Solve settings plain_tree) asks = no_search words rest settings plain_tree solve none asks
 Asks-solve words rest solve none (Htp settings) asks = solve_is_not_htp words rest asks.0 solve asks.1
 Asks-solve words rest solve none (Demo seed settings) asks = solve_is_not_demo words rest asks.0 solve asks.1
 
 pub Asks-htp : (words rest : List (List ℕ)) → words ≡ codes "htp" ∷ rest
     → ((settings : Settings) → AreOptions rest settings → ⊥) → (command : Command) → Asks command words → ⊥
 Asks-htp words rest htp none Check asks = check_is_not_htp words [] rest asks htp
-Asks-htp words rest htp none (Solve settings) asks = solve_is_not_htp words asks.0 rest asks.1 htp
+Asks-htp words rest htp none (Solve settings plain_tree) asks = solve_is_not_htp words asks.0 rest asks.1 htp
 Asks-htp words rest htp none (Htp settings) asks = no_options words rest (codes "htp") settings htp none asks
 Asks-htp words rest htp none (Demo seed settings) asks = htp_is_not_demo words rest asks.0 htp asks.1
 
@@ -91,7 +101,7 @@ no_seed words rest seed settings is none asks =
 pub Asks-demo : (words rest : List (List ℕ)) → words ≡ codes "demo" ∷ rest
     → ((found : ℕ × Settings) → SeedAndOptions found.0 found.1 rest → ⊥) → (command : Command) → Asks command words → ⊥
 Asks-demo words rest demo none Check asks = check_is_not_demo words [] rest asks demo
-Asks-demo words rest demo none (Solve settings) asks = solve_is_not_demo words asks.0 rest asks.1 demo
+Asks-demo words rest demo none (Solve settings plain_tree) asks = solve_is_not_demo words asks.0 rest asks.1 demo
 Asks-demo words rest demo none (Htp settings) asks = htp_is_not_demo words asks.0 rest asks.1 demo
 Asks-demo words rest demo none (Demo seed settings) asks = no_seed words rest seed settings demo none asks
 
@@ -102,6 +112,17 @@ one_choice words name a b p q =
     let P : List (List ℕ) → Type 0 = λ ws. AreOptions ws b in
     let same : q.0 ≡ p.0 = cc in
     AreOptions-one p.0 a b p.2 (subst P same q.2)
+
+-- `solve` has the same words behind it, and they ask for the same search
+one_search : (words : List (List ℕ)) (m n : Bool) (a b : Settings) → IsSolve a m words → IsSolve b n words → Solve a m ≡ Solve b n
+one_search words m n a b p q =
+    let P : List (List ℕ) → Type 0 = λ ws. AreSearchOptions n b ws in
+    let same : q.0 ≡ p.0 = cc in
+    let other : AreSearchOptions n b p.0 = subst P same q.2 in
+    let flags : m ≡ n = search-flag p.0 m n a b p.2 other in
+    let flagged : AreSearchOptions n a p.0 = subst (λ (plain : Bool). AreSearchOptions plain a p.0) flags p.2 in
+    ap (λ (plain : Bool). Solve a plain) flags
+    ∙ ap (λ (settings : Settings). Solve settings n) (search-settings p.0 n a b flagged other)
 
 -- `demo` has the same words behind it, and they tell the same seed and choose the same settings
 one_demo : (words : List (List ℕ)) (m n : ℕ) (a b : Settings) → IsDemo m a words → IsDemo n b words → Demo m a ≡ Demo n b
@@ -114,18 +135,18 @@ one_demo words m n a b p q =
 
 pub Asks-one : (words : List (List ℕ)) (a b : Command) → Asks a words → Asks b words → a ≡ b
 Asks-one words Check Check p q = refl
-Asks-one words Check (Solve settings) p q = absurd (check_is_not_solve words [] q.0 p q.1)
+Asks-one words Check (Solve settings plain_tree) p q = absurd (check_is_not_solve words [] q.0 p q.1)
 Asks-one words Check (Htp settings) p q = absurd (check_is_not_htp words [] q.0 p q.1)
 Asks-one words Check (Demo seed settings) p q = absurd (check_is_not_demo words [] q.0 p q.1)
-Asks-one words (Solve settings) Check p q = absurd (check_is_not_solve words [] p.0 q p.1)
-Asks-one words (Solve settings) (Solve other) p q = ap Solve (one_choice words (codes "solve") settings other p q)
-Asks-one words (Solve settings) (Htp other) p q = absurd (solve_is_not_htp words p.0 q.0 p.1 q.1)
-Asks-one words (Solve settings) (Demo seed other) p q = absurd (solve_is_not_demo words p.0 q.0 p.1 q.1)
+Asks-one words (Solve settings plain_tree) Check p q = absurd (check_is_not_solve words [] p.0 q p.1)
+Asks-one words (Solve settings m) (Solve other n) p q = one_search words m n settings other p q
+Asks-one words (Solve settings plain_tree) (Htp other) p q = absurd (solve_is_not_htp words p.0 q.0 p.1 q.1)
+Asks-one words (Solve settings plain_tree) (Demo seed other) p q = absurd (solve_is_not_demo words p.0 q.0 p.1 q.1)
 Asks-one words (Htp settings) Check p q = absurd (check_is_not_htp words [] p.0 q p.1)
-Asks-one words (Htp settings) (Solve other) p q = absurd (solve_is_not_htp words q.0 p.0 q.1 p.1)
+Asks-one words (Htp settings) (Solve other plain_tree) p q = absurd (solve_is_not_htp words q.0 p.0 q.1 p.1)
 Asks-one words (Htp settings) (Htp other) p q = ap Htp (one_choice words (codes "htp") settings other p q)
 Asks-one words (Htp settings) (Demo seed other) p q = absurd (htp_is_not_demo words p.0 q.0 p.1 q.1)
 Asks-one words (Demo seed settings) Check p q = absurd (check_is_not_demo words [] p.0 q p.1)
-Asks-one words (Demo seed settings) (Solve other) p q = absurd (solve_is_not_demo words q.0 p.0 q.1 p.1)
+Asks-one words (Demo seed settings) (Solve other plain_tree) p q = absurd (solve_is_not_demo words q.0 p.0 q.1 p.1)
 Asks-one words (Demo seed settings) (Htp other) p q = absurd (htp_is_not_demo words q.0 p.0 q.1 p.1)
 Asks-one words (Demo seed settings) (Demo number other) p q = one_demo words seed number settings other p q

@@ -1,5 +1,6 @@
 pub mod Names
 pub mod Spellings
 pub mod Leads
+pub mod SearchWords
 pub mod SeedWords
 pub mod CommandWords

@@ -6,6 +6,7 @@ use Rattle.hx_letters.proofs.Cuts.{cut_same, cut_rest, Lacks-append_mark}
 use Rattle.hx_words.specs.declared.settings.Setting.{Setting}
 use Rattle.hx_words.specs.declared.settings.Setting.TheVariants.{Workers, Budget, Proofs}
 use Rattle.hx_words.specs.Settings.{name_of}
+use Rattle.hx_words.specs.Searches.{plain_tree_flag}
 
 -- names that differ in their third letters
 apart : {Same : Type 0} (name other : List ℕ) → get_or name 2 0 ≢ get_or other 2 0 → name ≡ other → Same
@@ -39,3 +40,22 @@ joined_name a b x y e =
 
 pub joined_value : (a b : Setting) (x y : List ℕ) → name_of a ++ 61 ∷ x ≡ name_of b ++ 61 ∷ y → x ≡ y
 joined_value a b x y e = cut_rest 61 (name_of a) (name_of b) x y (Lacks-name_of a) (Lacks-name_of b) e
+
+-- words that differ in their fourth letters
+fourth_apart : (word other : List ℕ) → get_or word 3 0 ≢ get_or other 3 0 → word ≡ other → ⊥
+fourth_apart word other letters e = letters (ap (λ (w : List ℕ). get_or w 3 0) e)
+
+-- the flag is no name of a setting, since their fourth letters differ
+pub flag_is_no_name : (setting : Setting) → plain_tree_flag ≡ name_of setting → ⊥
+flag_is_no_name Workers e = fourth_apart plain_tree_flag (name_of Workers) (omega arith) e
+flag_is_no_name Budget e = fourth_apart plain_tree_flag (name_of Budget) (omega arith) e
+flag_is_no_name Proofs e = fourth_apart plain_tree_flag (name_of Proofs) (omega arith) e
+
+Lacks-flag : Lacks 61 plain_tree_flag
+Lacks-flag = search rules
+
+-- nor does it have an equals sign behind a name
+pub flag_is_not_joined : (setting : Setting) (value : List ℕ) → plain_tree_flag ≡ name_of setting ++ 61 ∷ value → ⊥
+flag_is_not_joined setting value e =
+    let P : List ℕ → Type 0 = λ word. Lacks 61 word in
+    Lacks-append_mark 61 (name_of setting) value (subst P e Lacks-flag)

@@ -6,8 +6,10 @@ use Rattle.hx_letters.proofs.Cuts.{cut_same}
 use Rattle.hx_words.specs.declared.settings.Setting.{Setting}
 use Rattle.hx_words.specs.declared.options.Choice.{Choice}
 use Rattle.hx_words.specs.Settings.{name_of}
-use Rattle.hx_words.specs.Options.{IsValue, IsJoined, Spelled, Apart, Joined}
+use Rattle.hx_words.specs.Options.{IsValue, IsJoined, Spelled, Apart, Joined, HasNoOption}
+use Rattle.hx_words.specs.Searches.{plain_tree_flag}
 use Rattle.hx_words.proofs.Names.{name_of-injective, Lacks-name_of, name_alone, joined_name, joined_value}
+use Rattle.hx_words.proofs.Names.{flag_is_no_name, flag_is_not_joined}
 
 pub IsValue-one : (value : List ℕ) (m n : ℕ) → IsValue value m → IsValue value n → m ≡ n
 IsValue-one value m n a b = a.same ∙ sym b.same
@@ -76,10 +78,16 @@ Spelled-unnamed word words choice rest unnamed (Joined other joined parts) =
 -- no option is at the front where the first word is neither a name nor an option
 pub Spelled-no_option : (words : List (List ℕ)) (word : List ℕ) (more : List (List ℕ)) → words ≡ word ∷ more
     → ((setting : Setting) → word ≡ name_of setting → ⊥) → ((choice : Choice) → IsJoined choice word → ⊥)
-    → (choice : Choice) (rest : List (List ℕ)) → Spelled choice words rest → ⊥
+    → HasNoOption words
 Spelled-no_option words word more parts unnamed unjoined choice rest spelled =
     let P : List (List ℕ) → Type 0 = λ ws. Spelled choice ws rest in
     unjoined choice (Spelled-unnamed word more choice rest unnamed (subst P parts spelled)).joined
+
+-- nor where it is the flag
+pub flag-no_option : (behind : List (List ℕ)) → HasNoOption (plain_tree_flag ∷ behind)
+flag-no_option behind =
+    Spelled-no_option (plain_tree_flag ∷ behind) plain_tree_flag behind refl flag_is_no_name
+    (λ choice joined. flag_is_not_joined choice.setting joined.value joined.parts)
 
 pub Spelled-some : (choice : Choice) (words rest : List (List ℕ)) → words ≡ [] → Spelled choice words rest → ⊥
 Spelled-some choice words rest none (Apart value is_value parts) = cc

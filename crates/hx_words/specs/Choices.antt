@@ -6,7 +6,7 @@ use Rattle.hx_words.specs.declared.settings.Setting.TheVariants.{Workers, Budget
 use Rattle.hx_words.specs.declared.options.Choice.{Choice}
 use Rattle.hx_words.specs.declared.choices.Chosen.{Chosen}
 use Rattle.hx_words.specs.Settings.{least_of, most_of}
-use Rattle.hx_words.specs.Options.{Spelled}
+use Rattle.hx_words.specs.Options.{Spelled, HasNoOption}
 
 abbrev pub nothing : Chosen
 nothing = record { workers = None; budget = None; slots = None }
@@ -30,11 +30,14 @@ pub record Adds (before : Chosen) (choice : Choice) (now : Chosen) : Type 0 wher
   pub most : choice.number ≤ most_of choice.setting
   pub same : now ≡ with_number before choice.setting choice.number
 
--- the words are options, one after the other, that lead from what was chosen before them to what is chosen then
-pub data Lead : List (List ℕ) → Chosen → Chosen → Type 0 where
-  Done : (words : List (List ℕ)) (before now : Chosen) → words ≡ [] → now ≡ before → Lead words before now
-  Then : (words : List (List ℕ)) (before now : Chosen) (choice : Choice) (rest : List (List ℕ)) (next : Chosen)
-      → Spelled choice words rest → Adds before choice next → Lead rest next now → Lead words before now
+-- The words begin with options, one after the other, that lead from what was chosen before them to what is chosen then,
+-- and the rest comes after them.
+pub data Lead : List (List ℕ) → Chosen → List (List ℕ) → Chosen → Type 0 where
+  Done : (words : List (List ℕ)) (before : Chosen) (rest : List (List ℕ)) (now : Chosen)
+      → words ≡ rest → now ≡ before → Lead words before rest now
+  Then : (words : List (List ℕ)) (before : Chosen) (rest : List (List ℕ)) (now : Chosen)
+      (choice : Choice) (later : List (List ℕ)) (next : Chosen)
+      → Spelled choice words later → Adds before choice next → Lead later next rest now → Lead words before rest now
 
 -- each setting is the number that was chosen for it, or else its default
 abbrev pub settings_of : Chosen → Settings
@@ -44,8 +47,19 @@ settings_of chosen = record {
   slots = unwrap_or chosen.slots 65536;
 }
 
--- the words are options, and these are the settings that they choose
-pub record AreOptions (words : List (List ℕ)) (settings : Settings) : Type 0 where
+-- the words are options, and with what was chosen before them these are the settings that they choose
+pub record AreOptionsAfter (before : Chosen) (words : List (List ℕ)) (settings : Settings) : Type 0 where
   pub chosen : Chosen
-  pub lead : Lead words nothing chosen
+  pub lead : Lead words before [] chosen
   pub same : settings ≡ settings_of chosen
+
+-- the words are options, and these are the settings that they choose
+abbrev pub AreOptions : List (List ℕ) → Settings → Type 0
+AreOptions words settings = AreOptionsAfter nothing words settings
+
+-- ---- words for the functions inside the crate alone
+
+-- the words begin with options that lead there, and the rest begins with none
+pub record LeadsAway (words : List (List ℕ)) (before : Chosen) (rest : List (List ℕ)) (now : Chosen) : Type 0 where
+  pub lead : Lead words before rest now
+  pub last : HasNoOption rest

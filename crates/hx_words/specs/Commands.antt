@@ -1,16 +1,22 @@
 -- The commands of the program.
-use Rattle.std.specs.Prelude.{◌≡◌, ℕ, List, [], ◌∷◌, codes}
+use Rattle.std.specs.Prelude.{◌≡◌, ℕ, List, [], ◌∷◌, codes, Bool}
 use Rattle.hx_settings.specs.declared.settings.Settings.{Settings}
 use Rattle.hx_settings.specs.Settings.{AreSettings}
 use Rattle.hx_words.specs.declared.commands.Command.{Command}
 use Rattle.hx_words.specs.declared.commands.Command.TheVariants.{Check, Solve, Htp, Demo}
 use Rattle.hx_words.specs.Choices.{AreOptions}
+use Rattle.hx_words.specs.Searches.{AreSearchOptions}
 use Rattle.hx_words.specs.Seeds.{SeedAndOptions}
 
 -- the words are this name and then options that choose the settings
 abbrev pub NameAndOptions : List ℕ → Settings → List (List ℕ) → Type 0
 NameAndOptions name settings words =
     (options : List (List ℕ)) × (words ≡ name ∷ options) × AreOptions options settings
+
+-- the words are `solve` and then options, with the flag among them where the tree is to be plain
+abbrev pub IsSolve : Settings → Bool → List (List ℕ) → Type 0
+IsSolve settings plain_tree words =
+    (options : List (List ℕ)) × (words ≡ codes "solve" ∷ options) × AreSearchOptions plain_tree settings options
 
 -- the words are `demo`, a seed and then options
 abbrev pub IsDemo : ℕ → Settings → List (List ℕ) → Type 0
@@ -19,13 +25,13 @@ IsDemo seed settings words = (rest : List (List ℕ)) × (words ≡ codes "demo"
 -- the words are this command
 abbrev pub Asks : Command → List (List ℕ) → Type 0
 Asks Check words = words ≡ codes "check" ∷ []
-Asks (Solve settings) words = NameAndOptions (codes "solve") settings words
+Asks (Solve settings plain_tree) words = IsSolve settings plain_tree words
 Asks (Htp settings) words = NameAndOptions (codes "htp") settings words
 Asks (Demo seed settings) words = IsDemo seed settings words
 
 -- the settings of the command, if it has any, are those that a search may have
 abbrev pub IsWithinLimits : Command → Type 0
 IsWithinLimits Check = Unit {0}
-IsWithinLimits (Solve settings) = AreSettings settings
+IsWithinLimits (Solve settings plain_tree) = AreSettings settings
 IsWithinLimits (Htp settings) = AreSettings settings
 IsWithinLimits (Demo seed settings) = AreSettings settings

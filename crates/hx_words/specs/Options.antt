@@ -21,3 +21,7 @@ pub data Spelled (choice : Choice) (words rest : List (List ℕ)) : Type 0 where
   Apart : (value : List ℕ) → IsValue value choice.number → words ≡ name_of choice.setting ∷ value ∷ rest
       → Spelled choice words rest
   Joined : (word : List ℕ) → IsJoined choice word → words ≡ word ∷ rest → Spelled choice words rest
+
+-- the words begin with no option
+abbrev pub HasNoOption : List (List ℕ) → Type 0
+HasNoOption words = (choice : Choice) (rest : List (List ℕ)) → Spelled choice words rest → ⊥

@@ -1,9 +1,10 @@
 //! What options choose, one after the other, and the settings that come of it.
 
-ghost use Rattle.std.specs.Prelude.{◌≡◌, ◌↔◌, IsTrue, IsSome};
+ghost use Rattle.std.specs.Prelude.{◌≡◌, ◌↔◌, IsTrue, IsSome, MatchOption, List, ℕ};
 ghost use Rattle.hx_board.specs.Finds.{Finds};
 ghost use Rattle.hx_words.specs.Words.{words_of};
-ghost use Rattle.hx_words.specs.Choices.{nothing, number_for, Adds, Lead, AreOptions, settings_of};
+ghost use Rattle.hx_words.specs.declared.choices.Chosen.{Chosen as ChosenNumbers};
+ghost use Rattle.hx_words.specs.Choices.{nothing, number_for, Adds, LeadsAway, AreOptions, AreOptionsAfter, settings_of};
 
 use crate::options::{Choice, first_option};
 use crate::settings::Setting;
@@ -21,29 +22,48 @@ pub struct Chosen {
 pub(crate) fn settings_in(words: &[String]) -> Option<Settings>
     ensures { Finds result (AreOptions (words_of words.now)) }
 {
-    let chosen = chosen_in(words)?;
-    Some(chosen.settings())
+    settings_after(Chosen::nothing(), words)
 }
 
-/// What is chosen by options that are these words.
-fn chosen_in(words: &[String]) -> Option<Chosen>
-    ensures { Finds result (Lead (words_of words.now) nothing) }
+/// The settings of a search for which something is chosen already, and which has these words for its further options.
+pub(crate) fn settings_after(before: Chosen, words: &[String]) -> Option<Settings>
+    ensures { Finds result (AreOptionsAfter before (words_of words.now)) }
 {
-    let mut chosen = Chosen {
-        workers: None,
-        budget: None,
-        slots: None,
-    };
+    let (chosen, rest) = take_options(before, words)?;
+    if rest.is_empty() {
+        Some(chosen.settings())
+    } else {
+        None
+    }
+}
+
+/// What is chosen with all options that the words begin with, and the words after them, which begin with no option.
+pub(crate) fn take_options(before: Chosen, words: &[String]) -> Option<(Chosen, &[String])>
+    ensures { MatchOption result
+        ((rest : List (List ℕ)) (now : ChosenNumbers) → LeadsAway (words_of words.now) before rest now → ⊥)
+        (λ found. LeadsAway (words_of words.now) before (words_of found.1.now) found.0) }
+{
+    let mut chosen = before;
     let mut rest = words;
-    while !rest.is_empty() {
-        let (choice, later) = first_option(rest)?;
+    while let Some((choice, later)) = first_option(rest) {
         chosen = chosen.with(choice)?;
         rest = later;
     }
-    Some(chosen)
+    Some((chosen, rest))
 }
 
 impl Chosen {
+    /// What is chosen before the first option.
+    pub(crate) fn nothing() -> Chosen
+        ensures { result ≡ nothing }
+    {
+        Chosen {
+            workers: None,
+            budget: None,
+            slots: None,
+        }
+    }
+
     /// What is chosen with one option more. A setting is chosen once, and within its limits.
     fn with(self, choice: Choice) -> Option<Chosen>
         ensures { Finds result (Adds self choice) }
@@ -80,7 +100,7 @@ impl Chosen {
     }
 
     /// The settings, where each that nobody chose is what it is without an option.
-    fn settings(self) -> Settings
+    pub(crate) fn settings(self) -> Settings
         ensures { result ≡ settings_of self }
     {
         Settings {

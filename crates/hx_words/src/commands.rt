@@ -6,6 +6,7 @@ ghost use Rattle.hx_words.specs.Words.{words_of};
 ghost use Rattle.hx_words.specs.Commands.{Asks, IsWithinLimits};
 
 use crate::choices::settings_in;
+use crate::searches::search_in;
 use crate::seeds::seed_and_settings_in;
 use hx_settings::Settings;
 
@@ -14,12 +15,18 @@ use hx_settings::Settings;
 pub enum Command {
     /// Judge the text of a tree.
     Check,
-    /// Solve the position of a text.
-    Solve(Settings),
+    /// Solve the position of a text, with a tree of plain nodes where it is to be plain.
+    Solve {
+        settings: Settings,
+        plain_tree: bool,
+    },
     /// Answer the lines of a session, and solve what they ask for.
     Htp(Settings),
     /// Draw positions with the seed, and solve each of them.
-    Demo { seed: u64, settings: Settings },
+    Demo {
+        seed: u64,
+        settings: Settings,
+    },
 }
 
 /// The command that the words are. The program's own name is not one of them.
@@ -37,8 +44,11 @@ pub fn command_of(words: &[String]) -> Option<Command>
             }
         }
         "solve" => {
-            let settings = settings_in(rest)?;
-            Some(Command::Solve(settings))
+            let (settings, plain_tree) = search_in(rest)?;
+            Some(Command::Solve {
+                settings,
+                plain_tree,
+            })
         }
         "htp" => {
             let settings = settings_in(rest)?;

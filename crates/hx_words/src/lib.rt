@@ -1,6 +1,7 @@
 //! The words of the command line: which command they are, with which settings.
 //!
-//! A command is its name, for `demo` a seed, and for one that searches its options, in any order and each at most once.
+//! A command is its name, for `demo` a seed, and for one that searches its options, in any order and each at most once. Those of `solve`
+//! may have the flag `--plain-tree` among them.
 //! Words that are spelled in any other way are no command.
 #![tactic(auto)]
 
@@ -9,6 +10,7 @@ mod commands;
 mod laws;
 mod numbers;
 mod options;
+mod searches;
 mod seeds;
 mod settings;
 

@@ -1,11 +1,10 @@
 //! Options, taken off the front of the words. An option is a name and its value, in two words, or in one with an equals
 //! sign between. So a word after a name is a value, whatever it looks like.
 
-ghost use Rattle.std.specs.Prelude.{MatchOption, List, ℕ};
+ghost use Rattle.std.specs.Prelude.{MatchOption};
 ghost use Rattle.hx_board.specs.Finds.{Finds};
 ghost use Rattle.hx_words.specs.Words.{words_of};
-ghost use Rattle.hx_words.specs.declared.options.Choice.{Choice};
-ghost use Rattle.hx_words.specs.Options.{Spelled, IsJoined};
+ghost use Rattle.hx_words.specs.Options.{Spelled, IsJoined, HasNoOption};
 
 use crate::numbers::number_of;
 use crate::settings::Setting;
@@ -21,7 +20,7 @@ pub struct Choice {
 /// The option that the words begin with, and the words after it.
 pub(crate) fn first_option(words: &[String]) -> Option<(Choice, &[String])>
     ensures { MatchOption result
-        ((choice : Choice) (rest : List (List ℕ)) → Spelled choice (words_of words.now) rest → ⊥)
+        (HasNoOption (words_of words.now))
         (λ found. Spelled found.0 (words_of words.now) (words_of found.1.now)) }
 {
     let (word, rest) = words.split_first()?;

@@ -2,6 +2,7 @@ use Rattle.std.proofs.Common.{◌≡◌, codes, sym, ap, ◌∙◌, string_bytes
 use Rattle.hx_words.specs.Words.{words_of}
 use Rattle.hx_words.proofs.CommandWords.{Asks-solve, Asks-htp, Asks-demo}
 use Rattle.hx_words.proofs.Leads.{AreOptions-settings}
+use Rattle.hx_words.proofs.SearchWords.{search-limits}
 use Rattle.hx_words.proofs.SeedWords.{SeedAndOptions-limits}
 use Rattle.hx_words.proofs.commands.command_of.Goals as goal
 
@@ -15,7 +16,8 @@ returns-in_err-settings-in-solve-clause-finds c =
 
 pub returns-in_ok-settings-in-solve-clause-limits : goal.returns-in_ok-settings-in-solve-clause-limits
 returns-in_ok-settings-in-solve-clause-limits c =
-    AreOptions-settings (words_of c.in_ok-name.rest.now) c.in_ok-settings-in-solve.settings c.in_ok-settings-in-solve.ensures
+    search-limits (words_of c.in_ok-name.rest.now) c.in_ok-settings-in-solve.plain_tree c.in_ok-settings-in-solve.settings
+    c.in_ok-settings-in-solve.ensures
 
 pub returns-in_err-settings-in-htp-clause-finds : goal.returns-in_err-settings-in-htp-clause-finds
 returns-in_err-settings-in-htp-clause-finds c =

@@ -1,4 +1,4 @@
-use Rattle.std.proofs.Common.{rules, arith, ◌<◌, subst}
+use Rattle.std.proofs.Common.{arith, ◌<◌, subst}
 use Rattle.hx_count.specs.Seats.{Seat, own}
 use Rattle.hx_worker.specs.Ends.{EndsSpent}
 use Rattle.hx_solve.proofs.lone_searches.Alone.work.Goals as goal
