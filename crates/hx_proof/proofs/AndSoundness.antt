@@ -24,11 +24,11 @@ use Rattle.hx_proof.proofs.LocalGame.{Goal, Stays, in_reach_in_more_room, in_rea
 use Rattle.hx_proof.proofs.LocalGame.{in_reach_beside_reached}
 
 -- two regions that share no cell, and both together
-record AreParts (first second whole : ℕ → Bool) : Type 0 where
-  from_first : (n : ℕ) → first n ≡ true → whole n ≡ true
-  from_second : (n : ℕ) → second n ≡ true → whole n ≡ true
-  in_one : (n : ℕ) → whole n ≡ true → (first n ≡ true) ⊎ (second n ≡ true)
-  apart : (n : ℕ) → first n ≡ true → second n ≡ true → ⊥
+pub record AreParts (first second whole : ℕ → Bool) : Type 0 where
+  pub from_first : (n : ℕ) → first n ≡ true → whole n ≡ true
+  pub from_second : (n : ℕ) → second n ≡ true → whole n ≡ true
+  pub in_one : (n : ℕ) → whole n ≡ true → (first n ≡ true) ⊎ (second n ≡ true)
+  pub apart : (n : ℕ) → first n ≡ true → second n ≡ true → ⊥
 
 parts-sym : (first second whole : ℕ → Bool) → AreParts first second whole → AreParts second first whole
 parts-sym first second whole parts =
@@ -45,14 +45,14 @@ module _ (player : Colour) where
   other = other_of player
 
   -- both goals are in reach together, where the first is with this player to move and the second with the opponent to move
-  abbrev BothInReach : Colour → Board → Type 1
+  abbrev pub BothInReach : Colour → Board → Type 1
   BothInReach mover board = (G H K : Goal) → Stays player G → Stays player H → ((b : Board) → G b → H b → K b)
       → (first second whole : ℕ → Bool) → AreParts first second whole
       → Plays player first G board mover → Plays player second H board other → Plays player whole K board mover
 
-  record InReach (board : Board) : Type 1 where
-    answering : BothInReach other board
-    moving : BothInReach player board
+  pub record InReach (board : Board) : Type 1 where
+    pub answering : BothInReach other board
+    pub moving : BothInReach player board
 
   module _ (board : Board) (next : (who : Colour) (cell : ℕ) → IsEmpty board cell → InReach (put board who cell))
       (G H K : Goal) (stays_g : Stays player G) (stays_h : Stays player H) (both : (b : Board) → G b → H b → K b)
@@ -95,7 +95,7 @@ module _ (player : Colour) where
         (in_reach_after_stone_outside player H stays_h second board player cell (parts.apart cell free.inside) other q))
     moving_from one e (By_answers _ _ some o free all) q = absurd (other-differs player (sym e ∙ o))
 
-  in_reach_from : (board : Board) → Ends board → InReach board
+  pub in_reach_from : (board : Board) → Ends board → InReach board
   in_reach_from board (After _ next) = record {
     answering = λ G H K stays_g stays_h both first second whole parts x y.
         answering_from board (λ who cell e.

@@ -1,0 +1,6 @@
+-- No place before this one is marked.
+use Rattle.std.proofs.Common.{◌≡◌, ℕ, ◌<◌, false, get_or}
+use Rattle.hx_play.proofs.stands.clear_marks.Given as goal
+
+abbrev pub invariant-loop-mark : goal.invariant-loop-mark
+invariant-loop-mark l = (k : ℕ) → k < l.mark-index → get_or l.marks k false ≡ false
