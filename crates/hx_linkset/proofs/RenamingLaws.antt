@@ -1,6 +1,7 @@
 -- A step that is renamed gives the same link, where each link that it names stands under its new name.
-use Rattle.std.proofs.lemmas.List.{length-map}
-use Rattle.std.proofs.Common.{◌≡◌, ℕ, suc, List, [], ◌∷◌, map, refl, ◌∙◌, inl, inr, Some}
+use Rattle.std.proofs.lemmas.List.{length-map, map-append, get_or_default}
+use Rattle.std.proofs.Common.{◌≡◌, ℕ, suc, ◌+◌, ◌<◌, List, [], ◌∷◌, ◌++◌, length, map, take, get_or, refl, sym, ap, ◌∙◌, inl, inr, Some}
+use Rattle.hx_board.proofs.ListLaws.{take-read}
 use Rattle.std.specs.Prelude.{slice_get}
 use Rattle.hx_board.specs.declared.colours.Colour.{Colour}
 use Rattle.hx_board.specs.declared.vertices.Vertex.{Vertex}
@@ -13,6 +14,16 @@ use Rattle.hx_link.specs.Steps.{MeetAt, GivesByRule, StepGives, links_at}
 use Rattle.hx_link.proofs.LinkLaws.{same_front}
 use Rattle.hx_linkset.specs.States.{Names}
 use Rattle.hx_linkset.specs.Derivations.{renamed}
+
+-- the names of the places so far, and of one more
+pub names-more : (name : ℕ → ℕ) (places : List ℕ) (k : ℕ) (old new : List ℕ) → k < length places → old ≡ map name (take k places)
+    → new ≡ old ++ name (get_or places k 0) ∷ [] → new ≡ map name (take (k + 1) places)
+names-more name places k old new less is more =
+    let place : ℕ = get_or places k 0 in
+    let front : take (k + 1) places ≡ take k places ++ place ∷ [] = take-read places k place less (get_or_default places k 0 place less) in
+    more ∙ ap (λ (ns : List ℕ). ns ++ name place ∷ []) is
+    ∙ sym (map-append name (take k places) (place ∷ []))
+    ∙ ap (λ (ps : List ℕ). map name ps) (sym front)
 
 module _ (name : ℕ → ℕ) (before after : List Link) where
   links_at-renamed : (parts : List ℕ)

@@ -25,14 +25,14 @@ pub struct Derived {
 }
 
 /// Which links are needed, and how many at most.
-#[derive(Debug, Drop)]
+#[derive(Drop)]
 struct Wanted {
     marks: Vec<u8>,
     count: usize,
 }
 
 /// The steps of the wanted links, and the new number of each of these links.
-#[derive(Debug, Drop)]
+#[derive(Drop)]
 struct Kept {
     steps: Vec<Step>,
     names: Vec<u16>,

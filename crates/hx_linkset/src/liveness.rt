@@ -17,7 +17,7 @@ use hx_board::{Colour, Mask, Position, VertexSet};
 use hx_link::{Link, ends_of};
 
 /// The empty cells of a position, and the vertices that may be ends of a player's links.
-#[derive(Clone, Copy, PartialEq, Eq, Debug)]
+#[derive(Clone, Copy)]
 pub(crate) struct Liveness {
     pub(crate) empties: Mask,
     pub(crate) ends: VertexSet,

@@ -8,7 +8,7 @@ use hx_board::{Cell, Colour, Position};
 use hx_link::Link;
 
 /// How a set stood at some time: the position, and how long the lists were.
-#[derive(Clone, Copy, PartialEq, Eq, Debug)]
+#[derive(Clone, Copy)]
 pub(crate) struct Stage {
     pub(crate) position: Position,
 

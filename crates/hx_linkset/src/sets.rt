@@ -19,7 +19,7 @@ ghost use Rattle.hx_board.specs.Lists.{StandsIn};
 ghost use Rattle.hx_board.specs.Positions.{IsEmpty};
 ghost use Rattle.hx_link.specs.declared.links.Kind.{Kind};
 ghost use Rattle.hx_link.specs.declared.links.Link.{Link};
-ghost use Rattle.hx_linkset.specs.States.{IsLive, IsLiveAt, IsRight, IsUntouched, played, CanPut, played_all, LeaveAlone};
+ghost use Rattle.hx_linkset.specs.States.{IsLive, IsLiveAt, IsRight, IsUntouched, added, played, CanPut, played_all, LeaveAlone};
 ghost use Rattle.hx_linkset.specs.Answers.{Gives, Covers, IsAdded};
 ghost use Rattle.hx_linkset.specs.Held.{IsHeadBetween};
 ghost use Rattle.hx_linkset.specs.LiveOf.{IsLiveOf, IsFirstFrom, ChainLists};
@@ -189,13 +189,11 @@ impl LinkSet {
         ensures { Finds result (λ link. (slice_get self.now.present.links index ≡ Some link)
             × IsLive self.now.present.board self.now.player link) }
     {
-        match self.links.as_slice().get(index as usize) {
-            None => None,
-            Some(link) => {
-                let live = is_live(&self.liveness, link);
-                if live { Some(*link) } else { None }
-            }
-        }
+        let Some(link) = self.held(index) else {
+            return None;
+        };
+        let live = is_live(&self.liveness, &link);
+        if live { Some(link) } else { None }
     }
 
     /// The link at an index, live or not. None exactly where no link is held there.
@@ -212,7 +210,7 @@ impl LinkSet {
             → result ≡ link.carrier }
         ensures none { slice_get self.now.present.links index ≡ None → result ≡ 0 }
     {
-        match self.links.as_slice().get(index as usize) {
+        match self.held(index) {
             None => Mask::empty(),
             Some(link) => link.carrier,
         }
@@ -341,10 +339,28 @@ impl LinkSet {
         if let Some(place) = self.covering(&link) {
             return Ok(Added::Covered(place));
         }
-        let count = self.links.len();
+        // The proof takes from here that no more are held.
+        self.keeps();
+        let count = self.count() as usize;
         if count == MOST_LINKS {
             return Ok(Added::Limit);
         }
+        match self.append(link, step) {
+            Ok(index) => Ok(Added::New(index)),
+            Err(Memory) => Err(Memory),
+        }
+    }
+
+    /// Puts a link that a step gives from live links after the others, and answers its index. Where memory is wanting the set
+    /// is as before, and the step is dropped.
+    fn append(&mut self, link: Link, step: Step) -> Result<u32, Memory>
+        requires gives { Gives self.old step link }
+        requires room { length self.old.present.links < MOST_LINKS }
+        ensures appended { IfOk result (λ index. (index ≡ length self.old.present.links)
+            × (self.new ≡ record self.old { present = added self.old.present link step })) }
+        ensures memory { OnErr result (self.new ≡ self.old) }
+    {
+        let count = self.links.len();
         if self.links.reserve(1).is_err() {
             return Err(Memory);
         }
@@ -361,7 +377,7 @@ impl LinkSet {
         }
         self.links.push_reserved(link);
         self.steps.push_reserved(step);
-        Ok(Added::New(count as u32))
+        Ok(count as u32)
     }
 
     /// Puts a stone of either colour on an empty cell. Of the live links those stay live that it leaves alone, and no others.

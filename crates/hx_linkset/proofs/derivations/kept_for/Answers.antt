@@ -71,3 +71,14 @@ loop-place-preserved c =
     kept-more c.args.player s c.args.wanted.now.marks.items c.requires.right c.requires.closed c.loop-place.bound c.loop-place.kept.items
     c.loop-place.names.items c.loop-place.invariant c.in-Some.place at c.index-steps-place.result there in
     rw (pushed, number) more
+
+pub first_from-requires : goal.first_from-requires
+first_from-requires c =
+    rw c.as_slice.ensures.value (omega (arith, c.requires.closed.long, c.loop-place.invariant.inside))
+
+pub loop-place-smaller : goal.loop-place-smaller
+loop-place-smaller c =
+    let at : IsFirstMarkFrom c.args.wanted.now.marks.items c.loop-place.bound c.in-Some.place =
+    rw c.as_slice.ensures.value at c.in-Some.ensures in
+    let inside = marked-inside c.args.wanted.now.marks.items c.in-Some.place at.marked in
+    omega (arith, at.from, inside, c.requires.closed.long)
