@@ -1,6 +1,7 @@
 -- What stays as links are added: each place holds what it held, so a live link stays live, and a settled step of places that
 -- were there stays settled, since it gives the same link.
-use Rattle.std.proofs.Common.{◌≡◌, ℕ, suc, ◌<◌, List, [], ◌∷◌, map, length, refl, sym, ◌∙◌, subst, inl, inr, Some, arith, length-append}
+use Rattle.std.proofs.Common.{◌≡◌, ℕ, suc, ◌+◌, ◌<◌, List, [], ◌∷◌, map, length}
+use Rattle.std.proofs.Common.{refl, sym, ◌∙◌, subst, inl, inr, Some, arith, length-append}
 use Rattle.std.proofs.lemmas.Option.{slice_get_within}
 use Rattle.std.specs.Prelude.{slice_get}
 use Rattle.hx_board.specs.declared.colours.Colour.{Colour}
@@ -39,6 +40,9 @@ grown-on a b c g h = record {
   links_stay = λ place link e. h.links_stay place link (g.links_stay place link e);
   steps_stay = λ place step e. h.steps_stay place step (g.steps_stay place step e);
 }
+
+pub grown-same : (old new : Standing) → new ≡ old → IsGrown old new
+grown-same old new same = let P : Standing → Type 0 = λ s. IsGrown old s in subst P (sym same) (grown-itself old)
 
 -- a place that was there holds what it held
 module _ (links more : List Link)
@@ -158,6 +162,10 @@ module _ (old new : Standing) (step : Step) where
     links_stay = λ place link h. get-push_before old.present.links n.link place link h;
     steps_stay = λ place held h. get-push_before old.present.steps step place held h;
   }
+
+  pub new-longer : (place : ℕ) → IsNew old new step place → length new.present.links ≡ length old.present.links + 1
+  new-longer place n = let P : Standing → Type 0 = λ s. length s.present.links ≡ length old.present.links + 1 in
+      subst P (sym n.grown) (simp length-append (omega arith))
 
   pub new-settled : (place : ℕ) → IsNew old new step place → IsSettled new step
   new-settled place n link h =

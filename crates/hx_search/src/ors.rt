@@ -10,7 +10,7 @@ use hx_link::{Kind, Step};
 use hx_linkset::{Added, LinkSet};
 
 /// What became of Ors that were tried.
-#[derive(Clone, Copy, PartialEq, Eq, Debug)]
+#[derive(Clone, Copy)]
 pub(crate) enum Passed {
     /// None was missing.
     Same,

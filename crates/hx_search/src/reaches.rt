@@ -18,7 +18,7 @@ use hx_link::{Kind, Link};
 use hx_linkset::{Added, LinkSet};
 
 /// What became of the candidates of one size.
-#[derive(Clone, Copy, PartialEq, Eq, Debug)]
+#[derive(Clone, Copy)]
 enum Taken {
     /// One was added at this index.
     New(u32),
@@ -59,7 +59,7 @@ fn take(set: &mut LinkSet, workspace: &mut Workspace, cells: usize) -> Result<Ta
 }
 
 /// How a run over candidates ended.
-#[derive(Clone, Copy, PartialEq, Eq, Debug)]
+#[derive(Clone, Copy)]
 enum Run {
     /// All of them were tried.
     Through,
@@ -69,7 +69,7 @@ enum Run {
 }
 
 /// When to end before all candidates were tried.
-#[derive(Clone, Copy, PartialEq, Eq, Debug)]
+#[derive(Clone, Copy)]
 pub(crate) enum Until {
     /// The position is decided, with this player to move.
     Decided(Colour),

@@ -10,7 +10,7 @@ use hx_link::Step;
 use hx_linkset::{Added, LinkSet};
 
 /// What became of steps that were tried.
-#[derive(Clone, Copy, PartialEq, Eq, Debug)]
+#[derive(Clone, Copy)]
 pub(crate) enum Tried {
     /// What they give is covered.
     Settled,

@@ -1,5 +1,5 @@
 use Rattle.std.proofs.Common.{◌<◌, length, arith}
-use Rattle.hx_search.proofs.GrowthLaws.{grown-on}
+use Rattle.hx_search.proofs.GrowthLaws.{grown-itself, grown-on}
 use Rattle.hx_search.proofs.AndLaws.{rows-all, rows-more}
 use Rattle.hx_search.proofs.ands.settle_ands.Goals as goal
 
@@ -17,3 +17,18 @@ loop-right-preserved c =
       settled = rows-more c.loop-right.set c.settle_row.new.set c.loop-right.right c.settle_row.ensures.grown inside
           c.loop-right.invariant.settled (rw c.in-Ok-Settled.field-0-is at c.in-Ok-Settled.ensures.tried);
     }
+
+pub loop-right-init : goal.loop-right-init
+loop-right-init c = record { grown = grown-itself c.args.set.now; settled = c.requires }
+
+pub returns-in-Ok-Stopped-clause-grown : goal.returns-in-Ok-Stopped-clause-grown
+returns-in-Ok-Stopped-clause-grown c = grown-on _ _ _ c.loop-right.invariant.grown c.settle_row.ensures.grown
+
+pub returns-in-Ok-Stopped-clause-tried : goal.returns-in-Ok-Stopped-clause-tried
+returns-in-Ok-Stopped-clause-tried c = rw c.in-Ok-Stopped.field-0-is at c.in-Ok-Stopped.ensures.tried
+
+pub returns-in-Err-clause-grown : goal.returns-in-Err-clause-grown
+returns-in-Err-clause-grown c = grown-on _ _ _ c.loop-right.invariant.grown c.settle_row.ensures.grown
+
+pub returns-then-count-right-clause-grown : goal.returns-then-count-right-clause-grown
+returns-then-count-right-clause-grown c = c.loop-right.invariant.grown

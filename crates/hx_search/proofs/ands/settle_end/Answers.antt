@@ -1,6 +1,6 @@
 use Rattle.std.proofs.Common.{◌≡◌, ◌<◌, length, arith}
 use Rattle.hx_search.specs.Closed.{IsGrown}
-use Rattle.hx_search.proofs.GrowthLaws.{grown-on}
+use Rattle.hx_search.proofs.GrowthLaws.{grown-itself, grown-on}
 use Rattle.hx_search.proofs.VertexLaws.{size-extent, size-on, set-extent}
 use Rattle.hx_search.proofs.AndLaws.{end-more, end-skip, end-done, own-is, own-on}
 use Rattle.hx_search.proofs.ands.settle_end.Goals as goal
@@ -45,3 +45,18 @@ returns-clause-tried c =
     (own-is c.args.set.now c.args.end.now c.owns-own.result c.position-2.result.now c.colour.result c.position-2.ensures
     c.colour.ensures c.owns-own.ensures))
     c.loop-code.invariant.settled
+
+pub loop-code-init : goal.loop-code-init
+loop-code-init c = record { grown = grown-itself c.args.set.now; settled = λ to is less. absurd (omega (arith, less)) }
+
+pub returns-in-Ok-Stopped-clause-grown : goal.returns-in-Ok-Stopped-clause-grown
+returns-in-Ok-Stopped-clause-grown c = grown-on _ _ _ c.loop-code.invariant.grown c.settle_chain.ensures.grown
+
+pub returns-in-Ok-Stopped-clause-tried : goal.returns-in-Ok-Stopped-clause-tried
+returns-in-Ok-Stopped-clause-tried c = rw c.in-Ok-Stopped.field-0-is at c.in-Ok-Stopped.ensures.tried
+
+pub returns-in-Err-clause-grown : goal.returns-in-Err-clause-grown
+returns-in-Err-clause-grown c = grown-on _ _ _ c.loop-code.invariant.grown c.settle_chain.ensures.grown
+
+pub returns-clause-grown : goal.returns-clause-grown
+returns-clause-grown c = c.loop-code.invariant.grown

@@ -1,6 +1,6 @@
 use Rattle.std.proofs.Common.{◌≡◌, arith}
 use Rattle.hx_search.specs.Closed.{IsGrown}
-use Rattle.hx_search.proofs.GrowthLaws.{grown-on}
+use Rattle.hx_search.proofs.GrowthLaws.{grown-itself, grown-on}
 use Rattle.hx_search.proofs.VertexLaws.{size-extent, size-on}
 use Rattle.hx_search.proofs.BaseLaws.{stuck-base, bases-more, bases-skip}
 use Rattle.hx_search.proofs.bases.settle_bases_of.Goals as goal
@@ -34,3 +34,15 @@ loop-code-preserved c =
 
 pub returns-clause-tried : goal.returns-clause-tried
 returns-clause-tried c = λ b is less le. c.loop-code.invariant.settled b is (omega (arith, less, c.loop-code-test.false)) le
+
+pub loop-code-init : goal.loop-code-init
+loop-code-init c = record { grown = grown-itself c.args.set.now; settled = λ b is less le. absurd (omega (arith, less, le)) }
+
+pub returns-in-Ok-Stopped-clause-grown : goal.returns-in-Ok-Stopped-clause-grown
+returns-in-Ok-Stopped-clause-grown c = grown-on _ _ _ c.loop-code.invariant.grown c.settle.ensures.grown
+
+pub returns-in-Err-clause-grown : goal.returns-in-Err-clause-grown
+returns-in-Err-clause-grown c = grown-on _ _ _ c.loop-code.invariant.grown c.settle.ensures.grown
+
+pub returns-clause-grown : goal.returns-clause-grown
+returns-clause-grown c = c.loop-code.invariant.grown

@@ -1,7 +1,7 @@
 use Rattle.std.proofs.Common.{ℕ, ◌≤◌, length, sym, subst, arith}
 use Rattle.hx_linkset.specs.States.{Standing, IsRight}
 use Rattle.hx_search.specs.Progress.{AreBasesBelow, AreRowsSettled}
-use Rattle.hx_search.proofs.GrowthLaws.{grown-on}
+use Rattle.hx_search.proofs.GrowthLaws.{grown-itself, grown-on}
 use Rattle.hx_search.proofs.BaseLaws.{below-on}
 use Rattle.hx_search.proofs.AndLaws.{rows-on}
 use Rattle.hx_search.proofs.ClosedLaws.{closed-by}
@@ -34,3 +34,59 @@ loop-set-preserved c =
       rows = rows-on c.settle_ands.new.set c.join_all.new.set c.count-settled.result c.join_all.ensures.grown some
           (subst P (sym c.count-settled.ensures) rows);
     }
+
+pub returns-in-Err-clause-grown : goal.returns-in-Err-clause-grown
+returns-in-Err-clause-grown c = c.begin_with_useful.ensures
+
+pub returns-in-Ok-Stopped-clause-grown : goal.returns-in-Ok-Stopped-clause-grown
+returns-in-Ok-Stopped-clause-grown c = grown-on _ _ _ c.begin_with_useful.ensures c.settle_bases.ensures.grown
+
+pub returns-in-Ok-Stopped-clause-tried : goal.returns-in-Ok-Stopped-clause-tried
+returns-in-Ok-Stopped-clause-tried c = rw c.in-Ok-Stopped.field-0-is at c.in-Ok-Stopped.ensures.tried
+
+pub returns-in-Err-settle_bases-clause-grown : goal.returns-in-Err-settle_bases-clause-grown
+returns-in-Err-settle_bases-clause-grown c = grown-on _ _ _ c.begin_with_useful.ensures c.settle_bases.ensures.grown
+
+pub loop-set-init : goal.loop-set-init
+loop-set-init c =
+    record {
+      grown = grown-itself c.settle_bases.new.set;
+      bases = rw c.in-Ok-Settled.field-0-is at c.in-Ok-Settled.ensures.tried;
+      rows = λ left right less small. absurd (omega (arith, small));
+    }
+
+pub returns-in-Ok-Stopped-settle_ands-clause-grown : goal.returns-in-Ok-Stopped-settle_ands-clause-grown
+returns-in-Ok-Stopped-settle_ands-clause-grown c =
+    let before = grown-on _ _ _ c.begin_with_useful.ensures c.settle_bases.ensures.grown in
+    grown-on _ _ _ before (grown-on _ _ _ c.loop-set.invariant.grown c.settle_ands.ensures.grown)
+
+pub returns-in-Ok-Stopped-settle_ands-clause-tried : goal.returns-in-Ok-Stopped-settle_ands-clause-tried
+returns-in-Ok-Stopped-settle_ands-clause-tried c = rw c.in-Ok-Stopped-settle_ands.field-0-is at c.in-Ok-Stopped-settle_ands.ensures.tried
+
+pub returns-in-Err-settle_ands-clause-grown : goal.returns-in-Err-settle_ands-clause-grown
+returns-in-Err-settle_ands-clause-grown c =
+    let before = grown-on _ _ _ c.begin_with_useful.ensures c.settle_bases.ensures.grown in
+    grown-on _ _ _ before (grown-on _ _ _ c.loop-set.invariant.grown c.settle_ands.ensures.grown)
+
+pub returns-in-Ok-Same-clause-grown : goal.returns-in-Ok-Same-clause-grown
+returns-in-Ok-Same-clause-grown c =
+    let before = grown-on _ _ _ c.begin_with_useful.ensures c.settle_bases.ensures.grown in
+    grown-on _ _ _ before (grown-on _ _ _ c.loop-set.invariant.grown (grown-on _ _ _ c.settle_ands.ensures.grown c.join_all.ensures.grown))
+
+pub loop-set-smaller : goal.loop-set-smaller
+loop-set-smaller c =
+    let passed = rw c.in-Ok-More.field-0-is at c.in-Ok-More.ensures.passed in
+    omega (arith, c.keeps.ensures.few, c.settle_ands.ensures.grown.longer, passed)
+
+pub returns-in-Ok-Full-clause-grown : goal.returns-in-Ok-Full-clause-grown
+returns-in-Ok-Full-clause-grown c =
+    let before = grown-on _ _ _ c.begin_with_useful.ensures c.settle_bases.ensures.grown in
+    grown-on _ _ _ before (grown-on _ _ _ c.loop-set.invariant.grown (grown-on _ _ _ c.settle_ands.ensures.grown c.join_all.ensures.grown))
+
+pub returns-in-Ok-Full-clause-tried : goal.returns-in-Ok-Full-clause-tried
+returns-in-Ok-Full-clause-tried c = rw c.in-Ok-Full.field-0-is at c.in-Ok-Full.ensures.passed
+
+pub returns-in-Err-join_all-clause-grown : goal.returns-in-Err-join_all-clause-grown
+returns-in-Err-join_all-clause-grown c =
+    let before = grown-on _ _ _ c.begin_with_useful.ensures c.settle_bases.ensures.grown in
+    grown-on _ _ _ before (grown-on _ _ _ c.loop-set.invariant.grown (grown-on _ _ _ c.settle_ands.ensures.grown c.join_all.ensures.grown))

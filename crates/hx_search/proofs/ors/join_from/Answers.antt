@@ -1,8 +1,9 @@
-use Rattle.std.proofs.Common.{◌≡◌, sym, ◌∙◌, subst, arith}
+use Rattle.std.proofs.Common.{◌≡◌, refl, sym, ◌∙◌, subst, arith}
+use Rattle.std.proofs.lemmas.Bool.{true≢false, false≢true}
 use Rattle.hx_search.specs.Closed.{IsGrown}
 use Rattle.hx_search.specs.Progress.{AreForksOf}
 use Rattle.hx_linkset.specs.States.{Standing}
-use Rattle.hx_search.proofs.GrowthLaws.{grown-on}
+use Rattle.hx_search.proofs.GrowthLaws.{grown-itself, grown-on}
 use Rattle.hx_search.proofs.VertexLaws.{size-extent, size-on}
 use Rattle.hx_search.proofs.OrLaws.{forks-more, forks-skip}
 use Rattle.hx_search.proofs.ors.join_from.Goals as goal
@@ -41,3 +42,40 @@ returns-clause-passed c = (
   λ b is less le.
       c.loop-code.invariant.settled c.if-more.false b is (omega (arith, less, c.loop-code-test.false)) le,
 )
+
+pub loop-code-init : goal.loop-code-init
+loop-code-init c =
+    record {
+      grown = grown-itself c.args.set.now;
+      same = λ no. refl;
+      settled = λ no b is less le. absurd (omega (arith, less, le));
+      longer = λ yes. absurd (false≢true yes);
+    }
+
+pub returns-in-Ok-Full-clause-grown : goal.returns-in-Ok-Full-clause-grown
+returns-in-Ok-Full-clause-grown c = grown-on _ _ _ c.loop-code.invariant.grown c.join.ensures.grown
+
+pub returns-in-Ok-Full-clause-passed : goal.returns-in-Ok-Full-clause-passed
+returns-in-Ok-Full-clause-passed c = rw c.in-Ok-Full.field-0-is at c.in-Ok-Full.ensures.passed
+
+pub returns-in-Err-clause-grown : goal.returns-in-Err-clause-grown
+returns-in-Err-clause-grown c = grown-on _ _ _ c.loop-code.invariant.grown c.join.ensures.grown
+
+pub loop-code-preserved : goal.loop-code-preserved
+loop-code-preserved c =
+    let passed = rw c.in-Ok-More.field-0-is at c.in-Ok-More.ensures.passed in
+    record {
+      grown = grown-on _ _ _ c.loop-code.invariant.grown c.join.ensures.grown;
+      same = λ no. absurd (true≢false no);
+      settled = λ no. absurd (true≢false no);
+      longer = λ yes. omega (arith, c.loop-code.invariant.grown.longer, passed);
+    }
+
+pub returns-then-more-clause-grown : goal.returns-then-more-clause-grown
+returns-then-more-clause-grown c = c.loop-code.invariant.grown
+
+pub returns-then-more-clause-passed : goal.returns-then-more-clause-passed
+returns-then-more-clause-passed c = c.loop-code.invariant.longer c.if-more.true
+
+pub returns-clause-grown : goal.returns-clause-grown
+returns-clause-grown c = c.loop-code.invariant.grown
