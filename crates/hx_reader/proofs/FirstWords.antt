@@ -1,9 +1,8 @@
 -- The first word of a line tells what its other words are: those of a step, or those of a rule's opening. Where the other words
 -- are none of that kind, the line's words are those of no step and of no opening, since the first words of each kind begin with
 -- different letters.
-use Rattle.std.proofs.Common.{◌≡◌, ℕ, zero, suc, ◌+◌, ◌<◌, ◌≤◌, List, [], ◌∷◌, length, map, get_or, refl}
-use Rattle.std.proofs.Common.{sym, ap, ◌∙◌, arith, add-zero, Option, Some, None, Result, Ok, Err}
-use Rattle.std.proofs.lemmas.Grind.{same_number_lists}
+use Rattle.std.proofs.Common.{◌≡◌, ℕ, ◌≤◌, List, [], ◌∷◌, length, map, refl}
+use Rattle.std.proofs.Common.{sym, ap, ◌∙◌, arith, Option, Some, None, Result, Ok, Err}
 use Rattle.std.specs.Prelude.{codes}
 use Rattle.std.specs.Result.{IfOk, OnErr}
 use Rattle.std.specs.Fmt.{decimal}
@@ -28,33 +27,6 @@ use Rattle.hx_reader.specs.EntryReads.{UnturnedFits}
 use Rattle.hx_letters.proofs.Cursors.{rest_same, word_then}
 use Rattle.hx_letters.proofs.Spacing.{line_from_words}
 use Rattle.hx_text.proofs.StepWords.{first_letter, words_in-step_line}
-
--- ---- a word whose bytes are known
-
--- these are the bytes from a place on
-abbrev BytesFrom : List ℕ → ℕ → List ℕ → Type 0
-BytesFrom word k [] = length word ≡ k
-BytesFrom word k (byte ∷ bytes) = (get_or word k 0 ≡ byte) × BytesFrom word (k + 1) bytes
-
-length_from : (word : List ℕ) (k : ℕ) (bytes : List ℕ) → BytesFrom word k bytes → length word ≡ k + length bytes
-length_from word k [] are = omega (arith, are)
-length_from word k (byte ∷ bytes) are = omega (arith, length_from word (k + 1) bytes are.1)
-
-byte_at : (word : List ℕ) (k : ℕ) (bytes : List ℕ) (j : ℕ) → j < length bytes → BytesFrom word k bytes
-    → get_or word (k + j) 0 ≡ get_or bytes j 0
-byte_at word k [] j within are = absurd (omega arith)
-byte_at word k (byte ∷ bytes) zero within are = ap (λ (n : ℕ). get_or word n 0) (add-zero k) ∙ are.0
-byte_at word k (byte ∷ bytes) (suc j) within are =
-    let place : k + suc j ≡ k + 1 + j = omega arith in
-    ap (λ (n : ℕ). get_or word n 0) place ∙ byte_at word (k + 1) bytes j (omega arith) are.1
-
-pub bytes_are : (word bytes : List ℕ) → BytesFrom word 0 bytes → word ≡ bytes
-bytes_are word bytes are =
-    same_number_lists word bytes (omega (arith, length_from word 0 bytes are))
-    (λ (k : ℕ) (within : k < length word).
-    let same : get_or word (0 + k) 0 ≡ get_or bytes k 0 = byte_at word 0 bytes k (omega (arith, length_from word 0 bytes are)) are in
-    let place : k ≡ 0 + k = omega arith in
-    ap (λ (n : ℕ). get_or word n 0) place ∙ same)
 
 -- ---- steps
 
@@ -127,6 +99,22 @@ or_reads size words rest (Ok None) first none = λ value fits e. no_or value fit
     no_or value fits e =
         let letters : first_letter (codes "or" ∷ rest) ≡ first_letter (step_words value) = ap first_letter (sym first ∙ e) in
         absurd (omega (arith, letters))
+
+-- where the parts are read after the first word
+pub or_memory : {T E : Type 0} (words rest : List (List ℕ)) (found : Result T E) → words ≡ codes "or" ∷ rest
+    → OnErr found (BeginWithManyParts rest)
+    → OnErr found ((parts : List (List ℕ)) × (words ≡ codes "or" ∷ parts) × BeginWithManyParts parts)
+or_memory words rest (Ok done) first many = tt
+or_memory words rest (Err error) first many = (rest, first, many)
+
+-- the words begin with none of the four
+pub no_step : {words : List (List ℕ)} → ((rest : List (List ℕ)) → words ≡ codes "base" ∷ rest → ⊥)
+    → ((rest : List (List ℕ)) → words ≡ codes "stone" ∷ rest → ⊥) → ((rest : List (List ℕ)) → words ≡ codes "cell" ∷ rest → ⊥)
+    → ((rest : List (List ℕ)) → words ≡ codes "or" ∷ rest → ⊥) → (value : Step) → words ≡ step_words value → ⊥
+no_step {words} no_base no_stone no_cell no_or (Base a b) e = no_base (vertex_word a ∷ vertex_word b ∷ []) e
+no_step {words} no_base no_stone no_cell no_or (AndStone left right) e = no_stone (decimal left ∷ decimal right ∷ []) e
+no_step {words} no_base no_stone no_cell no_or (AndCell left right) e = no_cell (decimal left ∷ decimal right ∷ []) e
+no_step {words} no_base no_stone no_cell no_or (Or parts) e = no_or (map decimal parts) e
 
 -- what is read from a line's words is read from the line
 pub step_reads : {E : Type 0} (size : Extent) (line : List ℕ) (words : List (List ℕ)) (found : Result (Option Step) E)
@@ -209,6 +197,20 @@ fills_reads preamble words rest None first none = λ value fits e. no_fills valu
     no_fills value fits e =
         let letters : first_letter (codes "fill" ∷ rest) ≡ first_letter (opening_words value) = ap first_letter (sym first ∙ e) in
         absurd (omega (arith, letters))
+
+-- the words begin with none of the five
+module _ {words : List (List ℕ)} (no_chain : (rest : List (List ℕ)) → words ≡ codes "chain" ∷ rest → ⊥)
+    (no_links : (rest : List (List ℕ)) → words ≡ codes "links" ∷ rest → ⊥)
+    (no_move : (rest : List (List ℕ)) → words ≡ codes "move" ∷ rest → ⊥)
+    (no_all : (rest : List (List ℕ)) → words ≡ codes "all" ∷ rest → ⊥)
+    (no_fill : (rest : List (List ℕ)) → words ≡ codes "fill" ∷ rest → ⊥) where
+  pub no_unturned : (preamble : Preamble) (value : Opening) → UnturnedFits preamble value → words ≡ opening_words value → ⊥
+  no_unturned preamble Chain fits e = no_chain [] e
+  no_unturned preamble (Links steps) fits e = no_links (decimal steps ∷ []) e
+  no_unturned preamble (Move cell child) fits e = no_move (cell_word cell ∷ decimal child ∷ []) e
+  no_unturned preamble (All steps threats lines) fits e = no_all (decimal steps ∷ decimal threats ∷ decimal lines ∷ []) e
+  no_unturned preamble (Fill fills child) fits e = no_fill (decimal fills ∷ decimal child ∷ []) e
+  no_unturned preamble (Turned child) fits e = fits.1
 
 -- the words of an opening that begin with `turned`, or with no such word
 pub turned_reads : (preamble : Preamble) (words rest : List (List ℕ)) (found : Option Opening) → words ≡ codes "turned" ∷ rest

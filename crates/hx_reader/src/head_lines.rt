@@ -50,15 +50,22 @@ fn read_opening(preamble: &Preamble, words: &mut Words<'_>) -> Option<Opening>
 fn read_unturned(preamble: &Preamble, words: &mut Words<'_>) -> Option<Opening>
     ensures { Reads opening_words (UnturnedFits preamble.now) words.old result }
 {
-    let word = words.next()?;
-    match word {
-        b"chain" => read_chain(words),
-        b"links" => read_links(words),
-        b"move" => read_move(preamble.size, words),
-        b"all" => read_all(words),
-        b"fill" => read_fills(words),
-        _ => None,
+    if words.keyword(b"chain").is_some() {
+        return read_chain(words);
     }
+    if words.keyword(b"links").is_some() {
+        return read_links(words);
+    }
+    if words.keyword(b"move").is_some() {
+        return read_move(preamble.size, words);
+    }
+    if words.keyword(b"all").is_some() {
+        return read_all(words);
+    }
+    if words.keyword(b"fill").is_some() {
+        return read_fills(words);
+    }
+    None
 }
 
 /// The rest of the opening `chain`: no word.

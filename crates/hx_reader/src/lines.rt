@@ -11,7 +11,7 @@ use hx_letters::{Words, colour_word, size_of};
 use hx_text::Version;
 
 /// What the last line of a tree's text says.
-#[derive(Clone, Copy, PartialEq, Eq, Debug)]
+#[derive(Clone, Copy)]
 pub(crate) struct End {
     pub count: u32,
     pub winner: Colour,

@@ -72,14 +72,14 @@ impl Place {
 }
 
 /// What a line brought, and the place after it.
-#[derive(Debug, Drop)]
+#[derive(Drop)]
 pub struct Next {
     pub fed: Fed,
     pub place: Place,
 }
 
 /// Why a line is not taken.
-#[derive(Clone, Copy, PartialEq, Eq, Debug)]
+#[derive(Clone, Copy)]
 pub enum Stop {
     /// It is not of the grammar in its place.
     Wrong,

@@ -4,7 +4,7 @@ use hx_board::Colour;
 use hx_text::Preamble;
 
 /// What the nodes that ended have said so far: how many they are, and the winner of the last.
-#[derive(Clone, Copy, PartialEq, Eq, Debug)]
+#[derive(Clone, Copy, Debug)]
 pub struct SoFar {
     pub preamble: Preamble,
     pub count: u32,

@@ -33,16 +33,19 @@ fn read_words(alloc: Global, size: Size, words: &mut Words<'_>) -> Result<Option
     ensures memory { OnErr result ((parts : List (List ℕ)) × (words.old ≡ codes "or" ∷ parts)
         × BeginWithManyParts parts) }
 {
-    let Some(word) = words.next() else {
-        return Ok(None);
-    };
-    match word {
-        b"base" => Ok(read_base(size, words)),
-        b"stone" => Ok(read_stone(words)),
-        b"cell" => Ok(read_cell(words)),
-        b"or" => read_or(alloc, words),
-        _ => Ok(None),
+    if words.keyword(b"base").is_some() {
+        return Ok(read_base(size, words));
     }
+    if words.keyword(b"stone").is_some() {
+        return Ok(read_stone(words));
+    }
+    if words.keyword(b"cell").is_some() {
+        return Ok(read_cell(words));
+    }
+    if words.keyword(b"or").is_some() {
+        return read_or(alloc, words);
+    }
+    Ok(None)
 }
 
 /// The rest of a line `base`: two vertices.
@@ -57,7 +60,7 @@ fn read_base(size: Size, words: &mut Words<'_>) -> Option<Step>
 }
 
 /// The places of two links.
-#[derive(Clone, Copy, PartialEq, Eq, Debug)]
+#[derive(Clone, Copy)]
 struct Pair {
     left: u32,
     right: u32,

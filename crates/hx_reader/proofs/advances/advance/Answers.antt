@@ -23,3 +23,15 @@ no_more_lines place line (inr failed) nodes lines stands begins =
 
 pub returns-in-After : goal.returns-in-After
 returns-in-After c = no_more_lines c.args.place c.args.line.now c.in-After.is
+
+pub returns-in-Title : goal.returns-in-Title
+returns-in-Title c = rw c.in-Title.is c.at_title.ensures
+
+pub returns-in-Size : goal.returns-in-Size
+returns-in-Size c = rw c.in-Size.is c.at_size.ensures
+
+pub returns-in-Between : goal.returns-in-Between
+returns-in-Between c = rw c.in-Between.is c.between.ensures
+
+pub returns-in-Inside : goal.returns-in-Inside
+returns-in-Inside c = rw c.in-Inside.is c.inside.ensures

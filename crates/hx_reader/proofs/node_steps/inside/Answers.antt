@@ -1,4 +1,4 @@
-use Rattle.std.proofs.Common.{◌∙◌, sym, None}
+use Rattle.std.proofs.Common.{◌∙◌, sym, None, Some}
 use Rattle.hx_letters.specs.Words.{Reads}
 use Rattle.hx_text.specs.Entries.{entry_line}
 use Rattle.hx_reader.specs.EntryReads.{IsEntryLine}
@@ -16,3 +16,10 @@ returns-in-Ok-None c = λ nodes lines stands begins.
 pub returns-in-Err : goal.returns-in-Err
 returns-in-Err c = λ nodes lines stands.
     long_or_takes_memory c.args.begun c.args.line.now (sym c.kind_due.ensures ∙ c.in-Err.ensures.memory.0) c.in-Err.ensures.memory.1
+
+pub returns-in-Ok-Some : goal.returns-in-Ok-Some
+returns-in-Ok-Some c = λ nodes lines stands.
+    let reads : Reads entry_line (IsEntryLine c.args.begun.so_far.preamble.size (kind_due c.args.begun)) c.args.line.now
+    (Some c.in-Ok-Some.entry) =
+    rw (c.in-Ok-Some.field-0-is, c.size.ensures, c.kind_due.ensures) at c.in-Ok-Some.ensures.reads in
+    rw reads.1 (c.add_entry.ensures nodes lines stands reads.0)
