@@ -13,7 +13,7 @@ use Rattle.hx_htp.specs.Accounts.{Account}
 use Rattle.hx_htp.specs.Runs.{SessionRun, until_quit}
 use Rattle.hx_htp.specs.Laws.{IsCounted, NamesWinners}
 use Rattle.hx_lines.specs.declared.ended.Ended.{Ended}
-use Rattle.hx_lines.specs.declared.ended.Ended.TheVariants.{Done, ReadFault, WriteFault, TooLong}
+use Rattle.hx_lines.specs.declared.ended.Ended.TheVariants.{Stopped, Over, ReadFault, WriteFault, TooLong}
 use Rattle.hx_lines.specs.Services.{most_lines}
 use Rattle.hx_serve.specs.Serving.{Ends, IsDone, IsReadFault, IsTooLong, IsWriteFault, IsWithinLimits}
 use Rattle.hx_app.specs.declared.finishes.Finish.{Finish}
@@ -29,14 +29,16 @@ start_of settings = account_of (tallied settings.budget settings.slots 0 0)
 
 -- the exit status of each end
 abbrev pub status_of_end : Ended → ℕ
-status_of_end Done = 0
+status_of_end Stopped = 0
+status_of_end Over = 0
 status_of_end ReadFault = 5
 status_of_end WriteFault = 6
 status_of_end TooLong = 8
 
 -- an end by a fault has its cause
 abbrev pub EndHasCause : Type 0 → Type 0 → Ended → Type 0
-EndHasCause rose sink_rose Done = Unit {0}
+EndHasCause rose sink_rose Stopped = Unit {0}
+EndHasCause rose sink_rose Over = Unit {0}
 EndHasCause rose sink_rose ReadFault = rose
 EndHasCause rose sink_rose WriteFault = sink_rose
 EndHasCause rose sink_rose TooLong = Unit {0}

@@ -64,7 +64,8 @@ fn status_of(ended: Ended) -> u8
     ensures { result ≡ status_of_end ended }
 {
     match ended {
-        Ended::Done => 0,
+        Ended::Stopped => 0,
+        Ended::Over => 0,
         Ended::ReadFault => READ_FAULT,
         Ended::WriteFault => WRITE_FAULT,
         Ended::TooLong => TOO_LONG,

@@ -4,13 +4,12 @@ use Rattle.std.proofs.Common.{◌≡◌, ℕ, ◌<◌, ◌≤◌, List, [], ◌�
 use Rattle.std.specs.Prelude.{slice_get, option_map, IfSome, Result, Ok, Err, IfOk}
 use Rattle.std.proofs.lemmas.List.{length-map}
 use Rattle.std.proofs.lemmas.Option.{slice_get-get_or, slice_get_within, slice_get-map, get_or_from_slice_get}
-use Rattle.hx_tree.specs.declared.nodes.Heading.{Heading}
 use Rattle.hx_tree.specs.declared.nodes.Line.{Line}
 use Rattle.hx_tree.specs.declared.nodes.Line.TheVariants.{Child, Under}
 use Rattle.hx_tree.specs.declared.nodes.Node.{Node}
 use Rattle.hx_tree.specs.declared.nodes.Rule.{Rule}
 use Rattle.hx_tree.specs.declared.nodes.Rule.TheVariants.{Chain, Links, Move, All, Fill, Turned}
-use Rattle.hx_tree.specs.Plain.{IsChildLine, AreChildLines, IsPlainRule, IsPlain, ArePlain}
+use Rattle.hx_tree.specs.Plain.{IsChildLine, AreChildLines, IsPlainRule, ArePlain}
 use Rattle.hx_tree.specs.Trees.{headings_of, AreRight}
 use Rattle.hx_book.specs.Trees.{LeadsTo, IsNeeded, IsTreeOf, renamed_line, renamed_rule, renamed_node}
 use Rattle.hx_book.proofs.ChildLaws.{child-before}

@@ -76,7 +76,7 @@ fn judge_node(checker: &mut Checker, node: Node) -> Option<Judgement>
     requires { length checker.old < most_nodes }
     ensures { AnswersNode checker.old node checker.new result }
 {
-    match checker.take(node) {
+    match checker.take(&node) {
         Ok(true) => None,
         Ok(false) => Some(Judgement::NoNode {
             node: checker.held() as u64,

@@ -11,7 +11,7 @@ use hx_inferior::Kill;
 use std::marker::Model;
 
 /// A better cell, and how the move to it kills the worse one.
-#[derive(Clone, Copy, PartialEq, Eq, Debug)]
+#[derive(Clone, Copy)]
 pub(crate) struct Better {
     pub(crate) cell: Cell,
     pub(crate) kill: Kill,

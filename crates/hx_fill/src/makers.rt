@@ -19,7 +19,7 @@ use hx_board::{Cell, Mask, Vertex, VertexSet};
 use hx_inferior::open_around;
 
 /// What is known of an empty cell, for one player.
-#[derive(Clone, Copy, PartialEq, Eq, Debug)]
+#[derive(Clone, Copy)]
 pub(crate) struct Makers {
     /// The other empty cells, of those that were asked about, on which a stone of the player makes the cell dead, or leaves it so.
     pub(crate) cells: Mask,

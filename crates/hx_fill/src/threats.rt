@@ -11,7 +11,7 @@ use hx_board::{Mask, Memory, Vertex};
 use hx_linkset::LinkSet;
 
 /// A live link between the two sides.
-#[derive(Clone, Copy, PartialEq, Eq, Debug)]
+#[derive(Clone, Copy)]
 pub(crate) struct Between {
     pub(crate) place: u32,
     pub(crate) carrier: Mask,

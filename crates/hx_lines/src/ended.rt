@@ -13,8 +13,10 @@ pub const MOST_LINES: u64 = 1_048_576;
 /// How a service ended.
 #[derive(Clone, Copy, Debug, PartialEq, Eq)]
 pub enum Ended {
-    /// By a line that asks to quit, or by the end of the input.
-    Done,
+    /// By a line behind which the service stops.
+    Stopped,
+    /// By the end of the input.
+    Over,
     /// By a read that failed.
     ReadFault,
     /// By a write that failed.

@@ -7,7 +7,7 @@ use crate::links::{Kind, Link};
 use hx_board::Vertex;
 
 /// The one end that two links share, between their other ends.
-#[derive(Clone, Copy, PartialEq, Eq, Debug)]
+#[derive(Clone, Copy)]
 pub(crate) struct Meeting {
     pub(crate) from: Vertex,
     pub(crate) middle: Vertex,
@@ -15,7 +15,7 @@ pub(crate) struct Meeting {
 }
 
 /// Two links, and how they meet.
-#[derive(Clone, Copy, PartialEq, Eq, Debug)]
+#[derive(Clone, Copy)]
 pub(crate) struct Met {
     pub(crate) first: Link,
     pub(crate) second: Link,

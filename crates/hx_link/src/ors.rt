@@ -12,7 +12,7 @@ use crate::steps::Step;
 use hx_board::{Colour, Mask, Position, Vertex};
 
 /// The cells that are in all carriers of the parts, and those that are in some.
-#[derive(Clone, Copy, PartialEq, Eq, Debug)]
+#[derive(Clone, Copy)]
 struct Shares {
     in_all: Mask,
     in_some: Mask,

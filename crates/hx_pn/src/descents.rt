@@ -11,7 +11,7 @@ ghost use Rattle.hx_pn.specs.Numbers.{IsNumbers, HasReached, IsBest, IsChosen, c
 use crate::proof_numbers::{INF, Numbers, combine};
 
 /// The child with the least delta, and the least delta of the others.
-#[derive(Clone, Copy, PartialEq, Eq, Debug)]
+#[derive(Clone, Copy)]
 struct Best {
     place: usize,
     child: Numbers,

@@ -1,31 +1,51 @@
 -- A session as a service over the lines of a source: how it ends, and what it has read and written then.
-use Rattle.std.specs.Prelude.{ℕ, List, codes, Option}
+use Rattle.std.specs.Prelude.{◌≡◌, ◌⊎◌, ℕ, Bool, true, false, List, [], ◌∷◌, ◌++◌, codes, length, ◌≤◌, All, Option}
+use Rattle.hx_lines.specs.Lines.{lines_of}
 use Rattle.hx_lines.specs.declared.ended.Ended.{Ended}
 use Rattle.hx_lines.specs.Services as services
-use Rattle.hx_lines.specs.Services.{Service, Answers}
+use Rattle.hx_lines.specs.Services.{Service, Answers, AreWithinLimits}
 use Rattle.hx_htp.specs.Accounts.{Account}
-use Rattle.hx_htp.specs.Runs.{SessionRun, asks_quit}
+use Rattle.hx_htp.specs.Runs.{SessionRun, asks_quit, until_quit}
 
--- which lines of a session ask to quit, and its last words
+-- the last words of a session: there are none where no line is left
 abbrev pub session_service : Service
 session_service = record {
-  quits = asks_quit;
+  over_words = [];
   read_fault_words = codes "? read fault\n\n";
   too_long_words = codes "? line too long\n\n";
 }
 
--- what a session replies from this account to that one
+-- no line asks to quit
+abbrev pub NoneAsksQuit : List (List ℕ) → Type 0
+NoneAsksQuit lines = All (λ line. asks_quit line ≡ false) lines
+
+-- the last line asks to quit, and none before it
+pub record OnlyLastAsksQuit (lines : List (List ℕ)) : Type 0 where
+  pub earlier : List (List ℕ)
+  pub line : List ℕ
+  pub parts : lines ≡ earlier ++ line ∷ []
+  pub going : NoneAsksQuit earlier
+  pub quits : asks_quit line ≡ true
+
+-- a session stops behind the line that asks to quit
+abbrev pub StopsByQuit : List (List ℕ) → Bool → Type 0
+StopsByQuit lines true = OnlyLastAsksQuit lines
+StopsByQuit lines false = NoneAsksQuit lines
+
+-- what a session replies from this account to that one, and whether it stops behind the last line
 abbrev pub session_answers : Account → Account → Answers
-session_answers start account = λ lines replies. SessionRun start lines replies account
+session_answers start account = λ lines replies stopped.
+    SessionRun start lines replies account × StopsByQuit lines stopped
 
 -- the lines up to `quit` or the end are short, and no more than the most
 abbrev pub IsWithinLimits : List ℕ → Type 0
-IsWithinLimits input = services.IsWithinLimits session_service input
+IsWithinLimits input = AreWithinLimits (until_quit (lines_of input))
 
--- all lines up to `quit` or the end were answered, and they are within the limits
+-- all lines up to `quit` were answered, or all lines where none asks to quit
 abbrev pub IsDone : Account → Account → Option (List ℕ) → Option (List ℕ) → Option (List ℕ) → List ℕ → Type 0
 IsDone start account left taken now input =
-    services.IsDone session_service (session_answers start account) left taken now input
+    services.IsStopped (session_answers start account) taken now input
+    ⊎ services.IsOver session_service (session_answers start account) left taken now input
 
 -- all lines whose LF was read were answered
 abbrev pub IsReadFault : Account → Account → Option (List ℕ) → Option (List ℕ) → Option (List ℕ) → Option (List ℕ)

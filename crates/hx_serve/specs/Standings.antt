@@ -6,11 +6,12 @@ use Rattle.hx_htp.specs.States.{State, fresh}
 use Rattle.hx_htp.specs.Accounts.{Account}
 use Rattle.hx_htp.specs.Sessions.{moment}
 use Rattle.hx_htp.specs.Runs.{Run}
-use Rattle.hx_serve.specs.Serving.{session_service}
+use Rattle.hx_serve.specs.Serving.{StopsByQuit}
 
--- what a session replied up to this state and this account
+-- what a session replied up to this state and this account, and whether it stops
 abbrev pub runs_to : Account → State → Account → Answers
-runs_to start state account = λ lines replies. Run (moment fresh start) lines replies (moment state account)
+runs_to start state account = λ lines replies stopped.
+    Run (moment fresh start) lines replies (moment state account) × StopsByQuit lines stopped
 
 -- So many lines were read and answered, and the session goes on: where it began, what the source had left and the sink
 -- had taken then; how many lines; the bytes that are held behind them, and what is left, was taken and has become of
@@ -19,4 +20,4 @@ abbrev pub Stands : Account → Option (List ℕ) → Option (List ℕ) → ℕ 
     → Account
     → Type 0
 Stands start before taken count held left now state account =
-    services.Stands session_service (runs_to start state account) before taken count held left now
+    services.Stands (runs_to start state account) before taken count held left now

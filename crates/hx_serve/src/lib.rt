@@ -5,5 +5,5 @@ mod laws;
 mod serving;
 
 pub use hx_lines::Ended;
-pub use laws::only_lines_above_a_limit_are_too_long;
+pub use laws::{only_lines_above_a_limit_are_too_long, only_lines_within_the_limits_are_done};
 pub use serving::serve;

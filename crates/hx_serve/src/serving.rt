@@ -3,12 +3,12 @@
 //! What stands behind the line of `quit` is not looked at, and a last piece without LF is a line. Behind the most lines one
 //! more is cut and not answered: it tells whether the input was over.
 
-ghost use Rattle.std.specs.Prelude.{◌≡◌, ◌+◌, ◌<◌, ◌≤◌, ℕ, true, List, Option, Some, None, MatchOption, if◌then◌else◌, ◌||◌, not};
+ghost use Rattle.std.specs.Prelude.{◌≡◌, ◌+◌, ◌<◌, ◌≤◌, ℕ, true, List, Option, Some, None, MatchOption, if◌then◌else◌};
 ghost use Rattle.hx_io.specs.Sinks.{SomeWriteFailed};
 ghost use Rattle.hx_io.specs.Sources.{IsAtEnd, SomeReadFailed};
 ghost use Rattle.hx_htp.specs.Accounts.{Account};
 ghost use Rattle.hx_htp.specs.States.{State};
-ghost use Rattle.hx_lines.specs.declared.ended.Ended.TheVariants.{Done, ReadFault, WriteFault};
+ghost use Rattle.hx_lines.specs.declared.ended.Ended.TheVariants.{Stopped, Over, ReadFault, WriteFault};
 ghost use Rattle.hx_lines.specs.Services.{most_lines};
 ghost use Rattle.hx_serve.specs.Serving.{Ends};
 ghost use Rattle.hx_serve.specs.Standings.{Stands};
@@ -85,19 +85,21 @@ fn serve_line<R: Threads + Wait + Sync, S: Source, K: Sink, A: Answerer>(
             }
         }
         Ok(Cut::TooLong) => Some(say_last(sink, b"? line too long\n\n", Ended::TooLong)),
-        Ok(Cut::Over) => Some(Ended::Done),
+        Ok(Cut::Over) => Some(Ended::Over),
         Err(Failed) => Some(say_last(sink, b"? read fault\n\n", Ended::ReadFault)),
     }
 }
 
 /// The end behind a line, where it asks to quit or has no LF.
 fn end_after(quit: bool, ended: bool) -> Option<Ended>
-    ensures { result ≡ (if quit || not ended then Some Done else None) }
+    ensures { result ≡ (if quit then Some Stopped else if ended then None else Some Over) }
 {
-    if quit || !ended {
-        Some(Ended::Done)
-    } else {
+    if quit {
+        Some(Ended::Stopped)
+    } else if ended {
         None
+    } else {
+        Some(Ended::Over)
     }
 }
 
@@ -120,7 +122,7 @@ fn after_most_lines<S: Source, K: Sink>(
 {
     match cutter.next(source) {
         Ok(cut) => match cut {
-            Cut::Over => Ended::Done,
+            Cut::Over => Ended::Over,
             _ => say_last(sink, b"? line too long\n\n", Ended::TooLong),
         },
         Err(Failed) => say_last(sink, b"? read fault\n\n", Ended::ReadFault),

@@ -42,16 +42,16 @@ impl Checker {
     }
 
     /// Whether the node is right after the headings that are held. Only then its heading is held too, as the last one.
-    pub fn take(&mut self, node: Node) -> Result<bool, Memory>
+    pub fn take(&mut self, node: &Node) -> Result<bool, Memory>
         requires { length self.old < MOST_NODES }
-        ensures right { IfOk result (λ answer. IsTrue answer ↔ IsRightNode self.old node) }
+        ensures right { IfOk result (λ answer. IsTrue answer ↔ IsRightNode self.old node.now) }
         ensures held { IfOk result (λ answer. MatchBool answer
-            (self.new ≡ self.old ++ node.heading ∷ [])
+            (self.new ≡ self.old ++ node.now.heading ∷ [])
             (self.new ≡ self.old)) }
         ensures unchanged { OnErr result (self.new ≡ self.old) }
     {
         let alloc = *self.headings.allocator();
-        if !check_node(alloc, self.headings.as_slice(), &node)? {
+        if !check_node(alloc, self.headings.as_slice(), node)? {
             return Ok(false);
         }
         match self.headings.push(node.heading) {
