@@ -4,14 +4,16 @@ use Rattle.hx_io.specs.Sources.{Reading, SomeReadFailed}
 use Rattle.hx_io.specs.Sinks.{Writing}
 use Rattle.hx_board.specs.declared.colours.Colour.{Colour}
 use Rattle.hx_tree.specs.declared.nodes.Heading.{Heading}
+use Rattle.hx_tree.specs.Trees.{AreRight}
 use Rattle.hx_letters.specs.Words.{colour_word}
 use Rattle.hx_text.specs.PositionTexts.{position_text}
 use Rattle.hx_answers.specs.Texts.{counted_text, read_fault_line, out_of_memory_line, too_long_line}
 use Rattle.hx_answers.specs.Endings.{IsWritten}
 use Rattle.hx_check.specs.declared.judgements.Judgement.{Judgement}
-use Rattle.hx_check.specs.declared.judgements.Judgement.TheVariants.{Yes, NoText, NoNode, ReadFault, OutOfMemory}
-use Rattle.hx_check.specs.declared.judgements.Judgement.TheVariants.{TooLong}
-use Rattle.hx_check.specs.Judging.{IsYes, IsNoText, IsNoNode, IsLongLine, IsTooManyNodes, ReadsNoFault}
+use Rattle.hx_check.specs.declared.judgements.Judgement.TheVariants.{Yes, No}
+use Rattle.hx_check.specs.declared.faults.Fault.{Fault}
+use Rattle.hx_check.specs.declared.faults.Fault.TheVariants.{NoText, NoNode, ReadFault, OutOfMemory, TooLong}
+use Rattle.hx_check.specs.Judging.{Demand, IsYes, IsNoText, IsNoNode, IsLongLine, IsTooManyNodes, ReadsNoFault}
 
 -- the line that names a winner
 abbrev pub yes_line : Colour → List ℕ
@@ -29,37 +31,50 @@ no_text_line line = counted_text (codes "no text ") line
 abbrev pub no_node_line : ℕ → List ℕ
 no_node_line node = counted_text (codes "no node ") node
 
+-- what is written for each fault
+abbrev pub fault_text : Fault → List ℕ
+fault_text (NoText line) = no_text_line line
+fault_text (NoNode node) = no_node_line node
+fault_text ReadFault = read_fault_line
+fault_text OutOfMemory = out_of_memory_line
+fault_text TooLong = too_long_line
+
+-- the exit status that tells each fault, where it was written whole
+abbrev pub status_of_fault : Fault → ℕ
+status_of_fault (NoText line) = 1
+status_of_fault (NoNode node) = 1
+status_of_fault ReadFault = 5
+status_of_fault OutOfMemory = 7
+status_of_fault TooLong = 8
+
 -- what is written for each judgement
 abbrev pub judgement_text : Judgement → List ℕ
 judgement_text (Yes root) = yes_text root
-judgement_text (NoText line) = no_text_line line
-judgement_text (NoNode node) = no_node_line node
-judgement_text ReadFault = read_fault_line
-judgement_text OutOfMemory = out_of_memory_line
-judgement_text TooLong = too_long_line
+judgement_text (No fault) = fault_text fault
 
 -- the exit status that tells each judgement, where it was written whole
 abbrev pub status_of : Judgement → ℕ
 status_of (Yes root) = 0
-status_of (NoText line) = 1
-status_of (NoNode node) = 1
-status_of ReadFault = 5
-status_of OutOfMemory = 7
-status_of TooLong = 8
+status_of (No fault) = status_of_fault fault
 
 -- the input is above a limit before its first fault: a line has more bytes than a line may have, or there are more
 -- nodes than a text may have
-abbrev pub IsLong : List ℕ → Type 0
-IsLong input = IsLongLine input ⊎ IsTooManyNodes input
+abbrev pub IsLong : Demand → List ℕ → Type 0
+IsLong Meets input = IsLongLine Meets input ⊎ IsTooManyNodes Meets input
 
--- When each judgement comes: what the source had left before and has left, and whether its faults rose.
+-- When each fault comes, where the nodes before it meet the demand: what the source had left before and has left, and
+-- whether its faults rose.
+abbrev pub IsFaultDue : Demand → Option (List ℕ) → Option (List ℕ) → Type 0 → Fault → Type 0
+IsFaultDue Meets before after rose (NoText line) = IfSome before (λ input. IsNoText Meets input line)
+IsFaultDue Meets before after rose (NoNode node) = IfSome before (λ input. IsNoNode Meets input node)
+IsFaultDue Meets before after rose ReadFault = rose × ReadsNoFault Meets before after
+IsFaultDue Meets before after rose OutOfMemory = Unit {0}
+IsFaultDue Meets before after rose TooLong = IfSome before (IsLong Meets)
+
+-- when each judgement comes, in the same way
 abbrev pub IsDue : Option (List ℕ) → Option (List ℕ) → Type 0 → Judgement → Type 0
 IsDue before after rose (Yes root) = IfSome before (λ input. IsYes input root × (after ≡ Some []))
-IsDue before after rose (NoText line) = IfSome before (λ input. IsNoText input line)
-IsDue before after rose (NoNode node) = IfSome before (λ input. IsNoNode input node)
-IsDue before after rose ReadFault = rose × ReadsNoFault before after
-IsDue before after rose OutOfMemory = Unit {0}
-IsDue before after rose TooLong = IfSome before IsLong
+IsDue before after rose (No fault) = IsFaultDue AreRight before after rose fault
 
 -- a status of the command
 abbrev pub IsCheckStatus : ℕ → Type 0

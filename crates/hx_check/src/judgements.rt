@@ -4,10 +4,7 @@ ghost use Rattle.std.specs.Prelude.{◌≡◌};
 ghost use Rattle.hx_io.specs.Sinks.{WritesAll};
 ghost use Rattle.hx_check.specs.Judgements.{status_of, judgement_text, yes_line, yes_text};
 
-use hx_answers::{
-    OUT_OF_MEMORY, READ_FAULT, TOO_LONG, write_counted, write_out_of_memory, write_read_fault,
-    write_too_long,
-};
+use crate::faults::{Fault, write_fault};
 use hx_board::Colour;
 use hx_io::{Failed, Sink, write_all};
 use hx_text::write_position;
@@ -18,16 +15,8 @@ use hx_tree::Heading;
 pub enum Judgement {
     /// The input is the text of a valid tree with this root.
     Yes { root: Heading },
-    /// This line, counted from 1, is the first that is not of the grammar in its place.
-    NoText { line: u64 },
-    /// This node, counted from 0, is the first that is not right.
-    NoNode { node: u64 },
-    /// A read failed.
-    ReadFault,
-    /// There was not enough memory.
-    OutOfMemory,
-    /// A line has more bytes than a line may have, or there are more nodes than a text may have.
-    TooLong,
+    /// It is not, or could not be read.
+    No(Fault),
 }
 
 impl Judgement {
@@ -37,10 +26,7 @@ impl Judgement {
     {
         match self {
             Judgement::Yes { .. } => 0,
-            Judgement::NoText { .. } | Judgement::NoNode { .. } => 1,
-            Judgement::ReadFault => READ_FAULT,
-            Judgement::OutOfMemory => OUT_OF_MEMORY,
-            Judgement::TooLong => TOO_LONG,
+            Judgement::No(fault) => fault.status(),
         }
     }
 }
@@ -52,11 +38,7 @@ pub(crate) fn write_judgement<K: Sink>(sink: &mut K, judgement: &Judgement) -> R
 {
     match judgement {
         Judgement::Yes { root } => write_yes(sink, root),
-        Judgement::NoText { line } => write_counted(sink, b"no text ", *line),
-        Judgement::NoNode { node } => write_counted(sink, b"no node ", *node),
-        Judgement::ReadFault => write_read_fault(sink),
-        Judgement::OutOfMemory => write_out_of_memory(sink),
-        Judgement::TooLong => write_too_long(sink),
+        Judgement::No(fault) => write_fault(sink, fault),
     }
 }
 
