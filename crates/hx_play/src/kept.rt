@@ -1,10 +1,10 @@
 //! Links that a player keeps, by marks on the places of a node's links.
 //!
-//! The rules are Anshelevich's: a Full link joins its two ends even where the opponent moves first, and a Semi link does where the
-//! player moves first. An Or unites Semi links of the same ends, no cell of which is in all, so one of them survives the opponent's
-//! stone. What is kept are Full links that share no cell and on whose cells the opponent has no stone. When the opponent has moved,
-//! the player moves in the link that the stone touches: it takes the cell over which a part that the stone leaves alone goes. The
-//! two links of that part are Full, and are kept in place of the Or.
+//! The rules are Anshelevich's: a Full link joins its two ends even where the opponent moves first, and a Semi link does where
+//! the player moves first. An Or unites Semi links of the same ends, no cell of which is in all, so the opponent's stone leaves
+//! one of them alone. What is kept are Full links that share no cell and on whose cells the opponent has no stone. When the
+//! opponent has moved, the player moves in the link that the stone touches: it takes the cell over which a part that the stone
+//! leaves alone goes. The two links of that part are Full, and are kept in place of the Or.
 
 ghost use Rattle.std.specs.Prelude.{◌≡◌, ◌+◌, ◌<◌, ◌≤◌, ℕ, List, [], length, false, Some, None, Option, MatchOption, Contains, slice_get};
 ghost use Rattle.hx_board.specs.Positions.{Board};

@@ -1,7 +1,7 @@
 //! Playing by a valid tree of plain nodes, for its winner.
 //!
 //! The player follows the tree as long as its nodes say which move to make, and then moves in links. Whenever it is asked, the
-//! winner wins from the board that it has, so it is never at a loss for an answer, and no game ends without a chain.
+//! winner wins from the board that it has, so there is a move to answer with, and no game ends without a chain.
 
 ghost use Rattle.std.specs.Prelude.{◌≡◌, ◌↔◌, IsTrue, IsNone, IfOk, IfSome, IfNone};
 ghost use Rattle.hx_board.specs.Colours.{other_of};
