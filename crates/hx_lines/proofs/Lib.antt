@@ -2,5 +2,4 @@ pub mod CutterLaws
 pub mod LineLaws
 pub mod StreamParts
 pub mod NextLines
-pub mod QuitLaws
 pub mod Endings

@@ -1,6 +1,6 @@
 -- How a service over the lines of a source ends, and what it has read and written then. A service answers lines one
--- after the other, until it stops behind one or no line is left. Which replies answer which lines is told by a relation,
--- `answers`: it speaks of the lines that were answered, and of no others.
+-- after the other, until it stops behind one or no line is left. Which replies answer which lines is told by a
+-- relation, `answers`: it speaks of the lines that were answered, and of no others.
 use Rattle.std.specs.Prelude.{◌≡◌, ℕ, ◌<◌, ◌≤◌, Bool, true, false, List, [], ◌∷◌, ◌++◌, length, All, Option, Some}
 use Rattle.std.specs.Prelude.{IfSome}
 use Rattle.hx_io.specs.Sources.{prepend}
@@ -97,8 +97,8 @@ pub record IsTooLong (service : Service) (answers : Answers) (input : List ℕ)
   pub before_limit : AreBeforeLimit input lines
   pub answered : Answered answers taken now lines false service.too_long_words
 
--- Which words belong behind the replies to these lines, behind which a service stopped or did not: none yet, or the last
--- words of a service that ends there.
+-- Which words belong behind the replies to these lines, behind which a service stopped or did not: none yet, or the
+-- last words of a service that ends there.
 pub data AreDue (service : Service) (before left : Option (List ℕ)) (lines : List (List ℕ)) (stopped : Bool)
     (words : List ℕ) : Type 0 where
   No_words : words ≡ [] → IfSome before (λ input. AreFirst input lines)
