@@ -53,18 +53,33 @@ no_lines_first : (before : Option (List ℕ)) → IfSome before (λ input. AreFi
 no_lines_first None = tt
 no_lines_first (Some input) = record { later = lines_of input; parts = refl }
 
+-- a service stops before the first line
+pub stops_in_opening : (runs answers : Answers) (before taken now : Option (List ℕ)) (opening : List ℕ) → runs [] opening true
+    → Completes runs answers → now ≡ append taken opening → IfSome before (IsStopped answers taken now)
+stops_in_opening runs answers before taken now opening begun completes writes =
+    IfSome_then before (no_lines_first before) (λ input first. record {
+      lines = [];
+      first = first;
+      within = no_lines_within;
+      answered = record {
+        replies = opening;
+        run = completes [] opening true begun;
+        wrote = writes ∙ ap (append taken) (sym (append-nil opening));
+      };
+    })
+
 -- a write fails before the first line
-pub ends_in_opening : (service : Service) (runs answers : Answers) (before taken : Option (List ℕ)) (opening : List ℕ)
-    (left now : Option (List ℕ)) → runs [] opening false → Completes runs answers → TakesFront taken now opening
+pub ends_in_opening : (service : Service) (runs answers : Answers) (before taken : Option (List ℕ)) (opening : List ℕ) (stops : Bool)
+    (left now : Option (List ℕ)) → runs [] opening stops → Completes runs answers → TakesFront taken now opening
     → IsWriteFault service answers before left taken now
-ends_in_opening service runs answers before taken opening left now begun completes front = record {
+ends_in_opening service runs answers before taken opening stops left now begun completes front = record {
   lines = [];
-  stopped = false;
+  stopped = stops;
   words = [];
   replies = opening;
   due = No_words refl (no_lines_first before);
   within = no_lines_within;
-  run = completes [] opening false begun;
+  run = completes [] opening stops begun;
   wrote = subst (TakesFront taken now) (sym (append-nil opening)) front;
 }
 

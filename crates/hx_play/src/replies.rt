@@ -50,8 +50,11 @@ pub(crate) fn answer_line(player: &mut Player, line: &[u8]) -> Reply
 fn empty_cell(position: &Position, line: &[u8]) -> Option<Cell>
     ensures { Finds result (NamesEmpty position.now line.now) }
 {
+    let size = position.size();
+    // The proof takes from here that a board has at most eleven rows.
+    let _rows = size.rows();
     let mut words = Words::of(line);
-    let cell = words.cell(position.size())?;
+    let cell = words.cell(size)?;
     words.end()?;
     if position.empties().has(cell) {
         Some(cell)

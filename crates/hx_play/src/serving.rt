@@ -58,11 +58,11 @@ pub fn serve<S: Source, K: Sink>(
         → SomeWriteFailed (K.writing sink.old) (K.writing sink.new) }
     ensures later { (S.reading source.old).faults ≤ (S.reading source.new).faults }
 {
-    served(serve_game(lines, source, sink, player))
+    served_as(serve_game(lines, source, sink, player))
 }
 
 /// How a game was served whose lines ended so.
-fn served(ended: Ended) -> Served
+fn served_as(ended: Ended) -> Served
     ensures { end_of result ≡ ended }
 {
     match ended {
