@@ -2,7 +2,7 @@
 use Rattle.std.proofs.Common.{◌≡◌, ◌≢◌, ℕ, List, [], ◌∷◌, Bool, get_or, codes, refl, ap, ◌∙◌, subst, arith}
 use Rattle.hx_settings.specs.declared.settings.Settings.{Settings}
 use Rattle.hx_words.specs.declared.commands.Command.{Command}
-use Rattle.hx_words.specs.declared.commands.Command.TheVariants.{Check, Solve, Htp, Demo}
+use Rattle.hx_words.specs.declared.commands.Command.TheVariants.{Check, Solve, Htp, Demo, Play}
 use Rattle.hx_words.specs.Choices.{AreOptions}
 use Rattle.hx_words.specs.Seeds.{SeedAndOptions}
 use Rattle.hx_words.specs.Searches.{AreSearchOptions}
@@ -17,48 +17,6 @@ pub one_name : (words rest more : List (List ℕ)) (name other : List ℕ) → g
 one_name words rest more name other letters is is_other =
     let same : name ≡ other = cc in
     letters (ap (λ (w : List ℕ). get_or w 0 0) same)
-
-check_or_solve : get_or (codes "check") 0 0 ≢ get_or (codes "solve") 0 0
-check_or_solve = omega arith
-
-check_or_htp : get_or (codes "check") 0 0 ≢ get_or (codes "htp") 0 0
-check_or_htp = omega arith
-
-solve_or_htp : get_or (codes "solve") 0 0 ≢ get_or (codes "htp") 0 0
-solve_or_htp = omega arith
-
-check_or_demo : get_or (codes "check") 0 0 ≢ get_or (codes "demo") 0 0
-check_or_demo = omega arith
-
-solve_or_demo : get_or (codes "solve") 0 0 ≢ get_or (codes "demo") 0 0
-solve_or_demo = omega arith
-
-htp_or_demo : get_or (codes "htp") 0 0 ≢ get_or (codes "demo") 0 0
-htp_or_demo = omega arith
-
-pub check_is_not_solve : (words more rest : List (List ℕ)) → words ≡ codes "check" ∷ more
-    → words ≡ codes "solve" ∷ rest → ⊥
-check_is_not_solve words more rest check solve = one_name words more rest (codes "check") (codes "solve") check_or_solve check solve
-
-pub check_is_not_htp : (words more rest : List (List ℕ)) → words ≡ codes "check" ∷ more
-    → words ≡ codes "htp" ∷ rest → ⊥
-check_is_not_htp words more rest check htp = one_name words more rest (codes "check") (codes "htp") check_or_htp check htp
-
-pub solve_is_not_htp : (words more rest : List (List ℕ)) → words ≡ codes "solve" ∷ more
-    → words ≡ codes "htp" ∷ rest → ⊥
-solve_is_not_htp words more rest solve htp = one_name words more rest (codes "solve") (codes "htp") solve_or_htp solve htp
-
-pub check_is_not_demo : (words more rest : List (List ℕ)) → words ≡ codes "check" ∷ more
-    → words ≡ codes "demo" ∷ rest → ⊥
-check_is_not_demo words more rest check demo = one_name words more rest (codes "check") (codes "demo") check_or_demo check demo
-
-pub solve_is_not_demo : (words more rest : List (List ℕ)) → words ≡ codes "solve" ∷ more
-    → words ≡ codes "demo" ∷ rest → ⊥
-solve_is_not_demo words more rest solve demo = one_name words more rest (codes "solve") (codes "demo") solve_or_demo solve demo
-
-pub htp_is_not_demo : (words more rest : List (List ℕ)) → words ≡ codes "htp" ∷ more
-    → words ≡ codes "demo" ∷ rest → ⊥
-htp_is_not_demo words more rest htp demo = one_name words more rest (codes "htp") (codes "demo") htp_or_demo htp demo
 
 -- a name is no command with settings where the words after it are no options
 no_options : (words rest : List (List ℕ)) (name : List ℕ) (settings : Settings) → words ≡ name ∷ rest
@@ -78,17 +36,27 @@ no_search words rest settings plain_tree is none asks =
 
 pub Asks-solve : (words rest : List (List ℕ)) → words ≡ codes "solve" ∷ rest
     → ((found : Settings × Bool) → AreSearchOptions found.1 found.0 rest → ⊥) → (command : Command) → Asks command words → ⊥
-Asks-solve words rest solve none Check asks = check_is_not_solve words [] rest asks solve
+Asks-solve words rest solve none Check asks =
+    one_name words [] rest (codes "check") (codes "solve") (omega arith) asks solve
 Asks-solve words rest solve none (Solve settings plain_tree) asks = no_search words rest settings plain_tree solve none asks
-Asks-solve words rest solve none (Htp settings) asks = solve_is_not_htp words rest asks.0 solve asks.1
-Asks-solve words rest solve none (Demo seed settings) asks = solve_is_not_demo words rest asks.0 solve asks.1
+Asks-solve words rest solve none (Htp settings) asks =
+    one_name words asks.0 rest (codes "htp") (codes "solve") (omega arith) asks.1 solve
+Asks-solve words rest solve none (Demo seed settings) asks =
+    one_name words asks.0 rest (codes "demo") (codes "solve") (omega arith) asks.1 solve
+Asks-solve words rest solve none Play asks =
+    one_name words [] rest (codes "play") (codes "solve") (omega arith) asks solve
 
 pub Asks-htp : (words rest : List (List ℕ)) → words ≡ codes "htp" ∷ rest
     → ((settings : Settings) → AreOptions rest settings → ⊥) → (command : Command) → Asks command words → ⊥
-Asks-htp words rest htp none Check asks = check_is_not_htp words [] rest asks htp
-Asks-htp words rest htp none (Solve settings plain_tree) asks = solve_is_not_htp words asks.0 rest asks.1 htp
+Asks-htp words rest htp none Check asks =
+    one_name words [] rest (codes "check") (codes "htp") (omega arith) asks htp
+Asks-htp words rest htp none (Solve settings plain_tree) asks =
+    one_name words asks.0 rest (codes "solve") (codes "htp") (omega arith) asks.1 htp
 Asks-htp words rest htp none (Htp settings) asks = no_options words rest (codes "htp") settings htp none asks
-Asks-htp words rest htp none (Demo seed settings) asks = htp_is_not_demo words rest asks.0 htp asks.1
+Asks-htp words rest htp none (Demo seed settings) asks =
+    one_name words asks.0 rest (codes "demo") (codes "htp") (omega arith) asks.1 htp
+Asks-htp words rest htp none Play asks =
+    one_name words [] rest (codes "play") (codes "htp") (omega arith) asks htp
 
 -- nor is `demo` a command where the words after it are no seed and options
 no_seed : (words rest : List (List ℕ)) (seed : ℕ) (settings : Settings) → words ≡ codes "demo" ∷ rest
@@ -100,10 +68,15 @@ no_seed words rest seed settings is none asks =
 
 pub Asks-demo : (words rest : List (List ℕ)) → words ≡ codes "demo" ∷ rest
     → ((found : ℕ × Settings) → SeedAndOptions found.0 found.1 rest → ⊥) → (command : Command) → Asks command words → ⊥
-Asks-demo words rest demo none Check asks = check_is_not_demo words [] rest asks demo
-Asks-demo words rest demo none (Solve settings plain_tree) asks = solve_is_not_demo words asks.0 rest asks.1 demo
-Asks-demo words rest demo none (Htp settings) asks = htp_is_not_demo words asks.0 rest asks.1 demo
+Asks-demo words rest demo none Check asks =
+    one_name words [] rest (codes "check") (codes "demo") (omega arith) asks demo
+Asks-demo words rest demo none (Solve settings plain_tree) asks =
+    one_name words asks.0 rest (codes "solve") (codes "demo") (omega arith) asks.1 demo
+Asks-demo words rest demo none (Htp settings) asks =
+    one_name words asks.0 rest (codes "htp") (codes "demo") (omega arith) asks.1 demo
 Asks-demo words rest demo none (Demo seed settings) asks = no_seed words rest seed settings demo none asks
+Asks-demo words rest demo none Play asks =
+    one_name words [] rest (codes "play") (codes "demo") (omega arith) asks demo
 
 -- the same name has the same options behind it, and they choose the same settings
 one_choice : (words : List (List ℕ)) (name : List ℕ) (a b : Settings) → NameAndOptions name a words
@@ -135,18 +108,27 @@ one_demo words m n a b p q =
 
 pub Asks-one : (words : List (List ℕ)) (a b : Command) → Asks a words → Asks b words → a ≡ b
 Asks-one words Check Check p q = refl
-Asks-one words Check (Solve settings plain_tree) p q = absurd (check_is_not_solve words [] q.0 p q.1)
-Asks-one words Check (Htp settings) p q = absurd (check_is_not_htp words [] q.0 p q.1)
-Asks-one words Check (Demo seed settings) p q = absurd (check_is_not_demo words [] q.0 p q.1)
-Asks-one words (Solve settings plain_tree) Check p q = absurd (check_is_not_solve words [] p.0 q p.1)
+Asks-one words Check (Solve other n) p q = absurd (one_name words [] q.0 (codes "check") (codes "solve") (omega arith) p q.1)
+Asks-one words Check (Htp other) p q = absurd (one_name words [] q.0 (codes "check") (codes "htp") (omega arith) p q.1)
+Asks-one words Check (Demo n other) p q = absurd (one_name words [] q.0 (codes "check") (codes "demo") (omega arith) p q.1)
+Asks-one words Check Play p q = absurd (one_name words [] [] (codes "check") (codes "play") (omega arith) p q)
+Asks-one words (Solve settings m) Check p q = absurd (one_name words p.0 [] (codes "solve") (codes "check") (omega arith) p.1 q)
 Asks-one words (Solve settings m) (Solve other n) p q = one_search words m n settings other p q
-Asks-one words (Solve settings plain_tree) (Htp other) p q = absurd (solve_is_not_htp words p.0 q.0 p.1 q.1)
-Asks-one words (Solve settings plain_tree) (Demo seed other) p q = absurd (solve_is_not_demo words p.0 q.0 p.1 q.1)
-Asks-one words (Htp settings) Check p q = absurd (check_is_not_htp words [] p.0 q p.1)
-Asks-one words (Htp settings) (Solve other plain_tree) p q = absurd (solve_is_not_htp words q.0 p.0 q.1 p.1)
+Asks-one words (Solve settings m) (Htp other) p q = absurd (one_name words p.0 q.0 (codes "solve") (codes "htp") (omega arith) p.1 q.1)
+Asks-one words (Solve settings m) (Demo n other) p q = absurd (one_name words p.0 q.0 (codes "solve") (codes "demo") (omega arith) p.1 q.1)
+Asks-one words (Solve settings m) Play p q = absurd (one_name words p.0 [] (codes "solve") (codes "play") (omega arith) p.1 q)
+Asks-one words (Htp settings) Check p q = absurd (one_name words p.0 [] (codes "htp") (codes "check") (omega arith) p.1 q)
+Asks-one words (Htp settings) (Solve other n) p q = absurd (one_name words p.0 q.0 (codes "htp") (codes "solve") (omega arith) p.1 q.1)
 Asks-one words (Htp settings) (Htp other) p q = ap Htp (one_choice words (codes "htp") settings other p q)
-Asks-one words (Htp settings) (Demo seed other) p q = absurd (htp_is_not_demo words p.0 q.0 p.1 q.1)
-Asks-one words (Demo seed settings) Check p q = absurd (check_is_not_demo words [] p.0 q p.1)
-Asks-one words (Demo seed settings) (Solve other plain_tree) p q = absurd (solve_is_not_demo words q.0 p.0 q.1 p.1)
-Asks-one words (Demo seed settings) (Htp other) p q = absurd (htp_is_not_demo words q.0 p.0 q.1 p.1)
-Asks-one words (Demo seed settings) (Demo number other) p q = one_demo words seed number settings other p q
+Asks-one words (Htp settings) (Demo n other) p q = absurd (one_name words p.0 q.0 (codes "htp") (codes "demo") (omega arith) p.1 q.1)
+Asks-one words (Htp settings) Play p q = absurd (one_name words p.0 [] (codes "htp") (codes "play") (omega arith) p.1 q)
+Asks-one words (Demo m settings) Check p q = absurd (one_name words p.0 [] (codes "demo") (codes "check") (omega arith) p.1 q)
+Asks-one words (Demo m settings) (Solve other n) p q = absurd (one_name words p.0 q.0 (codes "demo") (codes "solve") (omega arith) p.1 q.1)
+Asks-one words (Demo m settings) (Htp other) p q = absurd (one_name words p.0 q.0 (codes "demo") (codes "htp") (omega arith) p.1 q.1)
+Asks-one words (Demo m settings) (Demo n other) p q = one_demo words m n settings other p q
+Asks-one words (Demo m settings) Play p q = absurd (one_name words p.0 [] (codes "demo") (codes "play") (omega arith) p.1 q)
+Asks-one words Play Check p q = absurd (one_name words [] [] (codes "play") (codes "check") (omega arith) p q)
+Asks-one words Play (Solve other n) p q = absurd (one_name words [] q.0 (codes "play") (codes "solve") (omega arith) p q.1)
+Asks-one words Play (Htp other) p q = absurd (one_name words [] q.0 (codes "play") (codes "htp") (omega arith) p q.1)
+Asks-one words Play (Demo n other) p q = absurd (one_name words [] q.0 (codes "play") (codes "demo") (omega arith) p q.1)
+Asks-one words Play Play p q = refl

@@ -27,6 +27,8 @@ pub enum Command {
         seed: u64,
         settings: Settings,
     },
+    /// Play by the text of a tree, against the moves that follow it.
+    Play,
 }
 
 /// The command that the words are. The program's own name is not one of them.
@@ -57,6 +59,13 @@ pub fn command_of(words: &[String]) -> Option<Command>
         "demo" => {
             let (seed, settings) = seed_and_settings_in(rest)?;
             Some(Command::Demo { seed, settings })
+        }
+        "play" => {
+            if rest.is_empty() {
+                Some(Command::Play)
+            } else {
+                None
+            }
         }
         _ => None,
     }
