@@ -1,0 +1,4 @@
+pub mod Trees
+pub mod Refusals
+pub mod Runs
+pub mod Standings
