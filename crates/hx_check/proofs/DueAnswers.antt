@@ -1,11 +1,13 @@
--- Which answer fits, from what is known of the lines and nodes before a line and from what the next cut tells.
+-- Which fault is due, from what is known of the lines and nodes before a line and from what the next cut tells. The nodes before
+-- the fault are the ones that are known, so it is due under each demand that they meet.
 use Rattle.std.proofs.Common.{◌≡◌, ◌≢◌, ℕ, ◌+◌, ◌-◌, ◌<◌, ◌≤◌, ◌^◌, inl, inr, Bool, true, false, List, [], ◌∷◌, ◌++◌, length, refl, sym, ap}
-use Rattle.std.proofs.Common.{◌∙◌, subst, arith, append_assoc, append-nil, length-append, Option, Some, None}
+use Rattle.std.proofs.Common.{◌∙◌, subst, arith, append_assoc, append-nil, Option, Some, None}
 use Rattle.std.proofs.lemmas.Bool.{false≢true}
 use Rattle.std.proofs.lemmas.List.{length-map}
+use Rattle.std.specs.declared.result.Result.{Result}
+use Rattle.std.specs.declared.result.Result.TheVariants.{Ok, Err}
 use Rattle.std.proofs.lemmas.Option.{same_Some}
-use Rattle.std.specs.Prelude.{IfSome, IsTrue, flat_map, MatchOption}
-use Rattle.std.specs.Option.{IfNone}
+use Rattle.std.specs.Prelude.{IfSome, IsTrue, flat_map}
 use Rattle.hx_io.specs.Causes.{next_count}
 use Rattle.hx_io.specs.Sources.{prepend}
 use Rattle.hx_lines.specs.Lines.{HasLf, longest, lines_of}
@@ -14,12 +16,10 @@ use Rattle.hx_lines.specs.declared.cutters.Cut.TheVariants.{Line, TooLong as Is_
 use Rattle.hx_lines.specs.Cutters.{Cutter, Stays, CutsLine, IsCut, BeginLong}
 use Rattle.hx_lines.proofs.LineLaws.{lines_of-nil, stream-loses}
 use Rattle.hx_lines.proofs.StreamParts.{parts-stay, some_not_none, TellsStream, tells_stream}
-use Rattle.hx_tree.specs.declared.nodes.Heading.{Heading}
 use Rattle.hx_tree.specs.declared.nodes.Node.{Node}
 use Rattle.hx_tree.specs.Rules.{IsRightNode}
-use Rattle.hx_tree.proofs.TreeGrowth.{least_wrong-last}
+use Rattle.hx_tree.specs.Trees.{AreRight}
 use Rattle.hx_reader.specs.declared.places.Place.{Place}
-use Rattle.hx_reader.specs.declared.reader.TreeReader.{TreeReader}
 use Rattle.hx_letters.specs.Marks.{Lacks}
 use Rattle.hx_text.specs.Grammars.{text_of, Begins}
 use Rattle.hx_text.specs.TreeTexts.{AreTreeLines, front_lines, node_lines, head_line}
@@ -30,12 +30,17 @@ use Rattle.hx_reader.proofs.BegunNodes.{node_of_head}
 use Rattle.hx_reader.proofs.Completions.{Begins-stands}
 use Rattle.hx_text.proofs.Cuts.{text_of-push}
 use Rattle.hx_reader.proofs.Faults.{missing, wrong_line}
+use Rattle.hx_check.specs.declared.faults.Fault.{Fault}
+use Rattle.hx_check.specs.declared.faults.Fault.TheVariants.{NoText, NoNode, ReadFault, OutOfMemory, TooLong}
 use Rattle.hx_check.specs.declared.judgements.Judgement.{Judgement}
-use Rattle.hx_check.specs.declared.judgements.Judgement.TheVariants.{Yes, NoText, NoNode, ReadFault, OutOfMemory, TooLong}
+use Rattle.hx_check.specs.declared.judgements.Judgement.TheVariants.{Yes, No}
+use Rattle.hx_check.specs.declared.judges.Brought.{Brought}
+use Rattle.hx_check.specs.declared.judges.Brought.TheVariants.{Line as Brought_line, Node as Brought_node, End}
+use Rattle.hx_check.specs.declared.judges.Judge.{Judge}
 use Rattle.hx_check.specs.Limits.{BeginsLong}
-use Rattle.hx_check.specs.Judging.{IsNoText, IsNoNode, IsTooManyNodes, ReadsNoFault}
-use Rattle.hx_check.specs.Judgements.{IsLong, IsDue}
-use Rattle.hx_check.specs.Standings.{HasJudged, JudgedUpTo, HasReadAll, AnswersNode}
+use Rattle.hx_check.specs.Judging.{Demand, AreThese, IsNoText, IsNoNode, IsTooManyNodes, ReadsNoFault}
+use Rattle.hx_check.specs.Judgements.{IsLong, IsFaultDue, IsDue}
+use Rattle.hx_check.specs.Standings.{HasJudged, JudgedUpTo, HasReadAll, Brings, AnswersNode}
 use Rattle.hx_check.proofs.JudgedNodes.{faultless, few_fed, count_more, judged_node}
 use Rattle.hx_check.proofs.LongLines.{lacks_of, none_not_long}
 use Rattle.hx_check.proofs.Standings.{ended_in, few_nodes, not_whole}
@@ -86,173 +91,177 @@ pub told_of : (old new : Cutter) (left then_left : Option (List ℕ)) (cut : Cut
 told_of old new left then_left cut rest is cuts =
     tells_stream old new rest then_left cut (subst (λ (l : Option (List ℕ)). IsCut old new l then_left cut) is cuts)
 
-module _ (before : Option (List ℕ)) (reader : TreeReader) (headings : List Heading) (old new : Cutter) (left then_left : Option (List ℕ))
-    (upto : JudgedUpTo before reader headings old.held left) where
+module _ (Meets : Demand) (before : Option (List ℕ)) (judge : Judge) (nodes : List Node) (lines : List (List ℕ)) (old new : Cutter)
+    (left then_left : Option (List ℕ)) (upto : JudgedUpTo before judge nodes lines old.held left) (meets : Meets nodes) where
   -- the next line is too long
-  pub long_answer : IsCut old new left then_left Is_too_long → IfSome before IsLong
+  pub long_answer : IsCut old new left then_left Is_too_long → IfSome before (IsLong Meets)
   long_answer cut =
-      says_of before (text_of upto.judged.lines) old.held left IsLong upto.parts
+      says_of before (text_of lines) old.held left (IsLong Meets) upto.parts
       (λ input rest is parts. inl (record {
-        lines = upto.judged.lines;
+        lines = lines;
         rest = old.held ++ rest;
         parts = parts;
-        faultless = faultless reader headings upto.judged;
+        faultless = faultless judge nodes lines upto.judged Meets meets;
         long = (told_of old new left then_left Is_too_long rest is cut).tells;
       }))
 
   -- a read failed
-  pub fault_answer : Stays old new left then_left → ¬ HasLf new.held → length new.held ≤ longest → ReadsNoFault before then_left
+  pub fault_answer : Stays old new left then_left → ¬ HasLf new.held → length new.held ≤ longest → ReadsNoFault Meets before then_left
   fault_answer stays plain short = record {
-    lines = upto.judged.lines;
+    lines = lines;
     held = new.held;
-    parts = parts-stay before (text_of upto.judged.lines) old new left then_left upto.parts stays;
-    faultless = faultless reader headings upto.judged;
+    parts = parts-stay before (text_of lines) old new left then_left upto.parts stays;
+    faultless = faultless judge nodes lines upto.judged Meets meets;
     plain = plain;
     short = short;
   }
 
   -- the next line is missing or has no LF, and the text is not whole
-  no_line : (input : List ℕ) (number : ℕ) (stream : List ℕ) → ¬ HasReadAll reader → input ≡ text_of upto.judged.lines ++ stream
-      → number ≡ length upto.judged.lines + 1 → Lacks 10 stream → ¬ BeginsLong stream → IsNoText input number
+  no_line : (input : List ℕ) (number : ℕ) (stream : List ℕ) → ¬ HasReadAll judge → input ≡ text_of lines ++ stream
+      → number ≡ length lines + 1 → Lacks 10 stream → ¬ BeginsLong stream → IsNoText Meets input number
   no_line input number stream unended parts place lacks short = record {
-    fault = missing input upto.judged.lines stream number parts place
-        (Begins-stands reader.place upto.judged.nodes upto.judged.lines upto.judged.read)
-        (not_whole reader.place upto.judged.nodes upto.judged.lines unended upto.judged.read) lacks;
-    nodes = upto.judged.nodes;
-    ended = ended_in reader.place upto.judged.nodes upto.judged.lines upto.judged.read upto.judged.few;
-    right = upto.judged.right;
+    fault = missing input lines stream number parts place (Begins-stands judge.reader.place nodes lines upto.judged.read)
+        (not_whole judge.reader.place nodes lines unended upto.judged.read) lacks;
+    nodes = nodes;
+    ended = ended_in judge.reader.place nodes lines upto.judged.read upto.judged.few;
+    meets = meets;
     short = short;
   }
 
-  pub missing_answer : (number : ℕ) → IsCut old new left then_left Over → ¬ HasReadAll reader → number ≡ lines_fed reader + 1
-      → IfSome before (λ input. IsNoText input number)
+  pub missing_answer : (number : ℕ) → IsCut old new left then_left Over → ¬ HasReadAll judge → number ≡ lines_fed judge.reader + 1
+      → IfSome before (λ input. IsNoText Meets input number)
   missing_answer number cut unended is =
-      says_of before (text_of upto.judged.lines) old.held left (λ input. IsNoText input number) upto.parts
+      says_of before (text_of lines) old.held left (λ input. IsNoText Meets input number) upto.parts
       (λ input rest told parts.
       let none : old.held ++ rest ≡ [] = none_of old new rest then_left (told_of old new left then_left Over rest told cut) in
       no_line input number (old.held ++ rest) unended parts (is ∙ ap (λ (n : ℕ). n + 1) upto.judged.counted)
       (lacks_same (old.held ++ rest) [] none tt) (none_not_long (old.held ++ rest) none))
 
   -- the next line is not of the grammar in its place, or has no LF
-  wrong_by : (ended : Bool) (number : ℕ) → CutsLine old new left then_left ended → ¬ HasReadAll reader
-      → number ≡ length upto.judged.lines + 1
-      → (IsTrue ended → Begins AreTreeLines (upto.judged.lines ++ new.line ∷ []) → ⊥) → IfSome before (λ input. IsNoText input number)
+  wrong_by : (ended : Bool) (number : ℕ) → CutsLine old new left then_left ended → ¬ HasReadAll judge → number ≡ length lines + 1
+      → (IsTrue ended → Begins AreTreeLines (lines ++ new.line ∷ []) → ⊥) → IfSome before (λ input. IsNoText Meets input number)
   wrong_by true number cut unended place wrong =
-      says_of before (text_of upto.judged.lines) old.held left (λ input. IsNoText input number) upto.parts
+      says_of before (text_of lines) old.held left (λ input. IsNoText Meets input number) upto.parts
       (λ input rest is parts.
       let told : TellsStream old new rest then_left (Line true) = told_of old new left then_left (Line true) rest is cut in
       let stream : old.held ++ rest ≡ new.line ++ 10 ∷ (new.held ++ told.later) = stream_of old new rest then_left told in
       record {
         fault =
-            wrong_line input upto.judged.lines new.line (new.held ++ told.later) number
-            (parts ∙ ap (λ bytes. text_of upto.judged.lines ++ bytes) stream) place
-            (Begins-stands reader.place upto.judged.nodes upto.judged.lines upto.judged.read) (lacks_of new.line cut.plain) (wrong refl);
-        nodes = upto.judged.nodes;
-        ended = ended_in reader.place upto.judged.nodes upto.judged.lines upto.judged.read upto.judged.few;
-        right = upto.judged.right;
+            wrong_line input lines new.line (new.held ++ told.later) number (parts ∙ ap (λ bytes. text_of lines ++ bytes) stream) place
+            (Begins-stands judge.reader.place nodes lines upto.judged.read) (lacks_of new.line cut.plain) (wrong refl);
+        nodes = nodes;
+        ended = ended_in judge.reader.place nodes lines upto.judged.read upto.judged.few;
+        meets = meets;
         short = subst (λ bytes. ¬ BeginsLong bytes) stream (cut_not_long true old new rest then_left told);
       })
   wrong_by false number cut unended place wrong =
-      says_of before (text_of upto.judged.lines) old.held left (λ input. IsNoText input number) upto.parts
+      says_of before (text_of lines) old.held left (λ input. IsNoText Meets input number) upto.parts
       (λ input rest is parts.
       let told : TellsStream old new rest then_left (Line false) = told_of old new left then_left (Line false) rest is cut in
       no_line input number (old.held ++ rest) unended parts place
       (lacks_same (old.held ++ rest) new.line (last_of old new rest then_left told) (lacks_of new.line cut.plain))
       (cut_not_long false old new rest then_left told))
 
-  pub wrong_answer : (ended : Bool) (fed number : ℕ) → CutsLine old new left then_left ended → ¬ HasReadAll reader
-      → fed ≡ next_count (lines_fed reader)
-      → (number ≡ fed) × (IsTrue ended → Begins AreTreeLines (upto.judged.lines ++ new.line ∷ []) → ⊥)
-      → IfSome before (λ input. IsNoText input number)
+  pub wrong_answer : (ended : Bool) (fed number : ℕ) → CutsLine old new left then_left ended → ¬ HasReadAll judge
+      → fed ≡ next_count (lines_fed judge.reader)
+      → (number ≡ fed) × (IsTrue ended → Begins AreTreeLines (lines ++ new.line ∷ []) → ⊥)
+      → IfSome before (λ input. IsNoText Meets input number)
   wrong_answer ended fed number cut unended counts told =
-      wrong_by ended number cut unended (told.0 ∙ count_more reader headings fed upto.judged counts) told.1
+      wrong_by ended number cut unended (told.0 ∙ count_more judge nodes lines upto.judged fed counts) told.1
 
   -- the first line of one node too many
-  pub many_answer : CutsLine old new left then_left true → (length upto.judged.nodes ≡ most_nodes) × IsNextNode reader.place new.line
-      → IfSome before IsLong
+  pub many_answer : CutsLine old new left then_left true → (length nodes ≡ most_nodes) × IsNextNode judge.reader.place new.line
+      → IfSome before (IsLong Meets)
   many_answer cut many =
-      says_of before (text_of upto.judged.lines) old.held left IsLong upto.parts
+      says_of before (text_of lines) old.held left (IsLong Meets) upto.parts
       (λ input rest is parts.
       let told : TellsStream old new rest then_left (Line true) = told_of old new left then_left (Line true) rest is cut in
-      inr (too_many input (new.held ++ told.later) (parts
-      ∙ ap (λ bytes. text_of upto.judged.lines ++ bytes) (stream_of old new rest then_left told)) many))
+      inr (too_many input (new.held ++ told.later) (parts ∙ ap (λ bytes. text_of lines ++ bytes) (stream_of old new rest then_left told))))
     where
-      too_many : (input later : List ℕ) → input ≡ text_of upto.judged.lines ++ (new.line ++ 10 ∷ later)
-          → (length upto.judged.nodes ≡ most_nodes) × IsNextNode reader.place new.line → IsTooManyNodes input
-      too_many input later parts many =
-          let next : IsNextNode reader.place new.line = many.1 in
-          let stands : StandsSoFar next.so_far upto.judged.nodes upto.judged.lines =
-          subst (λ (p : Place). Stands p upto.judged.nodes upto.judged.lines) next.is upto.judged.read in
+      too_many : (input later : List ℕ) → input ≡ text_of lines ++ (new.line ++ 10 ∷ later) → IsTooManyNodes Meets input
+      too_many input later parts =
+          let next : IsNextNode judge.reader.place new.line = many.1 in
+          let stands : StandsSoFar next.so_far nodes lines =
+          subst (λ (p : Place). Stands p nodes lines) next.is upto.judged.read in
           let whole = node_of_head next.so_far.preamble next.head stands.is_size next.fits in
           record {
             preamble = next.so_far.preamble;
             is_size = stands.is_size;
-            nodes = upto.judged.nodes;
+            nodes = nodes;
             each = stands.each;
-            right = upto.judged.right;
+            meets = meets;
             full = many.0;
             next = whole.0;
             next_fits = whole.1;
             rest = later;
-            parts = parts ∙ sym (text_of-push upto.judged.lines new.line later)
+            parts = parts ∙ sym (text_of-push lines new.line later)
                 ∙ ap (λ (ls : List (List ℕ)). text_of (ls ++ new.line ∷ []) ++ later) stands.same
-                ∙ ap (λ (l : List ℕ). text_of ((front_lines next.so_far.preamble ++ flat_map node_lines upto.judged.nodes) ++ l ∷ [])
-                ++ later)
+                ∙ ap (λ (l : List ℕ). text_of ((front_lines next.so_far.preamble ++ flat_map node_lines nodes) ++ l ∷ []) ++ later)
                 (next.same ∙ ap head_line (sym whole.2));
           }
 
   -- a node that is not right
-  wrong_node : (new_reader : TreeReader) (node : Node) (k : ℕ) → CutsLine old new left then_left true → ¬ HasReadAll new_reader
-      → HasRead new_reader (upto.judged.nodes ++ node ∷ []) (upto.judged.lines ++ new.line ∷ []) → ¬ IsRightNode headings node
-      → k ≡ length headings
-      → IfSome before (λ input. IsNoNode input k)
-  wrong_node new_reader node k cut unended reads wrong place =
-      let count : k ≡ length upto.judged.nodes = place ∙ ap length upto.judged.same
-      ∙ length-map upto.judged.nodes (λ (n : Node). n.heading) in
-      says_of before (text_of upto.judged.lines) old.held left (λ input. IsNoNode input k) upto.parts
+  wrong_node : (new_judge : Judge) (node : Node) (k : ℕ) → CutsLine old new left then_left true → ¬ HasReadAll new_judge
+      → HasRead new_judge.reader (nodes ++ node ∷ []) (lines ++ new.line ∷ []) → ¬ IsRightNode judge.checker node
+      → k ≡ length judge.checker → IfSome before (λ input. IsNoNode Meets input k)
+  wrong_node new_judge node k cut unended reads wrong place =
+      says_of before (text_of lines) old.held left (λ input. IsNoNode Meets input k) upto.parts
       (λ input rest is parts.
       let told : TellsStream old new rest then_left (Line true) = told_of old new left then_left (Line true) rest is cut in
       record {
-        lines = upto.judged.lines ++ new.line ∷ [];
+        lines = lines ++ new.line ∷ [];
         rest = new.held ++ told.later;
-        parts = parts ∙ ap (λ bytes. text_of upto.judged.lines ++ bytes) (stream_of old new rest then_left told)
-            ∙ sym (text_of-push upto.judged.lines new.line (new.held ++ told.later));
-        right = Begins-stands new_reader.place (upto.judged.nodes ++ node ∷ []) (upto.judged.lines ++ new.line ∷ []) reads;
-        nodes = upto.judged.nodes ++ node ∷ [];
-        ended = ended_in new_reader.place (upto.judged.nodes ++ node ∷ []) (upto.judged.lines ++ new.line ∷ []) reads
-            (few_nodes new_reader.place (upto.judged.nodes ++ node ∷ []) (upto.judged.lines ++ new.line ∷ []) unended reads);
-        last = length-append upto.judged.nodes (node ∷ []) ∙ ap (λ (n : ℕ). n + 1) (sym count);
-        wrong = rw count (least_wrong-last upto.judged.nodes node upto.judged.right (rw (← upto.judged.same) wrong));
+        parts = parts ∙ ap (λ bytes. text_of lines ++ bytes) (stream_of old new rest then_left told)
+            ∙ sym (text_of-push lines new.line (new.held ++ told.later));
+        right = Begins-stands new_judge.reader.place (nodes ++ node ∷ []) (lines ++ new.line ∷ []) reads;
+        earlier = nodes;
+        node = node;
+        ended = ended_in new_judge.reader.place (nodes ++ node ∷ []) (lines ++ new.line ∷ []) reads
+            (few_nodes new_judge.reader.place (nodes ++ node ∷ []) (lines ++ new.line ∷ []) unended reads);
+        meets = meets;
+        count = place ∙ ap length upto.judged.same ∙ length-map nodes (λ (n : Node). n.heading);
+        wrong = rw upto.judged.same at wrong;
       })
 
-  -- what judging a node answers
-  pub node_answer : (rose : Type 0) (new_reader : TreeReader) (now : List Heading) (node : Node) (answer : Option Judgement)
-      → CutsLine old new left then_left true → lines_fed new_reader ≡ next_count (lines_fed reader) → ¬ HasReadAll new_reader
-      → HasRead new_reader (upto.judged.nodes ++ node ∷ []) (upto.judged.lines ++ new.line ∷ []) → AnswersNode headings node now answer
-      → MatchOption answer (JudgedUpTo before new_reader now new.held then_left) (IsDue before then_left rose)
-  node_answer rose new_reader now node None cut counts unended reads says =
-      judged_node before reader new_reader headings old new left then_left upto cut counts now node unended reads says.0 says.1
-  node_answer rose new_reader now node (Some (NoNode k)) cut counts unended reads says =
-      wrong_node new_reader node k cut unended reads says.0 says.1
-  node_answer rose new_reader now node (Some OutOfMemory) cut counts unended reads says = tt
-  node_answer rose new_reader now node (Some (Yes root)) cut counts unended reads says = absurd says
-  node_answer rose new_reader now node (Some (NoText l)) cut counts unended reads says = absurd says
-  node_answer rose new_reader now node (Some ReadFault) cut counts unended reads says = absurd says
-  node_answer rose new_reader now node (Some TooLong) cut counts unended reads says = absurd says
+-- what judging a node brings
+pub node_answer : (before : Option (List ℕ)) (judge new_judge : Judge) (nodes : List Node) (lines : List (List ℕ)) (old new : Cutter)
+    (left then_left : Option (List ℕ)) → JudgedUpTo before judge nodes lines old.held left → (rose : Type 0) (node : Node)
+    (answer : Result Brought Fault) → CutsLine old new left then_left true
+    → lines_fed new_judge.reader ≡ next_count (lines_fed judge.reader) → ¬ HasReadAll new_judge
+    → HasRead new_judge.reader (nodes ++ node ∷ []) (lines ++ new.line ∷ [])
+    → AnswersNode judge.checker node new_judge.checker answer → Brings before nodes lines new_judge new then_left rose answer
+node_answer before judge new_judge nodes lines old new left then_left upto rose node (Ok (Brought_node brought)) cut counts unended reads
+    says = (
+      unended,
+      subst (λ (n : Node). JudgedUpTo before new_judge (nodes ++ n ∷ []) (lines ++ new.line ∷ []) new.held then_left) (sym says.1)
+          (judged_node before judge new_judge nodes lines old new left then_left upto cut counts node unended reads says.0 says.2),
+    )
+node_answer before judge new_judge nodes lines old new left then_left upto rose node (Err (NoNode k)) cut counts unended reads says =
+    wrong_node (AreThese nodes) before judge nodes lines old new left then_left upto refl new_judge node k cut unended reads says.0 says.1
+node_answer before judge new_judge nodes lines old new left then_left upto rose node (Err OutOfMemory) cut counts unended reads says = tt
+node_answer before judge new_judge nodes lines old new left then_left upto rose node (Ok Brought_line) cut counts unended reads says =
+    absurd says
+node_answer before judge new_judge nodes lines old new left then_left upto rose node (Ok End) cut counts unended reads says = absurd says
+node_answer before judge new_judge nodes lines old new left then_left upto rose node (Err (NoText l)) cut counts unended reads says =
+    absurd says
+node_answer before judge new_judge nodes lines old new left then_left upto rose node (Err ReadFault) cut counts unended reads says =
+    absurd says
+node_answer before judge new_judge nodes lines old new left then_left upto rose node (Err TooLong) cut counts unended reads says =
+    absurd says
 
 -- what is due where a call failed is due where one failed in a longer time
+pub fault_due_later : (Meets : Demand) (before after : Option (List ℕ)) (rose then_rose : Type 0) (fault : Fault) → (rose → then_rose)
+    → IsFaultDue Meets before after rose fault → IsFaultDue Meets before after then_rose fault
+fault_due_later Meets before after rose then_rose (NoText line) more due = due
+fault_due_later Meets before after rose then_rose (NoNode node) more due = due
+fault_due_later Meets before after rose then_rose ReadFault more due = (more due.0, due.1)
+fault_due_later Meets before after rose then_rose OutOfMemory more due = due
+fault_due_later Meets before after rose then_rose TooLong more due = due
+
 pub due_later : (before after : Option (List ℕ)) (rose then_rose : Type 0) (judgement : Judgement) → (rose → then_rose)
     → IsDue before after rose judgement → IsDue before after then_rose judgement
 due_later before after rose then_rose (Yes root) more due = due
-due_later before after rose then_rose (NoText line) more due = due
-due_later before after rose then_rose (NoNode node) more due = due
-due_later before after rose then_rose ReadFault more due = (more due.0, due.1)
-due_later before after rose then_rose OutOfMemory more due = due
-due_later before after rose then_rose TooLong more due = due
-
-pub none_says : {T : Type 0} (answer : Option T) (P : Type 0) → P → IfNone answer P
-none_says None P p = p
-none_says (Some x) P p = tt
+due_later before after rose then_rose (No fault) more due = fault_due_later AreRight before after rose then_rose fault more due
 
 -- a cut of a line that is ended
 pub ended_cut : (ended : Bool) (old new : Cutter) (left then_left : Option (List ℕ)) → IsTrue ended → CutsLine old new left then_left ended
@@ -260,11 +269,10 @@ pub ended_cut : (ended : Bool) (old new : Cutter) (left then_left : Option (List
 ended_cut true old new left then_left is cut = cut
 ended_cut false old new left then_left is cut = absurd (false≢true is)
 
--- the answer that names the next line
-pub due_next : (before after : Option (List ℕ)) (rose : Type 0) (reader : TreeReader) (headings : List Heading) (answer : Judgement)
-    → HasJudged reader headings
-    → (lines_fed reader < 2 ^ 64 - 1 → answer ≡ NoText (lines_fed reader + 1))
-    → IfSome before (λ input. IsNoText input (lines_fed reader + 1))
-    → IsDue before after rose answer
-due_next before after rose reader headings answer judged says found =
-    subst (IsDue before after rose) (sym (says (omega (arith, few_fed reader headings judged)))) found
+-- the fault that names the next line
+pub due_next : (Meets : Demand) (before after : Option (List ℕ)) (rose : Type 0) (judge : Judge) (nodes : List Node)
+    (lines : List (List ℕ)) (count : ℕ) (fault : Fault) → HasJudged judge nodes lines → count ≡ lines_fed judge.reader
+    → (count < 2 ^ 64 - 1 → fault ≡ NoText (count + 1)) → IfSome before (λ input. IsNoText Meets input (count + 1))
+    → IsFaultDue Meets before after rose fault
+due_next Meets before after rose judge nodes lines count fault judged is says found =
+    subst (IsFaultDue Meets before after rose) (sym (says (omega (arith, is, few_fed judge nodes lines judged)))) found

@@ -1,22 +1,26 @@
 -- What a run says with each status: each judgement fits its cause alone, since an input that one judgement is true of is not an
 -- input that another is true of.
-use Rattle.std.proofs.Common.{◌≡◌, ℕ, inl, inr, ⊎_elim, List, refl, sym, ap, ◌∙◌, subst, arith}
+use Rattle.std.proofs.Common.{◌≡◌, ℕ, inl, inr, List, refl, sym, ap, ◌∙◌, subst, arith}
 use Rattle.std.proofs.lemmas.Option.{IfSome_then}
 use Rattle.std.specs.Prelude.{Option, None, Some, IfSome}
 use Rattle.hx_io.specs.Sources.{Reading, SomeReadFailed}
 use Rattle.hx_io.specs.Sinks.{Writing, SomeWriteFailed, append}
 use Rattle.hx_tree.specs.declared.nodes.Heading.{Heading}
+use Rattle.hx_tree.specs.Trees.{AreRight}
 use Rattle.hx_proof.proofs.TreeSoundness.{root_wins}
 use Rattle.hx_text.proofs.OneFault.{one_tree_fault}
 use Rattle.hx_answers.specs.Endings.{IsUnlessStopped, AnswersUnlessStopped, IsReadToEnd}
 use Rattle.hx_check.specs.declared.judgements.Judgement.{Judgement}
-use Rattle.hx_check.specs.declared.judgements.Judgement.TheVariants.{Yes, NoText, NoNode, ReadFault, OutOfMemory, TooLong}
+use Rattle.hx_check.specs.declared.judgements.Judgement.TheVariants.{Yes, No}
+use Rattle.hx_check.specs.declared.faults.Fault.TheVariants.{NoText, NoNode, ReadFault, OutOfMemory, TooLong}
 use Rattle.hx_check.specs.Judging.{IsYes, IsNoText, IsNoNode, IsLongLine, IsTooManyNodes, ReadsNoFault}
 use Rattle.hx_check.specs.Judgements.{IsLong, IsDue, IsCheckStatus, judgement_text, no_text_line, no_node_line, status_of, yes_text}
 use Rattle.hx_check.specs.Promises.{SaysYes, IsProof, IsNoProof, KeepsPromises}
-use Rattle.hx_check.proofs.Readings.{text_not_fault, valid_not_wrong, text_not_many, many_not_fault, many_not_wrong}
+use Rattle.hx_check.proofs.Demands.{right_asks}
+use Rattle.hx_check.proofs.Readings.{many_not_fault, many_not_wrong}
 use Rattle.hx_check.proofs.OneAnswer.{text_not_node, one_node}
-use Rattle.hx_check.proofs.LongLines.{long_not_text, long_not_fault, long_not_node}
+use Rattle.hx_check.proofs.LongLines.{long_not_fault, long_not_node}
+use Rattle.hx_check.proofs.BeginningTexts.{text_not_fault, valid_not_wrong, text_not_long}
 
 says_yes : (input : List ℕ) (root : Heading) (taken_before taken_now : Option (List ℕ)) → IsYes input root
     → taken_now ≡ append taken_before (yes_text root) → SaysYes input taken_before taken_now
@@ -37,87 +41,87 @@ module _ (input : List ℕ) (after : Option (List ℕ)) (rose : Type 0) where
       → IsDue (Some input) after rose judgement
       → taken_now ≡ append taken_before (judgement_text judgement) → SaysYes input taken_before taken_now
   yes_of (Yes root) before now zero due written = says_yes input root before now due.0 written
-  yes_of (NoText line) before now zero due written = absurd (omega arith)
-  yes_of (NoNode node) before now zero due written = absurd (omega arith)
-  yes_of ReadFault before now zero due written = absurd (omega arith)
-  yes_of OutOfMemory before now zero due written = absurd (omega arith)
-  yes_of TooLong before now zero due written = absurd (omega arith)
+  yes_of (No (NoText line)) before now zero due written = absurd (omega arith)
+  yes_of (No (NoNode node)) before now zero due written = absurd (omega arith)
+  yes_of (No ReadFault) before now zero due written = absurd (omega arith)
+  yes_of (No OutOfMemory) before now zero due written = absurd (omega arith)
+  yes_of (No TooLong) before now zero due written = absurd (omega arith)
 
   proof_of : (judgement : Judgement) → IsProof input → IsDue (Some input) after rose judgement → IsUnlessStopped (status_of judgement) 0
   proof_of (Yes root) proof due = inl refl
-  proof_of (NoText line) proof due = absurd (text_not_fault input proof.nodes line proof.text due)
-  proof_of (NoNode node) proof due = absurd (valid_not_wrong input proof.nodes node proof.text proof.valid due)
-  proof_of ReadFault proof due = inr (inl refl)
-  proof_of OutOfMemory proof due = inr (inr (inr refl))
-  proof_of TooLong proof due =
-      absurd (⊎_elim (λ long. long_not_text input proof.nodes long proof.text)
-      (λ many. text_not_many input proof.nodes proof.text proof.few many) due)
+  proof_of (No (NoText line)) proof due = absurd (text_not_fault input proof.nodes line proof.text due)
+  proof_of (No (NoNode node)) proof due = absurd (valid_not_wrong input proof.nodes node proof.text proof.valid due)
+  proof_of (No ReadFault) proof due = inr (inl refl)
+  proof_of (No OutOfMemory) proof due = inr (inr (inr refl))
+  proof_of (No TooLong) proof due = absurd (text_not_long input proof.nodes proof.text proof.few due)
 
-  no_proof_of : (judgement : Judgement) → ¬ IsLong input → IsNoProof input → IsDue (Some input) after rose judgement
+  no_proof_of : (judgement : Judgement) → ¬ IsLong AreRight input → IsNoProof input → IsDue (Some input) after rose judgement
       → IsUnlessStopped (status_of judgement) 1
   no_proof_of (Yes root) within none due = let yes : IsYes input root = due.0 in absurd (none yes.nodes yes.text yes.valid)
-  no_proof_of (NoText line) within none due = inl refl
-  no_proof_of (NoNode node) within none due = inl refl
-  no_proof_of ReadFault within none due = inr (inl refl)
-  no_proof_of OutOfMemory within none due = inr (inr (inr refl))
-  no_proof_of TooLong within none due = absurd (within due)
+  no_proof_of (No (NoText line)) within none due = inl refl
+  no_proof_of (No (NoNode node)) within none due = inl refl
+  no_proof_of (No ReadFault) within none due = inr (inl refl)
+  no_proof_of (No OutOfMemory) within none due = inr (inr (inr refl))
+  no_proof_of (No TooLong) within none due = absurd (within due)
 
-  many_of : (judgement : Judgement) → IsTooManyNodes input → IsDue (Some input) after rose judgement
+  many_of : (judgement : Judgement) → IsTooManyNodes AreRight input → IsDue (Some input) after rose judgement
       → IsUnlessStopped (status_of judgement) 8
-  many_of (Yes root) many due = let yes : IsYes input root = due.0 in absurd (text_not_many input yes.nodes yes.text yes.few many)
-  many_of (NoText line) many due = absurd (many_not_fault input line many due)
-  many_of (NoNode node) many due = absurd (many_not_wrong input node many due)
-  many_of ReadFault many due = inr (inl refl)
-  many_of OutOfMemory many due = inr (inr (inr refl))
-  many_of TooLong many due = inl refl
+  many_of (Yes root) many due = let yes : IsYes input root = due.0 in absurd (text_not_long input yes.nodes yes.text yes.few (inr many))
+  many_of (No (NoText line)) many due = absurd (many_not_fault input line many due)
+  many_of (No (NoNode node)) many due = absurd (many_not_wrong right_asks input node many due)
+  many_of (No ReadFault) many due = inr (inl refl)
+  many_of (No OutOfMemory) many due = inr (inr (inr refl))
+  many_of (No TooLong) many due = inl refl
 
-  line_too_long : (judgement : Judgement) → IsLongLine input → IsDue (Some input) after rose judgement
+  line_too_long : (judgement : Judgement) → IsLongLine AreRight input → IsDue (Some input) after rose judgement
       → IsUnlessStopped (status_of judgement) 8
-  line_too_long (Yes root) long due = let yes : IsYes input root = due.0 in absurd (long_not_text input yes.nodes long yes.text)
-  line_too_long (NoText line) long due = absurd (long_not_fault input line long due)
-  line_too_long (NoNode node) long due = absurd (long_not_node input node long due)
-  line_too_long ReadFault long due = inr (inl refl)
-  line_too_long OutOfMemory long due = inr (inr (inr refl))
-  line_too_long TooLong long due = inl refl
+  line_too_long (Yes root) long due =
+      let yes : IsYes input root = due.0 in absurd (text_not_long input yes.nodes yes.text yes.few (inl long))
+  line_too_long (No (NoText line)) long due = absurd (long_not_fault input line long due)
+  line_too_long (No (NoNode node)) long due = absurd (long_not_node right_asks input node long due)
+  line_too_long (No ReadFault) long due = inr (inl refl)
+  line_too_long (No OutOfMemory) long due = inr (inr (inr refl))
+  line_too_long (No TooLong) long due = inl refl
 
-  long_of : (judgement : Judgement) → IsLong input → IsDue (Some input) after rose judgement → IsUnlessStopped (status_of judgement) 8
+  long_of : (judgement : Judgement) → IsLong AreRight input → IsDue (Some input) after rose judgement
+      → IsUnlessStopped (status_of judgement) 8
   long_of judgement (inl long) due = line_too_long judgement long due
   long_of judgement (inr many) due = many_of judgement many due
 
   -- an input that is above a limit has no other fault before
-  long_not_line : (line : ℕ) → IsLong input → IsNoText input line → ⊥
+  long_not_line : (line : ℕ) → IsLong AreRight input → IsNoText AreRight input line → ⊥
   long_not_line line (inl long) text = long_not_fault input line long text
   long_not_line line (inr many) text = many_not_fault input line many text
 
-  long_not_wrong : (k : ℕ) → IsLong input → IsNoNode input k → ⊥
-  long_not_wrong k (inl long) node = long_not_node input k long node
-  long_not_wrong k (inr many) node = many_not_wrong input k many node
+  long_not_wrong : (k : ℕ) → IsLong AreRight input → IsNoNode AreRight input k → ⊥
+  long_not_wrong k (inl long) node = long_not_node right_asks input k long node
+  long_not_wrong k (inr many) node = many_not_wrong right_asks input k many node
 
   module _ (before now : Option (List ℕ)) where
     line_of : (judgement : Judgement) (line : ℕ) → now ≡ append before (judgement_text judgement)
-        → IsNoText input line → IsDue (Some input) after rose judgement
+        → IsNoText AreRight input line → IsDue (Some input) after rose judgement
         → AnswersUnlessStopped (no_text_line line) 1 before now (status_of judgement)
     line_of (Yes root) line written text due =
         let yes : IsYes input root = due.0 in absurd (text_not_fault input yes.nodes line yes.text text)
-    line_of (NoText other) line written text due =
-        let found : IsNoText input other = due in
+    line_of (No (NoText other)) line written text due =
+        let found : IsNoText AreRight input other = due in
         inl (refl, written ∙ ap (λ (n : ℕ). append before (no_text_line n)) (one_tree_fault input other line found.fault text.fault))
-    line_of (NoNode node) line written text due = absurd (text_not_node input line node text due)
-    line_of ReadFault line written text due = inr (inl refl)
-    line_of OutOfMemory line written text due = inr (inr (inr refl))
-    line_of TooLong line written text due = absurd (long_not_line line due text)
+    line_of (No (NoNode node)) line written text due = absurd (text_not_node right_asks input line node text due)
+    line_of (No ReadFault) line written text due = inr (inl refl)
+    line_of (No OutOfMemory) line written text due = inr (inr (inr refl))
+    line_of (No TooLong) line written text due = absurd (long_not_line line due text)
 
     node_of : (judgement : Judgement) (k : ℕ) → now ≡ append before (judgement_text judgement)
-        → IsNoNode input k → IsDue (Some input) after rose judgement
+        → IsNoNode AreRight input k → IsDue (Some input) after rose judgement
         → AnswersUnlessStopped (no_node_line k) 1 before now (status_of judgement)
     node_of (Yes root) k written node due =
         let yes : IsYes input root = due.0 in absurd (valid_not_wrong input yes.nodes k yes.text yes.valid node)
-    node_of (NoText line) k written node due = absurd (text_not_node input line k due node)
-    node_of (NoNode other) k written node due =
-        inl (refl, written ∙ ap (λ (n : ℕ). append before (no_node_line n)) (one_node input other k due node))
-    node_of ReadFault k written node due = inr (inl refl)
-    node_of OutOfMemory k written node due = inr (inr (inr refl))
-    node_of TooLong k written node due = absurd (long_not_wrong k due node)
+    node_of (No (NoText line)) k written node due = absurd (text_not_node right_asks input line k due node)
+    node_of (No (NoNode other)) k written node due =
+        inl (refl, written ∙ ap (λ (n : ℕ). append before (no_node_line n)) (one_node right_asks input other k due node))
+    node_of (No ReadFault) k written node due = inr (inl refl)
+    node_of (No OutOfMemory) k written node due = inr (inr (inr refl))
+    node_of (No TooLong) k written node due = absurd (long_not_wrong k due node)
 
 -- ---- what a status says of what was left, whatever the judgement
 
@@ -126,46 +130,46 @@ module _ (after : Option (List ℕ)) (rose : Type 0) where
       → IfSome before IsNoProof
   wrong_of None judgement one due = tt
   wrong_of (Some input) (Yes root) one due = absurd (omega arith)
-  wrong_of (Some input) (NoText line) one due = λ nodes text valid. text_not_fault input nodes line text due
-  wrong_of (Some input) (NoNode node) one due = λ nodes text valid. valid_not_wrong input nodes node text valid due
-  wrong_of (Some input) ReadFault one due = absurd (omega arith)
-  wrong_of (Some input) OutOfMemory one due = absurd (omega arith)
-  wrong_of (Some input) TooLong one due = absurd (omega arith)
+  wrong_of (Some input) (No (NoText line)) one due = λ nodes text valid. text_not_fault input nodes line text due
+  wrong_of (Some input) (No (NoNode node)) one due = λ nodes text valid. valid_not_wrong input nodes node text valid due
+  wrong_of (Some input) (No ReadFault) one due = absurd (omega arith)
+  wrong_of (Some input) (No OutOfMemory) one due = absurd (omega arith)
+  wrong_of (Some input) (No TooLong) one due = absurd (omega arith)
 
   too_long_of : (before : Option (List ℕ)) (judgement : Judgement) → status_of judgement ≡ 8 → IsDue before after rose judgement
-      → IfSome before IsLong
+      → IfSome before (IsLong AreRight)
   too_long_of before (Yes root) eight due = absurd (omega arith)
-  too_long_of before (NoText line) eight due = absurd (omega arith)
-  too_long_of before (NoNode node) eight due = absurd (omega arith)
-  too_long_of before ReadFault eight due = absurd (omega arith)
-  too_long_of before OutOfMemory eight due = absurd (omega arith)
-  too_long_of before TooLong eight due = due
+  too_long_of before (No (NoText line)) eight due = absurd (omega arith)
+  too_long_of before (No (NoNode node)) eight due = absurd (omega arith)
+  too_long_of before (No ReadFault) eight due = absurd (omega arith)
+  too_long_of before (No OutOfMemory) eight due = absurd (omega arith)
+  too_long_of before (No TooLong) eight due = due
 
   read_to_end_of : (before : Option (List ℕ)) (judgement : Judgement) → status_of judgement ≡ 0 → IsDue before after rose judgement
       → IsReadToEnd before after
   read_to_end_of before (Yes root) zero due = IfSome_then before due (λ input is. is.1)
-  read_to_end_of before (NoText line) zero due = absurd (omega arith)
-  read_to_end_of before (NoNode node) zero due = absurd (omega arith)
-  read_to_end_of before ReadFault zero due = absurd (omega arith)
-  read_to_end_of before OutOfMemory zero due = absurd (omega arith)
-  read_to_end_of before TooLong zero due = absurd (omega arith)
+  read_to_end_of before (No (NoText line)) zero due = absurd (omega arith)
+  read_to_end_of before (No (NoNode node)) zero due = absurd (omega arith)
+  read_to_end_of before (No ReadFault) zero due = absurd (omega arith)
+  read_to_end_of before (No OutOfMemory) zero due = absurd (omega arith)
+  read_to_end_of before (No TooLong) zero due = absurd (omega arith)
 
   read_fault_of : (before : Option (List ℕ)) (judgement : Judgement) → status_of judgement ≡ 5 → IsDue before after rose judgement
-      → rose × ReadsNoFault before after
+      → rose × ReadsNoFault AreRight before after
   read_fault_of before (Yes root) five due = absurd (omega arith)
-  read_fault_of before (NoText line) five due = absurd (omega arith)
-  read_fault_of before (NoNode node) five due = absurd (omega arith)
-  read_fault_of before ReadFault five due = due
-  read_fault_of before OutOfMemory five due = absurd (omega arith)
-  read_fault_of before TooLong five due = absurd (omega arith)
+  read_fault_of before (No (NoText line)) five due = absurd (omega arith)
+  read_fault_of before (No (NoNode node)) five due = absurd (omega arith)
+  read_fault_of before (No ReadFault) five due = due
+  read_fault_of before (No OutOfMemory) five due = absurd (omega arith)
+  read_fault_of before (No TooLong) five due = absurd (omega arith)
 
 status_of_check : (judgement : Judgement) → IsCheckStatus (status_of judgement)
 status_of_check (Yes root) = inl (omega arith)
-status_of_check (NoText line) = inl (omega arith)
-status_of_check (NoNode node) = inl (omega arith)
-status_of_check ReadFault = inr (omega arith, omega arith)
-status_of_check OutOfMemory = inr (omega arith, omega arith)
-status_of_check TooLong = inr (omega arith, omega arith)
+status_of_check (No (NoText line)) = inl (omega arith)
+status_of_check (No (NoNode node)) = inl (omega arith)
+status_of_check (No ReadFault) = inr (omega arith, omega arith)
+status_of_check (No OutOfMemory) = inr (omega arith, omega arith)
+status_of_check (No TooLong) = inr (omega arith, omega arith)
 
 -- each clause of an input that the source tells
 of_input : (before after : Option (List ℕ)) (rose : Type 0) (judgement : Judgement) (Says : List ℕ → Type 0)
@@ -181,11 +185,11 @@ of_any (Some input) Says says = says input
 
 status_not_6 : (judgement : Judgement) → status_of judgement ≡ 6 → ⊥
 status_not_6 (Yes root) six = omega arith
-status_not_6 (NoText line) six = omega arith
-status_not_6 (NoNode node) six = omega arith
-status_not_6 ReadFault six = omega arith
-status_not_6 OutOfMemory six = omega arith
-status_not_6 TooLong six = omega arith
+status_not_6 (No (NoText line)) six = omega arith
+status_not_6 (No (NoNode node)) six = omega arith
+status_not_6 (No ReadFault) six = omega arith
+status_not_6 (No OutOfMemory) six = omega arith
+status_not_6 (No TooLong) six = omega arith
 
 -- ---- the promises, by how a judgement was written
 

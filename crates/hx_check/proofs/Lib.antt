@@ -1,9 +1,11 @@
+pub mod Demands
 pub mod Standings
 pub mod LineCounts
 pub mod JudgedNodes
 pub mod Readings
 pub mod OneAnswer
 pub mod LongLines
+pub mod BeginningTexts
 pub mod DueAnswers
 pub mod Endings
 pub mod OneFault

@@ -1,25 +1,22 @@
 -- A line that is too long comes first or not at all: the lines of a tree's text are short, so where a line is too long, each other
 -- way to read the input has gone wrong before, or not yet.
 use Rattle.std.proofs.Common.{◌≡◌, ℕ, suc, zero, ◌<◌, ◌≤◌, List, [], ◌∷◌, ◌++◌, length, get_or, sym, ap, ◌∙◌, subst, arith, append_assoc}
-use Rattle.std.proofs.Common.{length-append}
-use Rattle.std.proofs.lemmas.List.{append-nil, nil_from_length}
+use Rattle.std.proofs.lemmas.List.{append-nil}
 use Rattle.hx_lines.specs.Lines.{HasLf, lines_of}
 use Rattle.hx_lines.specs.Cutters.{BeginLong}
 use Rattle.hx_lines.proofs.LineLaws.{lines_of-nil, lines_of-line}
-use Rattle.hx_tree.specs.declared.nodes.Node.{Node}
-use Rattle.hx_tree.specs.Trees.{IsLeastWrong}
-use Rattle.hx_tree.proofs.TreeGrowth.{least_wrong-append}
 use Rattle.hx_letters.specs.Marks.{Lacks}
 use Rattle.hx_text.specs.Grammars.{text_of, Begins}
-use Rattle.hx_text.specs.TreeTexts.{AreTreeLines, IsTreeText}
+use Rattle.hx_text.specs.TreeTexts.{AreTreeLines}
 use Rattle.hx_text.specs.Lengths.{longest_line}
 use Rattle.hx_text.proofs.Cuts.{AllLack, Agree, Second_goes_on, First_goes_on, agree, Lacks-middle}
 use Rattle.hx_text.proofs.OneFault.{no_more}
 use Rattle.hx_text.proofs.ShortLines.{AllShort, AllShort-middle, AllShort-front, AllShort-tree_lines}
 use Rattle.hx_text.proofs.TreeLacks.{AllLack-tree_lines, AllLack-begun}
 use Rattle.hx_check.specs.Limits.{BeginsLong}
-use Rattle.hx_check.specs.Judging.{EndedIn, IsNoText, IsNoNode, IsLongLine, IsTooManyNodes}
-use Rattle.hx_check.proofs.Readings.{GoOn, many_lines, AllLack-many_lines, AllShort-many_lines, too_many}
+use Rattle.hx_check.specs.Judging.{Demand, EndedIn, IsNoText, IsNoNode, IsLongLine, IsTooManyNodes}
+use Rattle.hx_check.proofs.Demands.{AsksRight}
+use Rattle.hx_check.proofs.Readings.{GoOn, right_among, many_lines, AllLack-many_lines, AllShort-many_lines, too_many}
 use Rattle.hx_check.proofs.OneAnswer.{front_nodes}
 
 -- ---- the two words for bytes without LF
@@ -46,7 +43,7 @@ short_not_long line later lacks short long =
     let first : BeginLong (line ∷ lines_of later) = subst BeginLong (lines_of-line line later (plain_of line lacks)) long in
     omega (arith, short, first)
 
-lines_not_long : (line : List ℕ) (more : List (List ℕ)) (rest : List ℕ) → Lacks 10 line → length line ≤ longest_line
+pub lines_not_long : (line : List ℕ) (more : List (List ℕ)) (rest : List ℕ) → Lacks 10 line → length line ≤ longest_line
     → ¬ BeginsLong (text_of (line ∷ more) ++ rest)
 unfolding text_of
 lines_not_long line more rest lacks short long =
@@ -54,13 +51,13 @@ lines_not_long line more rest lacks short long =
 
 -- ---- the lines before a line that is too long go on behind other lines, and not the other way round
 
-record GoesOn (input : List ℕ) (long : IsLongLine input) (lines : List (List ℕ)) (rest : List ℕ) : Type 0 where
+record GoesOn {Meets : Demand} {input : List ℕ} (long : IsLongLine Meets input) (lines : List (List ℕ)) (rest : List ℕ) : Type 0 where
   more : List (List ℕ)
   is : long.lines ≡ lines ++ more
   left : rest ≡ text_of more ++ long.rest
 
-goes_on_by : (input : List ℕ) (long : IsLongLine input) (lines : List (List ℕ)) (rest : List ℕ) → AllLack lines → AllShort lines
-    → Agree long.lines lines long.rest rest → GoesOn input long lines rest
+goes_on_by : {Meets : Demand} (input : List ℕ) (long : IsLongLine Meets input) (lines : List (List ℕ)) (rest : List ℕ) → AllLack lines
+    → AllShort lines → Agree long.lines lines long.rest rest → GoesOn long lines rest
 unfolding text_of
 goes_on_by input long lines rest lack short (First_goes_on more is left) = record { more = more; is = is; left = left }
 goes_on_by input long lines rest lack short (Second_goes_on [] is left) =
@@ -70,8 +67,8 @@ goes_on_by input long lines rest lack short (Second_goes_on (next ∷ more) is l
     (Lacks-middle long.lines next more (subst AllLack (is ∙ sym (append_assoc long.lines (next ∷ []) more)) lack))
     (AllShort-middle long.lines next more (subst AllShort is short)) (subst BeginsLong left long.long))
 
-goes_on : (input : List ℕ) (long : IsLongLine input) (lines : List (List ℕ)) (rest : List ℕ) → AllLack lines → AllShort lines
-    → input ≡ text_of lines ++ rest → GoesOn input long lines rest
+goes_on : {Meets : Demand} (input : List ℕ) (long : IsLongLine Meets input) (lines : List (List ℕ)) (rest : List ℕ) → AllLack lines
+    → AllShort lines → input ≡ text_of lines ++ rest → GoesOn long lines rest
 goes_on input long lines rest lack short parts =
     goes_on_by input long lines rest lack short
     (agree long.lines lines long.rest rest (AllLack-begun long.lines long.faultless.begin) lack (sym long.parts ∙ parts))
@@ -81,19 +78,10 @@ AllShort-begun lines begins = AllShort-front lines begins.0 (AllShort-tree_lines
 
 -- ---- so no other answer fits
 
-pub long_not_text : (input : List ℕ) (nodes : List Node) → IsLongLine input → IsTreeText input nodes → ⊥
-long_not_text input nodes long text =
-    let are : AreTreeLines text.lines = record { preamble = text.preamble; nodes = nodes; winner = text.winner; are = text.are } in
-    let on : GoesOn input long text.lines [] =
-    goes_on input long text.lines [] (AllLack-tree_lines text.lines are) (AllShort-tree_lines text.lines are)
-    (text.same ∙ sym (append-nil (text_of text.lines))) in
-    none_not_long long.rest
-    (nil_from_length long.rest (omega (arith, ap length on.left, length-append (text_of on.more) long.rest))) long.long
-
-pub long_not_fault : (input : List ℕ) (line : ℕ) → IsLongLine input → IsNoText input line → ⊥
+pub long_not_fault : {Meets : Demand} (input : List ℕ) (line : ℕ) → IsLongLine Meets input → IsNoText Meets input line → ⊥
 unfolding text_of
 long_not_fault input line long text =
-    let on : GoesOn input long text.fault.before text.fault.rest =
+    let on : GoesOn long text.fault.before text.fault.rest =
     goes_on input long text.fault.before text.fault.rest (AllLack-begun text.fault.before text.fault.right)
     (AllShort-begun text.fault.before text.fault.right) text.fault.parts in
     let none : on.more ≡ [] =
@@ -101,20 +89,20 @@ long_not_fault input line long text =
     let same : text.fault.rest ≡ long.rest = on.left ∙ ap (λ (ls : List (List ℕ)). text_of ls ++ long.rest) none in
     text.short (subst BeginsLong (sym same) long.long)
 
-pub long_not_node : (input : List ℕ) (k : ℕ) → IsLongLine input → IsNoNode input k → ⊥
-long_not_node input k long node =
-    let on : GoesOn input long node.lines node.rest =
+pub long_not_node : {Meets : Demand} → AsksRight Meets → (input : List ℕ) (k : ℕ) → IsLongLine Meets input → IsNoNode Meets input k
+    → ⊥
+long_not_node asks input k long node =
+    let on : GoesOn long node.lines node.rest =
     goes_on input long node.lines node.rest (AllLack-begun node.lines node.right) (AllShort-begun node.lines node.right) node.parts in
-    let nodes : GoOn node.nodes long.faultless.nodes =
-    front_nodes node.lines on.more node.nodes long.faultless.nodes node.ended
+    let nodes : GoOn (node.earlier ++ node.node ∷ []) long.faultless.nodes =
+    front_nodes node.lines on.more (node.earlier ++ node.node ∷ []) long.faultless.nodes node.ended
     (subst (λ (ls : List (List ℕ)). EndedIn ls long.faultless.nodes) on.is long.faultless.ended)
     (subst (Begins AreTreeLines) on.is long.faultless.begin) in
-    let least : IsLeastWrong long.faultless.nodes k =
-    subst (λ (ns : List Node). IsLeastWrong ns k) (sym nodes.same) (least_wrong-append node.nodes nodes.more k node.wrong) in
-    least.wrong (long.faultless.right k)
+    node.wrong (right_among node.earlier node.node long.faultless.nodes nodes
+    (asks long.faultless.nodes long.faultless.meets (length node.earlier)))
 
-pub long_not_many : (input : List ℕ) → IsLongLine input → IsTooManyNodes input → ⊥
+pub long_not_many : {Meets : Demand} (input : List ℕ) → IsLongLine Meets input → IsTooManyNodes Meets input → ⊥
 long_not_many input long many =
-    let on : GoesOn input long (many_lines many) many.rest =
+    let on : GoesOn long (many_lines many) many.rest =
     goes_on input long (many_lines many) many.rest (AllLack-many_lines many) (AllShort-many_lines many) many.parts in
     too_many many long.lines on.more long.faultless.nodes on.is long.faultless.ended

@@ -1,5 +1,6 @@
--- At most one answer of `check` with status 1 fits an input, with one number. Nodes that ended in the first lines are not more
--- than those that ended in more lines; so where a node is wrong, no line after it is at fault with right nodes before it.
+-- At most one fault with status 1 fits an input, with one number, under each demand that asks for right nodes. Nodes that ended in
+-- the first lines are not more than those that ended in more lines; so where a node is wrong, no line after it is at fault with
+-- right nodes before it.
 use Rattle.std.proofs.Common.{◌≡◌, ◌≢◌, ℕ, ◌<◌, ◌≤◌, List, [], ◌∷◌, ◌++◌, length, refl, sym, ap, ◌∙◌, subst, arith, ⊎_elim, append_assoc}
 use Rattle.std.proofs.Common.{length-append}
 use Rattle.std.proofs.lemmas.Bool.{cases_lt}
@@ -9,7 +10,7 @@ use Rattle.std.specs.Prelude.{flat_map}
 use Rattle.hx_board.specs.Cells.{IsExtent}
 use Rattle.hx_tree.specs.declared.nodes.Node.{Node}
 use Rattle.hx_tree.specs.Trees.{IsLeastWrong}
-use Rattle.hx_tree.proofs.TreeGrowth.{least_wrong-append}
+use Rattle.hx_tree.proofs.TreeGrowth.{least_wrong-append, least_wrong-last}
 use Rattle.hx_text.specs.declared.versions.Preamble.{Preamble}
 use Rattle.hx_text.specs.Grammars.{Begins}
 use Rattle.hx_text.specs.PositionTexts.{size_line}
@@ -20,8 +21,9 @@ use Rattle.hx_text.proofs.Alignment.{preamble_injective}
 use Rattle.hx_text.proofs.NodeInjective.{head_not_end, node_cancel}
 use Rattle.hx_text.proofs.OneFault.{no_more}
 use Rattle.hx_text.proofs.TreeLacks.{AllLack-tree_lines, AllLack-begun}
-use Rattle.hx_check.specs.Judging.{EndedIn, Before_size, Among_nodes, Inside_node, After_end, IsNoText, IsNoNode}
-use Rattle.hx_check.proofs.Readings.{GoOn, ended_first}
+use Rattle.hx_check.specs.Judging.{Demand, EndedIn, Before_size, Among_nodes, Inside_node, After_end, IsNoText, IsNoNode}
+use Rattle.hx_check.proofs.Demands.{AsksRight}
+use Rattle.hx_check.proofs.Readings.{GoOn, ended_first, right_among}
 
 -- lines of these nodes, and then lines that begin with no whole node
 record Ended (lines : List (List ℕ)) (nodes : List Node) : Type 0 where
@@ -168,28 +170,27 @@ front_nodes lines more a b ended_a ended_b begins =
         record { more = []; same = equal a b on_a.more on_b.more (sym on_a.same ∙ on_b.same) same ∙ sym (append-nil a) }
 
 -- a line at fault comes after no wrong node
-text_not_node_from : {input : List ℕ} {line : ℕ} (k : ℕ) (text : IsNoText input line) (node : IsNoNode input k) (more : List (List ℕ))
-    → text.fault.before ≡ node.lines ++ more → ⊥
-text_not_node_from k text node more is =
-    let on : GoOn node.nodes text.nodes =
-    front_nodes node.lines more node.nodes text.nodes node.ended (subst (λ (ls : List (List ℕ)). EndedIn ls text.nodes) is text.ended)
-    (subst (Begins AreTreeLines) is text.fault.right) in
-    let least : IsLeastWrong text.nodes k =
-    subst (λ (ns : List Node). IsLeastWrong ns k) (sym on.same) (least_wrong-append node.nodes on.more k node.wrong) in
-    least.wrong (text.right k)
+text_not_node_from : {Meets : Demand} → AsksRight Meets → {input : List ℕ} {line : ℕ} (k : ℕ) (text : IsNoText Meets input line)
+    (node : IsNoNode Meets input k) (more : List (List ℕ)) → text.fault.before ≡ node.lines ++ more → ⊥
+text_not_node_from asks k text node more is =
+    let on : GoOn (node.earlier ++ node.node ∷ []) text.nodes =
+    front_nodes node.lines more (node.earlier ++ node.node ∷ []) text.nodes node.ended
+    (subst (λ (ls : List (List ℕ)). EndedIn ls text.nodes) is text.ended) (subst (Begins AreTreeLines) is text.fault.right) in
+    node.wrong (right_among node.earlier node.node text.nodes on (asks text.nodes text.meets (length node.earlier)))
 
-text_not_node_by : (input : List ℕ) (line k : ℕ) (text : IsNoText input line) (node : IsNoNode input k)
-    → Agree text.fault.before node.lines text.fault.rest node.rest → ⊥
-text_not_node_by input line k text node (First_goes_on more is left) = text_not_node_from k text node more is
-text_not_node_by input line k text node (Second_goes_on more is left) =
+text_not_node_by : {Meets : Demand} → AsksRight Meets → (input : List ℕ) (line k : ℕ) (text : IsNoText Meets input line)
+    (node : IsNoNode Meets input k) → Agree text.fault.before node.lines text.fault.rest node.rest → ⊥
+text_not_node_by asks input line k text node (First_goes_on more is left) = text_not_node_from asks k text node more is
+text_not_node_by asks input line k text node (Second_goes_on more is left) =
     let none : more ≡ [] = no_more AreTreeLines AllLack-tree_lines input line text.fault node.lines more node.rest is left node.right in
-    text_not_node_from k text node []
+    text_not_node_from asks k text node []
     (sym (append-nil text.fault.before) ∙ ap (λ (ls : List (List ℕ)). text.fault.before ++ ls) (sym none) ∙ sym is
     ∙ sym (append-nil node.lines))
 
-pub text_not_node : (input : List ℕ) (line k : ℕ) → IsNoText input line → IsNoNode input k → ⊥
-text_not_node input line k text node =
-    text_not_node_by input line k text node
+pub text_not_node : {Meets : Demand} → AsksRight Meets → (input : List ℕ) (line k : ℕ) → IsNoText Meets input line
+    → IsNoNode Meets input k → ⊥
+text_not_node asks input line k text node =
+    text_not_node_by asks input line k text node
     (agree text.fault.before node.lines text.fault.rest node.rest (AllLack-begun text.fault.before text.fault.right)
     (AllLack-begun node.lines node.right) (sym text.fault.parts ∙ node.parts))
 
@@ -202,23 +203,32 @@ one_least nodes k j first second =
     ⊎_elim (λ less. absurd (second.wrong (first.before j less))) (λ to. omega arith) (cases_lt j k))
     (cases_lt k j)
 
-one_node_from : (input : List ℕ) (k j : ℕ) (first : IsNoNode input k) (second : IsNoNode input j) (more : List (List ℕ))
-    → second.lines ≡ first.lines ++ more → k ≡ j
-one_node_from input k j first second more is =
-    let on : GoOn first.nodes second.nodes =
-    front_nodes first.lines more first.nodes second.nodes first.ended
-    (subst (λ (ls : List (List ℕ)). EndedIn ls second.nodes) is second.ended)
+least_of : {Meets : Demand} → AsksRight Meets → {input : List ℕ} {k : ℕ} (node : IsNoNode Meets input k)
+    → IsLeastWrong (node.earlier ++ node.node ∷ []) (length node.earlier)
+least_of asks node = least_wrong-last node.earlier node.node (asks node.earlier node.meets) node.wrong
+
+one_node_from : {Meets : Demand} → AsksRight Meets → (input : List ℕ) (k j : ℕ) (first : IsNoNode Meets input k)
+    (second : IsNoNode Meets input j) (more : List (List ℕ)) → second.lines ≡ first.lines ++ more → k ≡ j
+one_node_from asks input k j first second more is =
+    let nodes : List Node = first.earlier ++ first.node ∷ [] in
+    let all : List Node = second.earlier ++ second.node ∷ [] in
+    let on : GoOn nodes all =
+    front_nodes first.lines more nodes all first.ended (subst (λ (ls : List (List ℕ)). EndedIn ls all) is second.ended)
     (subst (Begins AreTreeLines) is second.right) in
-    one_least second.nodes k j
-    (subst (λ (ns : List Node). IsLeastWrong ns k) (sym on.same) (least_wrong-append first.nodes on.more k first.wrong)) second.wrong
+    let same : length first.earlier ≡ length second.earlier =
+    one_least all (length first.earlier) (length second.earlier)
+    (subst (λ (ns : List Node). IsLeastWrong ns (length first.earlier)) (sym on.same)
+    (least_wrong-append nodes on.more (length first.earlier) (least_of asks first))) (least_of asks second) in
+    first.count ∙ same ∙ sym second.count
 
-one_node_by : (input : List ℕ) (k j : ℕ) (first : IsNoNode input k) (second : IsNoNode input j)
-    → Agree first.lines second.lines first.rest second.rest → k ≡ j
-one_node_by input k j first second (Second_goes_on more is left) = one_node_from input k j first second more is
-one_node_by input k j first second (First_goes_on more is left) = sym (one_node_from input j k second first more is)
+one_node_by : {Meets : Demand} → AsksRight Meets → (input : List ℕ) (k j : ℕ) (first : IsNoNode Meets input k)
+    (second : IsNoNode Meets input j) → Agree first.lines second.lines first.rest second.rest → k ≡ j
+one_node_by asks input k j first second (Second_goes_on more is left) = one_node_from asks input k j first second more is
+one_node_by asks input k j first second (First_goes_on more is left) = sym (one_node_from asks input j k second first more is)
 
-pub one_node : (input : List ℕ) (k j : ℕ) → IsNoNode input k → IsNoNode input j → k ≡ j
-one_node input k j first second =
-    one_node_by input k j first second
+pub one_node : {Meets : Demand} → AsksRight Meets → (input : List ℕ) (k j : ℕ) → IsNoNode Meets input k → IsNoNode Meets input j
+    → k ≡ j
+one_node asks input k j first second =
+    one_node_by asks input k j first second
     (agree first.lines second.lines first.rest second.rest (AllLack-begun first.lines first.right) (AllLack-begun second.lines second.right)
     (sym first.parts ∙ second.parts))

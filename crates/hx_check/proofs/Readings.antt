@@ -7,28 +7,42 @@ use Rattle.std.specs.Prelude.{flat_map}
 use Rattle.hx_board.specs.declared.colours.Colour.{Colour}
 use Rattle.hx_board.specs.Cells.{IsExtent}
 use Rattle.hx_tree.specs.declared.nodes.Node.{Node}
-use Rattle.hx_tree.specs.Trees.{IsValidTree, IsLeastWrong}
-use Rattle.hx_tree.proofs.TreeGrowth.{least_wrong-append, right_at-append}
+use Rattle.hx_tree.specs.Rules.{IsRightNode}
+use Rattle.hx_tree.specs.Trees.{IsRightNodeAt, headings_of}
+use Rattle.hx_tree.proofs.TreeGrowth.{right_at-append}
+use Rattle.hx_board.proofs.ListLaws.{get-push_last}
+use Rattle.std.proofs.Math.Seq.{take-append_seam}
 use Rattle.hx_letters.specs.Words.{IsNumber}
 use Rattle.hx_text.specs.declared.versions.Preamble.{Preamble}
-use Rattle.hx_text.specs.Grammars.{text_of, IsFaultyLine}
+use Rattle.hx_text.specs.Grammars.{text_of, Begins, IsFaultyLine}
 use Rattle.hx_text.specs.Entries.{entry_line, entries_of}
-use Rattle.hx_text.specs.TreeTexts.{AreTreeLines, AreTreeLinesOf, IsTreeText, EachNodeFits, NodeFits, front_lines, head_of, head_line}
+use Rattle.hx_text.specs.TreeTexts.{AreTreeLines, AreTreeLinesOf, EachNodeFits, NodeFits, front_lines, head_of, head_line}
 use Rattle.hx_text.specs.TreeTexts.{node_lines, end_line, tree_lines}
 use Rattle.hx_text.specs.Lengths.{most_nodes}
-use Rattle.hx_check.specs.Judging.{EndedIn, Before_size, Among_nodes, Inside_node, After_end, IsNoText, IsNoNode, IsTooManyNodes}
+use Rattle.hx_check.specs.Judging.{Demand, EndedIn, Before_size, Among_nodes, Inside_node, After_end, IsNoText, IsNoNode, IsTooManyNodes}
+use Rattle.hx_check.proofs.Demands.{AsksRight}
 use Rattle.hx_text.proofs.Alignment.{aligned}
 use Rattle.hx_text.proofs.NodeInjective.{head_not_end}
 use Rattle.hx_reader.proofs.Steps.{flat_map-push, EachNodeFits-push}
 use Rattle.hx_reader.proofs.Completions.{whole_are_of}
-use Rattle.hx_text.proofs.Cuts.{Agree, Second_goes_on, First_goes_on, agree, AllLack, ended-some, AllLack-front}
+use Rattle.hx_text.proofs.Cuts.{Agree, Second_goes_on, First_goes_on, agree, AllLack}
 use Rattle.hx_text.proofs.ShortLines.{AllShort, AllShort-front, AllShort-tree_lines}
-use Rattle.hx_text.proofs.TreeLacks.{AllLack-tree_lines, AllLack-begun}
+use Rattle.hx_text.proofs.TreeLacks.{AllLack-begun}
 
 -- the nodes that ended in some lines are the first ones of each text that begins with these lines
 pub record GoOn (nodes all : List Node) : Type 0 where
   pub more : List Node
   pub same : all ≡ nodes ++ more
+
+-- a node that is right where it stands among more nodes is right after those before it
+pub right_among : (earlier : List Node) (node : Node) (all : List Node) → GoOn (earlier ++ node ∷ []) all
+    → IsRightNodeAt all (length earlier) → IsRightNode (headings_of earlier) node
+right_among earlier node all on right =
+    let before : length earlier < length (earlier ++ node ∷ []) = omega (arith, length-append earlier (node ∷ [])) in
+    let found : IsRightNodeAt (earlier ++ node ∷ []) (length earlier) =
+    (right_at-append (earlier ++ node ∷ []) on.more (length earlier) before).0
+    (subst (λ (ns : List Node). IsRightNodeAt ns (length earlier)) on.same right) in
+    rw (get-push_last earlier node, take-append_seam earlier (node ∷ [])) at found
 
 pub ended_first : (lines more : List (List ℕ)) (nodes all : List Node) (preamble : Preamble) (winner : Colour) → EndedIn lines nodes
     → AreTreeLinesOf preamble all winner (lines ++ more) → GoOn nodes all
@@ -140,18 +154,18 @@ completed lines nodes long (After_end preamble winner whole few) = record {
 }
 
 -- the lines of too many nodes, up to the first line of the last
-abbrev pub many_lines : {input : List ℕ} → IsTooManyNodes input → List (List ℕ)
+abbrev pub many_lines : {Meets : Demand} {input : List ℕ} → IsTooManyNodes Meets input → List (List ℕ)
 many_lines many = front_lines many.preamble ++ flat_map node_lines many.nodes ++ head_line (head_of many.next) ∷ []
 
-abbrev all_of : {input : List ℕ} → IsTooManyNodes input → List Node
+abbrev all_of : {Meets : Demand} {input : List ℕ} → IsTooManyNodes Meets input → List Node
 all_of many = many.nodes ++ many.next ∷ []
 
 -- and the lines with which a text of theirs goes on
-many_rest : {input : List ℕ} → IsTooManyNodes input → List (List ℕ)
+many_rest : {Meets : Demand} {input : List ℕ} → IsTooManyNodes Meets input → List (List ℕ)
 many_rest many = map entry_line (entries_of many.next.rule)
     ++ end_line (length (many.nodes ++ many.next ∷ [])) many.next.heading.winner ∷ []
 
-many_are : {input : List ℕ} (many : IsTooManyNodes input)
+many_are : {Meets : Demand} {input : List ℕ} (many : IsTooManyNodes Meets input)
     → many_lines many ++ many_rest many ≡ tree_lines many.preamble (all_of many) many.next.heading.winner
 unfolding many_rest
 many_are many =
@@ -165,25 +179,26 @@ many_are many =
     (append_assoc (front_lines many.preamble) (flat_map node_lines many.nodes) (node_lines many.next)
     ∙ ap (λ (ls : List (List ℕ)). front_lines many.preamble ++ ls) (sym (flat_map-push many.nodes many.next)))
 
-many_whole : {input : List ℕ} (many : IsTooManyNodes input)
+many_whole : {Meets : Demand} {input : List ℕ} (many : IsTooManyNodes Meets input)
     → AreTreeLinesOf many.preamble (all_of many) many.next.heading.winner (many_lines many ++ many_rest many)
 many_whole many =
     subst (AreTreeLinesOf many.preamble (all_of many) many.next.heading.winner) (sym (many_are many))
     (whole_are_of many.preamble many.nodes many.next many.is_size many.each many.next_fits (omega (arith, many.full)))
 
-pub AllLack-many_lines : {input : List ℕ} (many : IsTooManyNodes input) → AllLack (many_lines many)
-AllLack-many_lines many =
-    AllLack-front (many_lines many) (many_rest many)
-    (AllLack-tree_lines _
-    (record { preamble = many.preamble; nodes = all_of many; winner = many.next.heading.winner; are = many_whole many }))
+pub many_begin : {Meets : Demand} {input : List ℕ} (many : IsTooManyNodes Meets input) → Begins AreTreeLines (many_lines many)
+many_begin many =
+    (many_rest many, record { preamble = many.preamble; nodes = all_of many; winner = many.next.heading.winner; are = many_whole many })
 
-pub AllShort-many_lines : {input : List ℕ} (many : IsTooManyNodes input) → AllShort (many_lines many)
+pub AllLack-many_lines : {Meets : Demand} {input : List ℕ} (many : IsTooManyNodes Meets input) → AllLack (many_lines many)
+AllLack-many_lines many = AllLack-begun (many_lines many) (many_begin many)
+
+pub AllShort-many_lines : {Meets : Demand} {input : List ℕ} (many : IsTooManyNodes Meets input) → AllShort (many_lines many)
 AllShort-many_lines many =
-    AllShort-front (many_lines many) (many_rest many)
-    (AllShort-tree_lines _
-    (record { preamble = many.preamble; nodes = all_of many; winner = many.next.heading.winner; are = many_whole many }))
+    let begins : Begins AreTreeLines (many_lines many) = many_begin many in
+    AllShort-front (many_lines many) begins.0 (AllShort-tree_lines (many_lines many ++ begins.0) begins.1)
 
-no_end_yet : {input : List ℕ} (many : IsTooManyNodes input) (more : List Node) (rest : List (List ℕ)) (count : ℕ) (winner : Colour)
+no_end_yet : {Meets : Demand} {input : List ℕ} (many : IsTooManyNodes Meets input) (more : List Node) (rest : List (List ℕ))
+    (count : ℕ) (winner : Colour)
     → IsNumber count
     → head_line (head_of many.next) ∷ rest ≡ flat_map node_lines more ++ end_line count winner ∷ [] → 1 ≤ length more
 no_end_yet many [] rest count winner small e =
@@ -192,8 +207,8 @@ no_end_yet many [] rest count winner small e =
 no_end_yet many (node ∷ more) rest count winner small e = omega arith
 
 -- no text that begins so has as few nodes as a text may have
-more_nodes : {input : List ℕ} (many : IsTooManyNodes input) (preamble : Preamble) (all : List Node) (winner : Colour) (rest : List (List ℕ))
-    → AreTreeLinesOf preamble all winner (many_lines many ++ rest) → length all ≤ most_nodes → ⊥
+pub more_nodes : {Meets : Demand} {input : List ℕ} (many : IsTooManyNodes Meets input) (preamble : Preamble) (all : List Node)
+    (winner : Colour) (rest : List (List ℕ)) → AreTreeLinesOf preamble all winner (many_lines many ++ rest) → length all ≤ most_nodes → ⊥
 more_nodes many preamble all winner rest are few =
     let front : List (List ℕ) = front_lines many.preamble ++ flat_map node_lines many.nodes in
     let head : List ℕ = head_line (head_of many.next) in
@@ -205,7 +220,8 @@ more_nodes many preamble all winner rest are few =
     let some : 1 ≤ length on.on.more = no_end_yet many on.on.more rest (length all) winner are.count on.on.rest_is in
     absurd (omega (arith, few, some, many.full, ap length on.on.nodes_are, length-append many.nodes on.on.more))
 
-long_many : {input : List ℕ} (many : IsTooManyNodes input) (lines more : List (List ℕ)) → lines ≡ many_lines many ++ more → 3 ≤ length lines
+long_many : {Meets : Demand} {input : List ℕ} (many : IsTooManyNodes Meets input) (lines more : List (List ℕ))
+    → lines ≡ many_lines many ++ more → 3 ≤ length lines
 long_many many lines more is =
     omega (
       arith,
@@ -215,7 +231,7 @@ long_many many lines more is =
     )
 
 -- more nodes than a text may have
-pub too_many : {input : List ℕ} (many : IsTooManyNodes input) (lines more : List (List ℕ)) (nodes : List Node)
+pub too_many : {Meets : Demand} {input : List ℕ} (many : IsTooManyNodes Meets input) (lines more : List (List ℕ)) (nodes : List Node)
     → lines ≡ many_lines many ++ more → EndedIn lines nodes → ⊥
 too_many many lines more nodes is ended =
     let whole : Completed lines = completed lines nodes (long_many many lines more is) ended in
@@ -225,36 +241,41 @@ too_many many lines more nodes is ended =
     (subst (AreTreeLinesOf whole.preamble whole.nodes whole.winner) same whole.are) whole.few
 
 -- the rest of the lines of too many nodes
-goes_to_end : {input : List ℕ} (many : IsTooManyNodes input) (lines more : List (List ℕ)) → many_lines many ≡ lines ++ more
+goes_to_end : {Meets : Demand} {input : List ℕ} (many : IsTooManyNodes Meets input) (lines more : List (List ℕ))
+    → many_lines many ≡ lines ++ more
     → AreTreeLinesOf many.preamble (all_of many) many.next.heading.winner (lines ++ (more ++ many_rest many))
 goes_to_end many lines more is =
     subst (AreTreeLinesOf many.preamble (all_of many) many.next.heading.winner)
     (ap (λ (ls : List (List ℕ)). ls ++ many_rest many) is ∙ append_assoc lines more (many_rest many))
     (many_whole many)
 
-wrong_within : {input : List ℕ} (many : IsTooManyNodes input) (nodes : List Node) (k : ℕ) → GoOn nodes (all_of many)
-    → IsLeastWrong nodes k → k < most_nodes → ⊥
-wrong_within many nodes k on wrong within =
-    let least : IsLeastWrong (all_of many) k =
-    subst (λ (ns : List Node). IsLeastWrong ns k) (sym on.same) (least_wrong-append nodes on.more k wrong) in
-    least.wrong ((right_at-append many.nodes (many.next ∷ []) k (omega (arith, many.full))).1 (many.right k))
+wrong_within : {Meets : Demand} {input : List ℕ} (many : IsTooManyNodes Meets input) → AsksRight Meets → (earlier : List Node) (node : Node)
+    → GoOn (earlier ++ node ∷ []) (all_of many) → length earlier < most_nodes → IsRightNode (headings_of earlier) node
+wrong_within many asks earlier node on within =
+    right_among earlier node (all_of many) on
+    ((right_at-append many.nodes (many.next ∷ []) (length earlier) (omega (arith, many.full))).1
+    (asks many.nodes many.meets (length earlier)))
 
-many_not_wrong_by : {input : List ℕ} (many : IsTooManyNodes input) (k : ℕ) (is : IsNoNode input k)
-    → Agree (many_lines many) is.lines many.rest is.rest → ⊥
-many_not_wrong_by many k is (Second_goes_on more same rest) = too_many many is.lines more is.nodes same is.ended
-many_not_wrong_by many k is (First_goes_on more same rest) =
-    wrong_within many is.nodes k
-    (ended_first is.lines (more ++ many_rest many) is.nodes (all_of many) many.preamble many.next.heading.winner is.ended
-    (goes_to_end many is.lines more same)) is.wrong (omega (arith, is.last, few_ended is.lines is.nodes is.ended))
+many_not_wrong_by : {Meets : Demand} {input : List ℕ} (many : IsTooManyNodes Meets input) → AsksRight Meets → (k : ℕ)
+    (is : IsNoNode Meets input k) → Agree (many_lines many) is.lines many.rest is.rest → ⊥
+many_not_wrong_by many asks k is (Second_goes_on more same rest) =
+    too_many many is.lines more (is.earlier ++ is.node ∷ []) same is.ended
+many_not_wrong_by many asks k is (First_goes_on more same rest) =
+    let nodes : List Node = is.earlier ++ is.node ∷ [] in
+    is.wrong (wrong_within many asks is.earlier is.node
+    (ended_first is.lines (more ++ many_rest many) nodes (all_of many) many.preamble many.next.heading.winner is.ended
+    (goes_to_end many is.lines more same))
+    (omega (arith, length-append is.earlier (is.node ∷ []), few_ended is.lines nodes is.ended)))
 
-pub many_not_wrong : (input : List ℕ) (k : ℕ) → IsTooManyNodes input → IsNoNode input k → ⊥
-many_not_wrong input k many is =
-    many_not_wrong_by many k is
+pub many_not_wrong : {Meets : Demand} → AsksRight Meets → (input : List ℕ) (k : ℕ) → IsTooManyNodes Meets input
+    → IsNoNode Meets input k → ⊥
+many_not_wrong asks input k many is =
+    many_not_wrong_by many asks k is
     (agree (many_lines many) is.lines many.rest is.rest (AllLack-many_lines many) (AllLack-begun is.lines is.right)
     (sym many.parts ∙ is.parts))
 
 -- what comes after the lines before a fault begins no text
-no_next : (input : List ℕ) (line : ℕ) (fault : IsFaultyLine AreTreeLines input line) (next : List ℕ) (more rest : List (List ℕ))
+pub no_next : (input : List ℕ) (line : ℕ) (fault : IsFaultyLine AreTreeLines input line) (next : List ℕ) (more rest : List (List ℕ))
     (tail : List ℕ)
     → fault.rest ≡ text_of (next ∷ more) ++ tail → AreTreeLines (fault.before ++ (next ∷ rest)) → ⊥
 unfolding text_of
@@ -262,12 +283,12 @@ no_next input line fault next more rest tail is are =
     fault.wrong next (text_of more ++ tail) (is ∙ append_assoc next (10 ∷ text_of more) tail)
     (rest, subst AreTreeLines (sym (append_assoc fault.before (next ∷ []) rest)) are)
 
-many_not_fault_at : {input : List ℕ} (many : IsTooManyNodes input) (line : ℕ) (is : IsNoText input line) (more : List (List ℕ))
-    → many_lines many ≡ is.fault.before ++ more → is.fault.rest ≡ text_of more ++ many.rest → ⊥
+many_not_fault_at : {Meets : Demand} {input : List ℕ} (many : IsTooManyNodes Meets input) (line : ℕ) (is : IsNoText Meets input line)
+    (more : List (List ℕ)) → many_lines many ≡ is.fault.before ++ more → is.fault.rest ≡ text_of more ++ many.rest → ⊥
 many_not_fault_at many line is [] same rest =
     too_many many is.fault.before [] is.nodes (sym (append-nil is.fault.before) ∙ sym same ∙ sym (append-nil (many_lines many)))
     is.ended
-many_not_fault_at {input} many line is (next ∷ more) same rest =
+many_not_fault_at {Meets} {input} many line is (next ∷ more) same rest =
     no_next input line is.fault next more (more ++ many_rest many) many.rest rest
     (record {
       preamble = many.preamble;
@@ -277,95 +298,13 @@ many_not_fault_at {input} many line is (next ∷ more) same rest =
           goes_to_end many is.fault.before (next ∷ more) same;
     })
 
-many_not_fault_by : {input : List ℕ} (many : IsTooManyNodes input) (line : ℕ) (is : IsNoText input line)
+many_not_fault_by : {Meets : Demand} {input : List ℕ} (many : IsTooManyNodes Meets input) (line : ℕ) (is : IsNoText Meets input line)
     → Agree (many_lines many) is.fault.before many.rest is.fault.rest → ⊥
 many_not_fault_by many line is (Second_goes_on more same rest) = too_many many is.fault.before more is.nodes same is.ended
 many_not_fault_by many line is (First_goes_on more same rest) = many_not_fault_at many line is more same rest
 
-pub many_not_fault : (input : List ℕ) (line : ℕ) → IsTooManyNodes input → IsNoText input line → ⊥
+pub many_not_fault : {Meets : Demand} (input : List ℕ) (line : ℕ) → IsTooManyNodes Meets input → IsNoText Meets input line → ⊥
 many_not_fault input line many is =
     many_not_fault_by many line is
     (agree (many_lines many) is.fault.before many.rest is.fault.rest (AllLack-many_lines many)
     (AllLack-begun is.fault.before is.fault.right) (sym many.parts ∙ is.fault.parts))
-
--- a whole text has no line of a fault
-valid_not_fault_at : {input : List ℕ} {nodes : List Node} (text : IsTreeText input nodes) (line : ℕ)
-    (fault : IsFaultyLine AreTreeLines input line) (more : List (List ℕ))
-    → text.lines ≡ fault.before ++ more → fault.rest ≡ text_of more ++ [] → ⊥
-unfolding text_of
-valid_not_fault_at {input} {nodes} text line fault [] same rest =
-    fault.not_whole rest (subst AreTreeLines (same ∙ append-nil fault.before)
-    (record { preamble = text.preamble; nodes = nodes; winner = text.winner; are = text.are }))
-valid_not_fault_at {input} {nodes} text line fault (next ∷ more) same rest =
-    no_next input line fault next more more [] rest
-    (subst AreTreeLines same (record { preamble = text.preamble; nodes = nodes; winner = text.winner; are = text.are }))
-
-front_whole : {input : List ℕ} {nodes : List Node} (text : IsTreeText input nodes) (line : ℕ)
-    (fault : IsFaultyLine AreTreeLines input line) (more : List (List ℕ))
-    → fault.before ≡ text.lines ++ more → [] ≡ text_of more ++ fault.rest → ⊥
-unfolding text_of
-front_whole text line fault [] same rest =
-    valid_not_fault_at text line fault [] (sym (append-nil text.lines) ∙ sym same ∙ sym (append-nil fault.before)) (sym rest)
-front_whole text line fault (next ∷ more) same rest =
-    ended-some next (text_of more ++ fault.rest) (sym (append_assoc next (10 ∷ text_of more) fault.rest) ∙ sym rest)
-
-valid_not_fault_by : {input : List ℕ} {nodes : List Node} (text : IsTreeText input nodes) (line : ℕ)
-    (fault : IsFaultyLine AreTreeLines input line)
-    → Agree text.lines fault.before [] fault.rest → ⊥
-valid_not_fault_by text line fault (Second_goes_on more same rest) = front_whole text line fault more same rest
-valid_not_fault_by text line fault (First_goes_on more same rest) = valid_not_fault_at text line fault more same rest
-
-AllLack-text : {input : List ℕ} {nodes : List Node} (text : IsTreeText input nodes) → AllLack text.lines
-AllLack-text {input} {nodes} text =
-    AllLack-tree_lines text.lines (record { preamble = text.preamble; nodes = nodes; winner = text.winner; are = text.are })
-
-pub text_not_fault : (input : List ℕ) (nodes : List Node) (line : ℕ) → IsTreeText input nodes → IsNoText input line → ⊥
-text_not_fault input nodes line text is =
-    valid_not_fault_by text line is.fault
-    (agree text.lines is.fault.before [] is.fault.rest (AllLack-text text) (AllLack-begun is.fault.before is.fault.right)
-    (append-nil (text_of text.lines) ∙ sym text.same ∙ is.fault.parts))
-
--- the nodes that ended in the first lines of a text
-within_text : {input : List ℕ} {nodes : List Node} (text : IsTreeText input nodes) (lines : List (List ℕ)) (rest : List ℕ)
-    (some : List Node)
-    → EndedIn lines some → Agree text.lines lines [] rest → GoOn some nodes
-unfolding text_of
-within_text {input} {nodes} text lines rest some ended (First_goes_on more same left) =
-    ended_first lines more some nodes text.preamble text.winner ended
-    (subst (AreTreeLinesOf text.preamble nodes text.winner) same text.are)
-within_text {input} {nodes} text lines rest some ended (Second_goes_on [] same left) =
-    ended_first lines [] some nodes text.preamble text.winner ended
-    (subst (AreTreeLinesOf text.preamble nodes text.winner) (sym (append-nil text.lines) ∙ sym same ∙ sym (append-nil lines))
-    text.are)
-within_text {input} {nodes} text lines rest some ended (Second_goes_on (next ∷ more) same left) =
-    absurd (ended-some next (text_of more ++ rest) (sym (append_assoc next (10 ∷ text_of more) rest) ∙ sym left))
-
-pub valid_not_wrong : (input : List ℕ) (nodes : List Node) (k : ℕ) → IsTreeText input nodes → IsValidTree nodes → IsNoNode input k
-    → ⊥
-valid_not_wrong input nodes k text valid is =
-    let on : GoOn is.nodes nodes =
-    within_text text is.lines is.rest is.nodes is.ended
-    (agree text.lines is.lines [] is.rest (AllLack-text text) (AllLack-begun is.lines is.right)
-    (append-nil (text_of text.lines) ∙ sym text.same ∙ is.parts)) in
-    let least : IsLeastWrong nodes k =
-    subst (λ (ns : List Node). IsLeastWrong ns k) (sym on.same) (least_wrong-append is.nodes on.more k is.wrong) in
-    least.wrong (valid.right k)
-
-text_not_many_by : {input : List ℕ} {nodes : List Node} (text : IsTreeText input nodes) → length nodes ≤ most_nodes
-    → (many : IsTooManyNodes input) → Agree (many_lines many) text.lines many.rest [] → ⊥
-unfolding text_of
-text_not_many_by {input} {nodes} text few many (Second_goes_on more same left) =
-    more_nodes many text.preamble nodes text.winner more (subst (AreTreeLinesOf text.preamble nodes text.winner) same text.are) few
-text_not_many_by {input} {nodes} text few many (First_goes_on [] same left) =
-    more_nodes many text.preamble nodes text.winner []
-    (subst (AreTreeLinesOf text.preamble nodes text.winner)
-    (sym (append-nil text.lines) ∙ sym same ∙ sym (append-nil (many_lines many))) text.are) few
-text_not_many_by {input} {nodes} text few many (First_goes_on (next ∷ more) same left) =
-    absurd (ended-some next (text_of more ++ many.rest) (sym (append_assoc next (10 ∷ text_of more) many.rest) ∙ sym left))
-
-pub text_not_many : (input : List ℕ) (nodes : List Node) → IsTreeText input nodes → length nodes ≤ most_nodes
-    → IsTooManyNodes input → ⊥
-text_not_many input nodes text few many =
-    text_not_many_by text few many
-    (agree (many_lines many) text.lines many.rest [] (AllLack-many_lines many) (AllLack-text text)
-    (sym many.parts ∙ text.same ∙ sym (append-nil (text_of text.lines))))

@@ -1,5 +1,5 @@
--- What is said of an input: that it is the text of a valid tree, or which of its lines or nodes is the first fault. Where
--- the first fault is, the nodes that ended before it meet a demand: that they are right, or more than that.
+-- What is said of an input: that it is the text of a valid tree, or which of its lines or nodes is the first fault.
+-- Where the first fault is, the nodes that ended before it meet a demand: that they are right, or more than that.
 use Rattle.std.specs.Prelude.{◌≡◌, ◌≢◌, ℕ, ◌<◌, ◌≤◌, List, [], ◌∷◌, ◌++◌, length, flat_map, Option}
 use Rattle.hx_board.specs.declared.colours.Colour.{Colour}
 use Rattle.hx_board.specs.Cells.{IsExtent}
@@ -19,6 +19,10 @@ use Rattle.hx_check.specs.Limits.{BeginsLong}
 -- what is asked of the nodes that ended before a fault
 abbrev pub Demand : Type 1
 Demand = List Node → Type 0
+
+-- that they are these, so that whatever these meet is met
+abbrev pub AreThese : List Node → Demand
+AreThese nodes = λ others. others ≡ nodes
 
 -- the nodes that ended in these lines, with which the text of a tree begins that has no more nodes than a text may have
 pub data EndedIn (lines : List (List ℕ)) (nodes : List Node) : Type 0 where
@@ -44,8 +48,8 @@ pub record IsYes (input : List ℕ) (heading : Heading) : Type 0 where
   pub last : IsRoot nodes root
   pub same : heading ≡ root.heading
 
--- this line is the first that is not of the grammar in its place, it is no longer than a line may be, and the nodes that
--- ended before it meet the demand
+-- this line is the first that is not of the grammar in its place, it is no longer than a line may be, and the nodes
+-- that ended before it meet the demand
 pub record IsNoText (Meets : Demand) (input : List ℕ) (line : ℕ) : Type 0 where
   pub fault : IsFaultyLine AreTreeLines input line
   pub nodes : List Node
@@ -53,7 +57,8 @@ pub record IsNoText (Meets : Demand) (input : List ℕ) (line : ℕ) : Type 0 wh
   pub meets : Meets nodes
   pub short : ¬ BeginsLong fault.rest
 
--- this node, counted from 0, is not right, those before it meet the demand, and the lines up to its end are of the grammar
+-- this node, counted from 0, is not right, those before it meet the demand, and the lines up to its end are of the
+-- grammar
 pub record IsNoNode (Meets : Demand) (input : List ℕ) (k : ℕ) : Type 0 where
   pub lines : List (List ℕ)
   pub rest : List ℕ

@@ -18,7 +18,7 @@ use Rattle.hx_check.specs.declared.faults.Fault.TheVariants.{NoText, NoNode, Rea
 use Rattle.hx_check.specs.declared.judges.Judge.{Judge}
 use Rattle.hx_check.specs.declared.judges.Brought.{Brought}
 use Rattle.hx_check.specs.declared.judges.Brought.TheVariants.{Line, Node, End}
-use Rattle.hx_check.specs.Judging.{Demand}
+use Rattle.hx_check.specs.Judging.{AreThese}
 use Rattle.hx_check.specs.Judgements.{IsFaultDue}
 
 -- The judge was given these lines, these nodes ended in them and are right, and it has their headings.
@@ -45,17 +45,17 @@ pub record JudgedUpTo (before : Option (List ℕ)) (judge : Judge) (nodes : List
 abbrev pub HasReadAll : Judge → Type 0
 HasReadAll judge = IsAfter judge.reader.place
 
--- What one more line brings, behind these lines, in which these nodes ended: a node ends with it, the text ends with it, or
--- neither; or a fault is due, where the nodes meet the demand.
-abbrev pub Brings : Demand → Option (List ℕ) → List TreeNode → List (List ℕ) → Judge → Cutter → Option (List ℕ) → Type 0
+-- What one more line brings, behind these lines, in which these nodes ended: a node ends with it, the text ends with
+-- it, or neither; or a fault is due, before which these nodes ended and no others.
+abbrev pub Brings : Option (List ℕ) → List TreeNode → List (List ℕ) → Judge → Cutter → Option (List ℕ) → Type 0
     → Result Brought Fault → Type 0
-Brings Meets before nodes lines judge cutter left rose (Ok Line) =
+Brings before nodes lines judge cutter left rose (Ok Line) =
     (¬ HasReadAll judge) × JudgedUpTo before judge nodes (lines ++ cutter.line ∷ []) cutter.held left
-Brings Meets before nodes lines judge cutter left rose (Ok (Node node)) =
+Brings before nodes lines judge cutter left rose (Ok (Node node)) =
     (¬ HasReadAll judge) × JudgedUpTo before judge (nodes ++ node ∷ []) (lines ++ cutter.line ∷ []) cutter.held left
-Brings Meets before nodes lines judge cutter left rose (Ok End) =
+Brings before nodes lines judge cutter left rose (Ok End) =
     HasReadAll judge × JudgedUpTo before judge nodes (lines ++ cutter.line ∷ []) cutter.held left
-Brings Meets before nodes lines judge cutter left rose (Err fault) = IsFaultDue Meets before left rose fault
+Brings before nodes lines judge cutter left rose (Err fault) = IsFaultDue (AreThese nodes) before left rose fault
 
 -- ---- words for the functions inside the crate alone
 

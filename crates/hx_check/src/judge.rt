@@ -22,8 +22,8 @@ pub(crate) fn judge<S: Source>(alloc: Global, source: &mut S) -> Judgement
     let mut judge = Judge::new(alloc);
     for _ in 0..u64::MAX {
         match judge.next(&mut cutter, source) {
-            Ok(Brought::Line) => {}
-            Ok(Brought::Node(_)) => {}
+            Ok(Brought::Line) => continue,
+            Ok(Brought::Node(_)) => continue,
             Ok(Brought::End) => return at_end(&mut cutter, source, &judge),
             Err(fault) => return Judgement::No(fault),
         }

@@ -7,7 +7,6 @@ ghost use Rattle.hx_tree.specs.declared.nodes.Node.{Node as TreeNode};
 ghost use Rattle.hx_tree.specs.Rules.{IsRightNode};
 ghost use Rattle.hx_text.specs.Lengths.{most_nodes};
 ghost use Rattle.hx_reader.specs.Reader.{lines_fed};
-ghost use Rattle.hx_check.specs.Judging.{Demand};
 ghost use Rattle.hx_check.specs.Standings.{HasJudged, HasJudgedSome, JudgedUpTo, HasReadAll, Brings, AnswersNode};
 
 use crate::faults::Fault;
@@ -73,11 +72,10 @@ impl Judge {
         requires judged { HasJudgedSome self.old }
         requires unended { ¬ HasReadAll self.old }
         ensures met_end { cutter.new.met_end ≡ true → IsAtEnd (S.reading source.new).left }
-        // Behind whatever lines and nodes came before, and whatever demand the nodes met.
-        ensures brings { (Meets : Demand) (before : Option (List ℕ)) (nodes : List TreeNode) (lines : List (List ℕ))
-            → Meets nodes
+        // Behind whatever lines and nodes came before.
+        ensures brings { (before : Option (List ℕ)) (nodes : List TreeNode) (lines : List (List ℕ))
             → JudgedUpTo before self.old nodes lines cutter.old.held (S.reading source.old).left
-            → Brings Meets before nodes lines self.new cutter.new (S.reading source.new).left
+            → Brings before nodes lines self.new cutter.new (S.reading source.new).left
             (SomeReadFailed (S.reading source.old) (S.reading source.new)) result }
         ensures later { (S.reading source.old).faults ≤ (S.reading source.new).faults }
     {
