@@ -1,26 +1,28 @@
 -- What is asked of the nodes before a fault: a fault that is due under one demand is due under each that asks less.
-use Rattle.std.proofs.Common.{ℕ, List, sym, subst}
+use Rattle.std.proofs.Common.{ℕ, List, ◌++◌, sym, subst}
 use Rattle.std.proofs.lemmas.Option.{IfSome_then}
 use Rattle.std.proofs.Common.{inl, inr}
-use Rattle.std.specs.Prelude.{Option}
+use Rattle.std.specs.Prelude.{Option, flat_map}
 use Rattle.hx_tree.specs.declared.nodes.Node.{Node}
 use Rattle.hx_tree.specs.Trees.{AreRight}
+use Rattle.hx_text.specs.TreeTexts.{front_lines, node_lines}
 use Rattle.hx_check.specs.declared.faults.Fault.{Fault}
 use Rattle.hx_check.specs.declared.faults.Fault.TheVariants.{NoText, NoNode, ReadFault, OutOfMemory, TooLong}
-use Rattle.hx_check.specs.Judging.{Demand, AreThese, AreFaultless, IsNoText, IsNoNode}
+use Rattle.hx_check.specs.Judging.{Demand, NodesAreRight, AreThese, AreFaultless, IsNoText, IsNoNode}
 use Rattle.hx_check.specs.Judgements.{IsLong, IsFaultDue}
 
 -- a demand that asks at least that the nodes are right
 abbrev pub AsksRight : Demand → Type 0
-AsksRight Meets = (nodes : List Node) → Meets nodes → AreRight nodes
+AsksRight Meets = (lines : List (List ℕ)) (nodes : List Node) → Meets lines nodes → AreRight nodes
 
-pub right_asks : AsksRight AreRight
-right_asks nodes right = right
+pub right_asks : AsksRight NodesAreRight
+right_asks lines nodes right = right
 
-module _ (Meets Less : Demand) (less : (nodes : List Node) → Meets nodes → Less nodes) where
+module _ (Meets Less : Demand)
+    (less : (lines : List (List ℕ)) (nodes : List Node) → Meets lines nodes → Less lines nodes) where
   no_text_less : (input : List ℕ) (line : ℕ) → IsNoText Meets input line → IsNoText Less input line
   no_text_less input line is =
-      record { fault = is.fault; nodes = is.nodes; ended = is.ended; meets = less is.nodes is.meets; short = is.short }
+      record { fault = is.fault; nodes = is.nodes; ended = is.ended; meets = less is.fault.before is.nodes is.meets; short = is.short }
 
   no_node_less : (input : List ℕ) (k : ℕ) → IsNoNode Meets input k → IsNoNode Less input k
   no_node_less input k is = record {
@@ -28,16 +30,19 @@ module _ (Meets Less : Demand) (less : (nodes : List Node) → Meets nodes → L
     rest = is.rest;
     parts = is.parts;
     right = is.right;
+    front = is.front;
+    last = is.last;
+    are = is.are;
     earlier = is.earlier;
     node = is.node;
     ended = is.ended;
-    meets = less is.earlier is.meets;
+    meets = less is.front is.earlier is.meets;
     count = is.count;
     wrong = is.wrong;
   }
 
   faultless_less : (lines : List (List ℕ)) → AreFaultless Meets lines → AreFaultless Less lines
-  faultless_less lines is = record { begin = is.begin; nodes = is.nodes; ended = is.ended; meets = less is.nodes is.meets }
+  faultless_less lines is = record { begin = is.begin; nodes = is.nodes; ended = is.ended; meets = less lines is.nodes is.meets }
 
   long_less : (input : List ℕ) → IsLong Meets input → IsLong Less input
   long_less input (inl long) = inl (record {
@@ -52,7 +57,7 @@ module _ (Meets Less : Demand) (less : (nodes : List Node) → Meets nodes → L
     is_size = many.is_size;
     nodes = many.nodes;
     each = many.each;
-    meets = less many.nodes many.meets;
+    meets = less (front_lines many.preamble ++ flat_map node_lines many.nodes) many.nodes many.meets;
     full = many.full;
     next = many.next;
     next_fits = many.next_fits;
@@ -78,8 +83,11 @@ module _ (Meets Less : Demand) (less : (nodes : List Node) → Meets nodes → L
   due_less before after rose OutOfMemory due = tt
   due_less before after rose TooLong due = IfSome_then before due (λ input is. long_less input is)
 
--- a fault that is due behind these nodes is due under each demand that they meet
-pub due_behind : (Meets : Demand) (nodes : List Node) → Meets nodes → (before after : Option (List ℕ)) (rose : Type 0) (fault : Fault)
-    → IsFaultDue (AreThese nodes) before after rose fault → IsFaultDue Meets before after rose fault
-due_behind Meets nodes meets before after rose fault due =
-    due_less (AreThese nodes) Meets (λ others same. subst Meets (sym same) meets) before after rose fault due
+-- a fault that is due behind these lines and nodes is due under each demand that they meet
+pub due_behind : (Meets : Demand) (lines : List (List ℕ)) (nodes : List Node) → Meets lines nodes → (before after : Option (List ℕ))
+    (rose : Type 0) (fault : Fault) → IsFaultDue (AreThese lines nodes) before after rose fault
+    → IsFaultDue Meets before after rose fault
+due_behind Meets lines nodes meets before after rose fault due =
+    due_less (AreThese lines nodes) Meets
+    (λ others other_nodes same. subst (λ (ls : List (List ℕ)). Meets ls other_nodes) (sym same.0)
+    (subst (Meets lines) (sym same.1) meets)) before after rose fault due

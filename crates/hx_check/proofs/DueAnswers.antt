@@ -18,7 +18,6 @@ use Rattle.hx_lines.proofs.LineLaws.{lines_of-nil, stream-loses}
 use Rattle.hx_lines.proofs.StreamParts.{parts-stay, some_not_none, TellsStream, tells_stream}
 use Rattle.hx_tree.specs.declared.nodes.Node.{Node}
 use Rattle.hx_tree.specs.Rules.{IsRightNode}
-use Rattle.hx_tree.specs.Trees.{AreRight}
 use Rattle.hx_reader.specs.declared.places.Place.{Place}
 use Rattle.hx_letters.specs.Marks.{Lacks}
 use Rattle.hx_text.specs.Grammars.{text_of, Begins}
@@ -38,7 +37,7 @@ use Rattle.hx_check.specs.declared.judges.Brought.{Brought}
 use Rattle.hx_check.specs.declared.judges.Brought.TheVariants.{Line as Brought_line, Node as Brought_node, End}
 use Rattle.hx_check.specs.declared.judges.Judge.{Judge}
 use Rattle.hx_check.specs.Limits.{BeginsLong}
-use Rattle.hx_check.specs.Judging.{Demand, AreThese, IsNoText, IsNoNode, IsTooManyNodes, ReadsNoFault}
+use Rattle.hx_check.specs.Judging.{Demand, NodesAreRight, AreThese, IsNoText, IsNoNode, IsTooManyNodes, ReadsNoFault}
 use Rattle.hx_check.specs.Judgements.{IsLong, IsFaultDue, IsDue}
 use Rattle.hx_check.specs.Standings.{HasJudged, JudgedUpTo, HasReadAll, Brings, AnswersNode}
 use Rattle.hx_check.proofs.JudgedNodes.{faultless, few_fed, count_more, judged_node}
@@ -92,7 +91,7 @@ told_of old new left then_left cut rest is cuts =
     tells_stream old new rest then_left cut (subst (λ (l : Option (List ℕ)). IsCut old new l then_left cut) is cuts)
 
 module _ (Meets : Demand) (before : Option (List ℕ)) (judge : Judge) (nodes : List Node) (lines : List (List ℕ)) (old new : Cutter)
-    (left then_left : Option (List ℕ)) (upto : JudgedUpTo before judge nodes lines old.held left) (meets : Meets nodes) where
+    (left then_left : Option (List ℕ)) (upto : JudgedUpTo before judge nodes lines old.held left) (meets : Meets lines nodes) where
   -- the next line is too long
   pub long_answer : IsCut old new left then_left Is_too_long → IfSome before (IsLong Meets)
   long_answer cut =
@@ -189,7 +188,7 @@ module _ (Meets : Demand) (before : Option (List ℕ)) (judge : Judge) (nodes : 
             is_size = stands.is_size;
             nodes = nodes;
             each = stands.each;
-            meets = meets;
+            meets = subst (λ (ls : List (List ℕ)). Meets ls nodes) stands.same meets;
             full = many.0;
             next = whole.0;
             next_fits = whole.1;
@@ -214,6 +213,9 @@ module _ (Meets : Demand) (before : Option (List ℕ)) (judge : Judge) (nodes : 
         parts = parts ∙ ap (λ bytes. text_of lines ++ bytes) (stream_of old new rest then_left told)
             ∙ sym (text_of-push lines new.line (new.held ++ told.later));
         right = Begins-stands new_judge.reader.place (nodes ++ node ∷ []) (lines ++ new.line ∷ []) reads;
+        front = lines;
+        last = new.line;
+        are = refl;
         earlier = nodes;
         node = node;
         ended = ended_in new_judge.reader.place (nodes ++ node ∷ []) (lines ++ new.line ∷ []) reads
@@ -237,7 +239,7 @@ node_answer before judge new_judge nodes lines old new left then_left upto rose 
           (judged_node before judge new_judge nodes lines old new left then_left upto cut counts node unended reads says.0 says.2),
     )
 node_answer before judge new_judge nodes lines old new left then_left upto rose node (Err (NoNode k)) cut counts unended reads says =
-    wrong_node (AreThese nodes) before judge nodes lines old new left then_left upto refl new_judge node k cut unended reads says.0 says.1
+    wrong_node (AreThese lines nodes) before judge nodes lines old new left then_left upto (refl, refl) new_judge node k cut unended reads says.0 says.1
 node_answer before judge new_judge nodes lines old new left then_left upto rose node (Err OutOfMemory) cut counts unended reads says = tt
 node_answer before judge new_judge nodes lines old new left then_left upto rose node (Ok Brought_line) cut counts unended reads says =
     absurd says
@@ -261,7 +263,7 @@ fault_due_later Meets before after rose then_rose TooLong more due = due
 pub due_later : (before after : Option (List ℕ)) (rose then_rose : Type 0) (judgement : Judgement) → (rose → then_rose)
     → IsDue before after rose judgement → IsDue before after then_rose judgement
 due_later before after rose then_rose (Yes root) more due = due
-due_later before after rose then_rose (No fault) more due = fault_due_later AreRight before after rose then_rose fault more due
+due_later before after rose then_rose (No fault) more due = fault_due_later NodesAreRight before after rose then_rose fault more due
 
 -- a cut of a line that is ended
 pub ended_cut : (ended : Bool) (old new : Cutter) (left then_left : Option (List ℕ)) → IsTrue ended → CutsLine old new left then_left ended

@@ -99,7 +99,7 @@ module _ (before : Option (List ℕ)) (judge : Judge) (nodes : List Node) (lines
       (yes, stream.left ∙ ap Some stream.is.2))
 
   -- a line follows, which no text has
-  pub surplus_answer : (Meets : Demand) → Meets nodes → (ended : Bool) (number : ℕ) → CutsLine old new left then_left ended
+  pub surplus_answer : (Meets : Demand) → Meets lines nodes → (ended : Bool) (number : ℕ) → CutsLine old new left then_left ended
       → number ≡ lines_fed judge.reader + 1 → IfSome before (λ input. IsNoText Meets input number)
   unfolding are
   surplus_answer Meets meets ended number cut is =

@@ -31,7 +31,7 @@ judged_nothing before judge held judged nothing = record {
 
 module _ (judge : Judge) (nodes : List Node) (lines : List (List ℕ)) (judged : HasJudged judge nodes lines) where
   -- the lines so far have no fault, and they are few
-  pub faultless : (Meets : Demand) → Meets nodes → AreFaultless Meets lines
+  pub faultless : (Meets : Demand) → Meets lines nodes → AreFaultless Meets lines
   faultless Meets meets = record {
     begin = Begins-stands judge.reader.place nodes lines judged.read;
     nodes = nodes;

@@ -6,14 +6,13 @@ use Rattle.std.specs.Prelude.{Option, None, Some, IfSome}
 use Rattle.hx_io.specs.Sources.{Reading, SomeReadFailed}
 use Rattle.hx_io.specs.Sinks.{Writing, SomeWriteFailed, append}
 use Rattle.hx_tree.specs.declared.nodes.Heading.{Heading}
-use Rattle.hx_tree.specs.Trees.{AreRight}
 use Rattle.hx_proof.proofs.TreeSoundness.{root_wins}
 use Rattle.hx_text.proofs.OneFault.{one_tree_fault}
 use Rattle.hx_answers.specs.Endings.{IsUnlessStopped, AnswersUnlessStopped, IsReadToEnd}
 use Rattle.hx_check.specs.declared.judgements.Judgement.{Judgement}
 use Rattle.hx_check.specs.declared.judgements.Judgement.TheVariants.{Yes, No}
 use Rattle.hx_check.specs.declared.faults.Fault.TheVariants.{NoText, NoNode, ReadFault, OutOfMemory, TooLong}
-use Rattle.hx_check.specs.Judging.{IsYes, IsNoText, IsNoNode, IsLongLine, IsTooManyNodes, ReadsNoFault}
+use Rattle.hx_check.specs.Judging.{NodesAreRight, IsYes, IsNoText, IsNoNode, IsLongLine, IsTooManyNodes, ReadsNoFault}
 use Rattle.hx_check.specs.Judgements.{IsLong, IsDue, IsCheckStatus, judgement_text, no_text_line, no_node_line, status_of, yes_text}
 use Rattle.hx_check.specs.Promises.{SaysYes, IsProof, IsNoProof, KeepsPromises}
 use Rattle.hx_check.proofs.Demands.{right_asks}
@@ -55,7 +54,7 @@ module _ (input : List ℕ) (after : Option (List ℕ)) (rose : Type 0) where
   proof_of (No OutOfMemory) proof due = inr (inr (inr refl))
   proof_of (No TooLong) proof due = absurd (text_not_long input proof.nodes proof.text proof.few due)
 
-  no_proof_of : (judgement : Judgement) → ¬ IsLong AreRight input → IsNoProof input → IsDue (Some input) after rose judgement
+  no_proof_of : (judgement : Judgement) → ¬ IsLong NodesAreRight input → IsNoProof input → IsDue (Some input) after rose judgement
       → IsUnlessStopped (status_of judgement) 1
   no_proof_of (Yes root) within none due = let yes : IsYes input root = due.0 in absurd (none yes.nodes yes.text yes.valid)
   no_proof_of (No (NoText line)) within none due = inl refl
@@ -64,7 +63,7 @@ module _ (input : List ℕ) (after : Option (List ℕ)) (rose : Type 0) where
   no_proof_of (No OutOfMemory) within none due = inr (inr (inr refl))
   no_proof_of (No TooLong) within none due = absurd (within due)
 
-  many_of : (judgement : Judgement) → IsTooManyNodes AreRight input → IsDue (Some input) after rose judgement
+  many_of : (judgement : Judgement) → IsTooManyNodes NodesAreRight input → IsDue (Some input) after rose judgement
       → IsUnlessStopped (status_of judgement) 8
   many_of (Yes root) many due = let yes : IsYes input root = due.0 in absurd (text_not_long input yes.nodes yes.text yes.few (inr many))
   many_of (No (NoText line)) many due = absurd (many_not_fault input line many due)
@@ -73,7 +72,7 @@ module _ (input : List ℕ) (after : Option (List ℕ)) (rose : Type 0) where
   many_of (No OutOfMemory) many due = inr (inr (inr refl))
   many_of (No TooLong) many due = inl refl
 
-  line_too_long : (judgement : Judgement) → IsLongLine AreRight input → IsDue (Some input) after rose judgement
+  line_too_long : (judgement : Judgement) → IsLongLine NodesAreRight input → IsDue (Some input) after rose judgement
       → IsUnlessStopped (status_of judgement) 8
   line_too_long (Yes root) long due =
       let yes : IsYes input root = due.0 in absurd (text_not_long input yes.nodes yes.text yes.few (inl long))
@@ -83,28 +82,28 @@ module _ (input : List ℕ) (after : Option (List ℕ)) (rose : Type 0) where
   line_too_long (No OutOfMemory) long due = inr (inr (inr refl))
   line_too_long (No TooLong) long due = inl refl
 
-  long_of : (judgement : Judgement) → IsLong AreRight input → IsDue (Some input) after rose judgement
+  long_of : (judgement : Judgement) → IsLong NodesAreRight input → IsDue (Some input) after rose judgement
       → IsUnlessStopped (status_of judgement) 8
   long_of judgement (inl long) due = line_too_long judgement long due
   long_of judgement (inr many) due = many_of judgement many due
 
   -- an input that is above a limit has no other fault before
-  long_not_line : (line : ℕ) → IsLong AreRight input → IsNoText AreRight input line → ⊥
+  long_not_line : (line : ℕ) → IsLong NodesAreRight input → IsNoText NodesAreRight input line → ⊥
   long_not_line line (inl long) text = long_not_fault input line long text
   long_not_line line (inr many) text = many_not_fault input line many text
 
-  long_not_wrong : (k : ℕ) → IsLong AreRight input → IsNoNode AreRight input k → ⊥
+  long_not_wrong : (k : ℕ) → IsLong NodesAreRight input → IsNoNode NodesAreRight input k → ⊥
   long_not_wrong k (inl long) node = long_not_node right_asks input k long node
   long_not_wrong k (inr many) node = many_not_wrong right_asks input k many node
 
   module _ (before now : Option (List ℕ)) where
     line_of : (judgement : Judgement) (line : ℕ) → now ≡ append before (judgement_text judgement)
-        → IsNoText AreRight input line → IsDue (Some input) after rose judgement
+        → IsNoText NodesAreRight input line → IsDue (Some input) after rose judgement
         → AnswersUnlessStopped (no_text_line line) 1 before now (status_of judgement)
     line_of (Yes root) line written text due =
         let yes : IsYes input root = due.0 in absurd (text_not_fault input yes.nodes line yes.text text)
     line_of (No (NoText other)) line written text due =
-        let found : IsNoText AreRight input other = due in
+        let found : IsNoText NodesAreRight input other = due in
         inl (refl, written ∙ ap (λ (n : ℕ). append before (no_text_line n)) (one_tree_fault input other line found.fault text.fault))
     line_of (No (NoNode node)) line written text due = absurd (text_not_node right_asks input line node text due)
     line_of (No ReadFault) line written text due = inr (inl refl)
@@ -112,7 +111,7 @@ module _ (input : List ℕ) (after : Option (List ℕ)) (rose : Type 0) where
     line_of (No TooLong) line written text due = absurd (long_not_line line due text)
 
     node_of : (judgement : Judgement) (k : ℕ) → now ≡ append before (judgement_text judgement)
-        → IsNoNode AreRight input k → IsDue (Some input) after rose judgement
+        → IsNoNode NodesAreRight input k → IsDue (Some input) after rose judgement
         → AnswersUnlessStopped (no_node_line k) 1 before now (status_of judgement)
     node_of (Yes root) k written node due =
         let yes : IsYes input root = due.0 in absurd (valid_not_wrong input yes.nodes k yes.text yes.valid node)
@@ -137,7 +136,7 @@ module _ (after : Option (List ℕ)) (rose : Type 0) where
   wrong_of (Some input) (No TooLong) one due = absurd (omega arith)
 
   too_long_of : (before : Option (List ℕ)) (judgement : Judgement) → status_of judgement ≡ 8 → IsDue before after rose judgement
-      → IfSome before (IsLong AreRight)
+      → IfSome before (IsLong NodesAreRight)
   too_long_of before (Yes root) eight due = absurd (omega arith)
   too_long_of before (No (NoText line)) eight due = absurd (omega arith)
   too_long_of before (No (NoNode node)) eight due = absurd (omega arith)
@@ -155,7 +154,7 @@ module _ (after : Option (List ℕ)) (rose : Type 0) where
   read_to_end_of before (No TooLong) zero due = absurd (omega arith)
 
   read_fault_of : (before : Option (List ℕ)) (judgement : Judgement) → status_of judgement ≡ 5 → IsDue before after rose judgement
-      → rose × ReadsNoFault AreRight before after
+      → rose × ReadsNoFault NodesAreRight before after
   read_fault_of before (Yes root) five due = absurd (omega arith)
   read_fault_of before (No (NoText line)) five due = absurd (omega arith)
   read_fault_of before (No (NoNode node)) five due = absurd (omega arith)

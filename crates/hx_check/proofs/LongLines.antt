@@ -99,7 +99,7 @@ long_not_node asks input k long node =
     (subst (λ (ls : List (List ℕ)). EndedIn ls long.faultless.nodes) on.is long.faultless.ended)
     (subst (Begins AreTreeLines) on.is long.faultless.begin) in
     node.wrong (right_among node.earlier node.node long.faultless.nodes nodes
-    (asks long.faultless.nodes long.faultless.meets (length node.earlier)))
+    (asks long.lines long.faultless.nodes long.faultless.meets (length node.earlier)))
 
 pub long_not_many : {Meets : Demand} (input : List ℕ) → IsLongLine Meets input → IsTooManyNodes Meets input → ⊥
 long_not_many input long many =

@@ -176,7 +176,7 @@ text_not_node_from asks k text node more is =
     let on : GoOn (node.earlier ++ node.node ∷ []) text.nodes =
     front_nodes node.lines more (node.earlier ++ node.node ∷ []) text.nodes node.ended
     (subst (λ (ls : List (List ℕ)). EndedIn ls text.nodes) is text.ended) (subst (Begins AreTreeLines) is text.fault.right) in
-    node.wrong (right_among node.earlier node.node text.nodes on (asks text.nodes text.meets (length node.earlier)))
+    node.wrong (right_among node.earlier node.node text.nodes on (asks text.fault.before text.nodes text.meets (length node.earlier)))
 
 text_not_node_by : {Meets : Demand} → AsksRight Meets → (input : List ℕ) (line k : ℕ) (text : IsNoText Meets input line)
     (node : IsNoNode Meets input k) → Agree text.fault.before node.lines text.fault.rest node.rest → ⊥
@@ -205,7 +205,7 @@ one_least nodes k j first second =
 
 least_of : {Meets : Demand} → AsksRight Meets → {input : List ℕ} {k : ℕ} (node : IsNoNode Meets input k)
     → IsLeastWrong (node.earlier ++ node.node ∷ []) (length node.earlier)
-least_of asks node = least_wrong-last node.earlier node.node (asks node.earlier node.meets) node.wrong
+least_of asks node = least_wrong-last node.earlier node.node (asks node.front node.earlier node.meets) node.wrong
 
 one_node_from : {Meets : Demand} → AsksRight Meets → (input : List ℕ) (k j : ℕ) (first : IsNoNode Meets input k)
     (second : IsNoNode Meets input j) (more : List (List ℕ)) → second.lines ≡ first.lines ++ more → k ≡ j

@@ -254,7 +254,7 @@ wrong_within : {Meets : Demand} {input : List ℕ} (many : IsTooManyNodes Meets 
 wrong_within many asks earlier node on within =
     right_among earlier node (all_of many) on
     ((right_at-append many.nodes (many.next ∷ []) (length earlier) (omega (arith, many.full))).1
-    (asks many.nodes many.meets (length earlier)))
+    (asks (front_lines many.preamble ++ flat_map node_lines many.nodes) many.nodes many.meets (length earlier)))
 
 many_not_wrong_by : {Meets : Demand} {input : List ℕ} (many : IsTooManyNodes Meets input) → AsksRight Meets → (k : ℕ)
     (is : IsNoNode Meets input k) → Agree (many_lines many) is.lines many.rest is.rest → ⊥

@@ -4,7 +4,6 @@ use Rattle.hx_io.specs.Sources.{Reading, SomeReadFailed}
 use Rattle.hx_io.specs.Sinks.{Writing}
 use Rattle.hx_board.specs.declared.colours.Colour.{Colour}
 use Rattle.hx_tree.specs.declared.nodes.Heading.{Heading}
-use Rattle.hx_tree.specs.Trees.{AreRight}
 use Rattle.hx_letters.specs.Words.{colour_word}
 use Rattle.hx_text.specs.PositionTexts.{position_text}
 use Rattle.hx_answers.specs.Texts.{counted_text, read_fault_line, out_of_memory_line, too_long_line}
@@ -13,7 +12,7 @@ use Rattle.hx_check.specs.declared.judgements.Judgement.{Judgement}
 use Rattle.hx_check.specs.declared.judgements.Judgement.TheVariants.{Yes, No}
 use Rattle.hx_check.specs.declared.faults.Fault.{Fault}
 use Rattle.hx_check.specs.declared.faults.Fault.TheVariants.{NoText, NoNode, ReadFault, OutOfMemory, TooLong}
-use Rattle.hx_check.specs.Judging.{Demand, IsYes, IsNoText, IsNoNode, IsLongLine, IsTooManyNodes, ReadsNoFault}
+use Rattle.hx_check.specs.Judging.{Demand, NodesAreRight, IsYes, IsNoText, IsNoNode, IsLongLine, IsTooManyNodes, ReadsNoFault}
 
 -- the line that names a winner
 abbrev pub yes_line : Colour → List ℕ
@@ -74,7 +73,7 @@ IsFaultDue Meets before after rose TooLong = IfSome before (IsLong Meets)
 -- when each judgement comes, in the same way
 abbrev pub IsDue : Option (List ℕ) → Option (List ℕ) → Type 0 → Judgement → Type 0
 IsDue before after rose (Yes root) = IfSome before (λ input. IsYes input root × (after ≡ Some []))
-IsDue before after rose (No fault) = IsFaultDue AreRight before after rose fault
+IsDue before after rose (No fault) = IsFaultDue NodesAreRight before after rose fault
 
 -- a status of the command
 abbrev pub IsCheckStatus : ℕ → Type 0

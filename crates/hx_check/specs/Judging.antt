@@ -1,5 +1,5 @@
 -- What is said of an input: that it is the text of a valid tree, or which of its lines or nodes is the first fault.
--- Where the first fault is, the nodes that ended before it meet a demand: that they are right, or more than that.
+-- The lines and nodes before the first fault meet a demand: that the nodes are right, or more than that.
 use Rattle.std.specs.Prelude.{◌≡◌, ◌≢◌, ℕ, ◌<◌, ◌≤◌, List, [], ◌∷◌, ◌++◌, length, flat_map, Option}
 use Rattle.hx_board.specs.declared.colours.Colour.{Colour}
 use Rattle.hx_board.specs.Cells.{IsExtent}
@@ -8,7 +8,7 @@ use Rattle.hx_lines.specs.Lines.{HasLf, longest}
 use Rattle.hx_tree.specs.declared.nodes.Heading.{Heading}
 use Rattle.hx_tree.specs.declared.nodes.Node.{Node}
 use Rattle.hx_tree.specs.Rules.{IsRightNode}
-use Rattle.hx_tree.specs.Trees.{IsValidTree, IsRoot, headings_of}
+use Rattle.hx_tree.specs.Trees.{AreRight, IsValidTree, IsRoot, headings_of}
 use Rattle.hx_text.specs.declared.versions.Preamble.{Preamble}
 use Rattle.hx_text.specs.Grammars.{text_of, Begins, IsFaultyLine}
 use Rattle.hx_text.specs.TreeTexts.{AreTreeLines, AreTreeLinesOf, IsTreeText, NodeFits, EachNodeFits, head_of}
@@ -16,13 +16,17 @@ use Rattle.hx_text.specs.TreeTexts.{head_line, node_lines, front_lines}
 use Rattle.hx_text.specs.Lengths.{most_nodes}
 use Rattle.hx_check.specs.Limits.{BeginsLong}
 
--- what is asked of the nodes that ended before a fault
+-- what is asked of the lines before a fault, and of the nodes that ended in them
 abbrev pub Demand : Type 1
-Demand = List Node → Type 0
+Demand = List (List ℕ) → List Node → Type 0
 
--- that they are these, so that whatever these meet is met
-abbrev pub AreThese : List Node → Demand
-AreThese nodes = λ others. others ≡ nodes
+-- that the nodes are right
+abbrev pub NodesAreRight : Demand
+NodesAreRight lines nodes = AreRight nodes
+
+-- that they are these lines and nodes, so that whatever these meet is met
+abbrev pub AreThese : List (List ℕ) → List Node → Demand
+AreThese lines nodes = λ other_lines others. (other_lines ≡ lines) × (others ≡ nodes)
 
 -- the nodes that ended in these lines, with which the text of a tree begins that has no more nodes than a text may have
 pub data EndedIn (lines : List (List ℕ)) (nodes : List Node) : Type 0 where
@@ -54,7 +58,7 @@ pub record IsNoText (Meets : Demand) (input : List ℕ) (line : ℕ) : Type 0 wh
   pub fault : IsFaultyLine AreTreeLines input line
   pub nodes : List Node
   pub ended : EndedIn fault.before nodes
-  pub meets : Meets nodes
+  pub meets : Meets fault.before nodes
   pub short : ¬ BeginsLong fault.rest
 
 -- this node, counted from 0, is not right, those before it meet the demand, and the lines up to its end are of the
@@ -64,10 +68,13 @@ pub record IsNoNode (Meets : Demand) (input : List ℕ) (k : ℕ) : Type 0 where
   pub rest : List ℕ
   pub parts : input ≡ text_of lines ++ rest
   pub right : Begins AreTreeLines lines
+  pub front : List (List ℕ)
+  pub last : List ℕ
+  pub are : lines ≡ front ++ last ∷ []
   pub earlier : List Node
   pub node : Node
   pub ended : EndedIn lines (earlier ++ node ∷ [])
-  pub meets : Meets earlier
+  pub meets : Meets front earlier
   pub count : k ≡ length earlier
   pub wrong : ¬ IsRightNode (headings_of earlier) node
 
@@ -77,7 +84,7 @@ pub record IsTooManyNodes (Meets : Demand) (input : List ℕ) : Type 0 where
   pub is_size : IsExtent preamble.size.rows preamble.size.cols
   pub nodes : List Node
   pub each : EachNodeFits preamble nodes
-  pub meets : Meets nodes
+  pub meets : Meets (front_lines preamble ++ flat_map node_lines nodes) nodes
   pub full : length nodes ≡ most_nodes
   pub next : Node
   pub next_fits : NodeFits preamble next
@@ -90,7 +97,7 @@ pub record AreFaultless (Meets : Demand) (lines : List (List ℕ)) : Type 0 wher
   pub begin : Begins AreTreeLines lines
   pub nodes : List Node
   pub ended : EndedIn lines nodes
-  pub meets : Meets nodes
+  pub meets : Meets lines nodes
 
 -- a line with more bytes than a line may have, before which nothing is at fault
 pub record IsLongLine (Meets : Demand) (input : List ℕ) : Type 0 where

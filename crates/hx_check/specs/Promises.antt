@@ -3,12 +3,12 @@ use Rattle.std.specs.Prelude.{◌≡◌, ℕ, ◌≤◌, List, length, Option, I
 use Rattle.hx_io.specs.Sources.{Reading, SomeReadFailed}
 use Rattle.hx_io.specs.Sinks.{Writing, SomeWriteFailed, append}
 use Rattle.hx_tree.specs.declared.nodes.Node.{Node}
-use Rattle.hx_tree.specs.Trees.{AreRight, IsValidTree, IsRoot}
+use Rattle.hx_tree.specs.Trees.{IsValidTree, IsRoot}
 use Rattle.hx_text.specs.TreeTexts.{IsTreeText}
 use Rattle.hx_text.specs.Lengths.{most_nodes}
 use Rattle.hx_proof.specs.Winners.{OnlyWinner}
 use Rattle.hx_answers.specs.Endings.{IsUnlessStopped, AnswersUnlessStopped, IsReadToEnd}
-use Rattle.hx_check.specs.Judging.{IsNoText, IsNoNode, ReadsNoFault}
+use Rattle.hx_check.specs.Judging.{NodesAreRight, IsNoText, IsNoNode, ReadsNoFault}
 use Rattle.hx_check.specs.Judgements.{IsCheckStatus, IsLong, yes_text, no_text_line, no_node_line}
 
 -- The input is the text of a valid tree, the output names the root's winner and its position, and that player wins and
@@ -44,19 +44,19 @@ pub record KeepsPromises (source source_now : Reading) (sink sink_now : Writing)
   -- the text of a valid tree of no more nodes than a text may have is answered with 0, however many bytes it has; what
   -- is no text of a valid tree and within the limits, with 1
   pub proof : IfSome source.left (λ input. IsProof input → IsUnlessStopped status 0)
-  pub no_proof : IfSome source.left (λ input. ¬ IsLong AreRight input → IsNoProof input → IsUnlessStopped status 1)
+  pub no_proof : IfSome source.left (λ input. ¬ IsLong NodesAreRight input → IsNoProof input → IsUnlessStopped status 1)
   -- and 1 comes for no text of a valid tree
   pub wrong : status ≡ 1 → IfSome source.left IsNoProof
   -- the line or the node that is named is the first that is at fault
-  pub no_text : IfSome source.left (λ input. (line : ℕ) → IsNoText AreRight input line
+  pub no_text : IfSome source.left (λ input. (line : ℕ) → IsNoText NodesAreRight input line
       → AnswersUnlessStopped (no_text_line line) 1 sink.taken sink_now.taken status)
-  pub no_node : IfSome source.left (λ input. (node : ℕ) → IsNoNode AreRight input node
+  pub no_node : IfSome source.left (λ input. (node : ℕ) → IsNoNode NodesAreRight input node
       → AnswersUnlessStopped (no_node_line node) 1 sink.taken sink_now.taken status)
   -- what is above a limit before its first fault is answered with 8, and nothing else
-  pub long : IfSome source.left (λ input. IsLong AreRight input → IsUnlessStopped status 8)
-  pub too_long : status ≡ 8 → IfSome source.left (IsLong AreRight)
+  pub long : IfSome source.left (λ input. IsLong NodesAreRight input → IsUnlessStopped status 8)
+  pub too_long : status ≡ 8 → IfSome source.left (IsLong NodesAreRight)
   -- a read fault is answered where it was met before any other fault
-  pub read_fault : status ≡ 5 → SomeReadFailed source source_now × ReadsNoFault AreRight source.left source_now.left
+  pub read_fault : status ≡ 5 → SomeReadFailed source source_now × ReadsNoFault NodesAreRight source.left source_now.left
   -- each fault of a write has its cause, and no other status comes
   pub write_fault : status ≡ 6 → SomeWriteFailed sink sink_now
   pub none_else : IsCheckStatus status

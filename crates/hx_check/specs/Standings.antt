@@ -46,7 +46,7 @@ abbrev pub HasReadAll : Judge → Type 0
 HasReadAll judge = IsAfter judge.reader.place
 
 -- What one more line brings, behind these lines, in which these nodes ended: a node ends with it, the text ends with
--- it, or neither; or a fault is due, before which these nodes ended and no others.
+-- it, or neither; or a fault is due, before which these are the lines and nodes.
 abbrev pub Brings : Option (List ℕ) → List TreeNode → List (List ℕ) → Judge → Cutter → Option (List ℕ) → Type 0
     → Result Brought Fault → Type 0
 Brings before nodes lines judge cutter left rose (Ok Line) =
@@ -55,7 +55,7 @@ Brings before nodes lines judge cutter left rose (Ok (Node node)) =
     (¬ HasReadAll judge) × JudgedUpTo before judge (nodes ++ node ∷ []) (lines ++ cutter.line ∷ []) cutter.held left
 Brings before nodes lines judge cutter left rose (Ok End) =
     HasReadAll judge × JudgedUpTo before judge nodes (lines ++ cutter.line ∷ []) cutter.held left
-Brings before nodes lines judge cutter left rose (Err fault) = IsFaultDue (AreThese nodes) before left rose fault
+Brings before nodes lines judge cutter left rose (Err fault) = IsFaultDue (AreThese lines nodes) before left rose fault
 
 -- ---- words for the functions inside the crate alone
 

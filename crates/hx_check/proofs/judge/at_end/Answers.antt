@@ -2,7 +2,7 @@ use Rattle.std.proofs.Common.{ℕ, ◌+◌, ap, subst}
 use Rattle.hx_lines.specs.declared.cutters.Cut.{Cut}
 use Rattle.hx_lines.specs.declared.cutters.Cut.TheVariants.{Line, TooLong, Over}
 use Rattle.hx_lines.specs.Cutters.{IsCut}
-use Rattle.hx_tree.specs.Trees.{AreRight}
+use Rattle.hx_check.specs.Judging.{NodesAreRight}
 use Rattle.hx_check.proofs.DueAnswers.{long_answer, fault_answer, due_next}
 use Rattle.hx_check.proofs.Endings.{yes_answer, surplus_answer, judged_some}
 use Rattle.hx_check.proofs.judge.at_end.Goals as goal
@@ -24,8 +24,8 @@ returns-in-Ok-Line-clause-due g c = λ before nodes lines upto.
     let P : Cut → Type 0 = IsCut c.args.cutter.now c.next.new.self (g.S.Source.reading c.args.source.now).left
     (g.S.Source.reading c.next.new.source).left in
     let cut : P (Line c.in-Ok-Line.field-0-0) = subst P c.in-Ok-Line.field-0-is c.in-Ok-Line.ensures.cut in
-    due_next AreRight before _ _ c.args.judge.now nodes lines _ _ upto.judged c.lines.ensures c.next_line_is_wrong.ensures
-    (surplus_answer before c.args.judge.now nodes lines c.args.cutter.now c.next.new.self _ _ upto c.requires.whole AreRight
+    due_next NodesAreRight before _ _ c.args.judge.now nodes lines _ _ upto.judged c.lines.ensures c.next_line_is_wrong.ensures
+    (surplus_answer before c.args.judge.now nodes lines c.args.cutter.now c.next.new.self _ _ upto c.requires.whole NodesAreRight
     upto.judged.right c.in-Ok-Line.field-0-0 _ cut (ap (λ (n : ℕ). n + 1) c.lines.ensures))
 
 pub returns-in-Ok-TooLong-clause-due : goal.returns-in-Ok-TooLong-clause-due
@@ -33,11 +33,11 @@ returns-in-Ok-TooLong-clause-due g c = λ before nodes lines upto.
     let P : Cut → Type 0 = IsCut c.args.cutter.now c.next.new.self (g.S.Source.reading c.args.source.now).left
     (g.S.Source.reading c.next.new.source).left in
     let cut : P TooLong = subst P c.in-Ok-TooLong.field-0-is c.in-Ok-TooLong.ensures.cut in
-    long_answer AreRight before c.args.judge.now nodes lines c.args.cutter.now c.next.new.self _ _ upto upto.judged.right cut
+    long_answer NodesAreRight before c.args.judge.now nodes lines c.args.cutter.now c.next.new.self _ _ upto upto.judged.right cut
 
 pub returns-in-Err-clause-due : goal.returns-in-Err-clause-due
 returns-in-Err-clause-due g c = λ before nodes lines upto. (
   c.in-Err.ensures.cause.failed,
-  fault_answer AreRight before c.args.judge.now nodes lines c.args.cutter.now c.next.new.self _ _ upto upto.judged.right
+  fault_answer NodesAreRight before c.args.judge.now nodes lines c.args.cutter.now c.next.new.self _ _ upto upto.judged.right
       c.in-Err.ensures.failed c.in-Err.ensures.plain c.in-Err.ensures.short,
 )

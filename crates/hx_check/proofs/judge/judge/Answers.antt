@@ -3,7 +3,7 @@ use Rattle.std.specs.declared.result.Result.TheVariants.{Ok}
 use Rattle.hx_io.specs.Sources.{SomeReadFailed}
 use Rattle.hx_lines.specs.Cutters.{Cutter}
 use Rattle.hx_io.proofs.CauseLaws.{rose_from_earlier}
-use Rattle.hx_tree.specs.Trees.{AreRight}
+use Rattle.hx_check.specs.Judging.{NodesAreRight}
 use Rattle.hx_check.specs.declared.judges.Brought.{Brought}
 use Rattle.hx_check.specs.declared.judges.Brought.TheVariants.{Line, Node, End}
 use Rattle.hx_check.specs.Standings.{Brings}
@@ -55,8 +55,8 @@ returns-in-Ok-End g c =
 pub returns-in-Err : goal.returns-in-Err
 returns-in-Err g c =
     let at = c.loop.invariant in
-    fault_due_later AreRight _ _ _ _ c.in-Err.fault (rose_from_earlier _ _ _ at.reads)
-    (due_behind AreRight at.nodes at.upto.judged.right _ _ _ c.in-Err.fault (c.in-Err.ensures.brings _ at.nodes at.lines at.upto))
+    fault_due_later NodesAreRight _ _ _ _ c.in-Err.fault (rose_from_earlier _ _ _ at.reads)
+    (due_behind NodesAreRight at.lines at.nodes at.upto.judged.right _ _ _ c.in-Err.fault (c.in-Err.ensures.brings _ at.nodes at.lines at.upto))
 
 pub loop-preserved-in-Ok-Line : goal.loop-preserved-in-Ok-Line
 loop-preserved-in-Ok-Line g c =

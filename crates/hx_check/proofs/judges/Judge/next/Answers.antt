@@ -51,7 +51,7 @@ returns-in-Err-Text-clause-brings g c = λ before nodes lines upto.
     let cut : P (Line c.in-Ok-Line.ended) = subst P c.in-Ok-Line.field-0-is c.in-Ok-Line.ensures.cut in
     let says = rw (c.in-Err-Text.field-0-is, c.line.ensures.bytes) at c.in-Err-Text.ensures.says in
     let told = says nodes lines upto.judged.read in
-    wrong_answer (AreThese nodes) before c.args.self.now nodes lines c.args.cutter.now c.next.new.self _ _ upto refl
+    wrong_answer (AreThese lines nodes) before c.args.self.now nodes lines c.args.cutter.now c.next.new.self _ _ upto (refl, refl)
     c.in-Ok-Line.ended c.feed.new.self.fed _ cut c.requires.unended c.in-Err-Text.ensures.count told
 
 pub returns-in-Err-TooMany-clause-brings : goal.returns-in-Err-TooMany-clause-brings
@@ -61,7 +61,7 @@ returns-in-Err-TooMany-clause-brings g c = λ before nodes lines upto.
     let cut : P (Line c.in-Ok-Line.ended) = subst P c.in-Ok-Line.field-0-is c.in-Ok-Line.ensures.cut in
     let says = rw (c.in-Err-TooMany.field-0-is, c.line.ensures.bytes) at c.in-Err-TooMany.ensures.says in
     let told = says nodes lines upto.judged.read in
-    many_answer (AreThese nodes) before c.args.self.now nodes lines c.args.cutter.now c.next.new.self _ _ upto refl
+    many_answer (AreThese lines nodes) before c.args.self.now nodes lines c.args.cutter.now c.next.new.self _ _ upto (refl, refl)
     (ended_cut c.in-Ok-Line.ended _ _ _ _ told.0 cut) (told.2, told.3)
 
 pub returns-in-Ok-TooLong-clause-brings : goal.returns-in-Ok-TooLong-clause-brings
@@ -69,20 +69,20 @@ returns-in-Ok-TooLong-clause-brings g c = λ before nodes lines upto.
     let P : Cut → Type 0 = IsCut c.args.cutter.now c.next.new.self (g.S.Source.reading c.args.source.now).left
     (g.S.Source.reading c.next.new.source).left in
     let cut : P TooLong = subst P c.in-Ok-TooLong.field-0-is c.in-Ok-TooLong.ensures.cut in
-    long_answer (AreThese nodes) before c.args.self.now nodes lines c.args.cutter.now c.next.new.self _ _ upto refl cut
+    long_answer (AreThese lines nodes) before c.args.self.now nodes lines c.args.cutter.now c.next.new.self _ _ upto (refl, refl) cut
 
 pub returns-in-Ok-Over-clause-brings : goal.returns-in-Ok-Over-clause-brings
 returns-in-Ok-Over-clause-brings g c = λ before nodes lines upto.
     let P : Cut → Type 0 = IsCut c.args.cutter.now c.next.new.self (g.S.Source.reading c.args.source.now).left
     (g.S.Source.reading c.next.new.source).left in
     let cut : P Over = subst P c.in-Ok-Over.field-0-is c.in-Ok-Over.ensures.cut in
-    due_next (AreThese nodes) before _ _ c.args.self.now nodes lines _ _ upto.judged c.lines.ensures c.next_line_is_wrong.ensures
-    (missing_answer (AreThese nodes) before c.args.self.now nodes lines c.args.cutter.now c.next.new.self _ _ upto refl _ cut
+    due_next (AreThese lines nodes) before _ _ c.args.self.now nodes lines _ _ upto.judged c.lines.ensures c.next_line_is_wrong.ensures
+    (missing_answer (AreThese lines nodes) before c.args.self.now nodes lines c.args.cutter.now c.next.new.self _ _ upto (refl, refl) _ cut
     c.requires.unended (ap (λ (n : ℕ). n + 1) c.lines.ensures))
 
 pub returns-in-Err-clause-brings : goal.returns-in-Err-clause-brings
 returns-in-Err-clause-brings g c = λ before nodes lines upto. (
   c.in-Err.ensures.cause.failed,
-  fault_answer (AreThese nodes) before c.args.self.now nodes lines c.args.cutter.now c.next.new.self _ _ upto refl
+  fault_answer (AreThese lines nodes) before c.args.self.now nodes lines c.args.cutter.now c.next.new.self _ _ upto (refl, refl)
       c.in-Err.ensures.failed c.in-Err.ensures.plain c.in-Err.ensures.short,
 )
