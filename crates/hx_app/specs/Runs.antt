@@ -5,10 +5,11 @@ use Rattle.hx_io.specs.Sinks.{Writing}
 use Rattle.hx_settings.specs.declared.settings.Settings.{Settings}
 use Rattle.hx_solve.specs.Tallies.{tallied}
 use Rattle.hx_words.specs.declared.commands.Command.{Command}
-use Rattle.hx_words.specs.declared.commands.Command.TheVariants.{Check, Solve, Htp, Demo}
+use Rattle.hx_words.specs.declared.commands.Command.TheVariants.{Check, Solve, Htp, Demo, Play}
 use Rattle.hx_words.specs.Commands.{Asks}
 use Rattle.hx_answers.specs.Endings.{IsWritten}
 use Rattle.hx_check.specs.Judgements.{IsCheckRun}
+use Rattle.hx_match.specs.Runs.{IsPlayRun}
 use Rattle.hx_app.specs.declared.finishes.Finish.{Finish}
 use Rattle.hx_app.specs.Answers.{IsSolveRun}
 use Rattle.hx_app.specs.Sessions.{IsSessionRun}
@@ -28,6 +29,9 @@ IsSession settings words = Asks (Htp settings) words
 -- the words are `demo` with this seed and these settings
 abbrev pub IsDraw : ℕ → Settings → List (List ℕ) → Type 0
 IsDraw seed settings words = Asks (Demo seed settings) words
+
+abbrev pub IsPlay : List (List ℕ) → Type 0
+IsPlay words = Asks Play words
 
 -- the words are a command
 abbrev pub IsCommand : List (List ℕ) → Type 0
@@ -59,4 +63,7 @@ pub data IsRun (words : List (List ℕ)) (source source_now : Reading) (sink sin
       → IsRun words source source_now sink sink_now finish
   Drew : (seed : ℕ) (settings : Settings) → IsDraw seed settings words → source_now.left ≡ source.left
       → IsDemoRun seed settings sink sink_now finish
+      → IsRun words source source_now sink sink_now finish
+  Played : IsPlay words → CountsNothing finish
+      → IsPlayRun source source_now sink sink_now finish.status
       → IsRun words source source_now sink sink_now finish

@@ -6,10 +6,11 @@ ghost use Rattle.hx_settings.specs.declared.settings.Settings.{Settings as Bound
 ghost use Rattle.hx_words.specs.Words.{words_of};
 ghost use Rattle.hx_answers.specs.Endings.{IsWritten};
 ghost use Rattle.hx_check.specs.Promises.{KeepsPromises as ChecksAsPromised};
+ghost use Rattle.hx_match.specs.Promises.{KeepsPromises as PlaysAsPromised};
 ghost use Rattle.hx_app.specs.Promises.{KeepsPromises as SolvesAsPromised};
 ghost use Rattle.hx_app.specs.Sessions.{KeepsPromises as ServesAsPromised};
 ghost use Rattle.hx_app.specs.DemoPromises.{KeepsPromises as DrawsAsPromised};
-ghost use Rattle.hx_app.specs.Runs.{IsCheck, IsSolve, IsSession, IsDraw, IsCommand, IsRun, CountsNothing, bad_words_line};
+ghost use Rattle.hx_app.specs.Runs.{IsCheck, IsSolve, IsSession, IsDraw, IsPlay, IsCommand, IsRun, CountsNothing, bad_words_line};
 
 use crate::demos::run_demo;
 use crate::finishes::Finish;
@@ -18,6 +19,7 @@ use crate::solving::run_solve;
 use hx_answers::WRITE_FAULT;
 use hx_check::run_check;
 use hx_io::{Failed, Gate, Sink, Source, write_all};
+use hx_match::run_play;
 use hx_solve::Tally;
 use hx_words::{Command, command_of};
 use std::alloc::Global;
@@ -31,10 +33,11 @@ const BAD_WORDS: u8 = 2;
 ///
 /// `check` reads the text of a tree, judges its lines and nodes in their order and writes `yes` with the winner and the
 /// position of the root, or where the first fault is. `solve` reads the text of a position and writes the text of a tree
-/// that proves who wins it, or why there is none. Its workers call the gate at each of their turns; it may wait for them.
+/// that proves who wins it, of plain nodes where the words have `--plain-tree`, or why there is none. Its workers call the gate at each of their turns; it may wait for them.
 /// `htp` answers the lines of a session, each before the next read; its workers have the gate that holds nobody back. `demo`
 /// reads nothing: it draws positions with a seed, solves them, checks their trees and writes how many each player wins; its
-/// workers call the gate, and it may wait for them.
+/// workers call the gate, and it may wait for them. `play` reads the text of a tree of plain nodes, and then plays by it, for its winner,
+/// against the moves that follow.
 pub fn run<S: Source, K: Sink, G: Gate + Sync, R: Threads + Wait + Sync>(
     rt: &R,
     alloc: Global,
@@ -58,8 +61,8 @@ pub fn run<S: Source, K: Sink, G: Gate + Sync, R: Threads + Wait + Sync>(
 
     // `solve` keeps its promises: with status 0 the input was read to its end, the output is the text of a valid tree of the
     // input's position, and the player that it names wins and the other does not; `unknown` comes only where a refusal of a
-    // unit or of a slot was counted, of a unit only for a position without a chain, unless the budget is 0. A tree that is to be plain
-    // has plain nodes alone.
+    // unit or of a slot was counted, of a unit only for a position without a chain, unless the budget is 0. With `--plain-tree` each
+    // node of the tree is plain.
     ensures solve { (settings : Bounds) (plain_tree : Bool) → IsSolve settings plain_tree (words_of words.now)
         → SolvesAsPromised settings plain_tree
         (S.reading source.old) (S.reading source.new)
@@ -78,7 +81,13 @@ pub fn run<S: Source, K: Sink, G: Gate + Sync, R: Threads + Wait + Sync>(
         → DrawsAsPromised seed settings
         (K.writing sink.old) (K.writing sink.new) result }
 
-    // It reads nothing.
+    // `play` keeps its promises: with status 0 the input begins with the text of a valid tree of plain nodes, and the output is a
+    // game by it, over the lines behind it, in which its winner has played to a chain.
+    ensures play { IsPlay (words_of words.now) → PlaysAsPromised
+        (S.reading source.old) (S.reading source.new)
+        (K.writing sink.old) (K.writing sink.new) result.status }
+
+    // `demo` reads nothing.
     ensures unread { (seed : ℕ) (settings : Bounds) → IsDraw seed settings (words_of words.now)
         → source.new ≡ source.old }
 
@@ -100,6 +109,7 @@ pub fn run<S: Source, K: Sink, G: Gate + Sync, R: Threads + Wait + Sync>(
         ) => run_solve(rt, alloc, settings, plain_tree, source, sink, gate),
         Some(Command::Htp(settings)) => run_session(rt, alloc, settings, source, sink),
         Some(Command::Demo { seed, settings }) => run_demo(rt, alloc, seed, settings, sink, gate),
+        Some(Command::Play) => uncounted(run_play(alloc, source, sink)),
         None => uncounted(refuse(sink)),
     }
 }

@@ -1,4 +1,5 @@
 pub mod Trees
 pub mod Refusals
 pub mod Runs
+pub mod Promises
 pub mod Standings

@@ -29,25 +29,28 @@ HasCause rose sink_rose ReadFault = rose
 HasCause rose sink_rose WriteFault = sink_rose
 HasCause rose sink_rose TooLong = Unit {0}
 
--- The input begins with the text of a tree, which was read, and a game by it was served: from the game of its root, and
--- over the bytes behind it.
-pub record Plays (source source_now : Reading) (sink sink_now : Writing) (status : ℕ) : Type 0 where
+-- A game by these nodes was served over this stream, from the game of their root, and ended so.
+pub record PlaysBy (nodes : List Node) (stream : Option (List ℕ)) (served : Served) (source_now : Reading)
+    (sink sink_now : Writing) : Type 0 where
+  pub root : Node
+  pub last : IsRoot nodes root
+  pub now : Game
+  pub ends : Ends (game_of root.heading) now stream source_now.left sink.taken sink_now.taken served
+
+-- The input begins with the text of a tree, and a game by it was served over the bytes behind the text, and ended so.
+pub record Plays (served : Served) (source source_now : Reading) (sink sink_now : Writing) : Type 0 where
   pub text : List ℕ
   pub nodes : List Node
-  pub root : Node
   pub playable : IsPlayable text nodes
-  pub last : IsRoot nodes root
   pub stream : Option (List ℕ)
   pub parts : source.left ≡ prepend text stream
-  pub now : Game
-  pub served : Served
-  pub ends : Ends (game_of root.heading) now stream source_now.left sink.taken sink_now.taken served
+  pub game : PlaysBy nodes stream served source_now sink sink_now
   pub cause : HasCause (SomeReadFailed source source_now) (SomeWriteFailed sink sink_now) served
-  pub same : status ≡ status_of served
 
 -- A run of the command: a game was served, or some refusal is due, and it was written.
 pub data IsPlayRun (source source_now : Reading) (sink sink_now : Writing) (status : ℕ) : Type 0 where
-  Played : Plays source source_now sink sink_now status → IsPlayRun source source_now sink sink_now status
+  Played : (served : Served) → Plays served source source_now sink sink_now → status ≡ status_of served
+      → IsPlayRun source source_now sink sink_now status
   Refused : (refusal : Refusal)
       → IsDue source.left source_now.left (SomeReadFailed source source_now) refusal
       → IsWritten sink sink_now (refusal_text refusal) (status_of_refusal refusal) status

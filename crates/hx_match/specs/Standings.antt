@@ -47,7 +47,7 @@ Takes before lines now cutter left rose (Err refusal) = IsDue before left rose r
 pub record HasNodes (old now : TreeSoFar) (nodes : List TreeNode) : Type 0 where
   pub judge : now.judge ≡ old.judge
   pub bytes : now.bytes ≡ old.bytes
-  pub nodes : now.nodes.items ≡ nodes
+  pub items : now.nodes.items ≡ nodes
 
 -- a plain node is kept
 abbrev pub KeepsNode : TreeSoFar → TreeNode → TreeSoFar → Result (Unit {0}) Refusal → Type 0

@@ -2,10 +2,10 @@
 
 ghost use Rattle.std.specs.Prelude.{◌≡◌, ◌≤◌, ℕ, [], true, List, Option, MatchResult, Result, Ok, Err};
 ghost use Rattle.hx_answers.specs.Endings.{IsWritten};
-ghost use Rattle.hx_io.specs.Sinks.{SomeWriteFailed};
 ghost use Rattle.hx_io.specs.Sources.{IsAtEnd, SomeReadFailed};
 ghost use Rattle.hx_match.specs.Refusals.{IsDue, refusal_text, status_of_refusal};
-ghost use Rattle.hx_match.specs.Runs.{IsPlayRun, IsPlayStatus, status_of};
+ghost use Rattle.hx_match.specs.Promises.{KeepsPromises};
+ghost use Rattle.hx_match.specs.Runs.{IsPlayRun, status_of};
 ghost use Rattle.hx_match.specs.Standings.{HasSeated};
 
 use crate::refusals::{Refusal, write_refusal};
@@ -29,12 +29,11 @@ pub fn run_play<S: Source, K: Sink>(alloc: Global, source: &mut S, sink: &mut K)
         (S.reading source.old) (S.reading source.new)
         (K.writing sink.old) (K.writing sink.new) result }
 
-    // Each fault has its cause, and no other status comes.
-    ensures read_fault { result ≡ 5
-        → SomeReadFailed (S.reading source.old) (S.reading source.new) }
-    ensures write_fault { result ≡ 6
-        → SomeWriteFailed (K.writing sink.old) (K.writing sink.new) }
-    ensures none_else { IsPlayStatus result }
+    // With status 0 the winner of the tree that the input begins with has played to a chain; each fault has its cause, and no other
+    // status comes.
+    ensures promises { KeepsPromises
+        (S.reading source.old) (S.reading source.new)
+        (K.writing sink.old) (K.writing sink.new) result }
 {
     let mut lines = LineCutter::new();
     match seat(alloc, &mut lines, source) {

@@ -1,6 +1,6 @@
 //! Reading the text of a tree that is to be played by. Its nodes are kept, each has to be plain, and the text may not be large.
 
-ghost use Rattle.std.specs.Prelude.{◌≡◌, ◌+◌, ◌<◌, ◌≤◌, ◌++◌, ◌∷◌, ℕ, true, [], List, Option, length, MatchResult, Result, Ok, Err};
+ghost use Rattle.std.specs.Prelude.{◌≡◌, ◌+◌, ◌<◌, ◌≤◌, ◌++◌, ◌∷◌, ℕ, true, [], List, Option, length, MatchResult, IfOk, false};
 ghost use Rattle.hx_io.specs.Sources.{IsAtEnd, SomeReadFailed};
 ghost use Rattle.hx_check.specs.Standings.{HasReadAll, JudgedUpTo};
 ghost use Rattle.hx_tree.specs.declared.nodes.Node.{Node as TreeNode};
