@@ -25,7 +25,8 @@ use Rattle.hx_check.specs.declared.judges.Brought.{Brought}
 use Rattle.hx_check.specs.declared.judges.Brought.TheVariants.{Line, Node, End}
 use Rattle.hx_check.specs.Judging.{AreThese}
 use Rattle.hx_check.specs.Judgements.{IsFaultDue, IsLong}
-use Rattle.hx_check.specs.Standings.{Brings, HasJudgedSome, HasReadAll, JudgedUpTo}
+use Rattle.hx_check.specs.Standings.{Brings, HasJudged, HasReadAll, JudgedUpTo}
+use Rattle.hx_check.proofs.JudgedNodes.{judged_nothing}
 use Rattle.hx_check.proofs.Demands.{due_behind}
 use Rattle.hx_check.proofs.DueAnswers.{says_of}
 use Rattle.hx_check.proofs.Readings.{right_among}
@@ -47,6 +48,39 @@ length-text_of-push lines line =
     ap length (sym (append-nil (text_of (lines ++ line ∷ []))) ∙ parts)
     ∙ length-append (text_of lines) (line ++ 10 ∷ [])
     ∙ ap (λ (n : ℕ). length (text_of lines) + n) (length-append line (10 ∷ []))
+
+-- nothing was read
+pub nothing_taken : (before : Option (List ℕ)) (so_far : TreeSoFar) → HasJudged so_far.judge [] [] → so_far.nodes.items ≡ []
+    → so_far.bytes ≡ 0 → HasTaken before so_far [] [] before
+unfolding text_of
+nothing_taken before so_far judged none zero = record {
+  upto = subst (λ (ns : List TreeNode). JudgedUpTo before so_far.judge ns [] [] before) (sym none)
+      (judged_nothing before so_far.judge [] judged refl);
+  plain = subst ArePlain (sym none) (λ k node inside. absurd (omega (arith, inside)));
+  bytes = zero;
+  small = omega (arith, zero);
+}
+
+-- behind a line that did not end the text more lines are to come
+pub going_after : (before : Option (List ℕ)) (nodes : List TreeNode) (lines : List (List ℕ)) (judge : Judge) (cutter : Cutter)
+    (left : Option (List ℕ)) (rose : Type 0) (mid now : TreeSoFar) (brought : Brought)
+    → Brings before nodes lines judge cutter left rose (Ok brought) → KeepsBrought mid brought now (Ok false) → mid.judge ≡ judge
+    → now.bytes ≤ MOST_BYTES → IsGoing now
+going_after before nodes lines judge cutter left rose mid now Line brings keeps same small =
+    let is : now.judge ≡ judge = keeps.1.judge ∙ same in
+    record {
+      judged = rw is (record { nodes = nodes; lines = lines ++ cutter.line ∷ []; judged = brings.1.judged });
+      unended = rw is brings.0;
+      small = small;
+    }
+going_after before nodes lines judge cutter left rose mid now (Node node) brings keeps same small =
+    let is : now.judge ≡ judge = keeps.1.1.judge ∙ same in
+    record {
+      judged = rw is (record { nodes = nodes ++ node ∷ []; lines = lines ++ cutter.line ∷ []; judged = brings.1.judged });
+      unended = rw is brings.0;
+      small = small;
+    }
+going_after before nodes lines judge cutter left rose mid now End brings keeps same small = absurd cc
 
 -- the nodes, with the one that a line brought
 abbrev nodes_with : Brought → List TreeNode → List TreeNode
@@ -206,22 +240,8 @@ module _ (before : Option (List ℕ)) (old : TreeSoFar) (lines : List (List ℕ)
       ends_all (Node node) brings keeps = absurd cc
       ends_all End brings keeps = brings.0
 
-      goes_on : (b : Brought) → Brings before old.nodes.items lines judge cutter then_left rose (Ok b)
-          → KeepsBrought mid b now (Ok false) → ¬ HasReadAll judge
-      goes_on Line brings keeps = brings.0
-      goes_on (Node node) brings keeps = brings.0
-      goes_on End brings keeps = absurd cc
-
       judge_now : now.judge ≡ judge
       judge_now = (kept_nodes mid now brought ended keeps).judge ∙ same_judge
-
-      pub going_now : ended ≡ false → now.bytes ≤ MOST_BYTES → IsGoing now
-      going_now is small = record {
-        judged = record { nodes = now.nodes.items; lines = lines ++ cutter.line ∷ []; judged = upto_now.judged };
-        unended = subst (λ (j : Judge). ¬ HasReadAll j) (sym judge_now)
-            (goes_on brought brings (subst (λ (e : Bool). KeepsBrought mid brought now (Ok e)) is keeps));
-        small = small;
-      }
 
       takes_by : (e : Bool) → ended ≡ e → now.bytes ≤ MOST_BYTES → Takes before lines now cutter then_left rose (Ok e)
       takes_by true is small = whole_tree small (subst HasReadAll (sym judge_now)
@@ -230,3 +250,13 @@ module _ (before : Option (List ℕ)) (old : TreeSoFar) (lines : List (List ℕ)
 
       pub takes : now.bytes ≤ MOST_BYTES → Takes before lines now cutter then_left rose (Ok ended)
       takes small = takes_by ended refl small
+
+-- a refusal that is due is due when more reads have failed
+pub due_later : (before after : Option (List ℕ)) (rose then_rose : Type 0) (refusal : Refusal) → (rose → then_rose)
+    → IsDue before after rose refusal → IsDue before after then_rose refusal
+due_later before after rose then_rose (NoPlain k) more due = due
+due_later before after rose then_rose (NoTree (NoText line)) more due = due
+due_later before after rose then_rose (NoTree (NoNode node)) more due = due
+due_later before after rose then_rose (NoTree ReadFault) more due = (more due.0, due.1)
+due_later before after rose then_rose (NoTree OutOfMemory) more due = tt
+due_later before after rose then_rose (NoTree TooLong) more due = due

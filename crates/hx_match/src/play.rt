@@ -58,10 +58,12 @@ fn seat<S: Source>(
         (SomeReadFailed (S.reading source.old) (S.reading source.new))) }
     ensures later { (S.reading source.old).faults ≤ (S.reading source.new).faults }
 {
-    let nodes = read_tree(alloc, lines, source)?;
-    match Player::new(alloc, nodes) {
-        Ok(player) => Ok(player),
-        Err(Memory) => Err(Refusal::NoTree(Fault::OutOfMemory)),
+    match read_tree(alloc, lines, source) {
+        Ok(nodes) => match Player::new(alloc, nodes) {
+            Ok(player) => Ok(player),
+            Err(Memory) => Err(Refusal::NoTree(Fault::OutOfMemory)),
+        },
+        Err(refusal) => Err(refusal),
     }
 }
 
