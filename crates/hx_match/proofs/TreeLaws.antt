@@ -1,19 +1,16 @@
 -- What one more line does to the reading of a tree that is to be played by.
 use Rattle.std.proofs.Common.{◌≡◌, ◌≢◌, ◌⊎◌, inl, inr, ℕ, ◌+◌, ◌<◌, ◌≤◌, Bool, true, false, List, [], ◌∷◌, ◌++◌, length, refl, sym, ap, ◌∙◌}
-use Rattle.std.proofs.Common.{subst, arith, append_assoc, append-nil, length-append, Option, Some}
+use Rattle.std.proofs.Common.{subst, arith, append-nil, length-append, Option}
 use Rattle.std.proofs.lemmas.Option.{IfSome_then}
 use Rattle.std.proofs.lemmas.List.Elements.{All-push}
-use Rattle.std.specs.Prelude.{IfSome, Result, Ok, Err}
-use Rattle.hx_io.specs.Sources.{prepend}
+use Rattle.std.specs.Prelude.{IfSome, Ok, Err}
 use Rattle.hx_lines.specs.Cutters.{Cutter}
 use Rattle.hx_tree.specs.declared.nodes.Node.{Node as TreeNode}
 use Rattle.hx_tree.specs.Plain.{IsPlain, ArePlain}
-use Rattle.hx_tree.specs.Trees.{AreRight, IsRoot, IsValidTree}
 use Rattle.hx_tree.proofs.TreeGrowth.{valid_tree}
 use Rattle.hx_letters.proofs.Ends.{push-some}
 use Rattle.hx_text.specs.Grammars.{text_of}
-use Rattle.hx_text.specs.Lengths.{most_nodes}
-use Rattle.hx_text.proofs.Cuts.{text_of-push, text_of-append}
+use Rattle.hx_text.proofs.Cuts.{text_of-push}
 use Rattle.hx_reader.specs.declared.places.Place.{Place}
 use Rattle.hx_reader.specs.declared.places.Place.TheVariants.{After}
 use Rattle.hx_reader.specs.Places.{Stands}
@@ -30,14 +27,14 @@ use Rattle.hx_check.proofs.JudgedNodes.{judged_nothing}
 use Rattle.hx_check.proofs.Demands.{due_behind}
 use Rattle.hx_check.proofs.DueAnswers.{says_of}
 use Rattle.hx_check.proofs.Readings.{right_among}
-use Rattle.hx_check.proofs.Standings.{ended_in}
+use Rattle.hx_check.proofs.Standings.{ended_in, not_whole}
 use Rattle.hx_match.specs.declared.refusals.Refusal.{Refusal}
 use Rattle.hx_match.specs.declared.refusals.Refusal.TheVariants.{NoPlain, NoTree}
 use Rattle.hx_match.specs.declared.trees.TheConstants.{MOST_BYTES}
 use Rattle.hx_match.specs.declared.trees.TreeSoFar.{TreeSoFar}
 use Rattle.hx_match.specs.Refusals.{IsDue, IsTreeFaultDue}
-use Rattle.hx_match.specs.Standings.{HasNodes, HasTaken, IsGoing, KeepsBrought, KeepsNode, Takes}
-use Rattle.hx_match.specs.Trees.{ArePlayable, HasReadTree, IsNoPlain, IsPlayable, IsTooLarge}
+use Rattle.hx_match.specs.Standings.{HasNodes, HasTaken, IsGoing, KeepsBrought, Takes}
+use Rattle.hx_match.specs.Trees.{ArePlayable, HasReadTree, IsNoPlain, IsTooLarge}
 
 -- ---- the lines so far
 
@@ -50,15 +47,16 @@ length-text_of-push lines line =
     ∙ ap (λ (n : ℕ). length (text_of lines) + n) (length-append line (10 ∷ []))
 
 -- nothing was read
-pub nothing_taken : (before : Option (List ℕ)) (so_far : TreeSoFar) → HasJudged so_far.judge [] [] → so_far.nodes.items ≡ []
-    → so_far.bytes ≡ 0 → HasTaken before so_far [] [] before
+pub nothing_taken : (before : Option (List ℕ)) (so_far : TreeSoFar) → HasJudged so_far.judge [] [] → ¬ HasReadAll so_far.judge
+    → so_far.nodes.items ≡ [] → so_far.bytes ≡ 0 → HasTaken before so_far [] [] before
 unfolding text_of
-nothing_taken before so_far judged none zero = record {
+nothing_taken before so_far judged unended none zero = record {
   upto = subst (λ (ns : List TreeNode). JudgedUpTo before so_far.judge ns [] [] before) (sym none)
       (judged_nothing before so_far.judge [] judged refl);
   plain = subst ArePlain (sym none) (λ k node inside. absurd (omega (arith, inside)));
   bytes = zero;
   small = omega (arith, zero);
+  unended = unended;
 }
 
 -- behind a line that did not end the text more lines are to come
@@ -95,6 +93,7 @@ module _ (before : Option (List ℕ)) (old : TreeSoFar) (lines : List (List ℕ)
     right = taken.upto.judged.right;
     plain = taken.plain;
     small = subst (λ (n : ℕ). n ≤ MOST_BYTES) taken.bytes taken.small;
+    unended = not_whole old.judge.reader.place old.nodes.items lines taken.unended taken.upto.judged.read;
   }
 
   -- a fault of the next line
@@ -201,12 +200,15 @@ module _ (before : Option (List ℕ)) (old : TreeSoFar) (lines : List (List ℕ)
             right = upto.judged.right;
             plain = plain_now;
             small = meets.small;
+            unended = meets.unended;
             large = subst (λ (n : ℕ). MOST_BYTES < n) bytes_now large;
           }))
 
       -- more lines are to come
-      pub taken_more : now.bytes ≤ MOST_BYTES → HasTaken before now (lines ++ cutter.line ∷ []) cutter.held then_left
-      taken_more small = record { upto = upto_now; plain = plain_now; bytes = bytes_now; small = small }
+      pub taken_more : now.bytes ≤ MOST_BYTES → ¬ HasReadAll now.judge
+          → HasTaken before now (lines ++ cutter.line ∷ []) cutter.held then_left
+      taken_more small unended =
+          record { upto = upto_now; plain = plain_now; bytes = bytes_now; small = small; unended = unended }
 
       -- it was the last line
       pub whole_tree : now.bytes ≤ MOST_BYTES → HasReadAll now.judge → HasReadTree before now.nodes.items cutter.held then_left
@@ -240,13 +242,20 @@ module _ (before : Option (List ℕ)) (old : TreeSoFar) (lines : List (List ℕ)
       ends_all (Node node) brings keeps = absurd cc
       ends_all End brings keeps = brings.0
 
+      unended_by : (b : Brought) → Brings before old.nodes.items lines judge cutter then_left rose (Ok b)
+          → KeepsBrought mid b now (Ok false) → ¬ HasReadAll judge
+      unended_by Line brings keeps = brings.0
+      unended_by (Node node) brings keeps = brings.0
+      unended_by End brings keeps = absurd cc
+
       judge_now : now.judge ≡ judge
       judge_now = (kept_nodes mid now brought ended keeps).judge ∙ same_judge
 
       takes_by : (e : Bool) → ended ≡ e → now.bytes ≤ MOST_BYTES → Takes before lines now cutter then_left rose (Ok e)
       takes_by true is small = whole_tree small (subst HasReadAll (sym judge_now)
           (ends_all brought brings (subst (λ (e : Bool). KeepsBrought mid brought now (Ok e)) is keeps)))
-      takes_by false is small = taken_more small
+      takes_by false is small = taken_more small (subst (λ (j : Judge). ¬ HasReadAll j) (sym judge_now)
+          (unended_by brought brings (subst (λ (e : Bool). KeepsBrought mid brought now (Ok e)) is keeps)))
 
       pub takes : now.bytes ≤ MOST_BYTES → Takes before lines now cutter then_left rose (Ok ended)
       takes small = takes_by ended refl small

@@ -1,7 +1,5 @@
-use Rattle.std.proofs.Common.{◌≡◌, ◌≤◌, ℕ, ◌++◌, ◌∷◌, [], List, ap, sym, subst, arith, Bool}
-use Rattle.std.specs.Prelude.{Result, Ok}
+use Rattle.std.proofs.Common.{◌++◌, ◌∷◌, [], arith}
 use Rattle.hx_io.proofs.CauseLaws.{rose_from_earlier}
-use Rattle.hx_io.specs.Sources.{SomeReadFailed}
 use Rattle.hx_match.proofs.TreeLaws.{due_later}
 use Rattle.hx_match.proofs.trees.read_tree.Goals as goal
 
@@ -30,7 +28,9 @@ loop-preserved g c =
 pub returns-in-Ok-true-clause-read : goal.returns-in-Ok-true-clause-read
 returns-in-Ok-true-clause-read g c =
     let at = c.loop.invariant in
-    ?
+    let before = (g.S.Source.reading c.args.source.now).left in
+    let read = rw c.in-Ok-true.field-0-test at (c.in-Ok-true.ensures.takes before at.lines at.taken) in
+    rw c.into_nodes.ensures read
 
 pub returns-in-Err-clause-read : goal.returns-in-Err-clause-read
 returns-in-Err-clause-read g c =

@@ -1,4 +1,4 @@
-use Rattle.std.proofs.Common.{◌≡◌, ℕ, ◌+◌, ◌≤◌, ◌++◌, length, refl, ap, List, Bool, subst, arith}
+use Rattle.std.proofs.Common.{ℕ, ◌+◌, ◌++◌, length, refl, ap, List, Bool, subst, arith}
 use Rattle.std.specs.Prelude.{Ok}
 use Rattle.hx_io.specs.Sources.{prepend, SomeReadFailed}
 use Rattle.hx_text.specs.Grammars.{text_of}
