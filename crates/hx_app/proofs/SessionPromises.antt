@@ -1,6 +1,6 @@
 -- What a run of `htp` says with each status, by how the session ended.
 use Rattle.std.proofs.Common.{◌≡◌, ℕ, ◌<◌, ◌^◌, inl, inr, List, length, refl, sym, subst, arith}
-use Rattle.std.specs.Prelude.{Option}
+use Rattle.std.specs.Prelude.{Option, IfSome}
 use Rattle.hx_io.specs.Sources.{Reading, SomeReadFailed}
 use Rattle.hx_io.specs.Sinks.{Writing, SomeWriteFailed}
 use Rattle.hx_settings.specs.declared.settings.Settings.{Settings}
@@ -11,8 +11,8 @@ use Rattle.hx_htp.specs.Sessions.{Moment, moment}
 use Rattle.hx_htp.specs.Runs.{Run, SessionRun, until_quit}
 use Rattle.hx_htp.specs.Laws.{IsCounted, NamesWinners}
 use Rattle.hx_lines.specs.declared.ended.Ended.{Ended}
-use Rattle.hx_lines.specs.declared.ended.Ended.TheVariants.{Done, ReadFault, WriteFault, TooLong}
-use Rattle.hx_serve.specs.Serving.{Ends, IsTooLong, IsWithinLimits}
+use Rattle.hx_lines.specs.declared.ended.Ended.TheVariants.{Stopped, Over, ReadFault, WriteFault, TooLong}
+use Rattle.hx_serve.specs.Serving.{Ends, IsDone, IsTooLong, IsWithinLimits}
 use Rattle.hx_check.proofs.KeptPromises.{of_any}
 use Rattle.hx_app.specs.declared.finishes.Finish.{Finish}
 use Rattle.hx_app.specs.Sessions.{account_of, start_of, status_of_end, EndHasCause, IsSessionRun, EachRunNamesWinners, EachRunIsCounted}
@@ -23,7 +23,8 @@ use Rattle.std.proofs.lemmas.Option.{IfSome_then}
 
 end_has_cause : (rose sink_rose : Type 0) (ended : Ended) → (ended ≡ ReadFault → rose) → (ended ≡ WriteFault → sink_rose)
     → EndHasCause rose sink_rose ended
-end_has_cause rose sink_rose Done read write = tt
+end_has_cause rose sink_rose Stopped read write = tt
+end_has_cause rose sink_rose Over read write = tt
 end_has_cause rose sink_rose ReadFault read write = read refl
 end_has_cause rose sink_rose WriteFault read write = write refl
 end_has_cause rose sink_rose TooLong read write = tt
@@ -51,6 +52,11 @@ abbrev pub LimitsAreApart : Type 0
 LimitsAreApart = (start account : Account) (input : List ℕ) (taken now : Option (List ℕ))
     → IsTooLong start account input taken now → ¬ IsWithinLimits input
 
+-- the input of a session that is done is within the limits
+abbrev pub DoneIsWithin : Type 0
+DoneIsWithin = (start account : Account) (input : List ℕ) (left taken now : Option (List ℕ))
+    → IsDone start account left taken now input → IsWithinLimits input
+
 -- replies that name a limit are counted, where the counts begin at 0
 abbrev pub RepliesAreCounted : Type 0
 RepliesAreCounted = (before after : Account) (lines : List (List ℕ)) (replies : List ℕ) (run : SessionRun before lines replies after)
@@ -69,7 +75,7 @@ each_run_is_counted settings after law lines replies run few =
     law (start_of settings) after lines replies run refl refl (omega (arith, few))
 
 module _ (settings : Settings) (source source_now : Reading) (sink sink_now : Writing) (finish : Finish)
-    (apart : LimitsAreApart) (winners : EachRunNamesWinners (start_of settings) (account_of finish.tally))
+    (apart : LimitsAreApart) (inside : DoneIsWithin) (winners : EachRunNamesWinners (start_of settings) (account_of finish.tally))
     (counted : EachRunIsCounted (start_of settings) (account_of finish.tally)) where
   abbrev Kept : Type 0
   Kept = KeepsPromises settings source source_now sink sink_now finish
@@ -77,14 +83,16 @@ module _ (settings : Settings) (source source_now : Reading) (sink sink_now : Wr
   abbrev EndsAs : Ended → Type 0
   EndsAs ended = Ends (start_of settings) (account_of finish.tally) source.left source_now.left sink.taken sink_now.taken ended
 
-  kept_done : EndsAs Done → finish.status ≡ 0 → Kept
-  kept_done ends zero = record {
-    replies = λ is. ends;
+  kept_done : IfSome source.left (IsDone (start_of settings) (account_of finish.tally) source_now.left sink.taken sink_now.taken)
+      → finish.status ≡ 0 → Kept
+  kept_done done zero = record {
+    replies = λ is. done;
     read_fault = λ five. absurd (omega (arith, zero, five));
     write_fault = λ six. absurd (omega (arith, zero, six));
     too_long = λ eight. absurd (omega (arith, zero, eight));
     within = of_any source.left _ (λ input within. inl zero);
-    above = IfSome_then source.left ends (λ input done above. absurd (above done.within));
+    above = IfSome_then source.left done (λ input is above. absurd (above (inside (start_of settings) (account_of finish.tally) input
+        source_now.left sink.taken sink_now.taken is)));
     winners = winners;
     counted = counted;
     none_else = inr (inl zero);
@@ -132,16 +140,17 @@ module _ (settings : Settings) (source source_now : Reading) (sink sink_now : Wr
 
   kept_end : (ended : Ended) → EndsAs ended → EndHasCause (SomeReadFailed source source_now) (SomeWriteFailed sink sink_now) ended
       → finish.status ≡ status_of_end ended → Kept
-  kept_end Done ends cause same = kept_done ends same
+  kept_end Stopped ends cause same = kept_done (IfSome_then source.left ends (λ input stopped. inl stopped)) same
+  kept_end Over ends cause same = kept_done (IfSome_then source.left ends (λ input over. inr over)) same
   kept_end ReadFault ends cause same = kept_read_fault ends cause same
   kept_end WriteFault ends cause same = kept_write_fault ends cause same
   kept_end TooLong ends cause same = kept_too_long ends same
 
 pub kept : (settings : Settings) (source source_now : Reading) (sink sink_now : Writing) (finish : Finish)
-    → LimitsAreApart → NamedPlayersWin → RepliesAreCounted → IsSessionRun settings source source_now sink sink_now finish
+    → LimitsAreApart → DoneIsWithin → NamedPlayersWin → RepliesAreCounted → IsSessionRun settings source source_now sink sink_now finish
     → KeepsPromises settings source source_now sink sink_now finish
-kept settings source source_now sink sink_now finish apart named law ran =
-    kept_end settings source source_now sink sink_now finish apart
+kept settings source source_now sink sink_now finish apart inside named law ran =
+    kept_end settings source source_now sink sink_now finish apart inside
     (each_run_names_winners (start_of settings) (account_of finish.tally) named)
     (each_run_is_counted settings (account_of finish.tally) law)
     ran.ended ran.ends ran.cause ran.status

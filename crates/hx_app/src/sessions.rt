@@ -9,7 +9,9 @@ use crate::searchers::Searcher;
 use hx_answers::{READ_FAULT, TOO_LONG, WRITE_FAULT};
 use hx_htp::{named_players_win, open_questions_are_counted};
 use hx_io::{Sink, Source};
-use hx_serve::{Ended, only_lines_above_a_limit_are_too_long, serve};
+use hx_serve::{
+    Ended, only_lines_above_a_limit_are_too_long, only_lines_within_the_limits_are_done, serve,
+};
 use hx_solve::Settings;
 use std::alloc::Global;
 use std::sync::Wait;
@@ -35,6 +37,7 @@ pub(crate) fn run_session<S: Source, K: Sink, R: Threads + Wait + Sync>(
     named_players_win();
     open_questions_are_counted();
     only_lines_above_a_limit_are_too_long();
+    only_lines_within_the_limits_are_done();
     serve_lines(rt, alloc, settings, source, sink)
 }
 

@@ -17,7 +17,7 @@ use Rattle.hx_check.specs.Judgements.{IsLong}
 use Rattle.hx_check.proofs.Readings.{GoOn, ended_first, right_among, no_next, many_lines, many_begin, more_nodes}
 use Rattle.hx_check.proofs.LongLines.{none_not_long, lines_not_long}
 
-are_lines : {text : List ℕ} {nodes : List Node} (tree : IsTreeText text nodes) → AreTreeLines tree.lines
+pub are_lines : {text : List ℕ} {nodes : List Node} (tree : IsTreeText text nodes) → AreTreeLines tree.lines
 are_lines {text} {nodes} tree = record { preamble = tree.preamble; nodes = nodes; winner = tree.winner; are = tree.are }
 
 module _ {text : List ℕ} {nodes : List Node} (tree : IsTreeText text nodes) (rest : List ℕ) where
@@ -28,7 +28,7 @@ module _ {text : List ℕ} {nodes : List Node} (tree : IsTreeText text nodes) (r
     pub left_is : left ≡ text_of more ++ rest
 
   -- no text goes on behind the last line
-  none_further : (lines more : List (List ℕ)) → Begins AreTreeLines lines → lines ≡ tree.lines ++ more → more ≡ []
+  pub none_further : (lines more : List (List ℕ)) → Begins AreTreeLines lines → lines ≡ tree.lines ++ more → more ≡ []
   none_further lines [] begins is = refl
   none_further lines (next ∷ more) begins is =
       absurd (end_wrong tree.preamble tree.winner nodes tree.lines next tree.are (

@@ -49,10 +49,11 @@ root_heading headings nodes node root same last is =
     ∙ last_heading last.front node in
     cc
 
-some_nodes : (nodes : List Node) (node : Node) → IsRoot nodes node → nodes ≢ []
+pub some_nodes : (nodes : List Node) (node : Node) → IsRoot nodes node → nodes ≢ []
 some_nodes nodes node last none = push-some last.front node (sym last.same ∙ none)
 
-ends : (judge : Judge) (nodes : List Node) (lines : List (List ℕ)) → HasRead judge.reader nodes lines → (all : HasReadAll judge)
+-- the lines of a whole text
+pub ends : (judge : Judge) (nodes : List Node) (lines : List (List ℕ)) → HasRead judge.reader nodes lines → (all : HasReadAll judge)
     → Stands (After all.0) nodes lines
 ends judge nodes lines read all = subst (λ (p : Place). Stands p nodes lines) all.1 read
 

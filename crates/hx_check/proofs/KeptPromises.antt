@@ -7,18 +7,17 @@ use Rattle.hx_io.specs.Sources.{Reading, SomeReadFailed}
 use Rattle.hx_io.specs.Sinks.{Writing, SomeWriteFailed, append}
 use Rattle.hx_tree.specs.declared.nodes.Heading.{Heading}
 use Rattle.hx_proof.proofs.TreeSoundness.{root_wins}
-use Rattle.hx_text.proofs.OneFault.{one_tree_fault}
 use Rattle.hx_answers.specs.Endings.{IsUnlessStopped, AnswersUnlessStopped, IsReadToEnd}
 use Rattle.hx_check.specs.declared.judgements.Judgement.{Judgement}
 use Rattle.hx_check.specs.declared.judgements.Judgement.TheVariants.{Yes, No}
+use Rattle.hx_check.specs.declared.faults.Fault.{Fault}
 use Rattle.hx_check.specs.declared.faults.Fault.TheVariants.{NoText, NoNode, ReadFault, OutOfMemory, TooLong}
-use Rattle.hx_check.specs.Judging.{NodesAreRight, IsYes, IsNoText, IsNoNode, IsLongLine, IsTooManyNodes, ReadsNoFault}
-use Rattle.hx_check.specs.Judgements.{IsLong, IsDue, IsCheckStatus, judgement_text, no_text_line, no_node_line, status_of, yes_text}
+use Rattle.hx_check.specs.Judging.{NodesAreRight, IsYes, IsNoText, IsNoNode, ReadsNoFault}
+use Rattle.hx_check.specs.Judgements.{IsLong, IsDue, IsCheckStatus, fault_text, judgement_text, no_text_line, no_node_line}
+use Rattle.hx_check.specs.Judgements.{status_of, status_of_fault, yes_text}
 use Rattle.hx_check.specs.Promises.{SaysYes, IsProof, IsNoProof, KeepsPromises}
 use Rattle.hx_check.proofs.Demands.{right_asks}
-use Rattle.hx_check.proofs.Readings.{many_not_fault, many_not_wrong}
-use Rattle.hx_check.proofs.OneAnswer.{text_not_node, one_node}
-use Rattle.hx_check.proofs.LongLines.{long_not_fault, long_not_node}
+use Rattle.hx_check.proofs.OneFault.{IsOrStopped, line_alone, node_alone, long_alone}
 use Rattle.hx_check.proofs.BeginningTexts.{text_not_fault, valid_not_wrong, text_not_long}
 
 says_yes : (input : List ℕ) (root : Heading) (taken_before taken_now : Option (List ℕ)) → IsYes input root
@@ -32,6 +31,20 @@ says_yes input root taken_before taken_now is output = record {
   output = output ∙ ap (λ (h : Heading). append taken_before (yes_text h)) is.same;
   wins = root_wins is.nodes is.root is.valid is.last;
 }
+
+-- ---- the fault of an input, where no other is due
+
+status_alone : (fault other : Fault) → IsOrStopped fault other → IsUnlessStopped (status_of_fault other) (status_of_fault fault)
+status_alone fault other (inl is) = inl (ap status_of_fault is)
+status_alone fault other (inr (inl is)) = inr (inl (ap status_of_fault is))
+status_alone fault other (inr (inr is)) = inr (inr (inr (ap status_of_fault is)))
+
+answer_alone : (before now : Option (List ℕ)) (fault other : Fault) → now ≡ append before (fault_text other) → IsOrStopped fault other
+    → AnswersUnlessStopped (fault_text fault) (status_of_fault fault) before now (status_of_fault other)
+answer_alone before now fault other written (inl is) =
+    inl (ap status_of_fault is, written ∙ ap (λ (f : Fault). append before (fault_text f)) is)
+answer_alone before now fault other written (inr (inl is)) = inr (inl (ap status_of_fault is))
+answer_alone before now fault other written (inr (inr is)) = inr (inr (inr (ap status_of_fault is)))
 
 -- ---- what a judgement says of an input that the source tells
 
@@ -63,64 +76,25 @@ module _ (input : List ℕ) (after : Option (List ℕ)) (rose : Type 0) where
   no_proof_of (No OutOfMemory) within none due = inr (inr (inr refl))
   no_proof_of (No TooLong) within none due = absurd (within due)
 
-  many_of : (judgement : Judgement) → IsTooManyNodes NodesAreRight input → IsDue (Some input) after rose judgement
-      → IsUnlessStopped (status_of judgement) 8
-  many_of (Yes root) many due = let yes : IsYes input root = due.0 in absurd (text_not_long input yes.nodes yes.text yes.few (inr many))
-  many_of (No (NoText line)) many due = absurd (many_not_fault input line many due)
-  many_of (No (NoNode node)) many due = absurd (many_not_wrong right_asks input node many due)
-  many_of (No ReadFault) many due = inr (inl refl)
-  many_of (No OutOfMemory) many due = inr (inr (inr refl))
-  many_of (No TooLong) many due = inl refl
-
-  line_too_long : (judgement : Judgement) → IsLongLine NodesAreRight input → IsDue (Some input) after rose judgement
-      → IsUnlessStopped (status_of judgement) 8
-  line_too_long (Yes root) long due =
-      let yes : IsYes input root = due.0 in absurd (text_not_long input yes.nodes yes.text yes.few (inl long))
-  line_too_long (No (NoText line)) long due = absurd (long_not_fault input line long due)
-  line_too_long (No (NoNode node)) long due = absurd (long_not_node right_asks input node long due)
-  line_too_long (No ReadFault) long due = inr (inl refl)
-  line_too_long (No OutOfMemory) long due = inr (inr (inr refl))
-  line_too_long (No TooLong) long due = inl refl
-
   long_of : (judgement : Judgement) → IsLong NodesAreRight input → IsDue (Some input) after rose judgement
       → IsUnlessStopped (status_of judgement) 8
-  long_of judgement (inl long) due = line_too_long judgement long due
-  long_of judgement (inr many) due = many_of judgement many due
-
-  -- an input that is above a limit has no other fault before
-  long_not_line : (line : ℕ) → IsLong NodesAreRight input → IsNoText NodesAreRight input line → ⊥
-  long_not_line line (inl long) text = long_not_fault input line long text
-  long_not_line line (inr many) text = many_not_fault input line many text
-
-  long_not_wrong : (k : ℕ) → IsLong NodesAreRight input → IsNoNode NodesAreRight input k → ⊥
-  long_not_wrong k (inl long) node = long_not_node right_asks input k long node
-  long_not_wrong k (inr many) node = many_not_wrong right_asks input k many node
+  long_of (Yes root) long due = let yes : IsYes input root = due.0 in absurd (text_not_long input yes.nodes yes.text yes.few long)
+  long_of (No fault) long due = status_alone TooLong fault (long_alone right_asks input rose after long fault due)
 
   module _ (before now : Option (List ℕ)) where
-    line_of : (judgement : Judgement) (line : ℕ) → now ≡ append before (judgement_text judgement)
-        → IsNoText NodesAreRight input line → IsDue (Some input) after rose judgement
-        → AnswersUnlessStopped (no_text_line line) 1 before now (status_of judgement)
+    line_of : (judgement : Judgement) (line : ℕ) → now ≡ append before (judgement_text judgement) → IsNoText NodesAreRight input line
+        → IsDue (Some input) after rose judgement → AnswersUnlessStopped (no_text_line line) 1 before now (status_of judgement)
     line_of (Yes root) line written text due =
         let yes : IsYes input root = due.0 in absurd (text_not_fault input yes.nodes line yes.text text)
-    line_of (No (NoText other)) line written text due =
-        let found : IsNoText NodesAreRight input other = due in
-        inl (refl, written ∙ ap (λ (n : ℕ). append before (no_text_line n)) (one_tree_fault input other line found.fault text.fault))
-    line_of (No (NoNode node)) line written text due = absurd (text_not_node right_asks input line node text due)
-    line_of (No ReadFault) line written text due = inr (inl refl)
-    line_of (No OutOfMemory) line written text due = inr (inr (inr refl))
-    line_of (No TooLong) line written text due = absurd (long_not_line line due text)
+    line_of (No fault) line written text due =
+        answer_alone before now (NoText line) fault written (line_alone right_asks input rose after line text fault due)
 
-    node_of : (judgement : Judgement) (k : ℕ) → now ≡ append before (judgement_text judgement)
-        → IsNoNode NodesAreRight input k → IsDue (Some input) after rose judgement
-        → AnswersUnlessStopped (no_node_line k) 1 before now (status_of judgement)
+    node_of : (judgement : Judgement) (k : ℕ) → now ≡ append before (judgement_text judgement) → IsNoNode NodesAreRight input k
+        → IsDue (Some input) after rose judgement → AnswersUnlessStopped (no_node_line k) 1 before now (status_of judgement)
     node_of (Yes root) k written node due =
         let yes : IsYes input root = due.0 in absurd (valid_not_wrong input yes.nodes k yes.text yes.valid node)
-    node_of (No (NoText line)) k written node due = absurd (text_not_node right_asks input line k due node)
-    node_of (No (NoNode other)) k written node due =
-        inl (refl, written ∙ ap (λ (n : ℕ). append before (no_node_line n)) (one_node right_asks input other k due node))
-    node_of (No ReadFault) k written node due = inr (inl refl)
-    node_of (No OutOfMemory) k written node due = inr (inr (inr refl))
-    node_of (No TooLong) k written node due = absurd (long_not_wrong k due node)
+    node_of (No fault) k written node due =
+        answer_alone before now (NoNode k) fault written (node_alone right_asks input rose after k node fault due)
 
 -- ---- what a status says of what was left, whatever the judgement
 

@@ -8,5 +8,6 @@ pub mod LongLines
 pub mod BeginningTexts
 pub mod DueAnswers
 pub mod Endings
+pub mod ReadTexts
 pub mod OneFault
 pub mod KeptPromises

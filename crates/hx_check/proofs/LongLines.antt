@@ -1,6 +1,7 @@
 -- A line that is too long comes first or not at all: the lines of a tree's text are short, so where a line is too long, each other
 -- way to read the input has gone wrong before, or not yet.
 use Rattle.std.proofs.Common.{◌≡◌, ℕ, suc, zero, ◌<◌, ◌≤◌, List, [], ◌∷◌, ◌++◌, length, get_or, sym, ap, ◌∙◌, subst, arith, append_assoc}
+use Rattle.std.proofs.Common.{inl, inr}
 use Rattle.std.proofs.lemmas.List.{append-nil}
 use Rattle.hx_lines.specs.Lines.{HasLf, lines_of}
 use Rattle.hx_lines.specs.Cutters.{BeginLong}
@@ -15,7 +16,9 @@ use Rattle.hx_text.proofs.ShortLines.{AllShort, AllShort-middle, AllShort-front,
 use Rattle.hx_text.proofs.TreeLacks.{AllLack-tree_lines, AllLack-begun}
 use Rattle.hx_check.specs.Limits.{BeginsLong}
 use Rattle.hx_check.specs.Judging.{Demand, EndedIn, IsNoText, IsNoNode, IsLongLine, IsTooManyNodes}
+use Rattle.hx_check.specs.Judgements.{IsLong}
 use Rattle.hx_check.proofs.Demands.{AsksRight}
+use Rattle.hx_check.proofs.Readings.{many_not_fault, many_not_wrong}
 use Rattle.hx_check.proofs.Readings.{GoOn, right_among, many_lines, AllLack-many_lines, AllShort-many_lines, too_many}
 use Rattle.hx_check.proofs.OneAnswer.{front_nodes}
 
@@ -78,7 +81,7 @@ AllShort-begun lines begins = AllShort-front lines begins.0 (AllShort-tree_lines
 
 -- ---- so no other answer fits
 
-pub long_not_fault : {Meets : Demand} (input : List ℕ) (line : ℕ) → IsLongLine Meets input → IsNoText Meets input line → ⊥
+long_not_fault : {Meets : Demand} (input : List ℕ) (line : ℕ) → IsLongLine Meets input → IsNoText Meets input line → ⊥
 unfolding text_of
 long_not_fault input line long text =
     let on : GoesOn long text.fault.before text.fault.rest =
@@ -89,7 +92,7 @@ long_not_fault input line long text =
     let same : text.fault.rest ≡ long.rest = on.left ∙ ap (λ (ls : List (List ℕ)). text_of ls ++ long.rest) none in
     text.short (subst BeginsLong (sym same) long.long)
 
-pub long_not_node : {Meets : Demand} → AsksRight Meets → (input : List ℕ) (k : ℕ) → IsLongLine Meets input → IsNoNode Meets input k
+long_not_node : {Meets : Demand} → AsksRight Meets → (input : List ℕ) (k : ℕ) → IsLongLine Meets input → IsNoNode Meets input k
     → ⊥
 long_not_node asks input k long node =
     let on : GoesOn long node.lines node.rest =
@@ -106,3 +109,12 @@ long_not_many input long many =
     let on : GoesOn long (many_lines many) many.rest =
     goes_on input long (many_lines many) many.rest (AllLack-many_lines many) (AllShort-many_lines many) many.parts in
     too_many many long.lines on.more long.faultless.nodes on.is long.faultless.ended
+
+-- an input that is above a limit has no other fault before
+pub long_not_line : {Meets : Demand} (input : List ℕ) (line : ℕ) → IsLong Meets input → IsNoText Meets input line → ⊥
+long_not_line input line (inl long) text = long_not_fault input line long text
+long_not_line input line (inr many) text = many_not_fault input line many text
+
+pub long_not_wrong : {Meets : Demand} → AsksRight Meets → (input : List ℕ) (k : ℕ) → IsLong Meets input → IsNoNode Meets input k → ⊥
+long_not_wrong asks input k (inl long) node = long_not_node asks input k long node
+long_not_wrong asks input k (inr many) node = many_not_wrong asks input k many node

@@ -1,5 +1,5 @@
 -- What stands in the way of a game, and when.
-use Rattle.std.specs.Prelude.{◌≡◌, ◌⊎◌, ℕ, List, codes, Option, IfSome}
+use Rattle.std.specs.Prelude.{◌⊎◌, ℕ, List, codes, Option, IfSome}
 use Rattle.hx_answers.specs.Texts.{counted_text}
 use Rattle.hx_check.specs.declared.faults.Fault.{Fault}
 use Rattle.hx_check.specs.declared.faults.Fault.TheVariants.{NoText, NoNode, ReadFault, OutOfMemory, TooLong}

@@ -34,6 +34,7 @@ pub record HasTaken (before : Option (List ℕ)) (so_far : TreeSoFar) (lines : L
   pub plain : ArePlain so_far.nodes.items
   pub bytes : so_far.bytes ≡ length (text_of lines)
   pub small : so_far.bytes ≤ MOST_BYTES
+  pub unended : ¬ HasReadAll so_far.judge
 
 -- what one more line does, behind these lines
 abbrev pub Takes : Option (List ℕ) → List (List ℕ) → TreeSoFar → Cutter → Option (List ℕ) → Type 0

@@ -19,12 +19,13 @@ pub record IsPlayable (text : List ℕ) (nodes : List Node) : Type 0 where
   pub few : length nodes ≤ most_nodes
   pub small : length text ≤ MOST_BYTES
 
--- What is asked of the lines and nodes before a fault: the nodes are right and plain, and the lines have no more bytes than
--- a text may have.
+-- What is asked of the lines and nodes before a fault: the nodes are right and plain, the lines have no more bytes than a
+-- text may have, and they are no whole text.
 pub record ArePlayable (lines : List (List ℕ)) (nodes : List Node) : Type 0 where
   pub right : AreRight nodes
   pub plain : ArePlain nodes
   pub small : length (text_of lines) ≤ MOST_BYTES
+  pub unended : ¬ AreTreeLines lines
 
 -- This node, counted from 0, is right and not plain, and nothing before its last line is at fault.
 pub record IsNoPlain (input : List ℕ) (k : ℕ) : Type 0 where
@@ -41,7 +42,8 @@ pub record IsNoPlain (input : List ℕ) (k : ℕ) : Type 0 where
   pub not_plain : ¬ IsPlain node
   pub count : k ≡ length earlier
 
--- With this line the text has more bytes than it may have, and the line is not at fault, nor is anything before it.
+-- With this line the text has more bytes than it may have; the line is not at fault, nor is anything before it, and the text
+-- did not end before it.
 pub record IsTooLarge (input : List ℕ) : Type 0 where
   pub lines : List (List ℕ)
   pub last : List ℕ
@@ -53,6 +55,7 @@ pub record IsTooLarge (input : List ℕ) : Type 0 where
   pub right : AreRight nodes
   pub plain : ArePlain nodes
   pub small : length (text_of lines) ≤ MOST_BYTES
+  pub unended : ¬ AreTreeLines lines
   pub large : MOST_BYTES < length (text_of (lines ++ last ∷ []))
 
 -- The text of a tree that is played by came first; behind it some bytes are held, and then the source has the others.

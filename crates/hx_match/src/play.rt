@@ -43,11 +43,7 @@ pub fn run_play<S: Source, K: Sink>(alloc: Global, source: &mut S, sink: &mut K)
 }
 
 /// A player of the tree whose text comes first.
-fn seat<S: Source>(
-    alloc: Global,
-    lines: &mut LineCutter,
-    source: &mut S,
-) -> Result<Player, Refusal>
+fn seat<S: Source>(alloc: Global, lines: &mut LineCutter, source: &mut S) -> Result<Player, Refusal>
     requires new { lines.old.held ≡ [] }
     requires met_end { lines.old.met_end ≡ true → IsAtEnd (S.reading source.old).left }
     ensures met_end { lines.new.met_end ≡ true → IsAtEnd (S.reading source.new).left }
@@ -58,10 +54,12 @@ fn seat<S: Source>(
         (SomeReadFailed (S.reading source.old) (S.reading source.new))) }
     ensures later { (S.reading source.old).faults ≤ (S.reading source.new).faults }
 {
-    let nodes = read_tree(alloc, lines, source)?;
-    match Player::new(alloc, nodes) {
-        Ok(player) => Ok(player),
-        Err(Memory) => Err(Refusal::NoTree(Fault::OutOfMemory)),
+    match read_tree(alloc, lines, source) {
+        Ok(nodes) => match Player::new(alloc, nodes) {
+            Ok(player) => Ok(player),
+            Err(Memory) => Err(Refusal::NoTree(Fault::OutOfMemory)),
+        },
+        Err(refusal) => Err(refusal),
     }
 }
 

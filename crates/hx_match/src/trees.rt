@@ -41,6 +41,13 @@ impl TreeSoFar {
         }
     }
 
+    /// Its nodes.
+    fn into_nodes(self) -> Vec<Node>
+        ensures { result.items ≡ self.nodes.items }
+    {
+        self.nodes
+    }
+
     /// Reads one more line, and says whether it is the last one of the text.
     fn take_line<S: Source>(
         &mut self,
@@ -63,11 +70,16 @@ impl TreeSoFar {
             Err(fault) => return Err(Refusal::NoTree(fault)),
         };
         self.bytes += lines.line().len() + 1;
-        let ended = self.keep(brought)?;
-        if self.bytes > MOST_BYTES {
-            return Err(Refusal::NoTree(Fault::TooLong));
+        match self.keep(brought) {
+            Ok(ended) => {
+                if self.bytes > MOST_BYTES {
+                    Err(Refusal::NoTree(Fault::TooLong))
+                } else {
+                    Ok(ended)
+                }
+            }
+            Err(refusal) => Err(refusal),
         }
-        Ok(ended)
     }
 
     /// Keeps the node that a line ended, and says whether the line is the last one of the text.
@@ -120,7 +132,7 @@ pub(crate) fn read_tree<S: Source>(
     // Each line has its LF at least, so there are no more lines than bytes.
     for _ in 0..=MOST_BYTES {
         match so_far.take_line(lines, source) {
-            Ok(true) => return Ok(so_far.nodes),
+            Ok(true) => return Ok(so_far.into_nodes()),
             Ok(false) => continue,
             Err(refusal) => return Err(refusal),
         }

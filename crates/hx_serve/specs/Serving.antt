@@ -1,5 +1,5 @@
 -- A session as a service over the lines of a source: how it ends, and what it has read and written then.
-use Rattle.std.specs.Prelude.{◌≡◌, ◌⊎◌, ℕ, Bool, true, false, List, [], ◌∷◌, ◌++◌, codes, length, ◌≤◌, All, Option}
+use Rattle.std.specs.Prelude.{◌≡◌, ◌⊎◌, ℕ, Bool, true, false, List, [], ◌∷◌, ◌++◌, codes, All, Option}
 use Rattle.hx_lines.specs.Lines.{lines_of}
 use Rattle.hx_lines.specs.declared.ended.Ended.{Ended}
 use Rattle.hx_lines.specs.Services as services

@@ -1,9 +1,9 @@
-use Rattle.std.proofs.Common.{subst}
+use Rattle.std.proofs.Common.{refl, subst}
 use Rattle.hx_lines.specs.declared.cutters.Cut.{Cut}
 use Rattle.hx_lines.specs.declared.cutters.Cut.TheVariants.{Over}
 use Rattle.hx_lines.specs.Cutters.{IsCut}
 use Rattle.hx_lines.specs.Services.{most_lines}
-use Rattle.hx_lines.proofs.Endings.{ends_by_end, ends_by_fault, ends_above}
+use Rattle.hx_lines.proofs.Endings.{ends_by_end_without_words, ends_by_fault, ends_above}
 use Rattle.hx_serve.specs.Serving.{session_service, session_answers}
 use Rattle.hx_serve.specs.Standings.{runs_to}
 use Rattle.hx_serve.proofs.Steps.{completes}
@@ -15,8 +15,8 @@ returns-in-Over-clause-ends g c = λ start account state before taken stands.
     let now = (g.S.Source.reading c.next.new.source).left in
     let P : Cut → Type 0 = IsCut c.args.cutter.now c.next.new.self left now in
     let cut : P Over = subst P c.in-Over.is c.in-Ok.ensures.cut in
-    ends_by_end session_service (runs_to start state account) (session_answers start account) before taken most_lines c.args.cutter.now
-    c.next.new.self left now _ stands (completes start state account) cut
+    ends_by_end_without_words session_service (runs_to start state account) (session_answers start account) before taken most_lines
+    c.args.cutter.now c.next.new.self left now _ refl stands (completes start state account) cut
 
 pub returns-in_default-clause-ends : goal.returns-in_default-clause-ends
 returns-in_default-clause-ends g c = λ start account state before taken stands.

@@ -1,8 +1,10 @@
-use Rattle.std.proofs.Common.{◌≡◌, ℕ, ap, subst, arith, rules}
+use Rattle.std.proofs.Common.{◌≡◌, ℕ, [], sym, ap, ◌∙◌, subst, arith, rules}
+use Rattle.hx_io.specs.Sources.{prepend}
+use Rattle.hx_io.proofs.SourceLaws.{prepend-nil}
+use Rattle.hx_io.proofs.SinkLaws.{append-nil}
 use Rattle.hx_lines.specs.Cutters.{Cutter}
 use Rattle.hx_lines.specs.Services.{most_lines}
 use Rattle.hx_lines.proofs.Endings.{stands_first}
-use Rattle.hx_serve.specs.Serving.{session_service}
 use Rattle.hx_serve.specs.Standings.{Stands, runs_to}
 use Rattle.hx_serve.proofs.Steps.{begun}
 use Rattle.hx_serve.proofs.serving.serve.Goals as goal
@@ -10,9 +12,11 @@ use Rattle.hx_serve.proofs.serving.serve.Goals as goal
 pub loop-init : goal.loop-init
 loop-init g c =
     let account = g.A.Answerer.account c.args.answerer.now in
+    let left = (g.S.Source.reading c.args.source.now).left in
     record {
-      stands = stands_first session_service (runs_to account c.new-session.result account) _ _ _
-          (ap (λ (s : Cutter). s.held) c.new-cutter.ensures) (begun account c.new-session.result c.new-session.ensures);
+      stands = stands_first (runs_to account c.new-session.result account) _ _ _ [] _ _
+          (sym (ap (λ bytes. prepend bytes left) (ap (λ (s : Cutter). s.held) c.new-cutter.ensures) ∙ prepend-nil left))
+          (begun account c.new-session.result c.new-session.ensures) (sym (append-nil (g.K.Sink.writing c.args.sink.now).taken));
       met_end = λ met. absurd (search rules);
       reads = omega arith;
       writes = omega arith;
