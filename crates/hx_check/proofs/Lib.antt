@@ -5,6 +5,7 @@ pub mod JudgedNodes
 pub mod Readings
 pub mod OneAnswer
 pub mod LongLines
+pub mod FirstNodes
 pub mod BeginningTexts
 pub mod DueAnswers
 pub mod Endings

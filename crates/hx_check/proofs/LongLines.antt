@@ -54,10 +54,10 @@ lines_not_long line more rest lacks short long =
 
 -- ---- the lines before a line that is too long go on behind other lines, and not the other way round
 
-record GoesOn {Meets : Demand} {input : List ℕ} (long : IsLongLine Meets input) (lines : List (List ℕ)) (rest : List ℕ) : Type 0 where
-  more : List (List ℕ)
-  is : long.lines ≡ lines ++ more
-  left : rest ≡ text_of more ++ long.rest
+pub record GoesOn {Meets : Demand} {input : List ℕ} (long : IsLongLine Meets input) (lines : List (List ℕ)) (rest : List ℕ) : Type 0 where
+  pub more : List (List ℕ)
+  pub is : long.lines ≡ lines ++ more
+  pub left : rest ≡ text_of more ++ long.rest
 
 goes_on_by : {Meets : Demand} (input : List ℕ) (long : IsLongLine Meets input) (lines : List (List ℕ)) (rest : List ℕ) → AllLack lines
     → AllShort lines → Agree long.lines lines long.rest rest → GoesOn long lines rest
@@ -70,13 +70,13 @@ goes_on_by input long lines rest lack short (Second_goes_on (next ∷ more) is l
     (Lacks-middle long.lines next more (subst AllLack (is ∙ sym (append_assoc long.lines (next ∷ []) more)) lack))
     (AllShort-middle long.lines next more (subst AllShort is short)) (subst BeginsLong left long.long))
 
-goes_on : {Meets : Demand} (input : List ℕ) (long : IsLongLine Meets input) (lines : List (List ℕ)) (rest : List ℕ) → AllLack lines
+pub goes_on : {Meets : Demand} (input : List ℕ) (long : IsLongLine Meets input) (lines : List (List ℕ)) (rest : List ℕ) → AllLack lines
     → AllShort lines → input ≡ text_of lines ++ rest → GoesOn long lines rest
 goes_on input long lines rest lack short parts =
     goes_on_by input long lines rest lack short
     (agree long.lines lines long.rest rest (AllLack-begun long.lines long.faultless.begin) lack (sym long.parts ∙ parts))
 
-AllShort-begun : (lines : List (List ℕ)) → Begins AreTreeLines lines → AllShort lines
+pub AllShort-begun : (lines : List (List ℕ)) → Begins AreTreeLines lines → AllShort lines
 AllShort-begun lines begins = AllShort-front lines begins.0 (AllShort-tree_lines (lines ++ begins.0) begins.1)
 
 -- ---- so no other answer fits

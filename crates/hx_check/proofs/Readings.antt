@@ -65,7 +65,7 @@ ended_first lines more nodes all preamble winner (After_end first last whole few
     (subst (AreTreeLinesOf preamble all winner) same are) in record { more = on.on.more; same = on.on.nodes_are }
 
 -- no more nodes ended than a text may have
-few_ended : (lines : List (List ℕ)) (nodes : List Node) → EndedIn lines nodes → length nodes ≤ most_nodes
+pub few_ended : (lines : List (List ℕ)) (nodes : List Node) → EndedIn lines nodes → length nodes ≤ most_nodes
 few_ended lines nodes (Before_size none short) = omega (arith, ap length none)
 few_ended lines nodes (Among_nodes preamble is_size each few same) = few
 few_ended lines nodes (Inside_node preamble is_size each few node fits part rest whole some same) = omega (arith, few)
@@ -157,11 +157,11 @@ completed lines nodes long (After_end preamble winner whole few) = record {
 abbrev pub many_lines : {Meets : Demand} {input : List ℕ} → IsTooManyNodes Meets input → List (List ℕ)
 many_lines many = front_lines many.preamble ++ flat_map node_lines many.nodes ++ head_line (head_of many.next) ∷ []
 
-abbrev all_of : {Meets : Demand} {input : List ℕ} → IsTooManyNodes Meets input → List Node
+abbrev pub all_of : {Meets : Demand} {input : List ℕ} → IsTooManyNodes Meets input → List Node
 all_of many = many.nodes ++ many.next ∷ []
 
 -- and the lines with which a text of theirs goes on
-many_rest : {Meets : Demand} {input : List ℕ} → IsTooManyNodes Meets input → List (List ℕ)
+pub many_rest : {Meets : Demand} {input : List ℕ} → IsTooManyNodes Meets input → List (List ℕ)
 many_rest many = map entry_line (entries_of many.next.rule)
     ++ end_line (length (many.nodes ++ many.next ∷ [])) many.next.heading.winner ∷ []
 
@@ -241,7 +241,7 @@ too_many many lines more nodes is ended =
     (subst (AreTreeLinesOf whole.preamble whole.nodes whole.winner) same whole.are) whole.few
 
 -- the rest of the lines of too many nodes
-goes_to_end : {Meets : Demand} {input : List ℕ} (many : IsTooManyNodes Meets input) (lines more : List (List ℕ))
+pub goes_to_end : {Meets : Demand} {input : List ℕ} (many : IsTooManyNodes Meets input) (lines more : List (List ℕ))
     → many_lines many ≡ lines ++ more
     → AreTreeLinesOf many.preamble (all_of many) many.next.heading.winner (lines ++ (more ++ many_rest many))
 goes_to_end many lines more is =

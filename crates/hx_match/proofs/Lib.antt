@@ -1,2 +1,5 @@
 pub mod TreeLaws
+pub mod NamedNodes
+pub mod OneRefusal
+pub mod InputLaws
 pub mod RunLaws

@@ -1,9 +1,9 @@
 -- A run of `play`: a game by the tree that was read, or a refusal, and what each status then tells.
-use Rattle.std.proofs.Common.{◌≡◌, ◌≤◌, ◌≢◌, ℕ, inl, inr, List, refl, sym, ◌∙◌, subst, arith}
+use Rattle.std.proofs.Common.{◌≡◌, ◌≤◌, ◌≢◌, ℕ, inl, inr, List, ◌++◌, refl, sym, ◌∙◌, subst, arith, Some}
 use Rattle.hx_io.specs.Sources.{Reading, SomeReadFailed, prepend}
 use Rattle.hx_io.specs.Sinks.{Writing, SomeWriteFailed}
 use Rattle.hx_io.proofs.SourceLaws.{prepend-prepend}
-use Rattle.hx_answers.specs.Endings.{IsWritten, Whole, Cut}
+use Rattle.hx_answers.specs.Endings.{Whole, Cut}
 use Rattle.hx_check.specs.declared.faults.Fault.TheVariants.{NoText, NoNode, ReadFault, OutOfMemory, TooLong}
 use Rattle.hx_play.specs.declared.serving.Served.{Served}
 use Rattle.hx_play.specs.declared.serving.Served.TheVariants as served
@@ -15,6 +15,9 @@ use Rattle.hx_match.specs.Promises.{KeepsPromises}
 use Rattle.hx_match.specs.Refusals.{IsDue, refusal_text, status_of_refusal}
 use Rattle.hx_match.specs.Runs.{HasCause, IsPlayRun, IsPlayStatus, Plays, status_of, Played, Refused}
 use Rattle.hx_match.specs.Standings.{HasSeated}
+use Rattle.hx_match.proofs.OneRefusal.{line_alone, node_alone, no_plain_alone, too_long_alone}
+use Rattle.hx_match.proofs.OneRefusal.{text_not_line, text_not_node, text_not_no_plain, text_not_too_long}
+use Rattle.hx_match.proofs.InputLaws.{of_input, answered, game_for}
 
 -- an end by a fault has its cause
 pub has_cause : (rose sink_rose : Type 0) (ended : Served) → (ended ≡ served.ReadFault → rose) → (ended ≡ served.WriteFault → sink_rose)
@@ -51,38 +54,34 @@ played source source_mid source_now sink sink_now held start now ended status se
 -- ---- what each status tells
 
 module _ (source source_now : Reading) (sink sink_now : Writing) where
-  played_kept : (ended : Served) (status : ℕ) → Plays ended source source_now sink sink_now → status ≡ status_of ended
-      → KeepsPromises source source_now sink sink_now status
-  played_kept served.Chain status plays same = record {
-    chain = λ zero. plays;
-    read_fault = λ five. absurd (omega (arith, same, five));
-    write_fault = λ six. absurd (omega (arith, same, six));
-    none_else = inl (omega (arith, same));
-  }
-  played_kept served.Unfinished status plays same = record {
-    chain = λ zero. absurd (omega (arith, same, zero));
-    read_fault = λ five. absurd (omega (arith, same, five));
-    write_fault = λ six. absurd (omega (arith, same, six));
-    none_else = inl (omega (arith, same));
-  }
-  played_kept served.ReadFault status plays same = record {
-    chain = λ zero. absurd (omega (arith, same, zero));
-    read_fault = λ five. plays.cause;
-    write_fault = λ six. absurd (omega (arith, same, six));
-    none_else = inr (omega (arith, same), omega (arith, same));
-  }
-  played_kept served.WriteFault status plays same = record {
-    chain = λ zero. absurd (omega (arith, same, zero));
-    read_fault = λ five. absurd (omega (arith, same, five));
-    write_fault = λ six. plays.cause;
-    none_else = inr (omega (arith, same), omega (arith, same));
-  }
-  played_kept served.TooLong status plays same = record {
-    chain = λ zero. absurd (omega (arith, same, zero));
-    read_fault = λ five. absurd (omega (arith, same, five));
-    write_fault = λ six. absurd (omega (arith, same, six));
-    none_else = inr (omega (arith, same), omega (arith, same));
-  }
+  chain_by : (ended : Served) → Plays ended source source_now sink sink_now → status_of ended ≡ 0
+      → Plays served.Chain source source_now sink sink_now
+  chain_by served.Chain plays zero = plays
+  chain_by served.Unfinished plays zero = absurd (omega (arith, zero))
+  chain_by served.ReadFault plays zero = absurd (omega (arith, zero))
+  chain_by served.WriteFault plays zero = absurd (omega (arith, zero))
+  chain_by served.TooLong plays zero = absurd (omega (arith, zero))
+
+  read_by : (ended : Served) → Plays ended source source_now sink sink_now → status_of ended ≡ 5 → SomeReadFailed source source_now
+  read_by served.Chain plays five = absurd (omega (arith, five))
+  read_by served.Unfinished plays five = absurd (omega (arith, five))
+  read_by served.ReadFault plays five = plays.cause
+  read_by served.WriteFault plays five = absurd (omega (arith, five))
+  read_by served.TooLong plays five = absurd (omega (arith, five))
+
+  write_by : (ended : Served) → Plays ended source source_now sink sink_now → status_of ended ≡ 6 → SomeWriteFailed sink sink_now
+  write_by served.Chain plays six = absurd (omega (arith, six))
+  write_by served.Unfinished plays six = absurd (omega (arith, six))
+  write_by served.ReadFault plays six = absurd (omega (arith, six))
+  write_by served.WriteFault plays six = plays.cause
+  write_by served.TooLong plays six = absurd (omega (arith, six))
+
+  known_by : (ended : Served) → IsPlayStatus (status_of ended)
+  known_by served.Chain = inl (omega arith)
+  known_by served.Unfinished = inl (omega arith)
+  known_by served.ReadFault = inr (omega arith, omega arith)
+  known_by served.WriteFault = inr (omega arith, omega arith)
+  known_by served.TooLong = inr (omega arith, omega arith)
 
   -- a refusal has no status but these, and 5 only where a read failed
   record IsRefusalStatus (refusal : Refusal) : Type 0 where
@@ -130,22 +129,57 @@ module _ (source source_now : Reading) (sink sink_now : Writing) where
     read_fault = λ e. absurd (omega (arith, e));
   }
 
-  refused_kept : (refusal : Refusal) (status : ℕ) → IsRefusalStatus refusal
-      → IsWritten sink sink_now (refusal_text refusal) (status_of_refusal refusal) status
-      → KeepsPromises source source_now sink sink_now status
-  refused_kept refusal status is (Whole same wrote) = record {
-    chain = λ zero. absurd (omega (arith, is.some, same, zero));
-    read_fault = λ five. is.read_fault (sym same ∙ five);
-    write_fault = λ six. absurd (is.no_write (sym same ∙ six));
-    none_else = subst IsPlayStatus (sym same) is.known;
-  }
-  refused_kept refusal status is (Cut six cause front) = record {
-    chain = λ zero. absurd (omega (arith, six, zero));
-    read_fault = λ five. absurd (omega (arith, six, five));
-    write_fault = λ is_six. cause;
-    none_else = inr (omega (arith, six), omega (arith, six));
-  }
+  module _ (status : ℕ) where
+    abbrev Run : Type 0
+    Run = IsPlayRun source source_now sink sink_now status
 
-  pub kept : (status : ℕ) → IsPlayRun source source_now sink sink_now status → KeepsPromises source source_now sink sink_now status
-  kept status (Played ended plays same) = played_kept ended status plays same
-  kept status (Refused refusal due written) = refused_kept refusal status (refusal_status refusal due) written
+    chain_of : Run → status ≡ 0 → Plays served.Chain source source_now sink sink_now
+    chain_of (Played ended plays same) zero = chain_by ended plays (sym same ∙ zero)
+    chain_of (Refused refusal due (Whole same wrote)) zero = absurd (omega (arith, (refusal_status refusal due).some, same, zero))
+    chain_of (Refused refusal due (Cut six cause front)) zero = absurd (omega (arith, six, zero))
+
+    read_of : Run → status ≡ 5 → SomeReadFailed source source_now
+    read_of (Played ended plays same) five = read_by ended plays (sym same ∙ five)
+    read_of (Refused refusal due (Whole same wrote)) five = (refusal_status refusal due).read_fault (sym same ∙ five)
+    read_of (Refused refusal due (Cut six cause front)) five = absurd (omega (arith, six, five))
+
+    write_of : Run → status ≡ 6 → SomeWriteFailed sink sink_now
+    write_of (Played ended plays same) six = write_by ended plays (sym same ∙ six)
+    write_of (Refused refusal due (Whole same wrote)) six = absurd ((refusal_status refusal due).no_write (sym same ∙ six))
+    write_of (Refused refusal due (Cut is_six cause front)) six = cause
+
+    known_of : Run → IsPlayStatus status
+    known_of (Played ended plays same) = subst IsPlayStatus (sym same) (known_by ended)
+    known_of (Refused refusal due (Whole same wrote)) = subst IsPlayStatus (sym same) (refusal_status refusal due).known
+    known_of (Refused refusal due (Cut six cause front)) = inr (omega (arith, six), omega (arith, six))
+
+    pub kept : Run → KeepsPromises source source_now sink sink_now status
+    kept run = record {
+      chain = chain_of run;
+      playable = of_input source.left _
+          (λ input is text rest nodes playable parts.
+          game_for source source_now sink sink_now status input is text rest nodes playable parts run);
+      no_text = of_input source.left _
+          (λ input is line text.
+          answered source source_now sink sink_now status input is (NoTree (NoText line))
+          (line_alone input source_now.left (SomeReadFailed source source_now) line text)
+          (λ front rest nodes playable parts. text_not_line playable rest parts line text) run);
+      no_node = of_input source.left _
+          (λ input is node wrong.
+          answered source source_now sink sink_now status input is (NoTree (NoNode node))
+          (node_alone input source_now.left (SomeReadFailed source source_now) node wrong)
+          (λ front rest nodes playable parts. text_not_node playable rest parts node wrong) run);
+      no_plain = of_input source.left _
+          (λ input is node named.
+          answered source source_now sink sink_now status input is (NoPlain node)
+          (no_plain_alone input source_now.left (SomeReadFailed source source_now) node named)
+          (λ front rest nodes playable parts. text_not_no_plain playable rest parts node named) run);
+      too_long = of_input source.left _
+          (λ input is long.
+          answered source source_now sink sink_now status input is (NoTree TooLong)
+          (too_long_alone input source_now.left (SomeReadFailed source source_now) long)
+          (λ front rest nodes playable parts. text_not_too_long playable rest parts long) run);
+      read_fault = read_of run;
+      write_fault = write_of run;
+      none_else = known_of run;
+    }
