@@ -87,4 +87,5 @@ module _ {input : List ℕ} (a_lines b_lines : List (List ℕ)) (a_rest b_rest :
 
   pub either_first : GoOn a b ⊎ GoOn b a
   either_first =
-      either_by (agree a_lines b_lines a_rest b_rest (AllLack-begun a_lines a_begins) (AllLack-begun b_lines b_begins) (sym a_parts ∙ b_parts))
+      either_by
+      (agree a_lines b_lines a_rest b_rest (AllLack-begun a_lines a_begins) (AllLack-begun b_lines b_begins) (sym a_parts ∙ b_parts))

@@ -7,9 +7,9 @@ use Rattle.hx_io.specs.Sinks.{Writing, append}
 use Rattle.hx_lines.proofs.StreamParts.{some_not_none}
 use Rattle.hx_tree.specs.declared.nodes.Node.{Node}
 use Rattle.hx_answers.specs.Endings.{IsWritten, Whole, Cut, AnswersUnlessStopped}
-use Rattle.hx_check.specs.declared.faults.Fault.TheVariants.{NoText, NoNode, ReadFault, OutOfMemory, TooLong}
+use Rattle.hx_check.specs.declared.faults.Fault.TheVariants.{ReadFault}
 use Rattle.hx_match.specs.declared.refusals.Refusal.{Refusal}
-use Rattle.hx_match.specs.declared.refusals.Refusal.TheVariants.{NoPlain, NoTree}
+use Rattle.hx_match.specs.declared.refusals.Refusal.TheVariants.{NoTree}
 use Rattle.hx_match.specs.Promises.{PlaysUnlessStopped, Game, No_read, No_memory}
 use Rattle.hx_match.specs.Refusals.{IsDue, refusal_text, status_of_refusal}
 use Rattle.hx_match.specs.Runs.{IsPlayRun, PlaysBy, Played, Refused}

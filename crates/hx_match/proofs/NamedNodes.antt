@@ -1,7 +1,6 @@
 -- A node that is named at fault is wrong or not plain, and nothing before it is at fault. What else may be said of the same input asks
 -- that the nodes before it are right and plain, and where it is said further on, the named node would be among them.
-use Rattle.std.proofs.Common.{◌≡◌, ◌⊎◌, inl, inr, ℕ, ◌≤◌, ◌<◌, List, [], ◌∷◌, ◌++◌, length, refl, sym, ap, ◌∙◌, subst, arith, append_assoc}
-use Rattle.std.proofs.Common.{length-append}
+use Rattle.std.proofs.Common.{◌≡◌, ◌⊎◌, inl, inr, ℕ, ◌≤◌, List, [], ◌∷◌, ◌++◌, length, sym, ap, ◌∙◌, subst, arith, length-append}
 use Rattle.std.proofs.lemmas.List.{append-nil}
 use Rattle.std.proofs.lemmas.List.Elements.{All-head, All-tail}
 use Rattle.hx_letters.proofs.Ends.{push_injective}
@@ -12,8 +11,7 @@ use Rattle.hx_tree.specs.Trees.{AreRight, headings_of}
 use Rattle.hx_text.specs.Grammars.{text_of, Begins}
 use Rattle.hx_text.specs.TreeTexts.{AreTreeLines}
 use Rattle.hx_text.proofs.Cuts.{Agree, Second_goes_on, First_goes_on, agree, text_of-append}
-use Rattle.hx_text.proofs.OneFault.{no_more}
-use Rattle.hx_text.proofs.TreeLacks.{AllLack-tree_lines, AllLack-begun}
+use Rattle.hx_text.proofs.TreeLacks.{AllLack-begun}
 use Rattle.hx_check.specs.Judging.{EndedIn, IsNoText, IsNoNode}
 use Rattle.hx_check.specs.Judgements.{IsLong}
 use Rattle.hx_check.proofs.Demands.{AsksRight}
@@ -145,8 +143,8 @@ module _ {input : List ℕ} {earlier : List Node} {node : Node} (ends : EndsNode
   pub fine_before_large : IsTooLarge input → IsFine earlier node
   fine_before_large large =
       large_by large
-      (agree lines (large_lines large) ends.rest large.rest (AllLack-begun lines ends.begins) (AllLack-begun (large_lines large) large.begins)
-      (sym ends.parts ∙ large.parts))
+      (agree lines (large_lines large) ends.rest large.rest (AllLack-begun lines ends.begins)
+      (AllLack-begun (large_lines large) large.begins) (sym ends.parts ∙ large.parts))
 
   pub fine_before_too_long : IsLong ArePlayable input ⊎ IsTooLarge input → IsFine earlier node
   fine_before_too_long (inl long) = fine_before_long long

@@ -1,31 +1,30 @@
 -- Of one input one refusal is due, unless a read fails or memory is wanting; and of one that begins with the text of a tree to be played
 -- by, none.
-use Rattle.std.proofs.Common.{◌≡◌, ◌⊎◌, inl, inr, ℕ, ◌≤◌, List, [], ◌∷◌, ◌++◌, length, refl, sym, ap, ◌∙◌, subst, arith}
+use Rattle.std.proofs.Common.{◌≡◌, ◌⊎◌, inl, inr, ℕ, ◌≤◌, List, [], ◌++◌, length, refl, sym, ap, ◌∙◌, subst}
 use Rattle.std.proofs.lemmas.List.{append-nil}
 use Rattle.std.specs.Prelude.{Option, Some}
 use Rattle.hx_tree.specs.declared.nodes.Node.{Node}
 use Rattle.hx_tree.specs.Rules.{IsRightNode}
-use Rattle.hx_tree.specs.Plain.{IsPlain}
 use Rattle.hx_tree.specs.Trees.{headings_of}
-use Rattle.hx_text.specs.Grammars.{text_of, Begins}
+use Rattle.hx_text.specs.Grammars.{text_of}
 use Rattle.hx_text.specs.TreeTexts.{AreTreeLines, IsTreeText}
-use Rattle.hx_text.proofs.Cuts.{Agree, Second_goes_on, First_goes_on, agree, text_of-append}
+use Rattle.hx_text.proofs.Cuts.{Agree, Second_goes_on, First_goes_on, agree}
 use Rattle.hx_text.proofs.OneFault.{no_more}
 use Rattle.hx_text.proofs.TreeLacks.{AllLack-tree_lines, AllLack-begun}
 use Rattle.hx_text.proofs.WholeTrees.{text_tells_nodes}
 use Rattle.hx_check.specs.declared.faults.Fault.{Fault}
 use Rattle.hx_check.specs.declared.faults.Fault.TheVariants.{NoText, NoNode, ReadFault, OutOfMemory, TooLong}
 use Rattle.hx_check.specs.Judging.{IsNoText, IsNoNode}
-use Rattle.hx_check.specs.Judgements.{IsLong, IsFaultDue}
+use Rattle.hx_check.specs.Judgements.{IsLong}
 use Rattle.hx_check.proofs.BeginningTexts.{Within, within, none_further, are_lines, fault_behind, no_wrong_node, not_too_many, long_behind}
-use Rattle.hx_check.proofs.LongLines.{long_not_line, long_not_wrong}
+use Rattle.hx_check.proofs.LongLines.{long_not_line}
 use Rattle.hx_check.proofs.OneFault.{IsOrStopped as IsFaultOrStopped, line_alone as line_fault_alone, node_alone as node_fault_alone}
 use Rattle.hx_match.specs.declared.trees.TheConstants.{MOST_BYTES}
 use Rattle.hx_match.specs.declared.refusals.Refusal.{Refusal}
 use Rattle.hx_match.specs.declared.refusals.Refusal.TheVariants.{NoPlain, NoTree}
 use Rattle.hx_match.specs.Refusals.{IsDue}
 use Rattle.hx_match.specs.Trees.{ArePlayable, IsNoPlain, IsPlayable, IsTooLarge}
-use Rattle.hx_match.proofs.NamedNodes.{playable_asks, EndsNode, wrong_ends, no_plain_ends, IsFine, fine_in_text, fine_before_line}
+use Rattle.hx_match.proofs.NamedNodes.{playable_asks, wrong_ends, no_plain_ends, fine_in_text, fine_before_line}
 use Rattle.hx_match.proofs.NamedNodes.{fine_before_too_long, large_lines, not_large, AreOne, Same, First_fine, Second_fine, one_of_two}
 
 -- ---- the text of a tree to be played by

@@ -1,5 +1,5 @@
 -- A run of `play`: a game by the tree that was read, or a refusal, and what each status then tells.
-use Rattle.std.proofs.Common.{◌≡◌, ◌≤◌, ◌≢◌, ℕ, inl, inr, List, ◌++◌, refl, sym, ◌∙◌, subst, arith, Some}
+use Rattle.std.proofs.Common.{◌≡◌, ◌≤◌, ◌≢◌, ℕ, inl, inr, List, refl, sym, ◌∙◌, subst, arith}
 use Rattle.hx_io.specs.Sources.{Reading, SomeReadFailed, prepend}
 use Rattle.hx_io.specs.Sinks.{Writing, SomeWriteFailed}
 use Rattle.hx_io.proofs.SourceLaws.{prepend-prepend}
@@ -12,7 +12,7 @@ use Rattle.hx_play.specs.Serving.{Ends}
 use Rattle.hx_match.specs.declared.refusals.Refusal.{Refusal}
 use Rattle.hx_match.specs.declared.refusals.Refusal.TheVariants.{NoPlain, NoTree}
 use Rattle.hx_match.specs.Promises.{KeepsPromises}
-use Rattle.hx_match.specs.Refusals.{IsDue, refusal_text, status_of_refusal}
+use Rattle.hx_match.specs.Refusals.{IsDue, status_of_refusal}
 use Rattle.hx_match.specs.Runs.{HasCause, IsPlayRun, IsPlayStatus, Plays, status_of, Played, Refused}
 use Rattle.hx_match.specs.Standings.{HasSeated}
 use Rattle.hx_match.proofs.OneRefusal.{line_alone, node_alone, no_plain_alone, too_long_alone}

@@ -24,14 +24,14 @@ pub data PlaysUnlessStopped (nodes : List Node) (rest : List ℕ) (source source
   No_memory : IsWritten sink sink_now out_of_memory_line 7 status
       → PlaysUnlessStopped nodes rest source source_now sink sink_now status
 
--- The promises of `play`, by how far its source was read before and is now, how far was written to its sink, and the exit
--- status. What is said of an input is said of sources that tell what they have left.
+-- The promises of `play`, by how far its source was read before and is now, how far was written to its sink, and the
+-- exit status. What is said of an input is said of sources that tell what they have left.
 pub record KeepsPromises (source source_now : Reading) (sink sink_now : Writing) (status : ℕ) : Type 0 where
-  -- with status 0 the input begins with the text of a valid tree of plain nodes, and the output is a game by it, over the
-  -- lines behind it, in which its winner has played to a chain
+  -- with status 0 the input begins with the text of a valid tree of plain nodes, and the output is a game by it, over
+  -- the lines behind it, in which its winner has played to a chain
   pub chain : status ≡ 0 → Plays Chain source source_now sink sink_now
-  -- an input that begins with the text of a tree to be played by gets a game by that tree over the bytes behind it; only
-  -- a fault or want of memory comes in its place, before the first byte of a game
+  -- an input that begins with the text of a tree to be played by gets a game by that tree over the bytes behind it;
+  -- only a fault or want of memory comes in its place, before the first byte of a game
   pub playable : IfSome source.left (λ input. (text rest : List ℕ) (nodes : List Node) → IsPlayable text nodes
       → input ≡ text ++ rest → PlaysUnlessStopped nodes rest source source_now sink sink_now status)
   -- the line or the node that is named is the first that is at fault

@@ -22,8 +22,8 @@ abbrev pub status_of_refusal : Refusal → ℕ
 status_of_refusal (NoPlain node) = 1
 status_of_refusal (NoTree fault) = status_of_fault fault
 
--- When a fault of the text comes: as `check` says, where the nodes before it are plain too and the lines have no more bytes
--- than a text may have; and the text is too long, too, where it has more.
+-- When a fault of the text comes: as `check` says, where the nodes before it are plain too and the lines have no more
+-- bytes than a text may have; and the text is too long, too, where it has more.
 abbrev pub IsTreeFaultDue : Option (List ℕ) → Option (List ℕ) → Type 0 → Fault → Type 0
 IsTreeFaultDue before after rose (NoText line) = IsFaultDue ArePlayable before after rose (NoText line)
 IsTreeFaultDue before after rose (NoNode node) = IsFaultDue ArePlayable before after rose (NoNode node)

@@ -1,4 +1,5 @@
--- How the reading of a tree that is to be played by stands between two lines: words for the functions inside the crate alone.
+-- How the reading of a tree that is to be played by stands between two lines: words for the functions inside the
+-- crate alone.
 use Rattle.std.specs.Prelude.{◌≡◌, ℕ, ◌≤◌, Bool, true, false, List, [], ◌∷◌, ◌++◌, length, Option}
 use Rattle.std.specs.declared.result.Result.{Result}
 use Rattle.std.specs.declared.result.Result.TheVariants.{Ok, Err}
@@ -26,8 +27,8 @@ pub record IsGoing (so_far : TreeSoFar) : Type 0 where
   pub unended : ¬ HasReadAll so_far.judge
   pub small : so_far.bytes ≤ MOST_BYTES
 
--- these lines were judged and their nodes kept, which are plain; behind the lines some bytes are held, and then the source
--- has the others
+-- these lines were judged and their nodes kept, which are plain; behind the lines some bytes are held, and then the
+-- source has the others
 pub record HasTaken (before : Option (List ℕ)) (so_far : TreeSoFar) (lines : List (List ℕ)) (held : List ℕ)
     (left : Option (List ℕ)) : Type 0 where
   pub upto : JudgedUpTo before so_far.judge so_far.nodes.items lines held left

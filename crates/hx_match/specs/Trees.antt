@@ -19,8 +19,8 @@ pub record IsPlayable (text : List ℕ) (nodes : List Node) : Type 0 where
   pub few : length nodes ≤ most_nodes
   pub small : length text ≤ MOST_BYTES
 
--- What is asked of the lines and nodes before a fault: the nodes are right and plain, the lines have no more bytes than a
--- text may have, and they are no whole text.
+-- What is asked of the lines and nodes before a fault: the nodes are right and plain, the lines have no more bytes than
+-- a text may have, and they are no whole text.
 pub record ArePlayable (lines : List (List ℕ)) (nodes : List Node) : Type 0 where
   pub right : AreRight nodes
   pub plain : ArePlain nodes
@@ -42,8 +42,8 @@ pub record IsNoPlain (input : List ℕ) (k : ℕ) : Type 0 where
   pub not_plain : ¬ IsPlain node
   pub count : k ≡ length earlier
 
--- With this line the text has more bytes than it may have; the line is not at fault, nor is anything before it, and the text
--- did not end before it.
+-- With this line the text has more bytes than it may have; the line is not at fault, nor is anything before it, and the
+-- text did not end before it.
 pub record IsTooLarge (input : List ℕ) : Type 0 where
   pub lines : List (List ℕ)
   pub last : List ℕ
@@ -59,7 +59,8 @@ pub record IsTooLarge (input : List ℕ) : Type 0 where
   pub large : MOST_BYTES < length (text_of (lines ++ last ∷ []))
 
 -- The text of a tree that is played by came first; behind it some bytes are held, and then the source has the others.
-pub record HasReadTree (before : Option (List ℕ)) (nodes : List Node) (held : List ℕ) (left : Option (List ℕ)) : Type 0 where
+pub record HasReadTree (before : Option (List ℕ)) (nodes : List Node) (held : List ℕ) (left : Option (List ℕ))
+    : Type 0 where
   pub text : List ℕ
   pub is : IsPlayable text nodes
   pub parts : before ≡ prepend (text ++ held) left
