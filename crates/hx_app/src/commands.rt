@@ -33,11 +33,11 @@ const BAD_WORDS: u8 = 2;
 ///
 /// `check` reads the text of a tree, judges its lines and nodes in their order and writes `yes` with the winner and the
 /// position of the root, or where the first fault is. `solve` reads the text of a position and writes the text of a tree
-/// that proves who wins it, of plain nodes where the words have `--plain-tree`, or why there is none. Its workers call the gate at each of their turns; it may wait for them.
-/// `htp` answers the lines of a session, each before the next read; its workers have the gate that holds nobody back. `demo`
-/// reads nothing: it draws positions with a seed, solves them, checks their trees and writes how many each player wins; its
-/// workers call the gate, and it may wait for them. `play` reads the text of a tree of plain nodes, and then plays by it, for its winner,
-/// against the moves that follow.
+/// that proves who wins it, of plain nodes where the words have `--plain-tree`, or why there is none. Its workers call the
+/// gate at each of their turns; it may wait for them. `htp` answers the lines of a session, each before the next read; its
+/// workers have the gate that holds nobody back. `demo` reads nothing: it draws positions with a seed, solves them, checks
+/// their trees and writes how many each player wins; its workers call the gate, and it may wait for them. `play` reads the
+/// text of a tree of plain nodes, and then plays by it, for its winner, against the moves that follow.
 pub fn run<S: Source, K: Sink, G: Gate + Sync, R: Threads + Wait + Sync>(
     rt: &R,
     alloc: Global,
