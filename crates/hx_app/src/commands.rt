@@ -61,8 +61,8 @@ pub fn run<S: Source, K: Sink, G: Gate + Sync, R: Threads + Wait + Sync>(
 
     // `solve` keeps its promises: with status 0 the input was read to its end, the output is the text of a valid tree of the
     // input's position, and the player that it names wins and the other does not; `unknown` comes only where a refusal of a
-    // unit or of a slot was counted, of a unit only for a position without a chain, unless the budget is 0. With `--plain-tree` each
-    // node of the tree is plain.
+    // unit or of a slot was counted, of a unit only for a position without a chain, unless the budget is 0. With
+    // `--plain-tree` each node of the tree is plain.
     ensures solve { (settings : Bounds) (plain_tree : Bool) → IsSolve settings plain_tree (words_of words.now)
         → SolvesAsPromised settings plain_tree
         (S.reading source.old) (S.reading source.new)
