@@ -29,8 +29,8 @@ pub fn run_play<S: Source, K: Sink>(alloc: Global, source: &mut S, sink: &mut K)
         (S.reading source.old) (S.reading source.new)
         (K.writing sink.old) (K.writing sink.new) result }
 
-    // With status 0 the winner of the tree that the input begins with has played to a chain; each fault has its cause, and no other
-    // status comes.
+    // With status 0 the winner of the tree that the input begins with has played to a chain. Each input gets the game or the refusal
+    // that is due to it, unless a fault or want of memory comes in its place; each fault has its cause, and no other status comes.
     ensures promises { KeepsPromises
         (S.reading source.old) (S.reading source.new)
         (K.writing sink.old) (K.writing sink.new) result }
