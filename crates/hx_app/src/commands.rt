@@ -82,7 +82,8 @@ pub fn run<S: Source, K: Sink, G: Gate + Sync, R: Threads + Wait + Sync>(
         (K.writing sink.old) (K.writing sink.new) result }
 
     // `play` keeps its promises: with status 0 the input begins with the text of a valid tree of plain nodes, and the output is a
-    // game by it, over the lines behind it, in which its winner has played to a chain.
+    // game by it, over the lines behind it, in which its winner has played to a chain; each input gets the game or the refusal
+    // that is due to it.
     ensures play { IsPlay (words_of words.now) → PlaysAsPromised
         (S.reading source.old) (S.reading source.new)
         (K.writing sink.old) (K.writing sink.new) result.status }
