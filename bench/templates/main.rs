@@ -67,7 +67,7 @@ fn measure(rt: &HostRuntime, task: Task) -> io::Result<()> {
     Ok(())
 }
 
-fn task(rows: u8, cols: u8, black: u128, white: u128, carrier: u128, to_move: Colour) -> Task {
+fn game(rows: u8, cols: u8, black: u128, white: u128, carrier: u128, to_move: Colour) -> Task {
     Task {
         rows,
         cols,
@@ -80,12 +80,12 @@ fn task(rows: u8, cols: u8, black: u128, white: u128, carrier: u128, to_move: Co
 
 fn main(rt: HostRuntime) -> io::Result<()> {
     let tasks = [
-        task(3, 4, 0, 0, 0x3c0780f, Colour::Black),
-        task(3, 4, 0, 0, 0x3c0780f, Colour::White),
-        task(4, 10, 0x260a0020100, 0x10840140200, 0x701e07c, Colour::Black),
-        task(5, 9, 0x440000244c880, 0x1c000090004, 0x1103c4d800020, Colour::Black),
-        task(3, 7, 0x8040, 0x20, 0x1c0781f, Colour::White),
-        task(6, 4, 0xc0380b, 0x2000000, 0x780f01c01000000, Colour::Black),
+        game(3, 4, 0, 0, 0x3c0780f, Colour::Black),
+        game(3, 4, 0, 0, 0x3c0780f, Colour::White),
+        game(4, 10, 0x260a0020100, 0x10840140200, 0x701e07c, Colour::Black),
+        game(5, 9, 0x440000244c880, 0x1c000090004, 0x1103c4d800020, Colour::Black),
+        game(3, 7, 0x8040, 0x20, 0x1c0781f, Colour::White),
+        game(6, 4, 0xc0380b, 0x2000000, 0x780f01c01000000, Colour::Black),
     ];
     for next in tasks {
         measure(&rt, next)?;

@@ -132,12 +132,10 @@ fn number_after(
 {
     let once = game.weight(cell);
     if game.is_player(to_move) {
-        let own = number + once;
-        own
+        number + once
     } else {
         let twice = 2 * once;
-        let others = number + twice;
-        others
+        number + twice
     }
 }
 

@@ -10,8 +10,8 @@ use Rattle.hx_template.proofs.searches.number_after.Goals as goal
 other_mover : (mover player : Colour) (same : Bool) → (same ≡ true) ↔ (mover ≡ player) → same ≡ false → mover ≡ other_of player
 other_mover mover player same is differ = ⊎_elim (λ e. absurd (false≢true (sym differ ∙ is.1 e))) (λ e. e) (one_or_other mover player)
 
-pub overflow_add-own : goal.overflow_add-own
-overflow_add-own c =
+pub overflow_add-result : goal.overflow_add-result
+overflow_add-result c =
     let game = c.args.game.now in
     let small = number_small game c.args.position.now in
     let power = power_small game.carrier c.args.cell game.few (omega (arith, game.inside c.args.cell c.requires.free.inside)) in
@@ -23,8 +23,8 @@ overflow_mul-twice c =
     let power = power_small game.carrier c.args.cell game.few (omega (arith, game.inside c.args.cell c.requires.free.inside)) in
     omega (arith, power, c.weight-once.ensures)
 
-pub overflow_add-others : goal.overflow_add-others
-overflow_add-others c =
+pub overflow_add-result-else-is_player : goal.overflow_add-result-else-is_player
+overflow_add-result-else-is_player c =
     let game = c.args.game.now in
     let small = number_small game c.args.position.now in
     let power = power_small game.carrier c.args.cell game.few (omega (arith, game.inside c.args.cell c.requires.free.inside)) in
