@@ -4,12 +4,12 @@
 //! position, so that nothing in it is ever replaced. Without it one filling would be judged again for each order of the moves
 //! that lead to it. An entry names the player to move, so nothing is asked of how many stones there are.
 
-ghost use Rattle.std.specs.Prelude.{◌≡◌, ℕ, ◌↔◌, ◌^◌, ◌≤◌, IsTrue, true, false, not, length};
+ghost use Rattle.std.specs.Prelude.{◌≡◌, ℕ, ◌↔◌, IsTrue, false, not};
 ghost use Rattle.hx_board.specs.Colours.{other_of};
 ghost use Rattle.hx_board.specs.Positions.{put};
-ghost use Rattle.hx_board.specs.Sets.{has, count_below};
+ghost use Rattle.hx_board.specs.Sets.{has};
 ghost use Rattle.hx_law.specs.Play.{IsFree};
-ghost use Rattle.hx_proof.specs.Local.{IsJoined, Secures};
+ghost use Rattle.hx_proof.specs.Local.{IsJoined};
 ghost use Rattle.hx_template.specs.Fillings.{IsFilling, number_of};
 ghost use Rattle.hx_template.specs.Entries.{HasVertices, AreRight, SecuredIn, IsSo};
 
