@@ -1,0 +1,4 @@
+-- ---- words for the functions inside the crate alone
+pub mod Fillings
+pub mod Entries
+pub mod Reaches

@@ -1,0 +1,13 @@
+//! Local games decided: whether a player can join two vertices by moves to a few cells, whatever the opponent plays there.
+//!
+//! What the two players fill the cells with is a board with a number, and what was found of that number is kept in a table, so
+//! each such board is judged once. The answer is exact, for a yes and for a no.
+#![tactic(auto)]
+
+mod games;
+mod locals;
+mod reaches;
+mod searches;
+
+pub use games::MOST_CELLS;
+pub use locals::local;
