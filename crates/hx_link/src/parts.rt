@@ -1,19 +1,22 @@
 //! The list of places that an Or names. Contracts see it as the list of its items.
 
-ghost use Rattle.std.specs.Prelude.{◌≡◌, nat_eq};
+ghost use Rattle.std.specs.Prelude.{◌≡◌, nat_eq, IfOk};
 ghost use Rattle.std.specs.Cmp.{partial_equiv_from_equiv};
 ghost use Rattle.std.specs.Cmp.Lexicographic.{pointwise, nat_list_eq_equiv};
 
+use hx_board::Memory;
 use smallvec::SmallVec;
+use std::alloc::Global;
 use std::marker::Model;
 
 /// The most parts that an Or unites.
 pub const MOST_PARTS: usize = 128;
 
-/// The places of the links that an Or unites, in the order in which they are given. Up to eight stand in the value itself.
+/// The places of the links that an Or unites, in the order in which they are given. They stand behind one pointer, since most
+/// steps are no Or: with eight places in it each step would take three times the room.
 #[derive(Debug, Drop)]
 pub struct Parts {
-    items: SmallVec<u32, 8>,
+    items: Box<SmallVec<u32, 8>>,
 }
 
 impl Model for Parts {
@@ -21,15 +24,16 @@ impl Model for Parts {
 
     ghost Value = { List ℕ };
 
-    ghost view = { λ p. p.items.items };
+    ghost view = { λ p. p.items.value.items };
 }
 
 impl Parts {
-    /// The list of these places.
-    pub fn new(items: SmallVec<u32, 8>) -> Parts
-        ensures { result ≡ items.items }
+    /// The list of these places. Memory is wanted for it, whatever its length.
+    pub fn new(alloc: Global, items: SmallVec<u32, 8>) -> Result<Parts, Memory>
+        ensures { IfOk result (λ parts. parts ≡ items.items) }
     {
-        Parts { items }
+        let items = Box::new(alloc, items).map_err(|_| Memory)?;
+        Ok(Parts { items })
     }
 
     /// The places, in their order.
@@ -43,7 +47,7 @@ impl Parts {
     pub fn into_inner(self) -> SmallVec<u32, 8>
         ensures { result.items ≡ self }
     {
-        self.items
+        Box::into_inner(self.items)
     }
 }
 

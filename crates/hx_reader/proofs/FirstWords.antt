@@ -21,7 +21,7 @@ use Rattle.hx_text.specs.declared.versions.Version.TheVariants.{Two}
 use Rattle.hx_text.specs.declared.versions.Preamble.{Preamble}
 use Rattle.hx_letters.specs.Words.{Reads, IsNumber, words_in, cell_word, vertex_word}
 use Rattle.hx_text.specs.StepTexts.{step_words, step_line, StepFits, AreNumbers}
-use Rattle.hx_reader.specs.LongOrs.{BeginWithManyParts, BeginsLongOr}
+use Rattle.hx_reader.specs.Ors.{BeginsOr}
 use Rattle.hx_text.specs.TreeTexts.{opening_words, OpeningFits}
 use Rattle.hx_reader.specs.EntryReads.{UnturnedFits}
 use Rattle.hx_letters.proofs.Cursors.{rest_same, word_then}
@@ -102,10 +102,9 @@ or_reads size words rest (Ok None) first none = λ value fits e. no_or value fit
 
 -- where the parts are read after the first word
 pub or_memory : {T E : Type 0} (words rest : List (List ℕ)) (found : Result T E) → words ≡ codes "or" ∷ rest
-    → OnErr found (BeginWithManyParts rest)
-    → OnErr found ((parts : List (List ℕ)) × (words ≡ codes "or" ∷ parts) × BeginWithManyParts parts)
-or_memory words rest (Ok done) first many = tt
-or_memory words rest (Err error) first many = (rest, first, many)
+    → OnErr found ((parts : List (List ℕ)) × (words ≡ codes "or" ∷ parts))
+or_memory words rest (Ok done) first = tt
+or_memory words rest (Err error) first = (rest, first)
 
 -- the words begin with none of the four
 pub no_step : {words : List (List ℕ)} → ((rest : List (List ℕ)) → words ≡ codes "base" ∷ rest → ⊥)
@@ -125,11 +124,11 @@ step_reads size line words (Ok None) extent same reads =
     λ value fits e. reads value fits (same ∙ words_in-step_line size line value extent fits e)
 step_reads size line words (Err error) extent same reads = tt
 
--- the words of a long Or are those of its line
-pub long_or_line : {T E : Type 0} (line : List ℕ) (words : List (List ℕ)) (found : Result T E) → words ≡ words_in line
-    → OnErr found ((parts : List (List ℕ)) × (words ≡ codes "or" ∷ parts) × BeginWithManyParts parts) → OnErr found (BeginsLongOr line)
-long_or_line line words (Ok done) same is = tt
-long_or_line line words (Err error) same is = record { words = is.0; many = is.2; same = line_from_words same is.1 }
+-- the words of an Or are those of its line
+pub or_of_line : {T E : Type 0} (line : List ℕ) (words : List (List ℕ)) (found : Result T E) → words ≡ words_in line
+    → OnErr found ((parts : List (List ℕ)) × (words ≡ codes "or" ∷ parts)) → OnErr found (BeginsOr line)
+or_of_line line words (Ok done) same is = tt
+or_of_line line words (Err error) same is = record { words = is.0; same = line_from_words same is.1 }
 
 -- ---- openings
 

@@ -6,7 +6,6 @@ use Rattle.std.proofs.lemmas.List.{append-nil, map-append}
 use Rattle.std.specs.Fmt.{decimal}
 use Rattle.hx_link.specs.declared.parts.TheConstants.{MOST_PARTS}
 use Rattle.hx_letters.specs.Words.{IsNumber}
-use Rattle.hx_reader.specs.LongOrs.{parts_in_place, BeginWithManyParts}
 use Rattle.hx_text.specs.StepTexts.{AreNumbers}
 
 -- these parts were taken, and these words are left
@@ -40,19 +39,6 @@ pub part_taken : {words left rest : List (List ℕ)} {parts now : List ℕ} {par
     → IsNumber part → left ≡ decimal part ∷ rest → now ≡ parts ++ part ∷ [] → PartsTaken words rest now (count + 1)
 part_taken {words} {left} {rest} {parts} {now} {part} {count} taken small e is =
     subst (λ (ps : List ℕ). PartsTaken words rest ps (count + 1)) (sym is) (one_part_more words left rest parts part count taken small e)
-
--- with one part more there are many
-pub many_parts : {words left rest : List (List ℕ)} {parts : List ℕ} {part count : ℕ} → PartsTaken words left parts count
-    → IsNumber part → left ≡ decimal part ∷ rest → parts_in_place ≤ length parts → BeginWithManyParts words
-many_parts {words} {left} {rest} {parts} {part} {count} taken small e full =
-    let more = one_part_more words left rest parts part count taken small e in
-    record {
-      parts = parts ++ part ∷ [];
-      rest = rest;
-      many = omega (arith, length-append parts (part ∷ []), full);
-      numbers = more.numbers;
-      same = more.same;
-    }
 
 -- all words were taken
 pub all_parts_taken : {words left : List (List ℕ)} {parts : List ℕ} {count : ℕ} → PartsTaken words left parts count → left ≡ []

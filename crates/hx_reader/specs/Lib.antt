@@ -1,4 +1,4 @@
-pub mod LongOrs
+pub mod Ors
 pub mod Places
 pub mod Reader
 -- ---- words for the functions inside the crate alone

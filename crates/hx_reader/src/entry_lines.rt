@@ -4,7 +4,7 @@ ghost use Rattle.std.specs.Prelude.{◌≡◌, IfOk, OnErr};
 ghost use Rattle.hx_letters.specs.Words.{Reads};
 ghost use Rattle.hx_reader.specs.EntryReads.{IsEntryLine};
 ghost use Rattle.hx_text.specs.Entries.{entry_line};
-ghost use Rattle.hx_reader.specs.LongOrs.{BeginsLongOr};
+ghost use Rattle.hx_reader.specs.Ors.{BeginsOr};
 
 use crate::answer_lines::read_answer;
 use crate::fill_lines::read_fill;
@@ -21,7 +21,7 @@ pub(crate) fn read_entry(
     line: &[u8],
 ) -> Result<Option<Entry>, Memory>
     ensures reads { IfOk result (Reads entry_line (IsEntryLine size kind) line.now) }
-    ensures memory { OnErr result ((kind ≡ EntryKind.Step) × BeginsLongOr line.now) }
+    ensures memory { OnErr result ((kind ≡ EntryKind.Step) × BeginsOr line.now) }
 {
     match kind {
         EntryKind::Step => match read_step(alloc, size, line) {

@@ -7,7 +7,7 @@ ghost use Rattle.hx_board.specs.Finds.{Finds};
 ghost use Rattle.hx_board.specs.Graph.{IsVertex};
 ghost use Rattle.hx_letters.specs.Words.{Reads, IsNumber, vertex_word};
 ghost use Rattle.hx_text.specs.StepTexts.{step_words, step_line, StepFits, threat_line, AreNumbers};
-ghost use Rattle.hx_reader.specs.LongOrs.{BeginsLongOr, BeginWithManyParts};
+ghost use Rattle.hx_reader.specs.Ors.{BeginsOr};
 
 use hx_board::{Memory, Size};
 use hx_letters::Words;
@@ -16,10 +16,10 @@ use smallvec::SmallVec;
 use std::alloc::Global;
 
 /// The line of a step: `base VERTEX VERTEX`, `stone NUMBER NUMBER`, `cell NUMBER NUMBER`, or `or` and at most 128 numbers.
-/// It takes memory for the parts of an Or alone, where they are more than eight.
+/// It takes memory for the parts of an Or alone.
 pub(crate) fn read_step(alloc: Global, size: Size, line: &[u8]) -> Result<Option<Step>, Memory>
     ensures reads { IfOk result (Reads step_line (StepFits size) line.now) }
-    ensures memory { OnErr result (BeginsLongOr line.now) }
+    ensures memory { OnErr result (BeginsOr line.now) }
 {
     // The proof takes from here that the size is one of a board.
     let _rows = size.rows();
@@ -30,8 +30,7 @@ pub(crate) fn read_step(alloc: Global, size: Size, line: &[u8]) -> Result<Option
 /// The words of a step's line.
 fn read_words(alloc: Global, size: Size, words: &mut Words<'_>) -> Result<Option<Step>, Memory>
     ensures reads { IfOk result (Reads step_words (StepFits size) words.old) }
-    ensures memory { OnErr result ((parts : List (List ℕ)) × (words.old ≡ codes "or" ∷ parts)
-        × BeginWithManyParts parts) }
+    ensures memory { OnErr result ((parts : List (List ℕ)) × (words.old ≡ codes "or" ∷ parts)) }
 {
     if words.keyword(b"base").is_some() {
         return Ok(read_base(size, words));
@@ -100,12 +99,11 @@ fn read_or(alloc: Global, words: &mut Words<'_>) -> Result<Option<Step>, Memory>
     ensures reads { IfOk result (λ found. Finds found (λ step. (parts : List ℕ)
         × (step ≡ Step.Or parts) × (length parts ≤ MOST_PARTS) × AreNumbers parts
         × (words.old ≡ map decimal parts))) }
-    ensures memory { OnErr result (BeginWithManyParts words.old) }
 {
     let mut items = SmallVec::new(alloc);
     for _ in 0..MOST_PARTS {
         if words.end().is_some() {
-            return Ok(Some(or_of(items)));
+            return Ok(Some(or_of(alloc, items)?));
         }
         let Some(place) = words.number() else {
             return Ok(None);
@@ -113,18 +111,17 @@ fn read_or(alloc: Global, words: &mut Words<'_>) -> Result<Option<Step>, Memory>
         items.push(place).map_err(|_| Memory)?;
     }
     match words.end() {
-        Some(()) => Ok(Some(or_of(items))),
+        Some(()) => Ok(Some(or_of(alloc, items)?)),
         None => Ok(None),
     }
 }
 
 /// The Or of these parts.
-fn or_of(items: SmallVec<u32, 8>) -> Step
-    ensures { result ≡ Step.Or items.items }
+fn or_of(alloc: Global, items: SmallVec<u32, 8>) -> Result<Step, Memory>
+    ensures { IfOk result (λ step. step ≡ Step.Or items.items) }
 {
-    Step::Or {
-        parts: Parts::new(items),
-    }
+    let parts = Parts::new(alloc, items)?;
+    Ok(Step::Or { parts })
 }
 
 /// The line of a threat: `threat NUMBER`.

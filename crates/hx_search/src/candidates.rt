@@ -161,12 +161,9 @@ impl Candidates {
             Rule::Or { from, count } => {
                 let end = (from as usize).saturating_add(count as usize);
                 let parts = self.parts.get(from as usize..end).unwrap_or(&[]);
-                match SmallVec::from_slice(alloc, parts) {
-                    Ok(items) => Ok(Step::Or {
-                        parts: Parts::new(items),
-                    }),
-                    Err(_) => Err(Memory),
-                }
+                let items = SmallVec::from_slice(alloc, parts).map_err(|_| Memory)?;
+                let parts = Parts::new(alloc, items)?;
+                Ok(Step::Or { parts })
             }
         }
     }

@@ -8,9 +8,14 @@ use smallvec::SmallVec;
 use std::alloc::{AllocError, Global};
 use std::test::Fail;
 
+/// The list of these places.
+fn parts_of(alloc: Global, places: &[u32]) -> Result<Parts, AllocError> {
+    Parts::new(alloc, SmallVec::from_slice(alloc, places)?).map_err(|_| AllocError)
+}
+
 /// The Or of the links at these places.
 pub(crate) fn or_of(alloc: Global, places: &[u32]) -> Result<Step, AllocError> {
-    let parts = Parts::new(SmallVec::from_slice(alloc, places)?);
+    let parts = parts_of(alloc, places)?;
     Ok(Step::Or { parts })
 }
 
@@ -89,9 +94,9 @@ fn ends_and_sides(rt: HostRuntime) -> Result<(), Fail> {
 #[test]
 fn lists_are_their_items(rt: HostRuntime) -> Result<(), Fail> {
     let numbers = [4, 2, 4, 2, 4, 2, 4, 2, 4, 2];
-    let many = Parts::new(SmallVec::from_slice(rt.alloc(), &numbers)?);
+    let many = parts_of(rt.alloc(), &numbers)?;
     assert_eq!(rt; many.items(), numbers.as_slice());
-    let two = Parts::new(SmallVec::from_slice(rt.alloc(), &numbers[..2])?);
+    let two = parts_of(rt.alloc(), &numbers[..2])?;
     assert!(rt; two != many);
     assert_eq!(rt; many.into_inner().as_slice(), numbers.as_slice());
 

@@ -41,7 +41,8 @@ pub(crate) fn step_of(alloc: Global, plan: Plan) -> Result<Step, AllocError> {
         Plan::Base(a, b) => Ok(Step::Base { a, b }),
         Plan::Cell(left, right) => Ok(Step::AndCell { left, right }),
         Plan::Or(left, right) => {
-            let parts = Parts::new(SmallVec::from_slice(alloc, &[left, right])?);
+            let places = SmallVec::from_slice(alloc, &[left, right])?;
+            let parts = Parts::new(alloc, places).map_err(|_| AllocError)?;
             Ok(Step::Or { parts })
         }
     }

@@ -141,10 +141,9 @@ fn drawn_step(alloc: Global, draws: &mut Draws, size: Size, count: u32) -> Resul
         0 => Ok(Step::AndStone { left, right }),
         1 => Ok(Step::AndCell { left, right }),
         2 => {
-            let parts = SmallVec::from_slice(alloc, &[left, right])?;
-            Ok(Step::Or {
-                parts: Parts::new(parts),
-            })
+            let places = SmallVec::from_slice(alloc, &[left, right])?;
+            let parts = Parts::new(alloc, places).map_err(|_| "memory")?;
+            Ok(Step::Or { parts })
         }
         _ => Ok(Step::Base {
             a: drawn_vertex(draws, size)?,

@@ -4,7 +4,7 @@ use Rattle.hx_text.specs.Entries.{entry_line}
 use Rattle.hx_reader.specs.EntryReads.{IsEntryLine}
 use Rattle.hx_reader.specs.Places.{kind_due}
 use Rattle.hx_reader.proofs.BegunFaults.{inside_wrong}
-use Rattle.hx_reader.proofs.BegunSteps.{long_or_takes_memory}
+use Rattle.hx_reader.proofs.BegunSteps.{or_takes_memory}
 use Rattle.hx_reader.proofs.node_steps.inside.Goals as goal
 
 pub returns-in-Ok-None : goal.returns-in-Ok-None
@@ -15,7 +15,7 @@ returns-in-Ok-None c = λ nodes lines stands begins.
 
 pub returns-in-Err : goal.returns-in-Err
 returns-in-Err c = λ nodes lines stands.
-    long_or_takes_memory c.args.begun c.args.line.now (sym c.kind_due.ensures ∙ c.in-Err.ensures.memory.0) c.in-Err.ensures.memory.1
+    or_takes_memory c.args.begun c.args.line.now (sym c.kind_due.ensures ∙ c.in-Err.ensures.memory.0) c.in-Err.ensures.memory.1
 
 pub returns-in-Ok-Some : goal.returns-in-Ok-Some
 returns-in-Ok-Some c = λ nodes lines stands.

@@ -29,24 +29,6 @@ at_ok : {T E P : Type 0} (result : Result T E) → true ≡ is_ok result → OnO
 at_ok (Ok done) test holds = holds
 at_ok (Err error) test holds = absurd (false≢true (sym test))
 
--- a push that did not go well
-not_ok : {T E : Type 0} (result : Result T E) → false ≡ is_ok result → IsOk result → ⊥
-not_ok result test is = false≢true (test ∙ is)
-
-on_err : {T E P : Type 0} (result : Result T E) → P → OnErr result P
-on_err (Ok done) holds = tt
-on_err (Err error) holds = holds
-
-pub returns-in_err-map_err-clause-memory : goal.returns-in_err-map_err-clause-memory
-returns-in_err-map_err-clause-memory c =
-    let full : parts_in_place ≤ length c.loop.items.items =
-    ⊎_elim
-    (λ (less : length c.loop.items.items < parts_in_place).
-    absurd (not_ok c.push.result c.in_err-map_err.ensures.variant (c.push.ensures.succeeds (omega (arith, c.loop.invariant.1)))))
-    (λ (past : parts_in_place ≤ length c.loop.items.items). past)
-    (cases_lt (length c.loop.items.items) parts_in_place) in
-    on_err c.from_residual.result (many_parts c.loop.invariant.0 c.in-Some.ensures.0 c.in-Some.ensures.1 full)
-
 pub loop-preserved : goal.loop-preserved
 loop-preserved c = (
   part_taken c.loop.invariant.0 c.in-Some.ensures.0 c.in-Some.ensures.1
