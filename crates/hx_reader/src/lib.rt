@@ -16,6 +16,7 @@ mod so_far;
 mod step_lines;
 mod whole_nodes;
 
+pub use lines::read_size;
 pub use places::{Fed, TreeFault};
-pub use positions::{TextFault, read_position};
+pub use positions::{TextFault, black_stones, read_position, with_white_stones};
 pub use reader::TreeReader;

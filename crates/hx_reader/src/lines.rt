@@ -41,7 +41,7 @@ pub(crate) fn read_title(line: &[u8]) -> Option<Version>
 }
 
 /// The line `size ROWS COLUMNS`.
-pub(crate) fn read_size(line: &[u8]) -> Option<Size>
+pub fn read_size(line: &[u8]) -> Option<Size>
     ensures { Reads size_line (λ s. IsExtent s.rows s.cols) line.now result }
 {
     let mut words = Words::of(line);

@@ -80,8 +80,8 @@ fn at_black(size: Size, bytes: &[u8]) -> Result<(Position, Colour), TextFault>
     }
 }
 
-/// Black's stones on a board of this size.
-fn black_stones(size: Size, line: &[u8]) -> Option<Mask>
+/// The line of Black's stones on a board of this size.
+pub fn black_stones(size: Size, line: &[u8]) -> Option<Mask>
     requires { IsExtent size.rows size.cols }
     ensures { Reads (stones_line Black) (λ black. IsPosition size black 0) line.now result }
 {
@@ -106,8 +106,8 @@ fn at_white(size: Size, black: Mask, bytes: &[u8]) -> Result<(Position, Colour),
     }
 }
 
-/// The position with White's stones too.
-fn with_white_stones(size: Size, black: Mask, line: &[u8]) -> Option<Position>
+/// The line of White's stones, and the position that they and these black stones make.
+pub fn with_white_stones(size: Size, black: Mask, line: &[u8]) -> Option<Position>
     requires { IsExtent size.rows size.cols }
     ensures { Finds result (λ position. IsBoard position × (position.size ≡ size)
         × (position.black ≡ black) × (line.now ≡ stones_line White position.white)) }

@@ -1,0 +1,3 @@
+pub mod Templates
+-- ---- words for the functions inside the crate alone
+pub mod Reads
