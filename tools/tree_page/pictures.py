@@ -1,4 +1,5 @@
 """A board as a picture: hexagons with coordinates, coloured sides, stones, and the marks of a record."""
+import html
 import math
 import pathlib
 
@@ -10,6 +11,7 @@ WIDE = 42.0  # of a cell
 EDGE = WIDE / math.sqrt(3)
 MARGIN = 38.0  # above and on the left, where the coordinates stand
 NARROW = 14.0  # the other two margins
+LETTER_WIDE, LINE_HIGH = 7.0, 20.0  # of a caption
 # The corners of a cell from its middle, clockwise from the top.
 CORNERS = [(0, -EDGE), (WIDE / 2, -EDGE / 2), (WIDE / 2, EDGE / 2), (0, EDGE), (-WIDE / 2, EDGE / 2),
            (-WIDE / 2, -EDGE / 2)]
@@ -32,18 +34,19 @@ def border(cells, corners):
                    for x, y in map(middle, cells) for corner in corners)
 
 
-def sides(size):
-    """White's two sides, with an edge, and over their ends Black's."""
+def sides(size, chosen):
+    """White's two sides, with an edge, and over their ends Black's. The chosen ones are told by player and vertex."""
     left, top = [check.WIDTH * row for row in range(size.rows)], list(range(size.columns))
     right, bottom = [cell + size.columns - 1 for cell in left], [cell + left[-1] for cell in top]
-    for player, cells, corners in [("white", left, [UPPER_LEFT, LOWER_LEFT]),
-                                   ("white", right, [UPPER_RIGHT, LOWER_RIGHT]),
-                                   ("black", top, [UPPER_LEFT, TOP, UPPER_RIGHT]),
-                                   ("black", bottom, [LOWER_LEFT, BOTTOM, LOWER_RIGHT])]:
+    for player, vertex, cells, corners in [("white", check.FIRST, left, [UPPER_LEFT, LOWER_LEFT]),
+                                           ("white", check.LAST, right, [UPPER_RIGHT, LOWER_RIGHT]),
+                                           ("black", check.FIRST, top, [UPPER_LEFT, TOP, UPPER_RIGHT]),
+                                           ("black", check.LAST, bottom, [LOWER_LEFT, BOTTOM, LOWER_RIGHT])]:
         points = border(cells, corners)
         if player == "white":
             yield f'<polyline class="edge" points="{points}"/>'
-        yield f'<polyline class="side {player}" points="{points}"/>'
+        mark = " chosen" if (player, vertex) in chosen else ""
+        yield f'<polyline class="side {player}{mark}" points="{points}"/>'
 
 
 def coordinates(size):
@@ -67,12 +70,20 @@ def cells(size, record):
         yield cell_drawn(cell, [mark for mark in MARKS if name(cell) in named[mark]])
 
 
-def picture(size, record):
-    """The board of a node, as a picture that needs no other file."""
-    wide = MARGIN + WIDE * (size.columns + (size.rows - 1) / 2) + NARROW
-    high = MARGIN + EDGE * (1.5 * size.rows + 0.5) + NARROW
+def caption_drawn(lines, wide, high):
+    for place, line in enumerate(lines):
+        yield f'<text x="{wide / 2:.1f}" y="{high + LINE_HIGH * (place + 0.5):.1f}">{html.escape(line)}</text>'
+
+
+def picture(size, record, chosen_sides=(), caption=()):
+    """The board of a record, as a picture that needs no other file. The lines of a caption stand under it."""
+    board_wide = MARGIN + WIDE * (size.columns + (size.rows - 1) / 2) + NARROW
+    board_high = MARGIN + EDGE * (1.5 * size.rows + 0.5) + NARROW
+    wide = max([board_wide, *(2 * NARROW + LETTER_WIDE * len(line) for line in caption)])
+    high = board_high + LINE_HIGH * len(caption)
     return "\n".join([
         f'<svg xmlns="http://www.w3.org/2000/svg" viewBox="0 0 {wide:.0f} {high:.0f}" width="{wide:.0f}" '
         f'height="{high:.0f}" role="img" aria-label="the board">',
         f"<style>\n{STYLE.read_text()}</style>", '<rect class="ground" width="100%" height="100%" rx="8"/>',
-        *sides(size), *coordinates(size), *cells(size, record), "</svg>\n"])
+        *sides(size, chosen_sides), *coordinates(size), *cells(size, record), *caption_drawn(caption, wide, board_high),
+        "</svg>\n"])

@@ -3,18 +3,20 @@ use Rattle.std.proofs.Common.{◌≡◌, ℕ, List, sym, subst}
 use Rattle.hx_io.specs.Sources.{Reading}
 use Rattle.hx_io.specs.Sinks.{Writing}
 use Rattle.hx_words.specs.declared.commands.Command.{Command}
-use Rattle.hx_words.specs.declared.commands.Command.TheVariants.{Check, Solve, Htp, Demo, Play}
+use Rattle.hx_words.specs.declared.commands.Command.TheVariants.{Check, Solve, Htp, Demo, Play, Template}
 use Rattle.hx_words.specs.Commands.{Asks}
 use Rattle.hx_words.proofs.CommandWords.{Asks-one}
 use Rattle.hx_check.specs.Judgements.{IsCheckRun}
 use Rattle.hx_check.specs.Promises.{KeepsPromises as ChecksAsPromised}
 use Rattle.hx_match.specs.Runs.{IsPlayRun}
 use Rattle.hx_match.specs.Promises.{KeepsPromises as PlaysAsPromised}
+use Rattle.hx_claim.specs.Claims.{IsTemplateRun}
+use Rattle.hx_claim.specs.Promises.{KeepsPromises as DecidesAsPromised}
 use Rattle.hx_app.specs.declared.finishes.Finish.{Finish}
 use Rattle.hx_app.specs.Promises.{KeepsPromises as SolvesAsPromised}
 use Rattle.hx_app.specs.Sessions.{KeepsPromises as ServesAsPromised}
 use Rattle.hx_app.specs.DemoPromises.{KeepsPromises as DrawsAsPromised}
-use Rattle.hx_app.specs.Runs.{IsRun, Checked, Played, CountsNothing}
+use Rattle.hx_app.specs.Runs.{IsRun, Checked, Played, Decided, CountsNothing}
 
 module _ (words : List (List ℕ)) (source source_now : Reading) (sink sink_now : Writing) where
   pub checked_run : (status : ℕ) (finish : Finish) → Asks Check words → finish.status ≡ status → CountsNothing finish
@@ -27,6 +29,11 @@ module _ (words : List (List ℕ)) (source source_now : Reading) (sink sink_now 
   played_run status finish asks same none ran =
       Played asks none (subst (IsPlayRun source source_now sink sink_now) (sym same) ran)
 
+  pub decided_run : (status : ℕ) (finish : Finish) → Asks Template words → finish.status ≡ status → CountsNothing finish
+      → IsTemplateRun source source_now sink sink_now status → IsRun words source source_now sink sink_now finish
+  decided_run status finish asks same none ran =
+      Decided asks none (subst (IsTemplateRun source source_now sink sink_now) (sym same) ran)
+
   -- what is promised of a run, by its command
   abbrev pub Promises : Finish → Command → Type 0
   Promises finish Check = ChecksAsPromised source source_now sink sink_now finish.status
@@ -34,6 +41,7 @@ module _ (words : List (List ℕ)) (source source_now : Reading) (sink sink_now 
   Promises finish (Htp settings) = ServesAsPromised settings source source_now sink sink_now finish
   Promises finish (Demo seed settings) = DrawsAsPromised seed settings sink sink_now finish
   Promises finish Play = PlaysAsPromised source source_now sink sink_now finish.status
+  Promises finish Template = DecidesAsPromised source source_now sink sink_now finish.status
 
   -- words that are this command and also that one are one command, so what is promised of the one is promised of the other
   pub kept : (finish : Finish) (own other : Command) → Asks own words → Asks other words → Promises finish own

@@ -5,11 +5,12 @@ use Rattle.hx_io.specs.Sinks.{Writing}
 use Rattle.hx_settings.specs.declared.settings.Settings.{Settings}
 use Rattle.hx_solve.specs.Tallies.{tallied}
 use Rattle.hx_words.specs.declared.commands.Command.{Command}
-use Rattle.hx_words.specs.declared.commands.Command.TheVariants.{Check, Solve, Htp, Demo, Play}
+use Rattle.hx_words.specs.declared.commands.Command.TheVariants.{Check, Solve, Htp, Demo, Play, Template}
 use Rattle.hx_words.specs.Commands.{Asks}
 use Rattle.hx_answers.specs.Endings.{IsWritten}
 use Rattle.hx_check.specs.Judgements.{IsCheckRun}
 use Rattle.hx_match.specs.Runs.{IsPlayRun}
+use Rattle.hx_claim.specs.Claims.{IsTemplateRun}
 use Rattle.hx_app.specs.declared.finishes.Finish.{Finish}
 use Rattle.hx_app.specs.Answers.{IsSolveRun}
 use Rattle.hx_app.specs.Sessions.{IsSessionRun}
@@ -32,6 +33,9 @@ IsDraw seed settings words = Asks (Demo seed settings) words
 
 abbrev pub IsPlay : List (List ℕ) → Type 0
 IsPlay words = Asks Play words
+
+abbrev pub IsClaim : List (List ℕ) → Type 0
+IsClaim words = Asks Template words
 
 -- the words are a command
 abbrev pub IsCommand : List (List ℕ) → Type 0
@@ -66,4 +70,7 @@ pub data IsRun (words : List (List ℕ)) (source source_now : Reading) (sink sin
       → IsRun words source source_now sink sink_now finish
   Played : IsPlay words → CountsNothing finish
       → IsPlayRun source source_now sink sink_now finish.status
+      → IsRun words source source_now sink sink_now finish
+  Decided : IsClaim words → CountsNothing finish
+      → IsTemplateRun source source_now sink sink_now finish.status
       → IsRun words source source_now sink sink_now finish

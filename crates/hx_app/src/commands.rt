@@ -7,10 +7,11 @@ ghost use Rattle.hx_words.specs.Words.{words_of};
 ghost use Rattle.hx_answers.specs.Endings.{IsWritten};
 ghost use Rattle.hx_check.specs.Promises.{KeepsPromises as ChecksAsPromised};
 ghost use Rattle.hx_match.specs.Promises.{KeepsPromises as PlaysAsPromised};
+ghost use Rattle.hx_claim.specs.Promises.{KeepsPromises as DecidesAsPromised};
 ghost use Rattle.hx_app.specs.Promises.{KeepsPromises as SolvesAsPromised};
 ghost use Rattle.hx_app.specs.Sessions.{KeepsPromises as ServesAsPromised};
 ghost use Rattle.hx_app.specs.DemoPromises.{KeepsPromises as DrawsAsPromised};
-ghost use Rattle.hx_app.specs.Runs.{IsCheck, IsSolve, IsSession, IsDraw, IsPlay, IsCommand, IsRun, CountsNothing, bad_words_line};
+ghost use Rattle.hx_app.specs.Runs.{IsCheck, IsSolve, IsSession, IsDraw, IsPlay, IsClaim, IsCommand, IsRun, CountsNothing, bad_words_line};
 
 use crate::demos::run_demo;
 use crate::finishes::Finish;
@@ -18,6 +19,7 @@ use crate::sessions::run_session;
 use crate::solving::run_solve;
 use hx_answers::WRITE_FAULT;
 use hx_check::run_check;
+use hx_claim::run_template;
 use hx_io::{Failed, Gate, Sink, Source, write_all};
 use hx_match::run_play;
 use hx_solve::Tally;
@@ -37,7 +39,8 @@ const BAD_WORDS: u8 = 2;
 /// gate at each of their turns; it may wait for them. `htp` answers the lines of a session, each before the next read; its
 /// workers have the gate that holds nobody back. `demo` reads nothing: it draws positions with a seed, solves them, checks
 /// their trees and writes how many each player wins; its workers call the gate, and it may wait for them. `play` reads the
-/// text of a tree of plain nodes, and then plays by it, for its winner, against the moves that follow.
+/// text of a tree of plain nodes, and then plays by it, for its winner, against the moves that follow. `template` reads the
+/// text of a template and writes whether its owner can join the two ends.
 pub fn run<S: Source, K: Sink, G: Gate + Sync, R: Threads + Wait + Sync>(
     rt: &R,
     alloc: Global,
@@ -88,6 +91,13 @@ pub fn run<S: Source, K: Sink, G: Gate + Sync, R: Threads + Wait + Sync>(
         (S.reading source.old) (S.reading source.new)
         (K.writing sink.old) (K.writing sink.new) result.status }
 
+    // `template` keeps its promises: with status 0 or 1 the input was read to its end and is the text of a template, whose owner
+    // can join its ends with 0 and cannot with 1, whatever the other player does; each input gets the answer or the refusal that
+    // is due to it.
+    ensures template { IsClaim (words_of words.now) → DecidesAsPromised
+        (S.reading source.old) (S.reading source.new)
+        (K.writing sink.old) (K.writing sink.new) result.status }
+
     // `demo` reads nothing.
     ensures unread { (seed : ℕ) (settings : Bounds) → IsDraw seed settings (words_of words.now)
         → source.new ≡ source.old }
@@ -111,6 +121,7 @@ pub fn run<S: Source, K: Sink, G: Gate + Sync, R: Threads + Wait + Sync>(
         Some(Command::Htp(settings)) => run_session(rt, alloc, settings, source, sink),
         Some(Command::Demo { seed, settings }) => run_demo(rt, alloc, seed, settings, sink, gate),
         Some(Command::Play) => uncounted(run_play(alloc, source, sink)),
+        Some(Command::Template) => uncounted(run_template(alloc, source, sink)),
         None => uncounted(refuse(sink)),
     }
 }

@@ -1,0 +1,2 @@
+mod OneAnswer
+mod KeptPromises

@@ -11,6 +11,7 @@ use crate::answers::{Answer, write_answer};
 use crate::deciding::found;
 use hx_answers::{Unread, WRITE_FAULT, read_all};
 use hx_io::{Failed, Sink, Source};
+use hx_pattern::{one_faulty_line, template_text_has_no_fault, text_tells_template};
 use std::alloc::Global;
 
 /// The most bytes that are read.
@@ -31,6 +32,9 @@ pub fn run_template<S: Source, K: Sink>(alloc: Global, source: &mut S, sink: &mu
         (S.reading source.old) (S.reading source.new)
         (K.writing sink.old) (K.writing sink.new) result }
 {
+    text_tells_template();
+    template_text_has_no_fault();
+    one_faulty_line();
     let answer = settle(alloc, source);
     say(sink, &answer)
 }

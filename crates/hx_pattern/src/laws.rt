@@ -15,3 +15,9 @@ pub fn one_faulty_line()
     ensures { (bytes : List ℕ) (a b : ℕ) → IsFaultyLine AreTemplateLines bytes a
         → IsFaultyLine AreTemplateLines bytes b → a ≡ b }
 {}
+
+/// The text of a template has no faulty line.
+pub fn template_text_has_no_fault()
+    ensures { (claim : Claim) (line : ℕ) → IsTemplate claim
+        → IsFaultyLine AreTemplateLines (template_text claim) line → ⊥ }
+{}

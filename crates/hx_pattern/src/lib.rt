@@ -6,6 +6,6 @@ mod lines;
 mod reading;
 mod templates;
 
-pub use laws::{one_faulty_line, text_tells_template};
+pub use laws::{one_faulty_line, template_text_has_no_fault, text_tells_template};
 pub use reading::read_template;
 pub use templates::Template;

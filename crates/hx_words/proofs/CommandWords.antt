@@ -2,7 +2,7 @@
 use Rattle.std.proofs.Common.{◌≡◌, ◌≢◌, ℕ, List, [], ◌∷◌, Bool, get_or, codes, refl, ap, ◌∙◌, subst, arith}
 use Rattle.hx_settings.specs.declared.settings.Settings.{Settings}
 use Rattle.hx_words.specs.declared.commands.Command.{Command}
-use Rattle.hx_words.specs.declared.commands.Command.TheVariants.{Check, Solve, Htp, Demo, Play}
+use Rattle.hx_words.specs.declared.commands.Command.TheVariants.{Check, Solve, Htp, Demo, Play, Template}
 use Rattle.hx_words.specs.Choices.{AreOptions}
 use Rattle.hx_words.specs.Seeds.{SeedAndOptions}
 use Rattle.hx_words.specs.Searches.{AreSearchOptions}
@@ -45,6 +45,8 @@ Asks-solve words rest solve none (Demo seed settings) asks =
     one_name words asks.0 rest (codes "demo") (codes "solve") (omega arith) asks.1 solve
 Asks-solve words rest solve none Play asks =
     one_name words [] rest (codes "play") (codes "solve") (omega arith) asks solve
+Asks-solve words rest solve none Template asks =
+    one_name words [] rest (codes "template") (codes "solve") (omega arith) asks solve
 
 pub Asks-htp : (words rest : List (List ℕ)) → words ≡ codes "htp" ∷ rest
     → ((settings : Settings) → AreOptions rest settings → ⊥) → (command : Command) → Asks command words → ⊥
@@ -57,6 +59,8 @@ Asks-htp words rest htp none (Demo seed settings) asks =
     one_name words asks.0 rest (codes "demo") (codes "htp") (omega arith) asks.1 htp
 Asks-htp words rest htp none Play asks =
     one_name words [] rest (codes "play") (codes "htp") (omega arith) asks htp
+Asks-htp words rest htp none Template asks =
+    one_name words [] rest (codes "template") (codes "htp") (omega arith) asks htp
 
 -- nor is `demo` a command where the words after it are no seed and options
 no_seed : (words rest : List (List ℕ)) (seed : ℕ) (settings : Settings) → words ≡ codes "demo" ∷ rest
@@ -77,6 +81,8 @@ Asks-demo words rest demo none (Htp settings) asks =
 Asks-demo words rest demo none (Demo seed settings) asks = no_seed words rest seed settings demo none asks
 Asks-demo words rest demo none Play asks =
     one_name words [] rest (codes "play") (codes "demo") (omega arith) asks demo
+Asks-demo words rest demo none Template asks =
+    one_name words [] rest (codes "template") (codes "demo") (omega arith) asks demo
 
 -- the same name has the same options behind it, and they choose the same settings
 one_choice : (words : List (List ℕ)) (name : List ℕ) (a b : Settings) → NameAndOptions name a words
@@ -112,23 +118,34 @@ Asks-one words Check (Solve other n) p q = absurd (one_name words [] q.0 (codes 
 Asks-one words Check (Htp other) p q = absurd (one_name words [] q.0 (codes "check") (codes "htp") (omega arith) p q.1)
 Asks-one words Check (Demo n other) p q = absurd (one_name words [] q.0 (codes "check") (codes "demo") (omega arith) p q.1)
 Asks-one words Check Play p q = absurd (one_name words [] [] (codes "check") (codes "play") (omega arith) p q)
+Asks-one words Check Template p q = absurd (one_name words [] [] (codes "check") (codes "template") (omega arith) p q)
 Asks-one words (Solve settings m) Check p q = absurd (one_name words p.0 [] (codes "solve") (codes "check") (omega arith) p.1 q)
 Asks-one words (Solve settings m) (Solve other n) p q = one_search words m n settings other p q
 Asks-one words (Solve settings m) (Htp other) p q = absurd (one_name words p.0 q.0 (codes "solve") (codes "htp") (omega arith) p.1 q.1)
 Asks-one words (Solve settings m) (Demo n other) p q = absurd (one_name words p.0 q.0 (codes "solve") (codes "demo") (omega arith) p.1 q.1)
 Asks-one words (Solve settings m) Play p q = absurd (one_name words p.0 [] (codes "solve") (codes "play") (omega arith) p.1 q)
+Asks-one words (Solve settings m) Template p q = absurd (one_name words p.0 [] (codes "solve") (codes "template") (omega arith) p.1 q)
 Asks-one words (Htp settings) Check p q = absurd (one_name words p.0 [] (codes "htp") (codes "check") (omega arith) p.1 q)
 Asks-one words (Htp settings) (Solve other n) p q = absurd (one_name words p.0 q.0 (codes "htp") (codes "solve") (omega arith) p.1 q.1)
 Asks-one words (Htp settings) (Htp other) p q = ap Htp (one_choice words (codes "htp") settings other p q)
 Asks-one words (Htp settings) (Demo n other) p q = absurd (one_name words p.0 q.0 (codes "htp") (codes "demo") (omega arith) p.1 q.1)
 Asks-one words (Htp settings) Play p q = absurd (one_name words p.0 [] (codes "htp") (codes "play") (omega arith) p.1 q)
+Asks-one words (Htp settings) Template p q = absurd (one_name words p.0 [] (codes "htp") (codes "template") (omega arith) p.1 q)
 Asks-one words (Demo m settings) Check p q = absurd (one_name words p.0 [] (codes "demo") (codes "check") (omega arith) p.1 q)
 Asks-one words (Demo m settings) (Solve other n) p q = absurd (one_name words p.0 q.0 (codes "demo") (codes "solve") (omega arith) p.1 q.1)
 Asks-one words (Demo m settings) (Htp other) p q = absurd (one_name words p.0 q.0 (codes "demo") (codes "htp") (omega arith) p.1 q.1)
 Asks-one words (Demo m settings) (Demo n other) p q = one_demo words m n settings other p q
 Asks-one words (Demo m settings) Play p q = absurd (one_name words p.0 [] (codes "demo") (codes "play") (omega arith) p.1 q)
+Asks-one words (Demo m settings) Template p q = absurd (one_name words p.0 [] (codes "demo") (codes "template") (omega arith) p.1 q)
 Asks-one words Play Check p q = absurd (one_name words [] [] (codes "play") (codes "check") (omega arith) p q)
 Asks-one words Play (Solve other n) p q = absurd (one_name words [] q.0 (codes "play") (codes "solve") (omega arith) p q.1)
 Asks-one words Play (Htp other) p q = absurd (one_name words [] q.0 (codes "play") (codes "htp") (omega arith) p q.1)
 Asks-one words Play (Demo n other) p q = absurd (one_name words [] q.0 (codes "play") (codes "demo") (omega arith) p q.1)
 Asks-one words Play Play p q = refl
+Asks-one words Play Template p q = absurd (one_name words [] [] (codes "play") (codes "template") (omega arith) p q)
+Asks-one words Template Check p q = absurd (one_name words [] [] (codes "template") (codes "check") (omega arith) p q)
+Asks-one words Template (Solve other n) p q = absurd (one_name words [] q.0 (codes "template") (codes "solve") (omega arith) p q.1)
+Asks-one words Template (Htp other) p q = absurd (one_name words [] q.0 (codes "template") (codes "htp") (omega arith) p q.1)
+Asks-one words Template (Demo n other) p q = absurd (one_name words [] q.0 (codes "template") (codes "demo") (omega arith) p q.1)
+Asks-one words Template Play p q = absurd (one_name words [] [] (codes "template") (codes "play") (omega arith) p q)
+Asks-one words Template Template p q = refl

@@ -3,7 +3,7 @@ use Rattle.std.specs.Prelude.{◌≡◌, ℕ, List, [], ◌∷◌, codes, Bool}
 use Rattle.hx_settings.specs.declared.settings.Settings.{Settings}
 use Rattle.hx_settings.specs.Settings.{AreSettings}
 use Rattle.hx_words.specs.declared.commands.Command.{Command}
-use Rattle.hx_words.specs.declared.commands.Command.TheVariants.{Check, Solve, Htp, Demo, Play}
+use Rattle.hx_words.specs.declared.commands.Command.TheVariants.{Check, Solve, Htp, Demo, Play, Template}
 use Rattle.hx_words.specs.Choices.{AreOptions}
 use Rattle.hx_words.specs.Searches.{AreSearchOptions}
 use Rattle.hx_words.specs.Seeds.{SeedAndOptions}
@@ -29,6 +29,7 @@ Asks (Solve settings plain_tree) words = IsSolve settings plain_tree words
 Asks (Htp settings) words = NameAndOptions (codes "htp") settings words
 Asks (Demo seed settings) words = IsDemo seed settings words
 Asks Play words = words ≡ codes "play" ∷ []
+Asks Template words = words ≡ codes "template" ∷ []
 
 -- the settings of the command, if it has any, are those that a search may have
 abbrev pub IsWithinLimits : Command → Type 0
@@ -37,3 +38,4 @@ IsWithinLimits (Solve settings plain_tree) = AreSettings settings
 IsWithinLimits (Htp settings) = AreSettings settings
 IsWithinLimits (Demo seed settings) = AreSettings settings
 IsWithinLimits Play = Unit {0}
+IsWithinLimits Template = Unit {0}

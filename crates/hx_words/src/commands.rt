@@ -29,6 +29,8 @@ pub enum Command {
     },
     /// Play by the text of a tree, against the moves that follow it.
     Play,
+    /// Tell whether a template holds.
+    Template,
 }
 
 /// The command that the words are. The program's own name is not one of them.
@@ -63,6 +65,13 @@ pub fn command_of(words: &[String]) -> Option<Command>
         "play" => {
             if rest.is_empty() {
                 Some(Command::Play)
+            } else {
+                None
+            }
+        }
+        "template" => {
+            if rest.is_empty() {
+                Some(Command::Template)
             } else {
                 None
             }

@@ -1,7 +1,7 @@
 use Rattle.std.proofs.Common.{refl}
-use Rattle.hx_words.specs.declared.commands.Command.TheVariants.{Check, Solve, Htp, Demo, Play}
+use Rattle.hx_words.specs.declared.commands.Command.TheVariants.{Check, Solve, Htp, Demo, Play, Template}
 use Rattle.hx_app.specs.Runs.{Searched, Served, Drew}
-use Rattle.hx_app.proofs.RunClauses.{checked_run, played_run, kept}
+use Rattle.hx_app.proofs.RunClauses.{checked_run, played_run, decided_run, kept}
 use Rattle.hx_app.proofs.commands.run.Goals as goal
 
 pub returns-in-Some-Check-clause-run : goal.returns-in-Some-Check-clause-run
@@ -53,6 +53,13 @@ returns-in-Some-Play-clause-run g c =
     c.run_play.result c.uncounted-in-Some-Play.result (rw c.in-Some-Play.field-0-is at c.in-Some-Play.ensures.finds)
     c.uncounted-in-Some-Play.ensures.status c.uncounted-in-Some-Play.ensures.tally c.run_play.ensures.run
 
+pub returns-in-Some-Template-clause-run : goal.returns-in-Some-Template-clause-run
+returns-in-Some-Template-clause-run g c =
+    decided_run _ (g.S.Source.reading c.args.source.now) (g.S.Source.reading c.run_template.new.source)
+    (g.K.Sink.writing c.args.sink.now) (g.K.Sink.writing c.run_template.new.sink)
+    c.run_template.result c.uncounted-in-Some-Template.result (rw c.in-Some-Template.field-0-is at c.in-Some-Template.ensures.finds)
+    c.uncounted-in-Some-Template.ensures.status c.uncounted-in-Some-Template.ensures.tally c.run_template.ensures.run
+
 pub returns-in-None-clause-check : goal.returns-in-None-clause-check
 returns-in-None-clause-check g c = λ check. absurd (c.in-None.ensures.finds Check check)
 
@@ -70,3 +77,6 @@ returns-in-None-clause-unread g c = λ seed settings draw. absurd (c.in-None.ens
 
 pub returns-in-None-clause-play : goal.returns-in-None-clause-play
 returns-in-None-clause-play g c = λ play. absurd (c.in-None.ensures.finds Play play)
+
+pub returns-in-None-clause-template : goal.returns-in-None-clause-template
+returns-in-None-clause-template g c = λ template. absurd (c.in-None.ensures.finds Template template)
