@@ -1,0 +1,2 @@
+def differences(top): return []
+def write(top): pass
