@@ -19,6 +19,10 @@ class Entry:
         self.pieces = [Lines(piece.first, without_imports(piece.lines)) for piece in pieces]
         self.first = pieces[0].first
 
+    def full_name(self):
+        """Its name, and whether it is a type of which all of the `impl Model` counts."""
+        return self.key.full_name() + (" shown" if self.key.kind == "view" and len(self.pieces) > 1 else "")
+
     def lines(self):
         return [line for piece in self.pieces for line in piece.lines if line.strip()]
 
@@ -99,10 +103,11 @@ class Lists:
         return Entry(key, item.file.where, [comment_of(item), lines_of_value(model)], self.of_model(item, model, ["Value"]))
 
     def of_view(self, key):
-        """A type of which a clause has a value that the program made: how it is shown, and what it keeps, count too."""
+        """The type of a parameter or a result: how its values are shown, and what they keep, count too. What its fields hold is seen as
+        contracts see it."""
         item = self.repository.item(key)
         model = item.file.model_of(key.name)
-        uses = [as_view(used) for used in self.of_fields_of_type(item)]
+        uses = self.of_fields_of_type(item)
         if not model:
             return Entry(key, item.file.where, [item.lines()], uses)
         return Entry(key, item.file.where, [item.lines(), model.lines()], uses + self.of_model(item, model, dict(ghosts_of(model))))

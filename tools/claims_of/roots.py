@@ -96,7 +96,8 @@ def of_function(repository, lists, item, around, part):
     if all(clause.kind == "requires" for clause in clauses):
         raise Fault(f"{item.where()} has no clause")
     uses = lists.of_function(item, clauses, what_is_around(item, around))
-    key = Key("clause", item.file.where.split("/")[1], item.file.where.split("/")[-1], f"{item.name} {part or ''}".strip())
+    module = re.search(r"/src/(.*)\.rt$", item.file.where)[1]
+    key = Key("clause", item.file.where.split("/")[1], module, f"{item.name} {name}".strip())
     entry = Entry(key, item.file.where, [signature_lines(item), *(lines_of(item, clause) for clause in clauses)], uses)
     return Asked(entry, restricted(repository, uses, fields.split(","), item.where()) if fields else {})
 
