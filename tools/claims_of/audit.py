@@ -1,0 +1,146 @@
+"""The parts of docs/audit.md that are made: the lists with a sentence for each definition, the numbers, and hx_main."""
+import re
+
+from claims_of.lists import Lists
+from claims_of.repository import Repository
+from claims_of.roots import below_all
+from claims_of.summary import count
+from claims_of.terms import Fault
+
+DOCUMENT, SENTENCES = "docs/audit.md", "docs/audit-sentences.txt"
+MAIN = "crates/hx_main/src/main.rt"
+PART = re.compile(r"(<!-- claims: (\w+) -->\n)(.*?)(<!-- end -->\n)", re.S)
+
+# The lists, in reading order: what each is asked for.
+LISTS = {
+    "check": [("run", "check:proof,yes,wrong")],
+    "solve": [("run", "solve:solved,unknown")],
+    "named_players_win": [("named_players_win", None)],
+    "seat_names_winners": [("seat_names_winners", None)],
+    "one_winner": [("one_winner", None)],
+}
+
+# What is counted too, with the words for it.
+COUNTED = {
+    "the clauses `check` and `solve` with all their promises": [("run", "check"), ("run", "solve")],
+    "a valid tree, `IsValidTree`": [("hx_tree::IsValidTree", None)],
+}
+TITLES = {
+    "check": "`yes`, `proof` and `wrong` of `check`", "solve": "`solved` and `unknown` of `solve`",
+    "named_players_win": "`named_players_win`", "seat_names_winners": "`seat_names_winners`", "one_winner": "`one_winner`",
+}
+
+
+# ---- The sentences
+
+def sentences_of(text):
+    """Each sentence by the name of its definition."""
+    found = {}
+    for number, line in enumerate(text.splitlines(), 1):
+        if not line.strip() or line.startswith("#"):
+            continue
+        name, _, sentence = line.partition("  ")
+        if not sentence.strip() or name in found:
+            raise Fault(f"{SENTENCES}:{number}: no sentence, or a second one, for {name}")
+        found[name] = sentence.strip()
+    return found
+
+
+def unmatched(sentences, names):
+    """Definitions without a sentence, and sentences without a definition."""
+    return [f"{SENTENCES}: {name} has no sentence" for name in names if name not in sentences] + [
+        f"{SENTENCES}: no list has {name}" for name in sentences if name not in names]
+
+
+# ---- The parts
+
+class Parts:
+    def __init__(self, top):
+        self.top, self.repository = top, Repository(top)
+        self.lists = {name: below_all(Lists(self.repository), asked) for name, asked in LISTS.items()}
+        self.sentences = sentences_of((top / SENTENCES).read_text(encoding="utf-8"))
+        self.new = self.in_order()
+
+    def in_order(self):
+        """Of each list what none before it has."""
+        seen, new = set(), {}
+        for name, (entries, _) in self.lists.items():
+            new[name] = [entry for entry in entries if (entry.full_name(), entry.text()) not in seen]
+            seen |= {(entry.full_name(), entry.text()) for entry in entries}
+        return new
+
+    def names(self):
+        return [entry.full_name() for entries in self.new.values() for entry in entries]
+
+    def made(self):
+        wrong = unmatched(self.sentences, self.names())
+        if wrong:
+            raise Fault("\n".join(wrong))
+        parts = {name: self.table(name) for name in LISTS}
+        return {**parts, "numbers": self.numbers(), "kit": self.kit(), "main": self.main()}
+
+    def table(self, name):
+        entries, new = self.lists[name][0], self.new[name]
+        above = len(entries) - len(new)
+        yield f"{len(entries)} definitions" + (f", of which {above} stand above:" if above else ":")
+        yield ""
+        yield "| definition | crate | lines | in words |"
+        yield "|---|---|---|---|"
+        for entry in new:
+            shown = entry.key.name + (", with what it keeps" if entry.full_name().endswith(" shown") else "")
+            link = f"[{shown}](../{entry.path})"
+            yield f"| {link} | {entry.key.crate} | {len(entry.lines())} | {self.sentences[entry.full_name()]} |"
+
+    def numbers(self):
+        yield "| what | definitions | lines | of which comments |"
+        yield "|---|---|---|---|"
+        for name, (entries, _) in self.lists.items():
+            yield number_row(TITLES[name], entries)
+        yield number_row("these together", self.together())
+        for title, asked in COUNTED.items():
+            yield number_row(title, below_all(Lists(self.repository), asked)[0])
+
+    def together(self):
+        return [entry for entries in self.new.values() for entry in entries]
+
+    def kit(self):
+        words = sorted({word.name for _, kit in self.lists.values() for word in kit})
+        yield f"The lists stop at {len(words)} words of the kit's library: {', '.join(f'`{word}`' for word in words)}."
+
+    def main(self):
+        lines = (self.top / MAIN).read_text(encoding="utf-8").splitlines()
+        yield f"{len(lines)} lines:"
+        yield ""
+        yield "```rust"
+        yield from lines
+        yield "```"
+
+
+def number_row(title, entries):
+    lines, comments = count(entries)
+    return f"| {title} | {len(entries)} | {lines} | {comments} |"
+
+
+# ---- The document
+
+def with_parts(text, parts):
+    missing = set(parts) - {name for _, name, _, _ in PART.findall(text)}
+    if missing:
+        raise Fault(f"{DOCUMENT} has no place for {', '.join(sorted(missing))}")
+    return PART.sub(lambda match: match[1] + "\n".join(parts[match[2]]) + "\n" + match[4], text)
+
+
+def write(top):
+    path = top / DOCUMENT
+    path.write_text(with_parts(path.read_text(encoding="utf-8"), {name: list(part) for name, part in Parts(top).made().items()}),
+                    encoding="utf-8")
+
+
+def differences(top):
+    """The lines of the document that are not what is made now."""
+    text = (top / DOCUMENT).read_text(encoding="utf-8")
+    made = with_parts(text, {name: list(part) for name, part in Parts(top).made().items()})
+    old, new = text.splitlines(), made.splitlines()
+    found = [f"{DOCUMENT}: old: {line}" for line in old if line not in new]
+    found += [f"{DOCUMENT}: now: {line}" for line in new if line not in old]
+    return found or ([f"{DOCUMENT}: lines stand in another order"] if old != new else [])
