@@ -1,0 +1,13 @@
+"""The program, as the scripts start it that ask it something."""
+import os
+import pathlib
+import subprocess
+
+TOP = pathlib.Path(__file__).resolve().parents[2]
+PROGRAM = TOP / "crates" / "hx_main" / "out" / "hx_main"
+
+
+def started(*words):
+    """The program with these words, or what builds it."""
+    program = PROGRAM if os.access(PROGRAM, os.X_OK) else TOP / "hx"
+    return subprocess.Popen([program, *words], bufsize=0, stdin=subprocess.PIPE, stdout=subprocess.PIPE)
