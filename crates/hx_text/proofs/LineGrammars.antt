@@ -1,5 +1,5 @@
 -- Texts whose lines have no LF in them: where bytes go wrong as such a text, and that a text of the grammar goes wrong nowhere.
-use Rattle.std.proofs.Common.{◌≡◌, ◌≢◌, ℕ, ◌+◌, List, [], ◌∷◌, ◌++◌, length, refl, sym, ap, ◌∙◌, subst, append_assoc}
+use Rattle.std.proofs.Common.{◌≡◌, ◌≢◌, ℕ, ◌+◌, List, [], ◌∷◌, ◌++◌, length, sym, ap, ◌∙◌, subst, append_assoc}
 use Rattle.std.proofs.lemmas.List.{append-nil}
 use Rattle.hx_letters.specs.Marks.{Lacks, IsCut}
 use Rattle.hx_letters.proofs.Cuts.{cut_same, Lacks-append_mark}
