@@ -10,18 +10,22 @@ loop-init c = no_parts_taken _ _ c.new-items.ensures.items
 
 pub returns-then-is_some : goal.returns-then-is_some
 returns-then-is_some c =
-    let none = ends_here _ c.end.ensures (sym c.if-is_some.true ∙ c.is_some.ensures) in (
-      c.loop.items.items,
-      c.in_ok-or_of.ensures,
-      omega (arith, c.loop.invariant.count_is),
-      c.loop.invariant.numbers,
-      all_parts_taken c.loop.invariant none,
-    )
+    let none = ends_here _ c.end.ensures (sym c.if-is_some.true ∙ c.is_some.ensures) in record {
+      reads = (
+        c.loop.items.items,
+        c.in_ok-or_of.ensures,
+        omega (arith, c.loop.invariant.count_is),
+        c.loop.invariant.numbers,
+        all_parts_taken c.loop.invariant none,
+      );
+    }
 
 pub returns-in_default : goal.returns-in_default
-returns-in_default c = λ step is.
-    no_part_next c.loop.invariant
-    (goes_on_here _ c.end.ensures (sym c.if-is_some.false ∙ c.is_some.ensures)) c.in_default.ensures is.0 is.3 is.4
+returns-in_default c = record {
+  reads = λ step is.
+      no_part_next c.loop.invariant
+      (goes_on_here _ c.end.ensures (sym c.if-is_some.false ∙ c.is_some.ensures)) c.in_default.ensures is.0 is.3 is.4;
+}
 
 -- what a push that went well says
 at_ok : {T E P : Type 0} (result : Result T E) → true ≡ is_ok result → OnOk result P → P
@@ -33,15 +37,18 @@ loop-preserved c =
     part_taken c.loop.invariant c.in-Some.ensures.0 c.in-Some.ensures.1
     (at_ok c.push.result c.in_ok-map_err.ensures.variant c.push.ensures.ok)
 
-pub returns-in-Some-end : goal.returns-in-Some-end
-returns-in-Some-end c = (
-  c.loop.items.items,
-  c.in_ok-or_of-in-Some-end.ensures,
-  omega (arith, c.loop.invariant.count_is),
-  c.loop.invariant.numbers,
-  all_parts_taken c.loop.invariant c.in-Some-end.ensures,
-)
+pub returns-in_ok-or_of-in-Some-end : goal.returns-in_ok-or_of-in-Some-end
+returns-in_ok-or_of-in-Some-end c = record {
+  reads = (
+    c.loop.items.items,
+    c.in_ok-or_of-in-Some-end.ensures,
+    omega (arith, c.loop.invariant.count_is),
+    c.loop.invariant.numbers,
+    all_parts_taken c.loop.invariant c.in-Some-end.ensures,
+  );
+}
 
 pub returns-in-None : goal.returns-in-None
-returns-in-None c =
-    λ step is. too_many_parts c.loop.invariant c.in-None.ensures (omega (arith, c.loop-test.false)) is.0 is.2 is.3 is.4
+returns-in-None c = record {
+  reads = λ step is. too_many_parts c.loop.invariant c.in-None.ensures (omega (arith, c.loop-test.false)) is.0 is.2 is.3 is.4;
+}
