@@ -364,7 +364,18 @@ def long_texts():
     return whole("long", [
         ("most-steps", "yes", begin + steps + "end 1 black\n"),
         ("most-steps-and-a-line-more", "no text 8196", begin + steps + "base first a1\nend 1 black\n"),
+        ("a-step-too-many", "no text 3", begin.replace("8192", "8193") + "base first a1\n" + steps.replace("8190", "8191")
+         + "end 1 black\n"),
+        ("a-step-too-many-before-threats", "no text 3", threats("all 8193 2 0", "base first a2\n" * 8187)),
+        ("most-steps-before-threats", "yes", threats("all 8192 2 0", "base first a2\n" * 8186)),
     ])
+
+
+def threats(rule, further_steps):
+    """A node with two threats that share no cell, whose other steps no threat needs."""
+    steps = "base first a2\nbase a2 last\ncell 0 1\nbase first b2\nbase b2 last\ncell 3 4\n"
+    begin = f"hextree 1\nsize 2 2\nnode {ZERO[:-1]}2 {ZERO} white black {rule}\n"
+    return f"{begin}{steps}{further_steps}threat 2\nthreat 5\nend 1 black\n"
 
 
 def examples():
