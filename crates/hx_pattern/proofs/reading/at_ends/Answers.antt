@@ -6,7 +6,7 @@ pub at_carrier-requires : goal.at_carrier-requires
 at_carrier-requires c = record {
   board = c.requires;
   ends = c.in-Some-ends.ensures.0;
-  carrier = rw c.empty.ensures (empty_carrier c.args.position.now c.in-Some-ends.a c.in-Some-ends.b);
+  carrier = rw c.empty.ensures (empty_carrier c.args.position.now _ _);
 }
 
 pub returns-in-Some-ends : goal.returns-in-Some-ends
