@@ -1,12 +1,12 @@
 -- A run of `template` keeps its promises: an answer that was written whole is the one that is due, of which an input has one, and each
 -- status is that of few answers, whose causes it tells.
-use Rattle.std.proofs.Common.{◌≡◌, ◌⊎◌, ℕ, ◌≤◌, inl, inr, List, refl, sym, ap, ◌∙◌, subst, arith}
+use Rattle.std.proofs.Common.{◌≡◌, ◌⊎◌, ℕ, ◌<◌, ◌≤◌, inl, inr, List, length, refl, sym, ap, ◌∙◌, subst, arith}
 use Rattle.std.specs.Prelude.{Option, None, Some, IfSome}
 use Rattle.hx_io.specs.Sources.{Reading, SomeReadFailed}
 use Rattle.hx_io.specs.Sinks.{Writing, SomeWriteFailed, append}
 use Rattle.hx_template.specs.declared.games.TheConstants.{MOST_CELLS}
 use Rattle.hx_pattern.specs.declared.templates.Template.{Template}
-use Rattle.hx_answers.specs.Endings.{IsWritten, Whole, Cut, IsReadToEnd, AnswersUnlessStopped}
+use Rattle.hx_answers.specs.Endings.{IsWritten, Whole, Cut, IsReadToEnd, IsUnlessStopped, AnswersUnlessStopped}
 use Rattle.hx_claim.specs.declared.answers.Answer.{Answer}
 use Rattle.hx_claim.specs.declared.answers.Answer.TheVariants.{Yes, No, UnknownCarrier, BadTemplate}
 use Rattle.hx_claim.specs.declared.answers.Answer.TheVariants.{ReadFault, OutOfMemory, TooLong}
@@ -95,6 +95,17 @@ module _ (after : Option (List ℕ)) (rose : Type 0) where
   read_fault_of before OutOfMemory five due = absurd (omega arith)
   read_fault_of before TooLong five due = absurd (omega arith)
 
+  no_template_of : (input : List ℕ) (answer : Answer) → length input ≤ most_bytes → IsNoTemplate input
+      → IsDue (Some input) after rose answer → IsUnlessStopped (status_of answer) 4
+  no_template_of input Yes short none due = let is : IsDecided input Yes = due.found.1 in absurd (none is.template is.text)
+  no_template_of input No short none due = let is : IsDecided input No = due.found.1 in absurd (none is.template is.text)
+  no_template_of input (UnknownCarrier cells) short none due =
+      let is : IsDecided input (UnknownCarrier cells) = due.found.1 in absurd (none is.template is.text)
+  no_template_of input (BadTemplate line) short none due = inl refl
+  no_template_of input ReadFault short none due = inr (inl refl)
+  no_template_of input OutOfMemory short none due = inr (inr (inr refl))
+  no_template_of input TooLong short none due = absurd (omega (arith, due, short))
+
   -- a clause of an input that the source tells
   of_input : (before : Option (List ℕ)) (answer : Answer) (Says : List ℕ → Type 0) → IsDue before after rose answer
       → ((input : List ℕ) → IsDue (Some input) after rose answer → Says input) → IfSome before Says
@@ -136,6 +147,11 @@ module _ (source source_now : Reading) (sink sink_now : Writing) (status : ℕ) 
   answered_by answer other (inr (inr is)) (Whole same wrote) = inr (inr (inr (same ∙ ap status_of is)))
   answered_by answer other alone (Cut six cause front) = inr (inr (inl six))
 
+  unless_stopped : (answer : Answer) (wanted : ℕ) → IsUnlessStopped (status_of answer) wanted → IsWrittenHere answer
+      → IsUnlessStopped status wanted
+  unless_stopped answer wanted is (Whole same wrote) = subst (λ (s : ℕ). IsUnlessStopped s wanted) (sym same) is
+  unless_stopped answer wanted is (Cut six cause front) = inr (inr (inl six))
+
   -- a status that tells no failed write is that of the answer
   is_status : (answer : Answer) (wanted : ℕ) → (wanted ≡ 6 → ⊥) → IsWrittenHere answer → status ≡ wanted → status_of answer ≡ wanted
   is_status answer wanted other (Whole same wrote) is = sym same ∙ is
@@ -176,6 +192,8 @@ module _ (source source_now : Reading) (sink sink_now : Writing) (status : ℕ) 
           many = told _ (λ input is template short text many.
               answered input (UnknownCarrier (cells_of template))
               (many_alone input after rose tells no_fault template text short many) is);
+          no_template = told _ (λ input is short none.
+              unless_stopped answer 4 (no_template_of after rose input answer short none is) written);
           template_line = told _ (λ input is line short fault.
               answered input (BadTemplate line) (line_alone input after rose no_fault one_fault line short fault) is);
           long = told _ (λ input is long. answered input TooLong (long_alone input after rose long) is);

@@ -7,7 +7,7 @@ use Rattle.hx_text.specs.Grammars.{IsFaultyLine}
 use Rattle.hx_pattern.specs.declared.templates.Template.{Template}
 use Rattle.hx_pattern.specs.Templates.{AreTemplateLines}
 use Rattle.hx_answers.specs.Texts.{too_long_line}
-use Rattle.hx_answers.specs.Endings.{IsReadToEnd, AnswersUnlessStopped}
+use Rattle.hx_answers.specs.Endings.{IsReadToEnd, IsUnlessStopped, AnswersUnlessStopped}
 use Rattle.hx_claim.specs.Answers.{yes_line, no_line, unknown_carrier_line, bad_template_line, IsTemplateStatus}
 use Rattle.hx_claim.specs.Claims.{most_bytes, cells_of, Holds, IsTextOf}
 
@@ -35,7 +35,8 @@ pub record KeepsPromises (source source_now : Reading) (sink sink_now : Writing)
   -- one whose carrier has more is told how many
   pub many : OfTemplates source.left (λ template. MOST_CELLS < cells_of template
       → AnswersUnlessStopped (unknown_carrier_line (cells_of template)) 3 sink.taken sink_now.taken status)
-  -- the line that is named is the first that is wrong
+  -- what is the text of no template is told so, and the line that is named is the first that is wrong
+  pub no_template : IfSome source.left (λ input. length input ≤ most_bytes → IsNoTemplate input → IsUnlessStopped status 4)
   pub template_line : IfSome source.left (λ input. (line : ℕ) → length input ≤ most_bytes
       → IsFaultyLine AreTemplateLines input line
       → AnswersUnlessStopped (bad_template_line line) 4 sink.taken sink_now.taken status)
