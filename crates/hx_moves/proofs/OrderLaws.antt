@@ -1,6 +1,6 @@
 -- The cells of a set are listed by taking the lowest one out of what is left. So each is above those that are listed, and
 -- after as many turns as the largest board has cells none is left.
-use Rattle.std.proofs.Common.{◌≡◌, ◌≢◌, ℕ, zero, suc, ◌+◌, ◌<◌, ◌≤◌, true, false, List, [], ◌∷◌, ◌++◌, length, get_or, refl, sym, ap, ◌∙◌}
+use Rattle.std.proofs.Common.{◌≡◌, ◌≢◌, ℕ, ◌+◌, ◌<◌, ◌≤◌, true, false, List, [], ◌∷◌, ◌++◌, length, get_or, sym, ◌∙◌}
 use Rattle.std.proofs.Common.{subst, ◌⊎◌, inl, inr, ⊎_elim, arith, ◌↔◌, length-append}
 use Rattle.std.specs.Prelude.{Contains, nat_lt, ◌&&◌}
 use Rattle.std.specs.List.Sorted.{IsStrictlyIncreasing, IsPermutation}
@@ -85,8 +85,11 @@ module _ (set left : ℕ) (cells : List ℕ) (turns : ℕ) (listed : AreListed s
   pub all-listed : HasNoCell left → AreCellsOf set cells
   all-listed none = record {
     rising = listed.rising;
-    each = λ cell. (listed.only cell, λ is. ⊎_elim (λ at. at)
-        (λ still. absurd (false≢true (sym (none cell is.1) ∙ still))) (listed.each cell is.0 is.1));
+    each = λ cell. (
+      listed.only cell,
+      λ is. ⊎_elim (λ at. at)
+          (λ still. absurd (false≢true (sym (none cell is.1) ∙ still))) (listed.each cell is.0 is.1),
+    );
   }
 
   pub none-beyond : 121 ≤ turns → HasNoCell left
@@ -100,7 +103,7 @@ pub empty_cells : (board : Board) (empties set : ℕ) → IsBoard board → ((ce
 empty_cells board empties set right is of_cells cell = (
   (λ member. (is cell).0 (and_parts _ _ (sym (of_cells cell) ∙ member.0)).0),
   (λ empty. let small = on_board-small board.size cell right.0 empty.on_board in
-  (of_cells cell ∙ and_from _ _ ((is cell).1 empty) (lt-ltb cell 121 small), small)),
+      (of_cells cell ∙ and_from _ _ ((is cell).1 empty) (lt-ltb cell 121 small), small)),
 )
 
 pub cells-reordered : (board : Board) (set : ℕ) (sorted cells : List ℕ)

@@ -1,6 +1,6 @@
 -- The cells of the order come one by one, and each that must be tried and is empty becomes a move. A cell that all links of the
 -- other player's share must be tried unless it has a line, and the better cell of a line has none.
-use Rattle.std.proofs.Common.{◌≡◌, ℕ, zero, suc, ◌+◌, ◌<◌, ◌≤◌, true, List, [], ◌∷◌, ◌++◌, length, get_or, refl, sym, ap, ◌∙◌, subst}
+use Rattle.std.proofs.Common.{◌≡◌, ℕ, suc, ◌+◌, ◌<◌, ◌≤◌, true, List, [], ◌∷◌, ◌++◌, length, get_or, refl, sym, ap, ◌∙◌, subst}
 use Rattle.std.proofs.Common.{◌⊎◌, inl, inr, ⊎_elim, arith}
 use Rattle.std.specs.Prelude.{Contains, take, map}
 use Rattle.std.specs.List.{All}
@@ -63,9 +63,12 @@ module _ (filled : Board) (tried : ℕ) (order : List ℕ) (place : ℕ) (childr
       (subst (λ (n : ℕ). Contains (map (λ (each : Child). each.cell) children ++ child.cell ∷ []) n) is
       (Contains-push (map (λ (each : Child). each.cell) children) child.cell)))
 
+-- so has each cell of the whole order
+abbrev pub AreTried : Board → ℕ → List ℕ → List Child → Type 0
+AreTried filled tried order children = (cell : ℕ) → Contains order cell → has tried cell ≡ true → IsEmpty filled cell → Tries children cell
+
 pub gathered-all : (filled : Board) (tried : ℕ) (order : List ℕ) (place : ℕ) (children : List Child) → length order ≤ place
-    → AreGathered filled tried order place children
-    → (cell : ℕ) → Contains order cell → has tried cell ≡ true → IsEmpty filled cell → Tries children cell
+    → AreGathered filled tried order place children → AreTried filled tried order children
 gathered-all filled tried order place children all gathered cell at =
     gathered cell (subst (λ (cells : List ℕ). Contains cells cell) (sym (take_all place order all)) at)
 
@@ -88,30 +91,30 @@ record HasUnder (board : Board) (mover : Colour) (lines : List Line) (cell : ℕ
   dominates : IsDominated board mover better cell kill
   line : Contains lines (Under cell better kill)
 
+under-later : (board : Board) (mover : Colour) (line : Line) (lines : List Line) (cell : ℕ) → HasUnder board mover lines cell
+    → HasUnder board mover (line ∷ lines) cell
+under-later board mover line lines cell found = record {
+  better = found.better;
+  kill = found.kill;
+  dominates = found.dominates;
+  line = (suc found.line.0, omega (arith, found.line.1), found.line.2);
+}
+
 line_for : (board : Board) (mover : Colour) (lines : List Line) → All (IsUnderLine board mover) lines → (cell : ℕ) → HasLineFor lines cell
     → HasUnder board mover lines cell
 line_for board mover [] right cell at = absurd (none_in cell at)
 line_for board mover (ByChild of child ∷ lines) right cell at = absurd (All-head (IsUnderLine board mover) (ByChild of child) lines right)
-line_for board mover (Under of better kill ∷ lines) right cell at = ⊎_elim first later (cases_eq of cell)
-  where
-    first : of ≡ cell → HasUnder board mover (Under of better kill ∷ lines) cell
-    first same = subst (λ (n : ℕ). HasUnder board mover (Under of better kill ∷ lines) n) same (record {
+line_for board mover (Under of better kill ∷ lines) right cell at = ⊎_elim
+    (λ (same : of ≡ cell). subst (λ (n : ℕ). HasUnder board mover (Under of better kill ∷ lines) n) same (record {
       better = better;
       kill = kill;
       dominates = All-head (IsUnderLine board mover) (Under of better kill) lines right;
       line = (0, omega arith, refl);
-    })
-
-    later : (of ≡ cell → ⊥) → HasUnder board mover (Under of better kill ∷ lines) cell
-    later differ =
-        let found = line_for board mover lines (All-tail (IsUnderLine board mover) (Under of better kill) lines right) cell
-            (Contains-tail of (cells_of lines) cell differ at) in
-        record {
-          better = found.better;
-          kill = found.kill;
-          dominates = found.dominates;
-          line = (suc found.line.0, omega (arith, found.line.1), found.line.2);
-        }
+    }))
+    (λ differ. under-later board mover (Under of better kill) lines cell
+    (line_for board mover lines (All-tail (IsUnderLine board mover) (Under of better kill) lines right) cell
+    (Contains-tail of (cells_of lines) cell differ at)))
+    (cases_eq of cell)
 
 -- ---- what is tried in the end
 
@@ -119,7 +122,7 @@ module _ (own others : Standing) (situation : Situation) (order threats : List �
     (children : List Child) (must : IsMust others threats cells under)
     (kept : (cell : ℕ) → has cells cell ≡ true → (HasLineFor under cell → ⊥) → has tried cell ≡ true)
     (each : AreEmptyCells own.present.board order)
-    (gathered : (cell : ℕ) → Contains order cell → has tried cell ≡ true → IsEmpty situation.filled cell → Tries children cell) where
+    (gathered : AreTried situation.filled tried order children) where
   tried-without_line : (cell : ℕ) → IsUnanswered own others situation cell → (HasLineFor under cell → ⊥) → Tries children cell
   tried-without_line cell is no_line =
       gathered cell ((each.each cell).1 is.own_empty) (kept cell ((must.shared cell).1 is.shared) no_line) is.empty

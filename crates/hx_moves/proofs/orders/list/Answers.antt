@@ -11,6 +11,6 @@ loop-preserved c =
 
 pub returns : goal.returns
 returns c = elim c.loop-test.branch [
-  else-loop-test w ↦ all-listed _ _ _ _ c.loop.invariant (none-beyond _ _ _ _ c.loop.invariant (omega arith))
+  | else-loop-test w ↦ all-listed _ _ _ _ c.loop.invariant (none-beyond _ _ _ _ c.loop.invariant (omega arith))
   | then-loop-test+in_default w ↦ all-listed _ _ _ _ c.loop.invariant w.in_default.ensures
 ]
