@@ -18,52 +18,29 @@ use Rattle.hx_text.specs.Grammars.{text_of, Begins, IsFaultyLine}
 use Rattle.hx_text.specs.PositionTexts.{position_title, size_line, stones_line, move_line, position_lines, ArePositionLines}
 use Rattle.hx_reader.specs.PositionReads.{ReadsFrom}
 use Rattle.hx_text.proofs.Injective.{size_injective}
-use Rattle.hx_letters.proofs.Cuts.{cut_same, Lacks-append_mark}
-use Rattle.hx_text.proofs.Cuts.{text_of-push, Lacks-middle, ended-some}
-use Rattle.hx_text.proofs.PositionLines.{stones_injective, AllLack-position_lines, board_of, black_small, white_small}
-
-Lacks-begun : (before : List (List ℕ)) (line : List ℕ) → Begins ArePositionLines (before ++ line ∷ []) → Lacks 10 line
-Lacks-begun before line begins =
-    Lacks-middle before line begins.0
-    (rw begins.1.same (AllLack-position_lines begins.1.board begins.1.mover begins.1.is_board))
+use Rattle.hx_text.proofs.LineGrammars.{one_line_on, missing_is_faulty, wrong_is_faulty, surplus_is_faulty}
+use Rattle.hx_text.proofs.PositionLines.{stones_injective, board_of, black_small, white_small}
+use Rattle.hx_text.proofs.WholePositions.{AllLack-position}
 
 -- the next line is missing or is not ended
 missing : (before : List (List ℕ)) (rest : List ℕ) (line : ℕ) → line ≡ length before + 1 → Begins ArePositionLines before
-    → (ArePositionLines before → ⊥) → Lacks 10 rest → IsFaultyLine ArePositionLines (text_of before ++ rest) line
-missing before rest line place begins partial lacks = record {
-  before = before;
-  rest = rest;
-  parts = refl;
-  place = place;
-  right = begins;
-  wrong = λ next more e b. Lacks-append_mark 10 next more (subst (Lacks 10) e lacks);
-  not_whole = λ e are. partial are;
-}
+    → length before < 5 → Lacks 10 rest → IsFaultyLine ArePositionLines (text_of before ++ rest) line
+missing before rest line place begins few lacks =
+    missing_is_faulty ArePositionLines AllLack-position (text_of before ++ rest) before rest line refl place begins
+    (λ are. absurd (omega (arith, ap length are.same))) lacks
 
 -- the next line is not right
 wrong_line : (before : List (List ℕ)) (rest text later : List ℕ) (line : ℕ) → line ≡ length before + 1
     → Begins ArePositionLines before → IsCut 10 rest text later → (Begins ArePositionLines (before ++ text ∷ []) → ⊥)
     → IsFaultyLine ArePositionLines (text_of before ++ rest) line
-wrong_line before rest text later line place begins cut other = record {
-  before = before;
-  rest = rest;
-  parts = refl;
-  place = place;
-  right = begins;
-  wrong = λ next more e b.
-      let same : next ≡ text = cut_same 10 next text more later (Lacks-begun before next b) cut.0 (sym e ∙ cut.1) in
-      other (subst (λ (l : List ℕ). Begins ArePositionLines (before ++ l ∷ [])) same b);
-  not_whole = λ e are. ended-some text later (sym cut.1 ∙ e);
-}
+wrong_line before rest text later line place begins cut other =
+    wrong_is_faulty ArePositionLines AllLack-position (text_of before ++ rest) before rest text later line refl place begins cut other
 
 -- one line more is read
 pub one_more_line : (before : List (List ℕ)) (rest text line later : List ℕ) (read : Result (Board × Colour) TextFault)
     → IsCut 10 rest text later → text ≡ line → ReadsFrom (before ++ line ∷ []) later read → ReadsFrom before rest read
 one_more_line before rest text line later read cut is reads =
-    let parts : text_of (before ++ line ∷ []) ++ later ≡ text_of before ++ rest =
-    text_of-push before line later ∙ ap (λ (l : List ℕ). text_of before ++ (l ++ 10 ∷ later)) (sym is)
-    ∙ ap (λ (t : List ℕ). text_of before ++ t) (sym cut.1) in
-    moved before (before ++ line ∷ []) rest later read parts reads
+    moved before (before ++ line ∷ []) rest later read (one_line_on before rest text line later cut is) reads
   where
     moved : (before whole : List (List ℕ)) (rest later : List ℕ) (read : Result (Board × Colour) TextFault)
         → text_of whole ++ later ≡ text_of before ++ rest → ReadsFrom whole later read → ReadsFrom before rest read
@@ -113,13 +90,10 @@ begins_3 size black extent fits =
 begins_4 : (board : Board) → IsBoard board → Begins ArePositionLines (lines_4 board)
 begins_4 board fits = begins_from board Black (lines_4 board) (move_line Black ∷ []) fits refl
 
-partial : (lines : List (List ℕ)) → length lines < 5 → ArePositionLines lines → ⊥
-partial lines short are = absurd (omega (arith, ap length are.same))
-
 -- ---- line 1
 
 pub missing_1 : (rest : List ℕ) → Lacks 10 rest → IsFaultyLine ArePositionLines (text_of [] ++ rest) 1
-missing_1 rest lacks = missing [] rest 1 (omega arith) begins_0 (partial [] (omega arith)) lacks
+missing_1 rest lacks = missing [] rest 1 (omega arith) begins_0 (omega arith) lacks
 
 pub wrong_1 : (rest text later : List ℕ) → IsCut 10 rest text later → (text ≡ position_title → ⊥)
     → IsFaultyLine ArePositionLines (text_of [] ++ rest) 1
@@ -131,7 +105,7 @@ wrong_1 rest text later cut other = wrong_line [] rest text later 1 (omega arith
 -- ---- line 2
 
 pub missing_2 : (rest : List ℕ) → Lacks 10 rest → IsFaultyLine ArePositionLines (text_of lines_1 ++ rest) 2
-missing_2 rest lacks = missing lines_1 rest 2 (omega arith) begins_1 (partial lines_1 (omega arith)) lacks
+missing_2 rest lacks = missing lines_1 rest 2 (omega arith) begins_1 (omega arith) lacks
 
 pub wrong_2 : (rest text later : List ℕ) → IsCut 10 rest text later
     → ((size : Extent) → IsExtent size.rows size.cols → text ≡ size_line size → ⊥)
@@ -146,7 +120,7 @@ wrong_2 rest text later cut other = wrong_line lines_1 rest text later 2 (omega 
 pub missing_3 : (size : Extent) (rest : List ℕ) → IsExtent size.rows size.cols → Lacks 10 rest
     → IsFaultyLine ArePositionLines (text_of (lines_2 size) ++ rest) 3
 missing_3 size rest extent lacks =
-    missing (lines_2 size) rest 3 (omega arith) (begins_2 size extent) (partial (lines_2 size) (omega arith)) lacks
+    missing (lines_2 size) rest 3 (omega arith) (begins_2 size extent) (omega arith) lacks
 
 pub wrong_3 : (size : Extent) (rest text later : List ℕ) → IsExtent size.rows size.cols → IsCut 10 rest text later
     → ((black : ℕ) → IsPosition size black 0 → text ≡ stones_line Black black → ⊥)
@@ -164,7 +138,7 @@ wrong_3 size rest text later extent cut other = wrong_line (lines_2 size) rest t
 pub missing_4 : (size : Extent) (black : ℕ) (rest : List ℕ) → IsExtent size.rows size.cols → IsPosition size black 0 → Lacks 10 rest
     → IsFaultyLine ArePositionLines (text_of (lines_3 size black) ++ rest) 4
 missing_4 size black rest extent fits lacks =
-    missing (lines_3 size black) rest 4 (omega arith) (begins_3 size black extent fits) (partial (lines_3 size black) (omega arith)) lacks
+    missing (lines_3 size black) rest 4 (omega arith) (begins_3 size black extent fits) (omega arith) lacks
 
 pub wrong_4 : (size : Extent) (black : ℕ) (rest text later : List ℕ) → IsExtent size.rows size.cols → IsPosition size black 0
     → IsCut 10 rest text later
@@ -187,7 +161,7 @@ wrong_4 size black rest text later extent fits cut other =
 pub missing_5 : (board : Board) (rest : List ℕ) → IsBoard board → Lacks 10 rest
     → IsFaultyLine ArePositionLines (text_of (lines_4 board) ++ rest) 5
 missing_5 board rest fits lacks =
-    missing (lines_4 board) rest 5 (omega arith) (begins_4 board fits) (partial (lines_4 board) (omega arith)) lacks
+    missing (lines_4 board) rest 5 (omega arith) (begins_4 board fits) (omega arith) lacks
 
 pub wrong_5 : (board : Board) (rest text later : List ℕ) → IsBoard board → IsCut 10 rest text later
     → ((mover : Colour) → Unit {0} → text ≡ move_line mover → ⊥) → IsFaultyLine ArePositionLines (text_of (lines_4 board) ++ rest) 5
@@ -200,15 +174,10 @@ wrong_5 board rest text later fits cut other = wrong_line (lines_4 board) rest t
 
 pub surplus_6 : (board : Board) (mover : Colour) (rest : List ℕ) → IsBoard board → rest ≢ []
     → IsFaultyLine ArePositionLines (text_of (position_lines board mover) ++ rest) 6
-surplus_6 board mover rest fits some = record {
-  before = position_lines board mover;
-  rest = rest;
-  parts = refl;
-  place = omega arith;
-  right = begins_from board mover (position_lines board mover) [] fits (append-nil (position_lines board mover));
-  wrong = λ next more e b. absurd (omega (arith, ap length b.1.same));
-  not_whole = λ e are. some e;
-}
+surplus_6 board mover rest fits some =
+    let lines = position_lines board mover in
+    surplus_is_faulty ArePositionLines AllLack-position (text_of lines ++ rest) lines rest 6 refl (omega arith)
+    (begins_from board mover lines [] fits (append-nil lines)) some (λ next b. absurd (omega (arith, ap length b.1.same)))
 
 -- ---- what the readers of the stones answer
 

@@ -40,7 +40,7 @@ pub(crate) fn read_title(line: &[u8]) -> Option<Version>
     }
 }
 
-/// The line `size ROWS COLUMNS`.
+/// The line `size ROWS COLUMNS`, with numbers from 1 to 11, as each text with a board has it. None where the line is not so.
 pub fn read_size(line: &[u8]) -> Option<Size>
     ensures { Reads size_line (λ s. IsExtent s.rows s.cols) line.now result }
 {

@@ -80,7 +80,7 @@ fn at_black(size: Size, bytes: &[u8]) -> Result<(Position, Colour), TextFault>
     }
 }
 
-/// The line of Black's stones on a board of this size.
+/// The line `black MASK`: Black's stones on a board of this size. None where the line is not so, or a stone is off the board.
 pub fn black_stones(size: Size, line: &[u8]) -> Option<Mask>
     requires { IsExtent size.rows size.cols }
     ensures { Reads (stones_line Black) (λ black. IsPosition size black 0) line.now result }
@@ -106,7 +106,8 @@ fn at_white(size: Size, black: Mask, bytes: &[u8]) -> Result<(Position, Colour),
     }
 }
 
-/// The line of White's stones, and the position that they and these black stones make.
+/// The line `white MASK`: the position that White's stones and these black ones make on a board of this size. None where the line is
+/// not so, or the stones make none: one is off the board, or two share a cell.
 pub fn with_white_stones(size: Size, black: Mask, line: &[u8]) -> Option<Position>
     requires { IsExtent size.rows size.cols }
     ensures { Finds result (λ position. IsBoard position × (position.size ≡ size)

@@ -9,6 +9,7 @@ pub mod EntryLists
 pub mod NodeInjective
 pub mod Alignment
 pub mod Cuts
+pub mod LineGrammars
 pub mod TreeLacks
 pub mod PositionLines
 pub mod WholePositions

@@ -5,14 +5,12 @@ use Rattle.std.proofs.lemmas.List.{append-nil}
 use Rattle.hx_text.specs.Grammars.{text_of, Begins, IsFaultyLine}
 use Rattle.hx_text.specs.PositionTexts.{ArePositionLines}
 use Rattle.hx_text.specs.TreeTexts.{AreTreeLines}
-use Rattle.hx_text.proofs.Cuts.{AllLack, AllLack-front, Agree, Second_goes_on, First_goes_on, agree}
+use Rattle.hx_text.proofs.Cuts.{AllLack, Agree, Second_goes_on, First_goes_on, agree}
+use Rattle.hx_text.proofs.LineGrammars.{begun_lack}
 use Rattle.hx_text.proofs.TreeLacks.{AllLack-tree_lines}
 use Rattle.hx_text.proofs.WholePositions.{AllLack-position}
 
 module _ (grammar : List (List ℕ) → Type 0) (lack : (lines : List (List ℕ)) → grammar lines → AllLack lines) (bytes : List ℕ) where
-  begun_lack : (lines : List (List ℕ)) → Begins grammar lines → AllLack lines
-  begun_lack lines begins = AllLack-front lines begins.0 (lack (lines ++ begins.0) begins.1)
-
   -- the lines before a fault do not go on with lines that begin a text
   pub no_more : (line : ℕ) (fault : IsFaultyLine grammar bytes line) (before more : List (List ℕ)) (rest : List ℕ) → before ≡ fault.before
       ++ more
@@ -39,8 +37,8 @@ module _ (grammar : List (List ℕ) → Type 0) (lack : (lines : List (List ℕ)
   pub one_fault : (a b : ℕ) → IsFaultyLine grammar bytes a → IsFaultyLine grammar bytes b → a ≡ b
   one_fault a b first second =
       let same = same_before a b first second
-      (agree first.before second.before first.rest second.rest (begun_lack first.before first.right) (begun_lack second.before second.right)
-      (sym first.parts ∙ second.parts)) in
+      (agree first.before second.before first.rest second.rest (begun_lack grammar lack first.before first.right)
+      (begun_lack grammar lack second.before second.right) (sym first.parts ∙ second.parts)) in
       omega (arith, same, first.place, second.place)
 
 pub one_tree_fault : (bytes : List ℕ) (a b : ℕ) → IsFaultyLine AreTreeLines bytes a → IsFaultyLine AreTreeLines bytes b → a ≡ b

@@ -18,7 +18,7 @@ use Rattle.hx_text.proofs.Cuts.{AllLack}
 abbrev pub stones_words : Colour → ℕ → List (List ℕ)
 stones_words player stones = colour_word player ∷ mask_word stones ∷ []
 
-AllHigh-stones_words : (player : Colour) (stones : ℕ) → AllHigh (stones_words player stones)
+pub AllHigh-stones_words : (player : Colour) (stones : ℕ) → AllHigh (stones_words player stones)
 AllHigh-stones_words player stones = (IsHigh-colour_word player, (IsHigh-hex 32 stones, tt))
 
 IsLine-stones_words : (player : Colour) (stones : ℕ) → IsLine (stones_words player stones)

@@ -20,7 +20,7 @@ use Rattle.hx_letters.proofs.HighBytes.{IsHigh, AllHigh, is_high, IsHigh-test, I
 abbrev pub first_letter : List (List ℕ) → ℕ
 first_letter words = get_or (get_or words 0 []) 0 0
 
-IsHigh-vertex_word : (size : Extent) (vertex : Vertex) → size.rows ≤ 11 → IsVertex size vertex → IsHigh (vertex_word vertex)
+pub IsHigh-vertex_word : (size : Extent) (vertex : Vertex) → size.rows ≤ 11 → IsVertex size vertex → IsHigh (vertex_word vertex)
 unfolding is_high
 IsHigh-vertex_word size (Of cell) few on = IsHigh-cell_word cell (omega (arith, on.row))
 IsHigh-vertex_word size First few on = IsHigh-test (codes "first") refl

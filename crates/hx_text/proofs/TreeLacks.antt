@@ -17,7 +17,8 @@ use Rattle.hx_text.specs.FillTexts.{fill_words}
 use Rattle.hx_text.specs.Entries.{answer_words, entry_line, EntryFits, EachEntryFits, entries_of}
 use Rattle.hx_text.specs.TreeTexts.{AreTreeLines, EachNodeFits, NodeFits, head_of, head_words, node_lines, front_lines, tree_lines}
 use Rattle.hx_text.specs.TreeTexts.{end_line}
-use Rattle.hx_text.proofs.Cuts.{AllLack, Lacks-middle, AllLack-append, AllLack-front}
+use Rattle.hx_text.proofs.Cuts.{AllLack, AllLack-append}
+use Rattle.hx_text.proofs.LineGrammars.{begun_lack}
 use Rattle.hx_letters.proofs.HighBytes.{Lacks-spaced}
 use Rattle.hx_text.proofs.LineWords.{title_words, AllHigh-title_words, size_words, AllHigh-size_words, end_words, AllHigh-end_words}
 use Rattle.hx_text.proofs.HeadLines.{AllHigh-head_words}
@@ -72,8 +73,5 @@ AllLack-tree_lines lines are =
     (Lacks-end_line (length are.nodes) are.winner are.are.count, tt) in
     subst AllLack (sym are.are.same) whole
 
-pub Lacks-begun : (before : List (List ℕ)) (line : List ℕ) → Begins AreTreeLines (before ++ line ∷ []) → Lacks 10 line
-Lacks-begun before line begins = Lacks-middle before line begins.0 (AllLack-tree_lines ((before ++ line ∷ []) ++ begins.0) begins.1)
-
 pub AllLack-begun : (lines : List (List ℕ)) → Begins AreTreeLines lines → AllLack lines
-AllLack-begun lines begins = AllLack-front lines begins.0 (AllLack-tree_lines (lines ++ begins.0) begins.1)
+AllLack-begun lines begins = begun_lack AreTreeLines AllLack-tree_lines lines begins

@@ -9,19 +9,22 @@ use Rattle.hx_text.proofs.Injective.{size_injective}
 use Rattle.hx_text.proofs.Cuts.{AllLack, text_injective}
 use Rattle.hx_text.proofs.PositionLines.{stones_injective, move_injective, black_small, white_small, AllLack-position_lines}
 
+pub lines_tell_board : (a b : Board) → IsBoard a → IsBoard b → size_line a.size ≡ size_line b.size
+    → stones_line Black a.black ≡ stones_line Black b.black → stones_line White a.white ≡ stones_line White b.white → a ≡ b
+lines_tell_board a b fits_a fits_b sizes blacks whites =
+    same_board a b (size_injective a.size b.size fits_a.0 fits_b.0 sizes)
+    (stones_injective Black a.black b.black (black_small a.size a.black a.white fits_a.0 fits_a.1)
+    (black_small b.size b.black b.white fits_b.0 fits_b.1) blacks)
+    (stones_injective White a.white b.white (white_small a.size a.black a.white fits_a.0 fits_a.1)
+    (white_small b.size b.black b.white fits_b.0 fits_b.1) whites)
+
 position_injective : (a b : Board) (m n : Colour) → IsBoard a → IsBoard b → position_lines a m ≡ position_lines b n → (a ≡ b) × (m ≡ n)
 position_injective a b m n fits_a fits_b e =
     let sizes : size_line a.size ≡ size_line b.size = cc in
     let blacks : stones_line Black a.black ≡ stones_line Black b.black = cc in
     let whites : stones_line White a.white ≡ stones_line White b.white = cc in
-    let moves : move_line m ≡ move_line n = cc in (
-      same_board a b (size_injective a.size b.size fits_a.0 fits_b.0 sizes)
-          (stones_injective Black a.black b.black (black_small a.size a.black a.white fits_a.0 fits_a.1)
-          (black_small b.size b.black b.white fits_b.0 fits_b.1) blacks)
-          (stones_injective White a.white b.white (white_small a.size a.black a.white fits_a.0 fits_a.1)
-          (white_small b.size b.black b.white fits_b.0 fits_b.1) whites),
-      move_injective m n moves,
-    )
+    let moves : move_line m ≡ move_line n = cc in
+    (lines_tell_board a b fits_a fits_b sizes blacks whites, move_injective m n moves)
 
 pub AllLack-position : (lines : List (List ℕ)) → ArePositionLines lines → AllLack lines
 AllLack-position lines are = rw are.same (AllLack-position_lines are.board are.mover are.is_board)

@@ -1,5 +1,5 @@
 -- How long a tree's text is: its lines, and how many nodes it has.
-use Rattle.std.specs.Prelude.{ℕ, ◌≤◌, List, length, All, ◌-◌}
+use Rattle.std.specs.Prelude.{ℕ, ◌≤◌, List, length, All}
 use Rattle.hx_tree.specs.declared.checkers.TheConstants.{MOST_NODES}
 
 -- the most nodes of a text

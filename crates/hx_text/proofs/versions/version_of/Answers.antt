@@ -1,5 +1,5 @@
 -- A turned node would stand at a place before the end.
-use Rattle.std.proofs.Common.{ℕ, ◌<◌, [], ◌∷◌, arith}
+use Rattle.std.proofs.Common.{arith}
 use Rattle.hx_text.proofs.versions.version_of.Goals as goal
 use Rattle.hx_board.proofs.ListLaws.{holds-inside}
 
