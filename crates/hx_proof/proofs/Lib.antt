@@ -3,6 +3,7 @@ pub mod LocalGame
 pub mod AndSoundness
 pub mod OrSoundness
 pub mod LinkSoundness
+pub mod EmptyCarriers
 pub mod ThreatSoundness
 pub mod StoneOrder
 pub mod DeadSoundness

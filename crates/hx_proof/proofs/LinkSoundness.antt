@@ -34,7 +34,7 @@ use Rattle.hx_proof.proofs.OrSoundness.{or_secures}
 
 -- ---- lists of links
 
-one_of_appended : (links : List Link) (link : Link) (k : ℕ) (part : Link) → slice_get (links ++ link ∷ []) k ≡ Some part
+pub one_of_appended : (links : List Link) (link : Link) (k : ℕ) (part : Link) → slice_get (links ++ link ∷ []) k ≡ Some part
     → IsOneOf part links ⊎ (link ≡ part)
 one_of_appended [] link zero part h = inr cc
 one_of_appended [] link (suc k) part h = absurd cc

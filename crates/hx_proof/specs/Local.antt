@@ -14,8 +14,11 @@ use Rattle.hx_link.specs.declared.links.Link.{Link}
 abbrev pub IsJoined : Colour → Vertex → Vertex → Board → Type 0
 IsJoined player from to board = Joined board player from to
 
--- the two are joined; or the player moves to an empty cell of the carrier and secures them; or the player secures them
--- after each of the opponent's moves to the empty cells of the carrier, of which there are some
+-- the local game of two ends on a carrier: the ends are joined; or the mover is the player, and some empty cell of the
+-- carrier has it after the player's stone; or the mover is the opponent, some cell of the carrier is empty, and each
+-- empty cell of it has it after the opponent's stone. The carrier stays the same set in play, and its empty cells are
+-- the ones that are played on: a cell that was played is empty no more, so this is the same as to take it out of the
+-- carrier
 abbrev pub Secures : Colour → ℕ → Vertex → Vertex → Board → Colour → Type 0
 Secures player carrier from to board mover = Plays player (has carrier) (IsJoined player from to) board mover
 

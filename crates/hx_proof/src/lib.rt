@@ -5,9 +5,11 @@
 mod dominations;
 mod fills;
 mod links;
+mod locals;
 mod trees;
 
 pub use dominations::under_sound;
 pub use fills::fill_sound;
 pub use links::link_sound;
+pub use locals::{link_local, local_wins};
 pub use trees::{node_sound, tree_sound};
