@@ -13,7 +13,7 @@ use hx_board::{Memory, Size};
 use hx_text::{Entry, EntryKind};
 use std::alloc::Global;
 
-/// The line of an entry of this kind. It takes memory for the parts of an Or alone, where they are more than eight.
+/// The line of an entry of this kind. It takes memory for the parts of an Or alone.
 pub(crate) fn read_entry(
     alloc: Global,
     size: Size,

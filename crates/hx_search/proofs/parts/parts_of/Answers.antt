@@ -30,7 +30,7 @@ loop-shared-init c =
 pub returns-then-done : goal.returns-then-done
 returns-then-done c =
     let P : List ℕ → Type 0 = λ xs. IsFork c.args.set.now c.args.a.now c.args.b.now xs in
-    subst P (sym c.new.ensures)
+    subst P (sym c.in_ok-new.ensures)
     (fork-of c.args.set.now c.keeps.ensures.right c.args.a.now c.args.b.now c.loop-shared.parts.items c.loop-shared.shared
     (c.is_empty-done.ensures.empty.0 c.if-done.true) c.loop-shared.invariant.parts_ok)
 
