@@ -101,8 +101,8 @@ all-granted proved nodes granted settings (NoSlots refusal) is spent = absurd sp
 all-granted proved nodes granted settings Memory is spent = absurd spent
 
 -- where units are wanting though there were some, a worker that had one has found what it was to find
-pub tried-closed : (proved : List Node → ℕ → Colour → Type 0) (tried : Type 0) (settings : Settings) (counts : List Seat) (ends : List Ended)
-    (end : Ended) (nodes : List Node) (granted : ℕ)
+pub tried-closed : (proved : List Node → ℕ → Colour → Type 0) (tried : Type 0) (settings : Settings) (counts : List Seat)
+    (ends : List Ended) (end : Ended) (nodes : List Node) (granted : ℕ)
     → HaveAllTried tried counts ends → IsBeforeAll end ends → IsClosedEnd proved nodes granted settings end
     → granted ≡ sum_by granted_to counts
     → EndsSpent end → 0 < settings.budget → tried

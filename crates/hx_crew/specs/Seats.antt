@@ -21,7 +21,7 @@ pub record AreNewSeats (book : BookOrigin) (counts : Origin) (seats : Seats) : T
   pub same_counts : seats.counts.made ≡ counts
   pub nothing : HasNothing (own seats.counts)
 
--- what an end says of the nodes that a worker has seen and of its seat; of an end by a proof the errand says what that is
+-- what an end says of the nodes that a worker has seen and of its seat; what it is by a proof, the errand says
 abbrev pub IsEndedBy : (List Node → ℕ → Colour → Type 0) → List Node → ℕ → Seat → Ended → Type 0
 IsEndedBy proved seen slots seat (Proved index winner) = proved seen index winner
 IsEndedBy proved seen slots seat (Spent taken) = IsSpent seat taken

@@ -26,7 +26,7 @@ use std::{mem, thread};
 #[derive(Drop)]
 pub(crate) struct Crew<'a, E> {
     pub(crate) errand: &'a E,
-    pub(crate) bench: Bench<'a>,
+    pub(crate) bench: &'a Bench<'a>,
 }
 
 impl<E: Errand + Sync> Crew<'_, E> {
@@ -38,13 +38,13 @@ impl<E: Errand + Sync> Crew<'_, E> {
         gate: &G,
         places: &mut [Place],
     )
-        requires words { self.now.bench.counts.now.limits.words ≡ LOSS_WORDS }
+        requires words { self.now.bench.now.counts.now.limits.words ≡ LOSS_WORDS }
         requires some { 0 < length places.old }
-        requires before { All (IsBefore self.now.bench.shared.now.made self.now.bench.counts.now) places.old }
+        requires before { All (IsBefore self.now.bench.now.shared.now.made self.now.bench.now.counts.now) places.old }
         ensures len { length places.new ≡ length places.old }
         ensures after { All
             (IsAfter (E.proved self.now.errand.now) (E.tried self.now.errand.now)
-            self.now.bench.shared.now.made self.now.bench.counts.now)
+            self.now.bench.now.shared.now.made self.now.bench.now.counts.now)
             places.new }
     {
         if places.len() == 1 {
@@ -53,11 +53,11 @@ impl<E: Errand + Sync> Crew<'_, E> {
         }
         let mut all = ||
             requires { IsSync R.row × IsSync G.row × IsSync E.row
-                × (self.now.bench.counts.now.limits.words ≡ LOSS_WORDS) × (0 < length places.now)
-                × All (IsBefore self.now.bench.shared.now.made self.now.bench.counts.now) places.now }
+                × (self.now.bench.now.counts.now.limits.words ≡ LOSS_WORDS) × (0 < length places.now)
+                × All (IsBefore self.now.bench.now.shared.now.made self.now.bench.now.counts.now) places.now }
             ensures { (length places.exit.now ≡ length places.entry.now) × All
                 (IsAfter (E.proved self.entry.now.errand.now) (E.tried self.entry.now.errand.now)
-                self.entry.now.bench.shared.now.made self.entry.now.bench.counts.now)
+                self.entry.now.bench.now.shared.now.made self.entry.now.bench.now.counts.now)
                 places.exit.now }
         { self.work_here(rt, alloc, gate, places) };
         thread::join_mut(rt, &mut all, &mut || {});
@@ -71,13 +71,13 @@ impl<E: Errand + Sync> Crew<'_, E> {
         gate: &G,
         places: &mut [Place],
     )
-        requires words { self.now.bench.counts.now.limits.words ≡ LOSS_WORDS }
+        requires words { self.now.bench.now.counts.now.limits.words ≡ LOSS_WORDS }
         requires some { 0 < length places.old }
-        requires before { All (IsBefore self.now.bench.shared.now.made self.now.bench.counts.now) places.old }
+        requires before { All (IsBefore self.now.bench.now.shared.now.made self.now.bench.now.counts.now) places.old }
         ensures len { length places.new ≡ length places.old }
         ensures after { All
             (IsAfter (E.proved self.now.errand.now) (E.tried self.now.errand.now)
-            self.now.bench.shared.now.made self.now.bench.counts.now)
+            self.now.bench.now.shared.now.made self.now.bench.now.counts.now)
             places.new }
     {
         let threads = places.len();
@@ -91,14 +91,14 @@ impl<E: Errand + Sync> Crew<'_, E> {
 
     /// The work of the worker of this place.
     fn work_in<G: Gate, R: Wait>(&self, rt: &R, alloc: Global, gate: &G, place: &mut Place)
-        requires words { self.now.bench.counts.now.limits.words ≡ LOSS_WORDS }
-        requires before { IsBefore self.now.bench.shared.now.made self.now.bench.counts.now place.old }
+        requires words { self.now.bench.now.counts.now.limits.words ≡ LOSS_WORDS }
+        requires before { IsBefore self.now.bench.now.shared.now.made self.now.bench.now.counts.now place.old }
         ensures { IsAfter (E.proved self.now.errand.now) (E.tried self.now.errand.now)
-            self.now.bench.shared.now.made self.now.bench.counts.now place.new }
+            self.now.bench.now.shared.now.made self.now.bench.now.counts.now place.new }
     {
         let Place::Before(seats) = mem::replace(place, Place::Meanwhile) else {
             unreachable!()
         };
-        *place = Place::After(self.errand.run(rt, alloc, gate, &self.bench, seats));
+        *place = Place::After(self.errand.run(rt, alloc, gate, self.bench, seats));
     }
 }

@@ -49,15 +49,15 @@ impl<E: Errand> Crew<'_, E> {
     pub(crate) fn take_apart(&self, mut places: Vec<Place>, mut parts: Parts) -> Parts
         requires after { All
             (IsAfter (E.proved self.now.errand.now) (E.tried self.now.errand.now)
-            self.now.bench.shared.now.made self.now.bench.counts.now)
+            self.now.bench.now.shared.now.made self.now.bench.now.counts.now)
             places.items }
         requires room { HasRoom (vec_len places) parts }
         ensures lens { (vec_len result.books ≡ vec_len places)
             × (vec_len result.counts ≡ vec_len places) × (vec_len result.ends ≡ vec_len places) }
-        ensures books { All (λ s. s.made ≡ self.now.bench.shared.now.made) result.books.items }
-        ensures counts { All (λ s. s.made ≡ self.now.bench.counts.now) result.counts.items }
+        ensures books { All (λ s. s.made ≡ self.now.bench.now.shared.now.made) result.books.items }
+        ensures counts { All (λ s. s.made ≡ self.now.bench.now.counts.now) result.counts.items }
         ensures ends { All
-            (IsEndOfSome (E.proved self.now.errand.now) self.now.bench.shared.now.made.slots
+            (IsEndOfSome (E.proved self.now.errand.now) self.now.bench.now.shared.now.made.slots
             result.books.items result.counts.items) result.ends.items }
         ensures tried { HaveAllTried (E.tried self.now.errand.now) result.counts.items
             result.ends.items }

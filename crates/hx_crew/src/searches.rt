@@ -61,7 +61,10 @@ pub fn run_all<E: Errand + Sync, G: Gate + Sync, R: Threads + Wait + Sync>(
         replies: &replies,
     };
     let mut places = bench.deal(alloc, books, count_seats)?;
-    let crew = Crew { errand, bench };
+    let crew = Crew {
+        errand,
+        bench: &bench,
+    };
     crew.work_all(rt, alloc, gate, &mut places);
     let parts = crew.take_apart(places, room);
     let ended = foremost(parts.ends);

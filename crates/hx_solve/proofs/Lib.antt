@@ -2,3 +2,4 @@ pub mod SweepSizes
 pub mod TreeSolutions
 pub mod LoneEnds
 pub mod PlainSweeps
+pub mod PositionEnds

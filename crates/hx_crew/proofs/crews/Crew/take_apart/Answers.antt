@@ -10,7 +10,7 @@ pub loop-place-preserved : goal.loop-place-preserved
 loop-place-preserved g c =
     let i = c.loop-place.invariant in let d = c.in-Some.ensures in
     let b = c.push_reserved.ensures in let s = c.push_reserved-in-Some.ensures in let e = c.push_reserved-in-Some-2.ensures in
-    let errand = c.args.self.now.errand.now in let bench = c.args.self.now.bench in
+    let errand = c.args.self.now.errand.now in let bench = c.args.self.now.bench.now in
     let proved = g.E.Errand.proved errand in let tried = g.E.Errand.tried errand in
     let parts = c.loop-place.parts in let done = c.in-After.done in
     let last = after-done proved tried bench.shared.now.made bench.counts.now c.in-Some.place done c.in-After.is

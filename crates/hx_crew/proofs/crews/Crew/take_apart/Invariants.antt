@@ -11,11 +11,11 @@ invariant-loop-place g l = record {
   room_for_books : vec_len l.fn.places ≤ vec_capacity l.parts.books;
   room_for_counts : vec_len l.fn.places ≤ vec_capacity l.parts.counts;
   room_for_ends : vec_len l.fn.places ≤ vec_capacity l.parts.ends;
-  left : All (IsAfter (g.E.Errand.proved l.self.errand.now) (g.E.Errand.tried l.self.errand.now) l.self.bench.shared.now.made
-      l.self.bench.counts.now) l.places.items;
-  same_book : All (λ s. s.made ≡ l.self.bench.shared.now.made) l.parts.books.items;
-  same_counts : All (λ s. s.made ≡ l.self.bench.counts.now) l.parts.counts.items;
-  some_ends : All (IsEndOfSome (g.E.Errand.proved l.self.errand.now) l.self.bench.shared.now.made.slots l.parts.books.items
+  left : All (IsAfter (g.E.Errand.proved l.self.errand.now) (g.E.Errand.tried l.self.errand.now) l.self.bench.now.shared.now.made
+      l.self.bench.now.counts.now) l.places.items;
+  same_book : All (λ s. s.made ≡ l.self.bench.now.shared.now.made) l.parts.books.items;
+  same_counts : All (λ s. s.made ≡ l.self.bench.now.counts.now) l.parts.counts.items;
+  some_ends : All (IsEndOfSome (g.E.Errand.proved l.self.errand.now) l.self.bench.now.shared.now.made.slots l.parts.books.items
       l.parts.counts.items) l.parts.ends.items;
   tried : HaveAllTried (g.E.Errand.tried l.self.errand.now) l.parts.counts.items l.parts.ends.items;
 }
