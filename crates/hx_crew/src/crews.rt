@@ -85,7 +85,10 @@ impl<E: Errand + Sync> Crew<'_, E> {
             rt,
             places,
             threads,
-            &|_, place| { self.work_in(rt, alloc, gate, place) },
+            &|_, place: &mut Place|
+                requires { (self.now.bench.now.counts.now.limits.words ≡ LOSS_WORDS)
+                    × IsBefore self.now.bench.now.shared.now.made self.now.bench.now.counts.now place.old }
+            { self.work_in(rt, alloc, gate, place) },
         );
     }
 

@@ -24,7 +24,8 @@ returns g c =
     let parts = c.take_apart-parts.result in let book = c.close-book.ensures in
     let errand = c.args.errand.now in let proved = g.E.Errand.proved errand in let tried = g.E.Errand.tried errand in
     let settings = c.args.settings.now in
-    let ended = contained-closed proved (g.met.E.Errand.stays errand) settings c.in_ok-shared.shared.made.slots c.in_ok-counts.counts
+    let laws = g.met.E.Errand g.world.𝓛 g.world.𝓜 g.world.𝓡 ((λ s x. x), (λ x. x), (λ x. x), λ x. x) in
+    let ended = contained-closed proved (laws.stays errand) settings c.in_ok-shared.shared.made.slots c.in_ok-counts.counts
     parts.books.items parts.counts.items parts.ends.items c.foremost-ended.result c.close-book.result c.close-totals.result.granted
     c.in_ok-shared.ensures.limits.0 (ap (λ (l : Limits). l.budget) c.in_ok-counts.ensures.limits) c.take_apart-parts.ensures.counts
     c.take_apart-parts.ensures.ends c.foremost-ended.ensures.one
