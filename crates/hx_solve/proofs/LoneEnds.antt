@@ -9,14 +9,15 @@ use Rattle.hx_worker.specs.declared.ended.Ended.{Ended}
 use Rattle.hx_worker.specs.declared.ended.Ended.TheVariants.{Proved, Spent, NoSlots, Memory}
 use Rattle.hx_worker.specs.Ends.{IsEnded, EndsSpent}
 use Rattle.hx_settings.specs.declared.settings.Settings.{Settings}
-use Rattle.hx_solve.specs.Seats.{FoundNoChain}
-use Rattle.hx_solve.specs.Searches.{IsClosedEnd}
+use Rattle.hx_crew.specs.Seats.{HasTried}
+use Rattle.hx_crew.specs.Searches.{IsClosedEnd}
+use Rattle.hx_solve.specs.Searches.{IsProofOf}
 
 pub lone-closed : (settings : Settings) (board : Board) (mover : Colour) (nodes : List Node) (seat : Seat) (granted : ℕ) (end : Ended)
     → seat.made.limits.budget ≡ settings.budget
     → (Any (λ (s : Seat). (own s).refused ≡ true) (seat ∷ []) → granted ≡ settings.budget)
     → IsEnded nodes settings.slots seat board mover end
-    → IsClosedEnd nodes granted board mover settings end
+    → IsClosedEnd (IsProofOf board mover) nodes granted settings end
 lone-closed settings board mover nodes seat granted (Proved index winner) budget full is = is
 lone-closed settings board mover nodes seat granted (Spent taken) budget full is =
     (is.budget ∙ budget, full (0, seat, omega arith, refl, is.refused))
@@ -25,7 +26,7 @@ lone-closed settings board mover nodes seat granted Memory budget full is = tt
 
 -- where a unit is wanting all were granted, and to the only seat
 pub lone-no_chain : (settings : Settings) (board : Board) (mover : Colour) (nodes : List Node) (seat : Seat) (granted : ℕ) (end : Ended)
-    → granted ≡ (own seat).granted → FoundNoChain board seat end → IsClosedEnd nodes granted board mover settings end
+    → granted ≡ (own seat).granted → HasTried (HasNoChain board) seat end → IsClosedEnd (IsProofOf board mover) nodes granted settings end
     → EndsSpent end → 0 < settings.budget → HasNoChain board
 lone-no_chain settings board mover nodes seat granted (Proved index winner) all none is spent some = absurd spent
 lone-no_chain settings board mover nodes seat granted (Spent taken) all none is spent some = none tt (omega (arith, all, is.1, some))

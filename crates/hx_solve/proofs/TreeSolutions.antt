@@ -20,7 +20,8 @@ use Rattle.hx_settings.specs.declared.settings.Settings.{Settings}
 use Rattle.hx_solve.specs.declared.unsolved.Unsolved.{Unsolved}
 use Rattle.hx_solve.specs.Solutions.{IsSolution}
 use Rattle.hx_solve.specs.Causes.{HasCause, FoundNoRoom, LacksUnit}
-use Rattle.hx_solve.specs.Searches.{IsClosedEnd, HasEntryFor, IsTreeFrom, SaysWhy}
+use Rattle.hx_crew.specs.Searches.{IsClosedEnd}
+use Rattle.hx_solve.specs.Searches.{IsProofOf, HasEntryFor, IsTreeFrom, SaysWhy}
 
 -- ---- by workers
 
@@ -52,7 +53,7 @@ entry-solves nodes tree board mover index winner few found is = record {
 
 pub tree-solves : (nodes tree : List Node) (granted : ℕ) (board : Board) (mover : Colour) (settings : Settings) (ended : Ended)
     → length nodes ≤ MOST_SLOTS
-    → IsClosedEnd nodes granted board mover settings ended → IsTreeFrom nodes ended tree → IsSolution board mover tree
+    → IsClosedEnd (IsProofOf board mover) nodes granted settings ended → IsTreeFrom nodes ended tree → IsSolution board mover tree
 tree-solves nodes tree granted board mover settings (Proved index winner) few says is =
     entry-solves nodes tree board mover index winner few says is
 tree-solves nodes tree granted board mover settings (Spent taken) few says is = absurd is
@@ -60,7 +61,7 @@ tree-solves nodes tree granted board mover settings (NoSlots refusal) few says i
 tree-solves nodes tree granted board mover settings Memory few says is = absurd is
 
 pub entry-there : (nodes : List Node) (granted : ℕ) (board : Board) (mover : Colour) (settings : Settings) (ended : Ended)
-    → IsClosedEnd nodes granted board mover settings ended → HasEntryFor nodes ended
+    → IsClosedEnd (IsProofOf board mover) nodes granted settings ended → HasEntryFor nodes ended
 entry-there nodes granted board mover settings (Proved index winner) says =
     slice_get_within nodes index says.first.entry.node says.first.entry.there
 entry-there nodes granted board mover settings (Spent taken) says = tt
@@ -68,7 +69,7 @@ entry-there nodes granted board mover settings (NoSlots refusal) says = tt
 entry-there nodes granted board mover settings Memory says = tt
 
 pub cause-by : (nodes : List Node) (granted : ℕ) (board : Board) (mover : Colour) (settings : Settings) (ended : Ended) (why : Unsolved)
-    → IsBook (contents settings.slots nodes) → IsClosedEnd nodes granted board mover settings ended → SaysWhy ended why
+    → IsBook (contents settings.slots nodes) → IsClosedEnd (IsProofOf board mover) nodes granted settings ended → SaysWhy ended why
     → HasCause settings why
 cause-by nodes granted board mover settings (Proved index winner) why book says is = subst (HasCause settings) (sym is) tt
 cause-by nodes granted board mover settings (Spent taken) why book says is = subst (HasCause settings) (sym is) says.0

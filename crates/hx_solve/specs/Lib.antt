@@ -2,7 +2,4 @@ pub mod Solutions
 pub mod Causes
 pub mod Tallies
 -- ---- words for the functions inside the crate alone
-pub mod Seats
-pub mod Parts
-pub mod Ends
 pub mod Searches

@@ -5,14 +5,14 @@ ghost use Rattle.hx_count.specs.Machine.{HasNothing};
 ghost use Rattle.hx_count.specs.Seats.{own};
 ghost use Rattle.hx_settings.specs.Settings.{AreSettings};
 ghost use Rattle.hx_worker.specs.Ends.{IsEnded};
-ghost use Rattle.hx_solve.specs.Seats.{FoundNoChain};
+ghost use Rattle.hx_board.specs.Graph.{HasNoChain};
+ghost use Rattle.hx_crew.specs.Seats.{HasTried};
 ghost use Rattle.hx_solve.specs.Searches.{IsSearchedAlone};
 
-use crate::hint_words::hint_words;
-use crate::new_sets::new_sets;
 use hx_board::{Colour, Memory, Position};
 use hx_book::PlainBook;
 use hx_count::{CountSeat, Counts, Hints, Totals};
+use hx_crew::{hint_words, new_sets};
 use hx_io::Gate;
 use hx_moves::{LOSS_WORDS, Replies};
 use hx_settings::Settings;
@@ -104,7 +104,7 @@ impl Alone<'_> {
         ensures made { result.seat.made ≡ self.now.counts.now }
         ensures ended { IsEnded result.book.nodes result.book.slots result.seat self.now.position
             self.now.to_move result.ended }
-        ensures no_chain { FoundNoChain self.now.position result.seat result.ended }
+        ensures no_chain { HasTried (HasNoChain self.now.position) result.seat result.ended }
     {
         let Ok((black, white)) = new_sets(alloc, &self.position) else {
             return GivenBack {

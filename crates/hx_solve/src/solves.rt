@@ -7,11 +7,12 @@ ghost use Rattle.hx_settings.specs.Settings.{AreSettings};
 ghost use Rattle.hx_solve.specs.Solutions.{IsSolution};
 ghost use Rattle.hx_solve.specs.Causes.{HasCause, LacksMemory, LacksUnit};
 
-use crate::searches::search;
+use crate::one_position::OnePosition;
 use crate::small_positions::{by_sweep, is_small};
 use crate::trees::conclude;
 use crate::unsolved::Unsolved;
 use hx_board::{Colour, Memory, Position};
+use hx_crew::run_all;
 use hx_io::Gate;
 use hx_settings::Settings;
 use hx_tree::Node;
@@ -63,7 +64,12 @@ fn by_workers<G: Gate + Sync, R: Threads + Wait + Sync>(
     ensures no_chain { IfErr result
         (λ why. LacksUnit why → 0 < settings.now.budget → HasNoChain position.now) }
 {
-    match search(rt, alloc, position, to_move, settings, gate) {
+    let errand = OnePosition {
+        position: *position,
+        to_move,
+    };
+    let empties = position.empty_count();
+    match run_all(rt, alloc, &errand, empties, settings, gate) {
         Ok(searched) => conclude(searched),
         Err(Memory) => Err(Unsolved::Memory),
     }

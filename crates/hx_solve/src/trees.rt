@@ -3,9 +3,9 @@
 ghost use Rattle.std.specs.Prelude.{IfOk, IfErr};
 ghost use Rattle.hx_solve.specs.Searches.{HasEntryFor, IsTreeFrom, SaysWhy};
 
-use crate::searches::Searched;
 use crate::unsolved::Unsolved;
 use hx_board::Memory;
+use hx_crew::Searched;
 use hx_tree::Node;
 use hx_worker::Ended;
 

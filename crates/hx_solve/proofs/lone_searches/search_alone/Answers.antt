@@ -37,5 +37,5 @@ returns g c =
       is_book = c.keeps.ensures.book;
       slots = slots;
       ended = ended;
-      no_chain = lone-no_chain settings board c.args.to_move nodes seat granted end sum work.no_chain ended;
+      has_tried = lone-no_chain settings board c.args.to_move nodes seat granted end sum work.no_chain ended;
     }

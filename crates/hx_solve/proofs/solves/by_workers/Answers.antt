@@ -21,5 +21,5 @@ returns-in-Ok-clause-no_chain g c =
     let searched = c.in-Ok.searched in
     IfErr-weaker c.conclude.result (SaysWhy searched.ended)
     (λ why. LacksUnit why → 0 < c.args.settings.now.budget → HasNoChain c.args.position.now)
-    (λ why says lacks some. c.in-Ok.ensures.no_chain (spent-by searched.ended why says lacks) some)
+    (λ why says lacks some. c.in-Ok.ensures.has_tried (spent-by searched.ended why says lacks) some)
     c.conclude.ensures.cause

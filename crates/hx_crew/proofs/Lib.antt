@@ -1,0 +1,4 @@
+pub mod LaterLists
+pub mod PartedEnds
+pub mod ForemostEnds
+pub mod ClosedEnds

@@ -1,0 +1,39 @@
+//! The errand of all workers where one position is to be solved.
+
+ghost use Rattle.hx_board.specs.Graph.{HasNoChain};
+ghost use Rattle.hx_solve.specs.Searches.{IsProofOf};
+
+use hx_board::{Colour, Position};
+use hx_crew::{Bench, Done, Errand, Seats};
+use hx_io::Gate;
+use std::alloc::Global;
+use std::sync::Wait;
+
+/// The position and mover that each worker searches.
+#[derive(Drop)]
+pub(crate) struct OnePosition {
+    pub(crate) position: Position,
+    pub(crate) to_move: Colour,
+}
+
+impl Errand for OnePosition {
+    ghost use Rattle.hx_crew.proofs.LaterLists.{found-later};
+
+    ghost proved = { λ errand. IsProofOf errand.position errand.to_move };
+
+    ghost tried = { λ errand. HasNoChain errand.position };
+
+    ghost stays = { λ errand old new index winner more found.
+        found-later old new errand.position errand.to_move (record { index = index; winner = winner }) more found };
+
+    fn run<G: Gate, R: Wait>(
+        &self,
+        rt: &R,
+        alloc: Global,
+        gate: &G,
+        bench: &Bench<'_>,
+        seats: Seats,
+    ) -> Done {
+        bench.work_at(rt, alloc, gate, seats, &self.position, self.to_move)
+    }
+}
