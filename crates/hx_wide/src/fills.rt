@@ -81,8 +81,8 @@ fn fill_wide<P: Proofs, R: Wait>(
 }
 
 /// Stores who wins a position, where an entry that serves the position after fill-in says who wins that: a proof that serves the
-/// position, or one of the position itself. Missing only where no entry was seen to serve the filled position, or where nothing was
-/// filled.
+/// position, or one of the position itself. Missing only where no entry was seen to serve the filled position, where nothing was
+/// filled, or where the list is plain.
 pub fn widen_fill<P: Proofs, R: Wait>(
     rt: &R,
     alloc: Global,
