@@ -1,1 +1,3 @@
 mod GivenLaws
+mod OrderLaws
+mod TryLaws

@@ -1,10 +1,15 @@
 //! The moves of a turn that are tried.
 
-ghost use Rattle.std.specs.Prelude.{◌≡◌, ◌≢◌, ℕ, ◌<◌, ◌≤◌, not, length, map, filter, remove, slice_get, IfOk, IfSome, IsSomeAnd};
+ghost use Rattle.std.specs.Prelude.{◌≡◌, ◌≢◌, ℕ, ◌<◌, ◌≤◌, ◌⊎◌, true, not, length, map, filter, remove, slice_get, IfOk, IsSomeAnd, MatchOption};
 ghost use Rattle.std.specs.List.{All};
-ghost use Rattle.hx_board.specs.Sets.{has};
+ghost use Rattle.hx_board.specs.Positions.{IsEmpty};
+ghost use Rattle.hx_board.specs.Sets.{has, IsSubset};
+ghost use Rattle.hx_fill.specs.Musts.{IsSharedByAll};
+ghost use Rattle.hx_fill.specs.Unders.{HasLineFor};
 ghost use Rattle.hx_pn.specs.Numbers.{IsNumbers};
 ghost use Rattle.hx_moves.specs.Choices.{IsChildOf};
+ghost use Rattle.hx_moves.specs.Orders.{AreEmptyCells};
+ghost use Rattle.hx_moves.specs.Tries.{Tries, IsUnanswered, HasBetter};
 
 use crate::children::Child;
 use crate::marks::hinted_or;
@@ -40,7 +45,18 @@ impl Moves {
         situation: &Situation,
         plain: bool,
     ) -> Result<Moves, Memory>
-        ensures { IfOk result (λ moves. All (IsChildOf situation.now) moves.children.items) }
+        ensures each { IfOk result (λ moves. All (IsChildOf situation.now) moves.children.items) }
+        ensures among { IfOk result (λ moves.
+            All (λ child. IsSharedByAll others.now child.cell) moves.children.items) }
+        ensures all { plain ≡ true → IfOk result (λ moves. (cell : ℕ)
+            → IsUnanswered own.now others.now situation.now cell
+            → Tries moves.children.items cell) }
+        ensures best { IfOk result (λ moves. (cell : ℕ)
+            → IsUnanswered own.now others.now situation.now cell
+            → Tries moves.children.items cell
+            ⊎ HasBetter own.now others.now situation.now moves.children.items cell) }
+        ensures order { IfOk result (λ moves.
+            AreEmptyCells own.now.present.board moves.order.items) }
     {
         let earlier = replies.earlier(situation, own.position().empties());
         let order = in_order(own, others, &earlier)?;
@@ -102,13 +118,18 @@ impl Moves {
 }
 
 /// The cells that must be tried: those without a line.
-fn tried_cells(must: &Must) -> Mask {
+fn tried_cells(must: &Must) -> Mask
+    ensures inside { IsSubset result must.now.cells }
+    ensures kept { (cell : ℕ) → has must.now.cells cell ≡ true → ¬ HasLineFor must.now.under cell
+        → has result cell ≡ true }
+{
     without_lines(must.cells, must.under.items())
 }
 
 /// A move, with the numbers of its hint or the first ones. None where the cell holds a stone.
 fn child_of(hints: &Hints, situation: &Situation, cell: Cell) -> Option<Child>
-    ensures { IfSome result (IsChildOf situation.now) }
+    ensures { MatchOption result (¬ IsEmpty situation.now.filled cell)
+        (λ child. (child.cell ≡ cell) × IsChildOf situation.now child) }
 {
     let Some(there) = after(&situation.filled, situation.to_move, cell) else {
         return None;

@@ -5,7 +5,12 @@
 //! more: in cell order the openings of 6 by 6 take more than fifteen times the units, and from the centre alone one and a half
 //! times; by the distances of one player alone the empty 7 by 7 takes twice the units.
 
+ghost use Rattle.std.specs.Prelude.{◌≡◌, ◌<◌, ◌≤◌, IfOk, MatchOption};
+ghost use Rattle.hx_board.specs.declared.vertices.Vertex.TheVariants.{Of};
 ghost use Rattle.hx_board.specs.Graph.{IsVertex};
+ghost use Rattle.hx_board.specs.Sets.{IsLowest};
+ghost use Rattle.hx_board.specs.VertexSets.{code_of};
+ghost use Rattle.hx_moves.specs.Orders.{HasNoCell, AreCellsOf, AreEmptyCells};
 
 use crate::replies::MOST;
 use hx_board::{CELLS, Cell, Memory, Size, Vertex, VertexSet};
@@ -19,7 +24,9 @@ const FAR: u32 = 20;
 type Nears = [VertexSet; CELLS];
 
 /// The cell that a vertex is.
-fn cell_of(vertex: &Vertex) -> Option<Cell> {
+fn cell_of(vertex: &Vertex) -> Option<Cell>
+    ensures { MatchOption result (CELLS ≤ code_of vertex.now) (λ cell. vertex.now ≡ Of cell) }
+{
     match vertex {
         Vertex::Of(cell) => Some(*cell),
         Vertex::First | Vertex::Last => None,
@@ -27,7 +34,10 @@ fn cell_of(vertex: &Vertex) -> Option<Cell> {
 }
 
 /// The first cell of some cells. It asks for no board, so it takes no time to find out which cells a board has.
-fn first(cells: VertexSet) -> Option<Cell> {
+fn first(cells: VertexSet) -> Option<Cell>
+    ensures { MatchOption result (HasNoCell cells)
+        (λ cell. (cell < CELLS) × IsLowest cells cell) }
+{
     match cells.lowest() {
         None => None,
         Some(vertex) => cell_of(&vertex),
@@ -127,7 +137,9 @@ fn place_of(size: Size, cell: Cell, sums: &[u32; CELLS], earlier: &[u32; CELLS])
 }
 
 /// The cells of a set, in cell order.
-fn list(alloc: Global, cells: VertexSet) -> Result<Vec<Cell>, Memory> {
+fn list(alloc: Global, cells: VertexSet) -> Result<Vec<Cell>, Memory>
+    ensures { IfOk result (λ found. AreCellsOf cells found.items) }
+{
     let mut found = Vec::with_capacity(alloc, CELLS).map_err(|_| Memory)?;
     let mut left = cells;
     for _ in 0..CELLS {
@@ -145,7 +157,9 @@ pub(crate) fn in_order(
     own: &LinkSet,
     others: &LinkSet,
     earlier: &[u32; CELLS],
-) -> Result<Vec<Cell>, Memory> {
+) -> Result<Vec<Cell>, Memory>
+    ensures { IfOk result (λ order. AreEmptyCells own.now.present.board order.items) }
+{
     let position = own.position();
     let cells = VertexSet::of_cells(position.empties());
     let size = position.size();
