@@ -1,6 +1,6 @@
 //! What is known of a position before its moves are tried: what the proofs, the chains and the links say of it.
 
-ghost use Rattle.std.specs.Prelude.{◌≡◌, IfOk, IfSome};
+ghost use Rattle.std.specs.Prelude.{◌≡◌, [], true, IfOk, IfSome};
 ghost use Rattle.hx_fill.specs.Fills.{IsFillIn};
 ghost use Rattle.hx_worker.specs.Searches.{Keeps, Tells};
 
@@ -38,8 +38,9 @@ impl<P: Proofs, G: Gate, R: Wait> Search<'_, P, G, R, Workspace, LinkSet> {
 
     /// The position after fill-in. For a plain proof nothing is filled, since it cannot lead on by fill steps.
     pub(crate) fn fill(&self, position: &Position) -> Result<Filled, Memory>
-        ensures { IfOk result (λ filled.
+        ensures fills { IfOk result (λ filled.
             IsFillIn position.now filled.steps.items filled.position) }
+        ensures plain { P.is_plain ≡ true → IfOk result (λ filled. filled.steps.items ≡ []) }
     {
         if self.proofs.plain() {
             return Ok(Filled::none(self.worker.alloc, position));
