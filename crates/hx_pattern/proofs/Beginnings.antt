@@ -2,7 +2,6 @@
 -- carrier may have no cell.
 use Rattle.std.proofs.Common.{◌≡◌, ◌≢◌, ℕ, List, [], ◌∷◌, ◌++◌, refl, sym, ◌∙◌, arith}
 use Rattle.std.proofs.lemmas.Bool.{false≢true}
-use Rattle.std.proofs.lemmas.List.{append-nil}
 use Rattle.hx_board.specs.declared.colours.Colour.{Colour}
 use Rattle.hx_board.specs.declared.colours.Colour.TheVariants.{Black, White}
 use Rattle.hx_board.specs.declared.vertices.Vertex.{Vertex}
@@ -104,6 +103,3 @@ module _ (board : Board) (is : IsBoard board) where
 module _ (claim : Template) (is : IsTemplate claim) where
   pub begins_7 : Begins AreTemplateLines (lines_7 claim)
   begins_7 = begins_by (lines_7 claim) (carrier_line claim.carrier ∷ []) claim is refl
-
-  pub begins_8 : Begins AreTemplateLines (template_lines claim)
-  begins_8 = begins_by (template_lines claim) [] claim is (append-nil (template_lines claim))

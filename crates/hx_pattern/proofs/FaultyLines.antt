@@ -1,5 +1,5 @@
 -- The first faulty line of a template's text, at each of its lines: it is missing or has no LF, or it is not right.
-use Rattle.std.proofs.Common.{◌≡◌, ◌≢◌, ℕ, ◌+◌, ◌<◌, List, [], ◌∷◌, ◌++◌, length, refl, sym, ap, ◌∙◌, subst, arith}
+use Rattle.std.proofs.Common.{◌≡◌, ℕ, ◌+◌, ◌<◌, List, [], ◌∷◌, ◌++◌, length, refl, sym, ap, ◌∙◌, subst, arith}
 use Rattle.std.specs.declared.result.Result.{Result}
 use Rattle.std.specs.declared.result.Result.TheVariants.{Ok, Err}
 use Rattle.hx_board.specs.declared.colours.Colour.{Colour}
@@ -14,7 +14,7 @@ use Rattle.hx_reader.specs.declared.positions.TextFault.{TextFault}
 use Rattle.hx_text.specs.Grammars.{text_of, Begins, IsFaultyLine}
 use Rattle.hx_text.specs.PositionTexts.{size_line, stones_line}
 use Rattle.hx_text.proofs.Injective.{size_injective}
-use Rattle.hx_text.proofs.LineGrammars.{one_line_on, missing_is_faulty, wrong_is_faulty, surplus_is_faulty}
+use Rattle.hx_text.proofs.LineGrammars.{one_line_on, missing_is_faulty, wrong_is_faulty}
 use Rattle.hx_text.proofs.PositionLines.{stones_injective, black_small}
 use Rattle.hx_pattern.specs.declared.lines.Ends.{Ends}
 use Rattle.hx_pattern.specs.declared.templates.Template.{Template}
@@ -24,7 +24,7 @@ use Rattle.hx_pattern.specs.Reads.{ReadsFrom}
 use Rattle.hx_pattern.proofs.LineWords.{owner_injective, AllLack-template}
 use Rattle.hx_pattern.proofs.ToldTemplates.{board_told, ends_told}
 use Rattle.hx_pattern.proofs.Beginnings.{lines_1, lines_2, lines_3, lines_5, lines_6, lines_7}
-use Rattle.hx_pattern.proofs.Beginnings.{begins_0, begins_1, begins_2, begins_3, begins_4, begins_5, begins_6, begins_7, begins_8}
+use Rattle.hx_pattern.proofs.Beginnings.{begins_0, begins_1, begins_2, begins_3, begins_4, begins_5, begins_6, begins_7}
 
 abbrev IsFaulty : List (List ℕ) → List ℕ → ℕ → Type 0
 IsFaulty before rest line = IsFaultyLine AreTemplateLines (text_of before ++ rest) line
@@ -192,11 +192,3 @@ module _ (claim : Template) (is : IsTemplate claim) where
       (subst (λ (z : Board). IsCarrierOf z claim.a claim.b told.carrier) (sym boards)
       (subst (λ (z : Vertex). IsCarrierOf told.position z claim.b told.carrier) (sym ends.0)
       (subst (λ (z : Vertex). IsCarrierOf told.position told.a z told.carrier) (sym ends.1) told_is.carrier))) eighth)
-
-  -- ---- line 9
-
-  pub surplus_9 : (rest : List ℕ) → rest ≢ [] → IsFaulty (template_lines claim) rest 9
-  surplus_9 rest some =
-      let lines = template_lines claim in
-      surplus_is_faulty AreTemplateLines AllLack-template (text_of lines ++ rest) lines rest 9 refl (omega arith) (begins_8 claim is) some
-      (λ next b. absurd (omega (arith, ap length b.1.same)))

@@ -12,12 +12,6 @@ use Rattle.hx_pattern.proofs.LineWords.{ends_injective, carrier_injective}
 use Rattle.hx_pattern.proofs.ToldTemplates.{carrier_small}
 
 module _ (board : Board) (is : IsBoard board) where
-  -- the ends of a template are vertices, so a line that is of no vertices is of no ends
-  pub ends_unread : (owner : Colour) (line : List ℕ)
-      → ((ends : Ends) → IsVertex board.size ends.a × IsVertex board.size ends.b → line ≡ ends_line ends.a ends.b → ⊥)
-      → (ends : Ends) → AreEnds board owner ends.a ends.b → line ≡ ends_line ends.a ends.b → ⊥
-  ends_unread owner line none ends are e = none ends (end-vertex board owner ends.a are.a_end, end-vertex board owner ends.b are.b_end) e
-
   pub ends_misfit : (owner : Colour) (a b : Vertex) (line : List ℕ) → IsVertex board.size a → IsVertex board.size b → line ≡ ends_line a b
       → (AreEnds board owner a b → ⊥) → (ends : Ends) → AreEnds board owner ends.a ends.b → line ≡ ends_line ends.a ends.b → ⊥
   ends_misfit owner a b line on_a on_b e misfits ends are f =
