@@ -1,17 +1,16 @@
 -- A run of `template` keeps its promises: an answer that was written whole is the one that is due, of which an input has one, and each
 -- status is that of few answers, whose causes it tells.
-use Rattle.std.proofs.Common.{◌≡◌, ◌⊎◌, ℕ, ◌<◌, ◌≤◌, inl, inr, List, length, refl, sym, ap, ◌∙◌, subst, arith}
+use Rattle.std.proofs.Common.{◌≡◌, ℕ, ◌<◌, ◌≤◌, inl, inr, List, length, refl, sym, ap, ◌∙◌, subst, arith}
 use Rattle.std.specs.Prelude.{Option, None, Some, IfSome}
 use Rattle.hx_io.specs.Sources.{Reading, SomeReadFailed}
 use Rattle.hx_io.specs.Sinks.{Writing, SomeWriteFailed, append}
 use Rattle.hx_template.specs.declared.games.TheConstants.{MOST_CELLS}
-use Rattle.hx_pattern.specs.declared.templates.Template.{Template}
 use Rattle.hx_answers.specs.Endings.{IsWritten, Whole, Cut, IsReadToEnd, IsUnlessStopped, AnswersUnlessStopped}
 use Rattle.hx_claim.specs.declared.answers.Answer.{Answer}
 use Rattle.hx_claim.specs.declared.answers.Answer.TheVariants.{Yes, No, UnknownCarrier, BadTemplate}
 use Rattle.hx_claim.specs.declared.answers.Answer.TheVariants.{ReadFault, OutOfMemory, TooLong}
 use Rattle.hx_claim.specs.Answers.{answer_text, status_of, IsTemplateStatus}
-use Rattle.hx_claim.specs.Claims.{most_bytes, cells_of, Holds, IsDecided, IsDue, IsTemplateRun}
+use Rattle.hx_claim.specs.Claims.{most_bytes, cells_of, Holds, IsDecided, IsDue}
 use Rattle.hx_claim.specs.Promises.{IsTextOfSome, IsNoTemplate, KeepsPromises}
 use Rattle.hx_claim.proofs.OneAnswer.{TextTellsTemplate, TextHasNoFault, HasOneFaultyLine, IsOrStopped, text_not_faulty}
 use Rattle.hx_claim.proofs.OneAnswer.{yes_alone, no_alone, many_alone, line_alone, long_alone}
