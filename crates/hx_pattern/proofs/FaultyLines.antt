@@ -147,7 +147,7 @@ module _ (board : Board) (is : IsBoard board) where
       let sixth : text ≡ kind_line b.1.claim.kind = cc in
       other b.1.claim.kind tt sixth)
 
--- ---- line 7
+  -- ---- line 7
 
   pub missing_7 : (owner : Colour) (kind : Kind) (rest : List ℕ) → Lacks 10 rest → IsFaulty (lines_6 board owner kind) rest 7
   missing_7 owner kind rest lacks =
@@ -183,7 +183,7 @@ module _ (claim : Template) (is : IsTemplate claim) where
       let told_is = b.1.is_template in
       let behind : List (List ℕ) = owner_line claim.owner ∷ kind_line claim.kind ∷ ends_line claim.a claim.b ∷ text ∷ b.0 in
       let same : board_lines claim.position ++ owner_line claim.owner ∷ kind_line claim.kind ∷ ends_line claim.a claim.b ∷ text ∷ b.0
-          ≡ template_lines told = b.1.same in
+      ≡ template_lines told = b.1.same in
       let boards : claim.position ≡ told.position = board_told claim.position told behind is.board told_is same in
       let seventh : ends_line claim.a claim.b ≡ ends_line told.a told.b = cc in
       let eighth : text ≡ carrier_line told.carrier = cc in
