@@ -1,6 +1,6 @@
 -- The lines of a template's text: their words are of high bytes, so each line gives back what it was spelled from, and has no
 -- LF in it.
-use Rattle.std.proofs.Common.{◌≡◌, ℕ, ◌≤◌, List, [], ◌∷◌, ◌++◌, get_or, refl, sym, ap, ◌∙◌, arith}
+use Rattle.std.proofs.Common.{◌≡◌, ℕ, List, [], ◌∷◌, get_or, refl, ap, ◌∙◌, arith}
 use Rattle.std.specs.Prelude.{codes}
 use Rattle.hx_board.specs.declared.colours.Colour.{Colour}
 use Rattle.hx_board.specs.declared.colours.Colour.TheVariants.{Black, White}
@@ -14,7 +14,7 @@ use Rattle.hx_link.proofs.LinkLaws.{end-vertex}
 use Rattle.hx_pattern.specs.declared.templates.Template.{Template}
 use Rattle.hx_letters.specs.Words.{mask_word, colour_word, words_in, IsSet, vertex_word}
 use Rattle.hx_text.specs.PositionTexts.{size_line, stones_line}
-use Rattle.hx_pattern.specs.Templates.{template_title, owner_line, kind_word, kind_line, ends_line, carrier_line, board_lines}
+use Rattle.hx_pattern.specs.Templates.{owner_line, kind_word, kind_line, ends_line, carrier_line, board_lines}
 use Rattle.hx_pattern.specs.Templates.{template_lines, IsTemplate, AreTemplateLines}
 use Rattle.hx_letters.proofs.Spacing.{IsLine, words_in-spaced, spaced_injective}
 use Rattle.hx_letters.proofs.HighBytes.{AllHigh, is_high, IsHigh-test, IsHigh-hex, IsHigh-colour_word, IsLine-high, Lacks-spaced}

@@ -1,10 +1,9 @@
 -- The first faulty line of a position's text, at each of its lines: it is missing or has no LF, or it is not right. The
 -- lines before it begin a text, since a board may be empty.
-use Rattle.std.proofs.Common.{◌≡◌, ◌≢◌, ℕ, ◌+◌, ◌<◌, List, [], ◌∷◌, ◌++◌, length, refl, sym, ap, ◌∙◌, subst, arith, Option, Some, None}
+use Rattle.std.proofs.Common.{◌≡◌, ℕ, ◌+◌, ◌<◌, List, [], ◌∷◌, ◌++◌, length, refl, sym, ap, ◌∙◌, subst, arith, Option, Some, None}
 use Rattle.std.specs.Option.{SomeIff}
 use Rattle.std.specs.declared.result.Result.{Result}
 use Rattle.std.specs.declared.result.Result.TheVariants.{Ok, Err}
-use Rattle.std.proofs.lemmas.List.{append-nil}
 use Rattle.hx_board.specs.declared.colours.Colour.{Colour}
 use Rattle.hx_board.specs.declared.colours.Colour.TheVariants.{Black, White}
 use Rattle.hx_board.specs.Cells.{Extent, IsExtent}
@@ -18,7 +17,7 @@ use Rattle.hx_text.specs.Grammars.{text_of, Begins, IsFaultyLine}
 use Rattle.hx_text.specs.PositionTexts.{position_title, size_line, stones_line, move_line, position_lines, ArePositionLines}
 use Rattle.hx_reader.specs.PositionReads.{ReadsFrom}
 use Rattle.hx_text.proofs.Injective.{size_injective}
-use Rattle.hx_text.proofs.LineGrammars.{one_line_on, missing_is_faulty, wrong_is_faulty, surplus_is_faulty}
+use Rattle.hx_text.proofs.LineGrammars.{one_line_on, missing_is_faulty, wrong_is_faulty}
 use Rattle.hx_text.proofs.PositionLines.{stones_injective, board_of, black_small, white_small}
 use Rattle.hx_text.proofs.WholePositions.{AllLack-position}
 
@@ -169,15 +168,6 @@ wrong_5 board rest text later fits cut other = wrong_line (lines_4 board) rest t
     let same : (lines_4 board ++ text ∷ []) ++ b.0 ≡ position_lines b.1.board b.1.mover = b.1.same in
     let fifth : text ≡ move_line b.1.mover = cc in
     other b.1.mover tt fifth)
-
--- ---- line 6
-
-pub surplus_6 : (board : Board) (mover : Colour) (rest : List ℕ) → IsBoard board → rest ≢ []
-    → IsFaultyLine ArePositionLines (text_of (position_lines board mover) ++ rest) 6
-surplus_6 board mover rest fits some =
-    let lines = position_lines board mover in
-    surplus_is_faulty ArePositionLines AllLack-position (text_of lines ++ rest) lines rest 6 refl (omega arith)
-    (begins_from board mover lines [] fits (append-nil lines)) some (λ next b. absurd (omega (arith, ap length b.1.same)))
 
 -- ---- what the readers of the stones answer
 
