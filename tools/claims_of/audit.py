@@ -1,5 +1,6 @@
 """The parts of docs/audit.md that are made: the lists with a sentence for each definition, the numbers, and hx_main."""
 import re
+from typing import NamedTuple
 
 from claims_of.lists import Lists
 from claims_of.repository import Repository
@@ -9,6 +10,7 @@ from claims_of.terms import Fault
 
 DOCUMENT, SENTENCES = "docs/audit.md", "docs/audit-sentences.txt"
 MAIN = "crates/hx_main/src/main.rt"
+SENTENCE = re.compile(r"([0-9a-f]{6}) (\S+(?: \S+)*)  (\S.*)")
 PART = re.compile(r"(<!-- claims: (\w+) -->\n)(.*?)(<!-- end -->\n)", re.S)
 
 # The lists, in reading order: what each is asked for.
@@ -33,23 +35,40 @@ TITLES = {
 
 # ---- The sentences
 
+class Sentence(NamedTuple):
+    """A sentence, and the mark of the definition as it stood when it was written."""
+    mark: str
+    text: str
+
+
 def sentences_of(text):
     """Each sentence by the name of its definition."""
     found = {}
     for number, line in enumerate(text.splitlines(), 1):
         if not line.strip() or line.startswith("#"):
             continue
-        name, _, sentence = line.partition("  ")
-        if not sentence.strip() or name in found:
-            raise Fault(f"{SENTENCES}:{number}: no sentence, or a second one, for {name}")
-        found[name] = sentence.strip()
+        match = SENTENCE.fullmatch(line)
+        if not match or match[2] in found:
+            raise Fault(f"{SENTENCES}:{number}: no mark, name and sentence, or a second sentence of a definition")
+        found[match[2]] = Sentence(match[1], match[3])
     return found
 
 
-def unmatched(sentences, names):
-    """Definitions without a sentence, and sentences without a definition."""
-    return [f"{SENTENCES}: {name} has no sentence" for name in names if name not in sentences] + [
-        f"{SENTENCES}: no list has {name}" for name in sentences if name not in names]
+def unmatched(sentences, entries):
+    """Definitions without a sentence, sentences without a definition, and definitions that changed after their sentence was written."""
+    for name, entry in entries.items():
+        if name not in sentences:
+            yield f"{SENTENCES}: {name} has no sentence; its mark is {entry.mark()}"
+        elif sentences[name].mark != entry.mark():
+            yield f"{SENTENCES}: {name} was changed after its sentence was written; its mark is now {entry.mark()}"
+    yield from (f"{SENTENCES}: no list has {name}" for name in sentences if name not in entries)
+
+
+def marked_anew(text, entries):
+    """The sentences with the marks of the definitions as they stand."""
+    def line(match):
+        return f"{entries[match[2]].mark() if match[2] in entries else match[1]} {match[2]}  {match[3]}"
+    return "".join(SENTENCE.sub(line, one) for one in text.splitlines(keepends=True))
 
 
 # ---- The parts
@@ -69,11 +88,11 @@ class Parts:
             seen |= {(entry.full_name(), entry.text()) for entry in entries}
         return new
 
-    def names(self):
-        return [entry.full_name() for entries in self.new.values() for entry in entries]
+    def definitions(self):
+        return {entry.full_name(): entry for entries in self.new.values() for entry in entries}
 
     def made(self):
-        wrong = unmatched(self.sentences, self.names())
+        wrong = list(unmatched(self.sentences, self.definitions()))
         if wrong:
             raise Fault("\n".join(wrong))
         parts = {name: self.table(name) for name in LISTS}
@@ -89,7 +108,7 @@ class Parts:
         for entry in new:
             shown = entry.key.name + (", with what it keeps" if entry.full_name().endswith(" shown") else "")
             link = f"[{shown}](../{entry.path})"
-            yield f"| {link} | {entry.key.crate} | {len(entry.lines())} | {self.sentences[entry.full_name()]} |"
+            yield f"| {link} | {entry.key.crate} | {len(entry.lines())} | {self.sentences[entry.full_name()].text} |"
 
     def numbers(self):
         yield "| what | definitions | lines | of which comments |"
@@ -128,6 +147,12 @@ def with_parts(text, parts):
     if missing:
         raise Fault(f"{DOCUMENT} has no place for {', '.join(sorted(missing))}")
     return PART.sub(lambda match: match[1] + "\n".join(parts[match[2]]) + "\n" + match[4], text)
+
+
+def read_again(top):
+    """Says that the sentences of what changed were read again, and are so."""
+    path, entries = top / SENTENCES, Parts(top).definitions()
+    path.write_text(marked_anew(path.read_text(encoding="utf-8"), entries), encoding="utf-8")
 
 
 def write(top):

@@ -1,4 +1,5 @@
 """What a clause rests on: each definition of ours once, what is used before what uses it."""
+import hashlib
 import re
 from typing import NamedTuple
 
@@ -28,6 +29,11 @@ class Entry:
 
     def comments(self):
         return [line for line in self.lines() if line.strip().startswith(("--", "//"))]
+
+    def mark(self):
+        """Six digits that differ where the code differs, whatever its comments and its layout are."""
+        code = [line for line in self.lines() if line not in self.comments()]
+        return hashlib.sha256(" ".join(" ".join(code).split()).encode()).hexdigest()[:6]
 
     def text(self):
         pieces = "\n".join("\n".join(piece.lines) for piece in self.pieces if piece.lines)
