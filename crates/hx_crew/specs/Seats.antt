@@ -5,7 +5,7 @@ use Rattle.hx_tree.specs.declared.nodes.Node.{Node}
 use Rattle.hx_count.specs.Machine.{HasNothing}
 use Rattle.hx_count.specs.Seats.{Origin, Seat, own}
 use Rattle.hx_nodes.specs.Stored.{IsOutOfSlots}
-use Rattle.hx_share.specs.Readers.{Origin as BookOrigin, Reader}
+use Rattle.hx_share.specs.Readers.{Origin as BookOrigin}
 use Rattle.hx_worker.specs.declared.ended.Ended.{Ended}
 use Rattle.hx_worker.specs.declared.ended.Ended.TheVariants.{Proved, Spent, NoSlots, Memory}
 use Rattle.hx_worker.specs.Ends.{EndsSpent}
