@@ -41,9 +41,8 @@ fn asked(
     )
 }
 
-// ---- Rows that were worked out by hand
+// ---- Rows that were worked out by hand, in which cells and sides go by their codes
 
-/// The codes of some cells, and of the two sides.
 const A1: u8 = 0;
 
 const B1: u8 = 1;
@@ -75,48 +74,51 @@ fn cells(size: Size, codes: &[u8]) -> Result<Mask, Fail> {
     Ok(set)
 }
 
-/// A board with as many rows as columns, and Black's stones on it.
-fn board(side: u8, black: &[u8]) -> Result<Position, Fail> {
+/// Whether Black has a local game, on a board with as many rows as columns and with these stones of Black's.
+fn black_has(
+    rt: &impl Abort,
+    alloc: Global,
+    side: u8,
+    black: &[u8],
+    ends: (u8, u8),
+    carrier: &[u8],
+    mover: Colour,
+) -> Result<bool, Fail> {
     let size = Size::new(side, side).ok_or("size")?;
     let black = cells(size, black)?;
-    Ok(Position::from_masks(size, black, Mask::empty()).ok_or("stones")?)
-}
-
-/// Black's local game between the vertices with these codes.
-fn black_game(position: &Position, a: u8, b: u8, carrier: &[u8]) -> Result<LocalGame, Fail> {
-    let size = position.size();
-    Ok(LocalGame {
+    let position = Position::from_masks(size, black, Mask::empty()).ok_or("stones")?;
+    let a = size.vertex(ends.0).ok_or("a")?;
+    let b = size.vertex(ends.1).ok_or("b")?;
+    let carrier = cells(size, carrier)?;
+    let game = LocalGame {
         player: Black,
-        a: size.vertex(a).ok_or("a")?,
-        b: size.vertex(b).ok_or("b")?,
-        carrier: cells(size, carrier)?,
-    })
+        a,
+        b,
+        carrier,
+    };
+    Ok(asked(rt, alloc, &game, &position, mover)?)
 }
 
 /// Over b1 and c1 the stone on b2 has a bridge to the top, of which one cell alone is enough with the move.
 #[test]
 fn bridges(rt: HostRuntime) -> Result<(), Fail> {
-    let stone = board(3, &[B2])?;
-    let bridge = black_game(&stone, FIRST, B2, &[B1, C1])?;
-    assert!(rt; asked(&rt, rt.alloc(), &bridge, &stone, White)?);
-    let half = black_game(&stone, FIRST, B2, &[B1])?;
-    assert!(rt; !asked(&rt, rt.alloc(), &half, &stone, White)?);
-    assert!(rt; asked(&rt, rt.alloc(), &half, &stone, Black)?);
-    let none = black_game(&stone, LAST, FIRST, &[])?;
-    assert!(rt; !asked(&rt, rt.alloc(), &none, &stone, White)?);
-    let empty = board(2, &[])?;
-    let over_no_stone = black_game(&empty, A1, B2, &[B1, A2])?;
-    assert!(rt; asked(&rt, rt.alloc(), &over_no_stone, &empty, White)?);
+    let alloc = rt.alloc();
+    let to_top = (FIRST, B2);
+    assert!(rt; black_has(&rt, alloc, 3, &[B2], to_top, &[B1, C1], White)?);
+    assert!(rt; !black_has(&rt, alloc, 3, &[B2], to_top, &[B1], White)?);
+    assert!(rt; black_has(&rt, alloc, 3, &[B2], to_top, &[B1], Black)?);
+    assert!(rt; black_has(&rt, alloc, 2, &[], (A1, B2), &[B1, A2], White)?);
+    assert!(rt; !black_has(&rt, alloc, 3, &[B2], (LAST, FIRST), &[], White)?);
     Ok(())
 }
 
 /// The whole empty board is the local game of the two sides on all its cells, which the first to move has.
 #[test]
 fn the_whole_board(rt: HostRuntime) -> Result<(), Fail> {
-    let empty = board(3, &[])?;
-    let all = black_game(&empty, FIRST, LAST, &[A1, B1, C1, A2, B2, C2, A3, B3, C3])?;
-    assert!(rt; asked(&rt, rt.alloc(), &all, &empty, Black)?);
-    assert!(rt; !asked(&rt, rt.alloc(), &all, &empty, White)?);
+    let all = [A1, B1, C1, A2, B2, C2, A3, B3, C3];
+    let sides = (FIRST, LAST);
+    assert!(rt; black_has(&rt, rt.alloc(), 3, &[], sides, &all, Black)?);
+    assert!(rt; !black_has(&rt, rt.alloc(), 3, &[], sides, &all, White)?);
     Ok(())
 }
 
