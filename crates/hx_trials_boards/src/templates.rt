@@ -30,6 +30,7 @@ const WITH_WHITE_A1: [&str; 6] = [
 ];
 
 const ENDS: &str = "ends first b2";
+
 const B1_AND_C1: &str = "carrier 00000000000000000000000000000006";
 
 /// These lines, each with its LF.
@@ -76,9 +77,18 @@ fn first_wrong_line_is_told(rt: HostRuntime) -> Result<(), Fail> {
     let no_cell = "carrier 00000000000000000000000000000000";
     let alloc = rt.alloc();
     assert_eq!(rt; fault_of(alloc, &WITH_B2, &[ENDS, B1_AND_C1])?, None);
-    assert_eq!(rt; fault_of(alloc, &WITH_B2, &["ends first first", B1_AND_C1])?, Some(7));
+    assert_eq!(rt;
+        fault_of(alloc, &WITH_B2, &["ends first first", B1_AND_C1])?,
+        Some(7)
+    );
     assert_eq!(rt; fault_of(alloc, &WITH_B2, &[ENDS, b2])?, Some(8));
-    assert_eq!(rt; fault_of(alloc, &WITH_B2, &[ENDS, B1_AND_C1, ENDS])?, Some(9));
-    assert_eq!(rt; fault_of(alloc, &WITH_WHITE_A1, &["ends first a1", no_cell])?, Some(7));
+    assert_eq!(rt;
+        fault_of(alloc, &WITH_B2, &[ENDS, B1_AND_C1, ENDS])?,
+        Some(9)
+    );
+    assert_eq!(rt;
+        fault_of(alloc, &WITH_WHITE_A1, &["ends first a1", no_cell])?,
+        Some(7)
+    );
     Ok(())
 }
