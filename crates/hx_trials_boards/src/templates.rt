@@ -33,27 +33,35 @@ const ENDS: &str = "ends first b2";
 
 const B1_AND_C1: &str = "carrier 00000000000000000000000000000006";
 
-/// These lines, each with its LF.
-fn text_of(alloc: Global, lines: &[&str]) -> Result<Vec<u8>, AllocError> {
-    let mut text = Vec::new(alloc);
+/// Adds these lines to a text, each with its LF.
+fn add_lines(text: &mut Vec<u8>, lines: &[&str]) -> Result<(), AllocError> {
     for line in lines {
         text.extend_from_slice(line.as_bytes())?;
         text.push(b'\n')?;
     }
+    Ok(())
+}
+
+/// The text of these lines and then of those.
+fn text_of(alloc: Global, front: &[&str], more: &[&str]) -> Result<Vec<u8>, AllocError> {
+    let mut text = Vec::new(alloc);
+    add_lines(&mut text, front)?;
+    add_lines(&mut text, more)?;
     Ok(text)
 }
 
-/// The line at which a text of these lines, one after the other, is wrong.
+/// The line at which the text of these lines and then of those is wrong.
 fn fault_of(alloc: Global, front: &[&str], more: &[&str]) -> Result<Option<u64>, AllocError> {
-    let mut text = text_of(alloc, front)?;
-    text.extend_from_slice(&text_of(alloc, more)?)?;
-    Ok(read_template(&text).err().map(|fault| fault.line))
+    let text = text_of(alloc, front, more)?;
+    match read_template(text.as_slice()) {
+        Ok(_) => Ok(None),
+        Err(fault) => Ok(Some(fault.line)),
+    }
 }
 
 #[test]
 fn bridge_is_read(rt: HostRuntime) -> Result<(), Fail> {
-    let mut text = text_of(rt.alloc(), &WITH_B2)?;
-    text.extend_from_slice(&text_of(rt.alloc(), &[ENDS, B1_AND_C1])?)?;
+    let text = text_of(rt.alloc(), &WITH_B2, &[ENDS, B1_AND_C1])?;
     let size = Size::new(3, 3).ok_or("size")?;
     let b2 = size.cell(1, 1).ok_or("b2")?;
     let position = Position::from_masks(size, Mask::of(1 << 12), Mask::empty()).ok_or("position")?;
@@ -65,7 +73,7 @@ fn bridge_is_read(rt: HostRuntime) -> Result<(), Fail> {
         b: Vertex::Of(b2),
         carrier: Mask::of(0b110),
     };
-    assert_eq!(rt; read_template(&text), Ok(bridge));
+    assert_eq!(rt; read_template(text.as_slice()), Ok(bridge));
     let (_, without_lf) = text.split_last().ok_or("text")?;
     assert_eq!(rt; read_template(without_lf), Err(TextFault { line: 8 }));
     Ok(())
