@@ -18,6 +18,7 @@ mod unsolved;
 pub use hx_settings::Settings;
 pub use laws::same_winner;
 pub use plain_solves::solve_plain;
+pub use small_positions::is_small;
 pub use solves::solve;
 pub use tallies::Tally;
 pub use unsolved::Unsolved;

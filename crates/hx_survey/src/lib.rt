@@ -5,6 +5,7 @@
 #![tactic(auto)]
 
 mod openings;
+mod readings;
 mod surveys;
 mod tables;
 

@@ -2,17 +2,20 @@
 
 ghost use Rattle.std.specs.Prelude.{◌≡◌, IfOk, IfErr};
 ghost use Rattle.hx_settings.specs.Settings.{AreSettings};
+ghost use Rattle.hx_crew.specs.Searches.{IsSearchEnd};
 ghost use Rattle.hx_solve.specs.Causes.{HasCause, LacksMemory};
-ghost use Rattle.hx_survey.specs.Surveys.{IsSurvey, AreSmall};
+ghost use Rattle.hx_survey.specs.Surveys.{IsSurvey, AreSmall, HasOpenings};
+ghost use Rattle.hx_survey.specs.Ends.{IsNoProof, SaysWanting};
 
-use crate::openings::{Openings, opening};
+use crate::openings::Openings;
+use crate::readings::table_of;
 use crate::tables::Table;
-use hx_board::{Cell, Colour, Mask, Memory, Position, Size};
-use hx_book::Book;
+use hx_board::{Memory, Size};
 use hx_crew::{Searched, run_all};
 use hx_io::Gate;
 use hx_settings::Settings;
-use hx_solve::{Unsolved, ..};
+use hx_solve::Unsolved;
+use hx_worker::Ended;
 use std::alloc::Global;
 use std::sync::Wait;
 use std::thread::Threads;
@@ -39,33 +42,48 @@ pub fn survey<G: Gate + Sync, R: Threads + Wait + Sync>(
         size,
         workers: settings.workers,
     };
-    let empties = size.all().count() - 1;
+    let empties = size.all().count().saturating_sub(1);
     match run_all(rt, alloc, &openings, empties, &settings, gate) {
-        Ok(searched) => read_table(alloc, size, settings.budget, searched),
+        Ok(searched) => conclude(alloc, size, &settings, searched),
         Err(Memory) => Err(Unsolved::Memory),
     }
 }
 
-/// The table, read from the closed book, and from full searches of small openings that it has not.
-fn read_table(alloc: Global, size: Size, budget: u64, searched: Searched) -> Result<Table, Unsolved>
+/// The table, read from the closed book, or what was wanting.
+fn conclude(
+    alloc: Global,
+    size: Size,
+    settings: &Settings,
+    searched: Searched,
+) -> Result<Table, Unsolved>
+    requires { IsSearchEnd (λ nodes index winner. HasOpenings nodes size) (Unit {0}) settings.now searched.book
+        searched.totals.granted searched.ended }
+    ensures size { IfOk result (λ table. table.size ≡ size) }
+    ensures table { IfOk result (λ table. IsSurvey size table.black) }
+    ensures cause { IfErr result (HasCause settings.now) }
+    ensures small { AreSmall size settings.now.budget → IfErr result LacksMemory }
 {
-    let mut black = Mask::empty();
-    let mut left = size.all();
-    while let Some(cell) = left.least(size) {
-        left = left.without(cell);
-        let position = opening(size, cell);
-        let winner = match winner_in(&searched.book, &position) {
-            Some(winner) => winner,
-            None => ... small: by_sweep -> the winner of its root; else return Err(what was wanting by searched.ended),
-        };
-        if winner == Colour::Black {
-            black = black.with(cell);
-        }
+    let Searched {
+        book,
+        totals: _,
+        ended,
+    } = searched;
+    match table_of(alloc, size, settings.budget, &book) {
+        Ok(Some(table)) => Ok(table),
+        Ok(None) => Err(wanting(ended)),
+        Err(Memory) => Err(Unsolved::Memory),
     }
-    Ok(Table { size, black })
 }
 
-/// Who wins an opening by the book, where it has an entry of it or of the turned one.
-fn winner_in(book: &Book, position: &Position) -> Option<Colour> {
-    ..
+/// What was wanting, by an end without a proof.
+fn wanting(ended: Ended) -> Unsolved
+    requires { IsNoProof ended }
+    ensures { SaysWanting ended result }
+{
+    match ended {
+        Ended::Proved { .. } => unreachable!(),
+        Ended::Memory => Unsolved::Memory,
+        Ended::NoSlots(refusal) => Unsolved::Slots(refusal),
+        Ended::Spent(refusal) => Unsolved::Budget(refusal),
+    }
 }
