@@ -1,5 +1,5 @@
 -- Going through openings: what is left becomes less, and in the end each has an entry.
-use Rattle.std.proofs.Common.{◌≡◌, ℕ, List, Bool, true, false, sym, ◌∙◌, ◌&&◌, not, ◌⊎◌, ⊎_elim, subst, refl, Left, Right}
+use Rattle.std.proofs.Common.{◌≡◌, ℕ, List, Bool, true, false, sym, ◌∙◌, ◌&&◌, not, ◌⊎◌, ⊎_elim, subst, refl}
 use Rattle.std.proofs.lemmas.Bool.{false≢true}
 use Rattle.hx_board.specs.declared.colours.Colour.{Colour}
 use Rattle.hx_board.specs.Sets.{has, remove}
@@ -57,7 +57,7 @@ module _ (size : Extent) (cells : ℕ) (slots : ℕ) where
       → IsEndedBy (λ nodes index winner. HasOpeningsBut nodes size cells (remove left cell)) new slots after end
   through-next old new before after was end left cell more proof had is =
       let earlier : HasOpeningsBut old size cells left =
-          (end-proof (λ nodes index winner. HasOpeningsBut nodes size cells left) old slots before was proof had).2.2 in
+          (end-proof (λ nodes index winner. HasOpeningsBut nodes size cells left) old slots before was proof had).2 in
       end-weaker (λ nodes index winner. HasOpening nodes size cell)
       (λ nodes index winner. HasOpeningsBut nodes size cells (remove left cell)) new slots after end
       (λ index winner proof there n inside gone. ⊎_elim

@@ -140,6 +140,8 @@ impl Openings {
             bench.now.shared.now.made.slots result.counts result.ended }
     {
         let worker = seats.worker;
+        // The proof takes from here that the board is one, so that its cells are below 128.
+        let _rows = self.size.rows();
         let Some(first) = cells.least(self.size) else {
             unreachable!()
         };

@@ -13,8 +13,8 @@ invariant-loop-cell g l = record {
   book : l.done.book.made ≡ l.bench.shared.now.made;
   counts : l.done.counts.made ≡ l.bench.counts.now;
   nothing_held : held_in_all (own l.done.counts) ≡ 0;
-  inside : (cell : ℕ) → has l.left cell ≡ true → has l.cells cell ≡ true;
-  ended : IsEndedBy (λ nodes index winner. HasOpeningsBut nodes l.self.size l.cells l.left) l.done.book.seen
+  inside : (cell : ℕ) → has l.left cell ≡ true → has l.fn.cells cell ≡ true;
+  ended : IsEndedBy (λ nodes index winner. HasOpeningsBut nodes l.self.size l.fn.cells l.left) l.done.book.seen
       l.bench.shared.now.made.slots l.done.counts l.done.ended;
 }
 
