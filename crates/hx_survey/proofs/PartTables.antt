@@ -1,4 +1,4 @@
--- The table of those openings that were gone through, from none of them to all.
+-- The table of those openings that were gone through.
 use Rattle.std.proofs.Common.{◌≡◌, ℕ, Bool, true, false, refl, sym, ◌∙◌, subst, ⊎_elim, if◌then◌else◌}
 use Rattle.std.proofs.lemmas.Bool.{false≢true, false_from_ne_true, cases_eq}
 use Rattle.hx_board.specs.declared.colours.Colour.{Colour}
@@ -8,7 +8,7 @@ use Rattle.hx_board.specs.Cells.{Extent, OnBoard, IsLeastOn}
 use Rattle.hx_board.proofs.SetLaws.{has-empty, has-insert_cases, has-insert_same, has-insert_other, has-remove_before, has-remove_other, removed}
 use Rattle.hx_board.proofs.SetLaws.{same_test}
 use Rattle.hx_openings.specs.Openings.{WinsOpening}
-use Rattle.hx_survey.specs.Surveys.{winner_at, IsSurvey}
+use Rattle.hx_survey.specs.Surveys.{winner_at}
 use Rattle.hx_survey.specs.Readings.{marked}
 
 -- the set has none of the cells that are left, and else it is the table's
@@ -22,13 +22,6 @@ table-begun size left all = record {
   inside = λ cell h. absurd (false≢true (sym (has-empty cell) ∙ h));
   none_left = λ cell h. has-empty cell;
   winners = λ cell on gone. absurd (false≢true (sym gone ∙ all cell on));
-}
-
-pub table-whole : (size : Extent) (left black : ℕ) → ((cell : ℕ) → OnBoard size cell → has left cell ≡ false)
-    → IsTableBut size left black → IsSurvey size black
-table-whole size left black none table = record {
-  inside = table.inside;
-  winners = λ cell on. table.winners cell on (none cell on);
 }
 
 -- whom a set names by whether it has the cell
@@ -51,10 +44,10 @@ module _ (size : Extent) (left black cell : ℕ) (least : IsLeastOn size left ce
     none_left = λ n h. same n (gone n h) ∙ table.none_left n (has-remove_before left cell n h);
     winners = λ n on h. ⊎_elim
         (λ (e : n ≡ cell). subst (λ (k : ℕ). WinsOpening size k (winner_at new k)) (sym e)
-            (subst (λ (player : Colour). WinsOpening size cell player) (sym named_so) wins))
+        (subst (λ (player : Colour). WinsOpening size cell player) (sym named_so) wins))
         (λ (other : n ≡ cell → ⊥). subst (λ (player : Colour). WinsOpening size n player)
-            (sym (named new n (has black n) (same n other)))
-            (table.winners n on (earlier n other h)))
+        (sym (named new n (has black n) (same n other)))
+        (table.winners n on (earlier n other h)))
         (cases_eq n cell);
   }
 

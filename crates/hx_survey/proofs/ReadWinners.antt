@@ -1,4 +1,4 @@
--- Who wins by an entry of a book, and what it is to have no entry.
+-- What it is to have no entry of an opening.
 use Rattle.std.proofs.Common.{◌≡◌, ℕ, List, Bool, true, false, refl, sym, subst, ⊎_elim, inl, inr, Option, None, Some}
 use Rattle.std.specs.Prelude.{slice_get, IfSome, IfOk, MatchOption, Result, Ok, Err}
 use Rattle.hx_board.specs.declared.colours.Colour.{Colour}
@@ -17,22 +17,7 @@ use Rattle.hx_openings.specs.Openings.{opening, WinsOpening}
 use Rattle.hx_survey.specs.Surveys.{HasOpening}
 use Rattle.hx_survey.specs.Readings.{IsUnlisted, IsOpen}
 
-pub entry-wins : (nodes : List Node) (board : Board) (mover : Colour) (found : Found) → AllWin nodes → IsFirstFound nodes board mover found
-    → Wins found.winner board mover
-entry-wins nodes board mover found all is =
-    subst (λ (player : Colour). Wins player board mover) (sym is.same_winner)
-    (subst (λ (m : Colour). Wins node.heading.winner board m) entry.is_of.same_mover
-    (subst (λ (b : Board). Wins node.heading.winner b node.heading.to_move) entry.is_of.same_position only.wins))
-  where
-    entry : IsEntry nodes board mover found.index
-    entry = is.first.entry
-
-    node : Node
-    node = entry.node
-
-    only : OnlyWinner node.heading
-    only = subst (λ (o : Option Node). IfSome o (λ (n : Node). OnlyWinner n.heading)) entry.there (all found.index)
-
+-- neither orientation has an entry
 pub none-unlisted : (nodes : List Node) (board turned : Board) → IsTurned board turned → HasNoEntry nodes board White
     → HasNoEntry nodes turned White → IsUnlisted nodes board
 none-unlisted nodes board turned turn none turned_none = record {
@@ -40,6 +25,7 @@ none-unlisted nodes board turned turn none turned_none = record {
   turned_none = λ other is. subst (λ (b : Board). HasNoEntry nodes b White) (turned-one board turned other turn is) turned_none;
 }
 
+-- an opening without an entry that is not small is open
 pub unlisted-open : (nodes : List Node) (size : Extent) (budget cell : ℕ) → IsUnlisted nodes (opening size cell)
     → ¬ IsSmall (opening size cell) budget → IsOpen nodes size budget cell
 unlisted-open nodes size budget cell unlisted large = record { none = none; not_small = large }
@@ -47,10 +33,11 @@ unlisted-open nodes size budget cell unlisted large = record { none = none; not_
     none : HasOpening nodes size cell → ⊥
     none has = ⊎_elim
         (λ (e : has.board ≡ opening size cell). subst (λ (b : Board). HasNoEntry nodes b White) (sym e) unlisted.none
-            has.found.index has.first.first.entry)
+        has.found.index has.first.first.entry)
         (λ (turn : IsTurned (opening size cell) has.board). unlisted.turned_none has.board turn has.found.index has.first.first.entry)
         has.which
 
+-- and so it is with what a full search answers, or does not
 pub open-or-won : {E : Type 0} (nodes : List Node) (size : Extent) (budget cell : ℕ) (read : Result (Option Colour) E)
     → IsUnlisted nodes (opening size cell)
     → IfOk read (λ found. MatchOption found (¬ IsSmall (opening size cell) budget) (λ winner. Wins winner (opening size cell) White))

@@ -1,4 +1,4 @@
--- Going through openings: what is left becomes less, and in the end each has an entry.
+-- Going through openings: what is left becomes less.
 use Rattle.std.proofs.Common.{◌≡◌, ℕ, List, Bool, true, false, sym, ◌∙◌, ◌&&◌, not, ◌⊎◌, ⊎_elim, subst, refl}
 use Rattle.std.proofs.lemmas.Bool.{false≢true}
 use Rattle.hx_board.specs.declared.colours.Colour.{Colour}
@@ -37,19 +37,6 @@ end-proof P seen slots seat (NoSlots refusal) proof is = absurd (false≢true pr
 end-proof P seen slots seat Memory proof is = absurd (false≢true proof)
 
 module _ (size : Extent) (cells : ℕ) (slots : ℕ) where
-  -- the first one was gone through
-  pub through-first : (seen : List Node) (seat : Seat) (end : Ended) (first : ℕ)
-      → IsEndedBy (λ nodes index winner. HasOpening nodes size first) seen slots seat end
-      → IsEndedBy (λ nodes index winner. HasOpeningsBut nodes size cells (remove cells first)) seen slots seat end
-  through-first seen seat end first is =
-      end-weaker (λ nodes index winner. HasOpening nodes size first)
-      (λ nodes index winner. HasOpeningsBut nodes size cells (remove cells first)) seen slots seat end
-      (λ index winner proof there n inside gone. ⊎_elim
-          (λ (e : n ≡ first). subst (λ (k : ℕ). HasOpening seen size k) (sym e) there)
-          (λ (out : has cells n ≡ false). absurd (false≢true (sym out ∙ inside)))
-          (removed_cases cells first n gone))
-      is
-
   -- one more was gone through, after an end by a proof
   pub through-next : (old new : List Node) (before after : Seat) (was end : Ended) (left cell : ℕ) → Extends new old → is_proof was ≡ true
       → IsEndedBy (λ nodes index winner. HasOpeningsBut nodes size cells left) old slots before was
@@ -57,28 +44,11 @@ module _ (size : Extent) (cells : ℕ) (slots : ℕ) where
       → IsEndedBy (λ nodes index winner. HasOpeningsBut nodes size cells (remove left cell)) new slots after end
   through-next old new before after was end left cell more proof had is =
       let earlier : HasOpeningsBut old size cells left =
-          (end-proof (λ nodes index winner. HasOpeningsBut nodes size cells left) old slots before was proof had).2 in
+      (end-proof (λ nodes index winner. HasOpeningsBut nodes size cells left) old slots before was proof had).2 in
       end-weaker (λ nodes index winner. HasOpening nodes size cell)
       (λ nodes index winner. HasOpeningsBut nodes size cells (remove left cell)) new slots after end
       (λ index winner proof there n inside gone. ⊎_elim
-          (λ (e : n ≡ cell). subst (λ (k : ℕ). HasOpening new size k) (sym e) there)
-          (λ (out : has left n ≡ false). opening-later old new size n more (earlier n inside out))
-          (removed_cases left cell n gone))
+      (λ (e : n ≡ cell). subst (λ (k : ℕ). HasOpening new size k) (sym e) there)
+      (λ (out : has left n ≡ false). opening-later old new size n more (earlier n inside out))
+      (removed_cases left cell n gone))
       is
-
-  -- none is left
-  pub through-all : (seen : List Node) (seat : Seat) (end : Ended) (left : ℕ) → ((n : ℕ) → has cells n ≡ true → OnBoard size n)
-      → ((n : ℕ) → OnBoard size n → has left n ≡ false)
-      → IsEndedBy (λ nodes index winner. HasOpeningsBut nodes size cells left) seen slots seat end
-      → IsEndedBy (λ nodes index winner. HasOpeningsOf nodes size cells) seen slots seat end
-  through-all seen seat end left inside none is =
-      end-weaker (λ nodes index winner. HasOpeningsBut nodes size cells left)
-      (λ nodes index winner. HasOpeningsOf nodes size cells) seen slots seat end
-      (λ index winner proof through n member. through n member (none n (inside n member)))
-      is
-
-  -- an end without a proof says the same, whatever the proof would say
-  pub through-none : (P : List Node → ℕ → Colour → Type 0) (seen : List Node) (seat : Seat) (end : Ended) → is_proof end ≡ false
-      → IsEndedBy P seen slots seat end → (Q : List Node → ℕ → Colour → Type 0) → IsEndedBy Q seen slots seat end
-  through-none P seen seat end none is Q =
-      end-weaker P Q seen slots seat end (λ index winner proof said. absurd (false≢true (sym none ∙ proof))) is

@@ -40,10 +40,10 @@ impl Errand for Openings {
     ghost tried = { λ openings. Unit {0} };
 
     ghost stays = { λ openings old new index winner more has cell on. record {
-        board = (has cell on).board;
-        which = (has cell on).which;
-        found = (has cell on).found;
-        first = found-later old new (has cell on).board White (has cell on).found more (has cell on).first;
+      board = (has cell on).board;
+      which = (has cell on).which;
+      found = (has cell on).found;
+      first = found-later old new (has cell on).board White (has cell on).found more (has cell on).first;
     } };
 
     fn run<G: Gate, R: Wait>(

@@ -13,7 +13,7 @@ pub loop-cell-smaller : goal.loop-cell-smaller
 loop-cell-smaller g c =
     let least = c.in-Some-least.ensures in
     let small : c.in-Some-least.cell < 121 =
-        on_board-small c.args.self.now.size c.in-Some-least.cell c.rows-rows.ensures.valid least.on_board in
+    on_board-small c.args.self.now.size c.in-Some-least.cell c.rows-rows.ensures.valid least.on_board in
     rw c.without-left-in-Some-least.ensures.set
     (omega (arith, count_below-remove 128 c.loop-cell.left c.in-Some-least.cell least.member (omega arith)))
 
@@ -23,7 +23,7 @@ loop-cell-preserved g c =
     let done = c.visit-done-in-Some-least.result in
     let before = c.loop-cell.invariant in
     let proof : is_proof c.loop-cell.done.ended ≡ true = search rules in
-    let more = subst (λ (r : Reader). Extends done.book.seen r.seen) c.seats_again-again.ensures.book visit.grew in
+    let more = subst (λ (r : Reader). Extends done.book.seen r.seen) {y = c.loop-cell.done.book} c.seats_again-again.ensures.book visit.grew in
     record {
       book = visit.book;
       counts = visit.counts;

@@ -13,6 +13,6 @@ loop-cell-init c = λ cell h.
 pub loop-cell-smaller : goal.loop-cell-smaller
 loop-cell-smaller c =
     let small : c.in-Some.cell < 121 =
-        on_board-small c.args.self.now.size c.in-Some.cell c.all-left.ensures.valid c.in-Some.ensures.on_board in
+    on_board-small c.args.self.now.size c.in-Some.cell c.all-left.ensures.valid c.in-Some.ensures.on_board in
     rw c.without-left.ensures.set
     (omega (arith, count_below-remove 128 c.loop-cell.left c.in-Some.cell c.in-Some.ensures.member (omega arith)))
