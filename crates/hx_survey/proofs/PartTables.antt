@@ -5,8 +5,8 @@ use Rattle.hx_board.specs.declared.colours.Colour.{Colour}
 use Rattle.hx_board.specs.declared.colours.Colour.TheVariants.{Black, White}
 use Rattle.hx_board.specs.Sets.{has, insert, remove}
 use Rattle.hx_board.specs.Cells.{Extent, OnBoard, IsLeastOn}
-use Rattle.hx_board.proofs.SetLaws.{has-empty, has-insert_cases, has-insert_same, has-insert_other, has-remove_before, has-remove_other, removed}
-use Rattle.hx_board.proofs.SetLaws.{same_test}
+use Rattle.hx_board.proofs.SetLaws.{has-empty, has-insert_cases, has-insert_same, has-insert_other, same_test}
+use Rattle.hx_board.proofs.SetLaws.{has-remove_before, has-remove_other, removed}
 use Rattle.hx_openings.specs.Openings.{WinsOpening}
 use Rattle.hx_survey.specs.Surveys.{winner_at}
 use Rattle.hx_survey.specs.Readings.{marked}

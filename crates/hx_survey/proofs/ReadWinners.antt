@@ -1,6 +1,6 @@
 -- What it is to have no entry of an opening.
-use Rattle.std.proofs.Common.{◌≡◌, ℕ, List, Bool, true, false, refl, sym, subst, ⊎_elim, inl, inr, Option, None, Some}
-use Rattle.std.specs.Prelude.{slice_get, IfSome, IfOk, MatchOption, Result, Ok, Err}
+use Rattle.std.proofs.Common.{◌≡◌, ℕ, List, sym, subst, ⊎_elim, Option, None, Some}
+use Rattle.std.specs.Prelude.{IfOk, MatchOption, Result, Ok, Err}
 use Rattle.hx_board.specs.declared.colours.Colour.{Colour}
 use Rattle.hx_board.specs.declared.colours.Colour.TheVariants.{White}
 use Rattle.hx_board.specs.Cells.{Extent}
@@ -8,11 +8,9 @@ use Rattle.hx_board.specs.Positions.{Board}
 use Rattle.hx_board.specs.Counts.{IsSmall}
 use Rattle.hx_board.specs.Game.{Wins}
 use Rattle.hx_tree.specs.declared.nodes.Node.{Node}
-use Rattle.hx_tree.specs.declared.entries.Found.{Found}
-use Rattle.hx_tree.specs.Entries.{IsEntry, IsFirstFound, HasNoEntry}
+use Rattle.hx_tree.specs.Entries.{HasNoEntry}
 use Rattle.hx_turn.specs.Turned.{IsTurned}
 use Rattle.hx_turn.proofs.TurnedBoards.{turned-one}
-use Rattle.hx_proof.specs.Winners.{AllWin, OnlyWinner}
 use Rattle.hx_openings.specs.Openings.{opening, WinsOpening}
 use Rattle.hx_survey.specs.Surveys.{HasOpening}
 use Rattle.hx_survey.specs.Readings.{IsUnlisted, IsOpen}

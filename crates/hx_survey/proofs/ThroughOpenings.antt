@@ -1,9 +1,9 @@
 -- Going through openings: what is left becomes less.
-use Rattle.std.proofs.Common.{◌≡◌, ℕ, List, Bool, true, false, sym, ◌∙◌, ◌&&◌, not, ◌⊎◌, ⊎_elim, subst, refl}
+use Rattle.std.proofs.Common.{◌≡◌, ℕ, List, true, false, sym, ⊎_elim, subst, refl}
 use Rattle.std.proofs.lemmas.Bool.{false≢true}
 use Rattle.hx_board.specs.declared.colours.Colour.{Colour}
 use Rattle.hx_board.specs.Sets.{has, remove}
-use Rattle.hx_board.specs.Cells.{Extent, OnBoard, IsLeastOn}
+use Rattle.hx_board.specs.Cells.{Extent}
 use Rattle.hx_board.proofs.SetLaws.{removed_cases}
 use Rattle.hx_tree.specs.declared.nodes.Node.{Node}
 use Rattle.hx_tree.specs.Entries.{Extends}
@@ -12,7 +12,7 @@ use Rattle.hx_worker.specs.declared.ended.Ended.{Ended}
 use Rattle.hx_worker.specs.declared.ended.Ended.TheVariants.{Proved, Spent, NoSlots, Memory}
 use Rattle.hx_crew.specs.Seats.{IsEndedBy}
 use Rattle.hx_survey.specs.Ends.{is_proof}
-use Rattle.hx_survey.specs.Surveys.{HasOpening, HasOpeningsOf}
+use Rattle.hx_survey.specs.Surveys.{HasOpening}
 use Rattle.hx_survey.proofs.LaterOpenings.{opening-later}
 
 -- each of these cells that is not left has an opening in the list

@@ -10,7 +10,12 @@ use std::test::Fail;
 use std::thread::Threads;
 
 /// The cells after which Black wins, as the bits of a set.
-fn won_by_black<R: Threads + Wait + Sync>(rt: &R, alloc: Global, rows: u8, cols: u8) -> Option<u128> {
+fn won_by_black<R: Threads + Wait + Sync>(
+    rt: &R,
+    alloc: Global,
+    rows: u8,
+    cols: u8,
+) -> Option<u128> {
     let size = Size::new(rows, cols)?;
     let settings = Settings {
         workers: 1,

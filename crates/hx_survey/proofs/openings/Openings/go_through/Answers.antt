@@ -23,7 +23,8 @@ loop-cell-preserved g c =
     let done = c.visit-done-in-Some-least.result in
     let before = c.loop-cell.invariant in
     let proof : is_proof c.loop-cell.done.ended ≡ true = search rules in
-    let more = subst (λ (r : Reader). Extends done.book.seen r.seen) {y = c.loop-cell.done.book} c.seats_again-again.ensures.book visit.grew in
+    let more =
+    subst (λ (r : Reader). Extends done.book.seen r.seen) {y = c.loop-cell.done.book} c.seats_again-again.ensures.book visit.grew in
     record {
       book = visit.book;
       counts = visit.counts;
@@ -31,7 +32,7 @@ loop-cell-preserved g c =
       inside = λ cell h. before.inside cell (has-remove_before c.loop-cell.left c.in-Some-least.cell cell
           (subst (λ (s : ℕ). has s cell ≡ true) c.without-left-in-Some-least.ensures.set h));
       ended = rw c.without-left-in-Some-least.ensures.set
-          (through-next c.args.self.now.size c.args.cells c.args.bench.now.shared.now.made.slots c.loop-cell.done.book.seen done.book.seen
-          c.loop-cell.done.counts done.counts c.loop-cell.done.ended done.ended c.loop-cell.left c.in-Some-least.cell more proof before.ended
-          visit.ended);
+          (through-next c.args.self.now.size c.args.cells c.args.bench.now.shared.now.made.slots c.loop-cell.done.book.seen
+          done.book.seen c.loop-cell.done.counts done.counts c.loop-cell.done.ended done.ended c.loop-cell.left c.in-Some-least.cell
+          more proof before.ended visit.ended);
     }

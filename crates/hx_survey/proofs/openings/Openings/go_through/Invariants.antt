@@ -1,10 +1,9 @@
 -- Each opening that was gone through has an entry by now, unless the last one was left open.
-use Rattle.std.proofs.Common.{◌≡◌, ℕ, true, false}
+use Rattle.std.proofs.Common.{◌≡◌, ℕ, true}
 use Rattle.hx_board.specs.Sets.{has, count_below}
 use Rattle.hx_count.specs.Machine.{held_in_all}
 use Rattle.hx_count.specs.Seats.{own}
 use Rattle.hx_crew.specs.Seats.{IsEndedBy}
-use Rattle.hx_survey.specs.Surveys.{HasOpening}
 use Rattle.hx_survey.proofs.ThroughOpenings.{HasOpeningsBut}
 use Rattle.hx_survey.proofs.openings.Openings.go_through.Given as goal
 
