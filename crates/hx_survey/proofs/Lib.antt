@@ -1,0 +1,4 @@
+pub mod LaterOpenings
+pub mod ThroughOpenings
+pub mod PartTables
+pub mod ReadWinners

@@ -1,0 +1,4 @@
+pub mod Surveys
+-- ---- words for the functions inside the crate alone
+pub mod Ends
+pub mod Readings
