@@ -19,8 +19,6 @@ mod runs;
 #[cfg(test)]
 mod seats;
 #[cfg(test)]
-mod surveys;
-#[cfg(test)]
 mod turns;
 #[cfg(test)]
 mod waits;
