@@ -6,7 +6,7 @@ use hx_io::{RealGate, StdSink, StdSource};
 use std::alloc::AllocError;
 use std::env::{Env, FillError};
 use std::process::ExitCode;
-use std::str;
+use std::{str, thread};
 
 /// The exit status where memory for the words was wanting.
 const OUT_OF_MEMORY: u8 = 7;
@@ -14,14 +14,21 @@ const OUT_OF_MEMORY: u8 = 7;
 /// No word of a command is longer, in bytes.
 const LONGEST_WORD: usize = 64;
 
+/// The command runs in a thread of its own, and this one only waits. The system gives the first thread its stack where it is written to,
+/// and ends the program by a signal where the address space is used up then; another thread has its stack as a whole, or is not made.
 fn main(rt: HostRuntime) -> ExitCode {
-    let Ok(words) = words(&rt) else {
-        return ExitCode::from(OUT_OF_MEMORY);
+    let command = move || {
+        let Ok(words) = words(&rt) else {
+            return OUT_OF_MEMORY;
+        };
+        let mut source = StdSource::new(rt.stdin());
+        let mut sink = StdSink::new(rt.stdout());
+        run(&rt, rt.alloc(), &words, &mut source, &mut sink, &RealGate).status
     };
-    let mut source = StdSource::new(rt.stdin());
-    let mut sink = StdSink::new(rt.stdout());
-    let finish = run(&rt, rt.alloc(), &words, &mut source, &mut sink, &RealGate);
-    ExitCode::from(finish.status)
+    match thread::spawn(&rt, command) {
+        Ok(child) => ExitCode::from(child.join(&rt)),
+        Err(_) => ExitCode::from(OUT_OF_MEMORY),
+    }
 }
 
 /// The words behind the program's name, which is not looked at: it may be no text. A word that is no text, or a longer
