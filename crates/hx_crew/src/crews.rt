@@ -4,12 +4,11 @@
 //! book and the counts are closed with all seats. Where no thread can be made the work is done on the caller's thread, one worker
 //! after another. The fork and the join take no memory that could be wanting: what a worker gives back lies where its seats lay.
 //!
-//! Where there are several workers the caller's thread only waits. It may be the program's first thread, whose stack the system gives
-//! where it is written to: it would end the program where the stacks of the other threads, each there as a whole, have left no memory.
+//! One of the workers runs in the caller's thread. That should not be a program's first thread, whose stack the system gives where
+//! it is written to: there the system ends the program by a signal once the stacks of the other threads have left no memory.
 
 ghost use Rattle.std.specs.Prelude.{◌≡◌, ◌<◌, length};
 ghost use Rattle.std.specs.List.{All};
-ghost use denote.Param.Send.{IsSync};
 ghost use Rattle.hx_crew.specs.Seats.{IsBefore, IsAfter};
 
 use crate::benches::Bench;
@@ -30,41 +29,8 @@ pub(crate) struct Crew<'a, E> {
 }
 
 impl<E: Errand + Sync> Crew<'_, E> {
-    /// The work of all workers, each at its place. Several have threads of their own, and this one waits for them.
+    /// The work of all workers, each at its place and one of them in this thread.
     pub(crate) fn work_all<G: Gate + Sync, R: Threads + Wait + Sync>(
-        &self,
-        rt: &R,
-        alloc: Global,
-        gate: &G,
-        places: &mut [Place],
-    )
-        requires words { self.now.bench.now.counts.now.limits.words ≡ LOSS_WORDS }
-        requires some { 0 < length places.old }
-        requires before { All (IsBefore self.now.bench.now.shared.now.made self.now.bench.now.counts.now) places.old }
-        ensures len { length places.new ≡ length places.old }
-        ensures after { All
-            (IsAfter (E.proved self.now.errand.now) (E.tried self.now.errand.now)
-            self.now.bench.now.shared.now.made self.now.bench.now.counts.now)
-            places.new }
-    {
-        if places.len() == 1 {
-            self.work_here(rt, alloc, gate, places);
-            return;
-        }
-        let mut all = ||
-            requires { IsSync R.row × IsSync G.row × IsSync E.row
-                × (self.now.bench.now.counts.now.limits.words ≡ LOSS_WORDS) × (0 < length places.now)
-                × All (IsBefore self.now.bench.now.shared.now.made self.now.bench.now.counts.now) places.now }
-            ensures { (length places.exit.now ≡ length places.entry.now) × All
-                (IsAfter (E.proved self.entry.now.errand.now) (E.tried self.entry.now.errand.now)
-                self.entry.now.bench.now.shared.now.made self.entry.now.bench.now.counts.now)
-                places.exit.now }
-        { self.work_here(rt, alloc, gate, places) };
-        thread::join_mut(rt, &mut all, &mut || {});
-    }
-
-    /// The work of all workers, one of them in this thread.
-    fn work_here<G: Gate + Sync, R: Threads + Wait + Sync>(
         &self,
         rt: &R,
         alloc: Global,

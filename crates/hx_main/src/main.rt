@@ -8,7 +8,7 @@ use std::env::{Env, FillError};
 use std::process::ExitCode;
 use std::{str, thread};
 
-/// The exit status where memory for the words was wanting.
+/// The exit status where memory for the words or for the command's thread was wanting.
 const OUT_OF_MEMORY: u8 = 7;
 
 /// No word of a command is longer, in bytes.

@@ -29,8 +29,8 @@ module _ (grammar : List (List ℕ) → Type 0) (lack : (lines : List (List ℕ)
 
   -- the next line is not right
   abbrev pub wrong_is_faulty : (input : List ℕ) (before : List (List ℕ)) (rest text later : List ℕ) (line : ℕ)
-      → input ≡ text_of before ++ rest → line ≡ length before + 1 → Begins grammar before → IsCut 10 rest text later → (Begins grammar (before ++ text ∷ []) → ⊥)
-      → IsFaultyLine grammar input line
+      → input ≡ text_of before ++ rest → line ≡ length before + 1 → Begins grammar before → IsCut 10 rest text later
+      → (Begins grammar (before ++ text ∷ []) → ⊥) → IsFaultyLine grammar input line
   wrong_is_faulty input before rest text later line parts place begins cut other = record {
     before = before;
     rest = rest;
