@@ -1,12 +1,14 @@
 -- The commands of the program.
 use Rattle.std.specs.Prelude.{◌≡◌, ℕ, List, [], ◌∷◌, codes, Bool}
+use Rattle.hx_board.specs.Cells.{Extent}
 use Rattle.hx_settings.specs.declared.settings.Settings.{Settings}
 use Rattle.hx_settings.specs.Settings.{AreSettings}
 use Rattle.hx_words.specs.declared.commands.Command.{Command}
-use Rattle.hx_words.specs.declared.commands.Command.TheVariants.{Check, Solve, Htp, Demo, Play, Template}
+use Rattle.hx_words.specs.declared.commands.Command.TheVariants.{Check, Solve, Htp, Demo, Play, Template, Survey}
 use Rattle.hx_words.specs.Choices.{AreOptions}
 use Rattle.hx_words.specs.Searches.{AreSearchOptions}
 use Rattle.hx_words.specs.Seeds.{SeedAndOptions}
+use Rattle.hx_words.specs.Sizes.{SizeAndOptions}
 
 -- the words are this name and then options that choose the settings
 abbrev pub NameAndOptions : List ℕ → Settings → List (List ℕ) → Type 0
@@ -22,6 +24,10 @@ IsSolve settings plain_tree words =
 abbrev pub IsDemo : ℕ → Settings → List (List ℕ) → Type 0
 IsDemo seed settings words = (rest : List (List ℕ)) × (words ≡ codes "demo" ∷ rest) × SeedAndOptions seed settings rest
 
+-- the words are `survey`, the size of a board and then options
+abbrev pub IsSurvey : Extent → Settings → List (List ℕ) → Type 0
+IsSurvey size settings words = (rest : List (List ℕ)) × (words ≡ codes "survey" ∷ rest) × SizeAndOptions size settings rest
+
 -- the words are this command
 abbrev pub Asks : Command → List (List ℕ) → Type 0
 Asks Check words = words ≡ codes "check" ∷ []
@@ -30,6 +36,7 @@ Asks (Htp settings) words = NameAndOptions (codes "htp") settings words
 Asks (Demo seed settings) words = IsDemo seed settings words
 Asks Play words = words ≡ codes "play" ∷ []
 Asks Template words = words ≡ codes "template" ∷ []
+Asks (Survey size settings) words = IsSurvey size settings words
 
 -- the settings of the command, if it has any, are those that a search may have
 abbrev pub IsWithinLimits : Command → Type 0
@@ -39,3 +46,4 @@ IsWithinLimits (Htp settings) = AreSettings settings
 IsWithinLimits (Demo seed settings) = AreSettings settings
 IsWithinLimits Play = Unit {0}
 IsWithinLimits Template = Unit {0}
+IsWithinLimits (Survey size settings) = AreSettings settings

@@ -4,4 +4,5 @@ pub mod Options
 pub mod Choices
 pub mod Searches
 pub mod Seeds
+pub mod Sizes
 pub mod Commands

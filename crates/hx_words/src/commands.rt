@@ -8,6 +8,8 @@ ghost use Rattle.hx_words.specs.Commands.{Asks, IsWithinLimits};
 use crate::choices::settings_in;
 use crate::searches::search_in;
 use crate::seeds::seed_and_settings_in;
+use crate::sizes::size_and_settings_in;
+use hx_board::Size;
 use hx_settings::Settings;
 
 /// A command of the program, with its settings.
@@ -31,6 +33,11 @@ pub enum Command {
     Play,
     /// Tell whether a template holds.
     Template,
+    /// Tell who wins after each opening of a board of this size.
+    Survey {
+        size: Size,
+        settings: Settings,
+    },
 }
 
 /// The command that the words are. The program's own name is not one of them.
@@ -75,6 +82,10 @@ pub fn command_of(words: &[String]) -> Option<Command>
             } else {
                 None
             }
+        }
+        "survey" => {
+            let (size, settings) = size_and_settings_in(rest)?;
+            Some(Command::Survey { size, settings })
         }
         _ => None,
     }
