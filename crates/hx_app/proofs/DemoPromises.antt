@@ -4,34 +4,26 @@ use Rattle.std.specs.Prelude.{Option}
 use Rattle.std.proofs.lemmas.Bool.{cases_lt}
 use Rattle.hx_io.specs.Sinks.{Writing, SomeWriteFailed, append}
 use Rattle.hx_settings.specs.declared.settings.Settings.{Settings}
-use Rattle.hx_solve.specs.declared.unsolved.Unsolved.{Unsolved}
-use Rattle.hx_solve.specs.declared.unsolved.Unsolved.TheVariants.{Budget, Slots, Memory}
-use Rattle.hx_solve.specs.Causes.{LacksMemory}
-use Rattle.hx_answers.specs.Texts.{out_of_memory_line, unknown_budget_line, unknown_proofs_line}
+use Rattle.hx_answers.specs.Texts.{out_of_memory_line}
 use Rattle.hx_answers.specs.Endings.{IsWritten, Whole, Cut}
 use Rattle.hx_app.specs.declared.demo_answers.DemoAnswer.{DemoAnswer}
-use Rattle.hx_app.specs.declared.demo_answers.DemoAnswer.TheVariants.{Counted, UnknownBudget, UnknownProofs, OutOfMemory}
-use Rattle.hx_app.specs.declared.finishes.Finish.{Finish}
-use Rattle.hx_app.specs.Promises.{SaysUnknown}
-use Rattle.hx_app.specs.DemoAnswers.{enough, counts_line, answer_text, status_of, tally_of, IsDue, SaysWhy}
-use Rattle.hx_app.specs.DemoPromises.{SaysCounts, IsUnlessCutShort, KeepsPromises}
-
--- ---- when an answer is due
+use Rattle.hx_app.specs.declared.demo_answers.DemoAnswer.TheVariants.{Counted, LeftOpen}
+use Rattle.hx_finish.specs.declared.opens.Open.{Open}
+use Rattle.hx_finish.specs.declared.finishes.Finish.{Finish}
+use Rattle.hx_finish.specs.Opens.{open_status}
+use Rattle.hx_finish.specs.Finishes.{SaysUnknown, CountsNoRefusal, IsUnlessCutShort}
+use Rattle.hx_finish.proofs.OpenEnds.{open_unknown, open_memory, open_without_cause, open_status-3_or_7}
+use Rattle.hx_app.specs.DemoAnswers.{enough, counts_line, answer_text, status_of, tally_of, IsDue}
+use Rattle.hx_app.specs.DemoPromises.{SaysCounts, KeepsPromises}
 
 -- what is left open is so only with a lower budget
-low : (budget : ℕ) → (enough ≤ budget → ⊥) → budget < enough
-low budget not_enough = ⊎_elim (λ less. less) (λ some. absurd (not_enough some)) (cases_lt budget enough)
+pub low_budget : (budget : ℕ) → (enough ≤ budget → ⊥) → budget < enough
+low_budget budget not_enough = ⊎_elim (λ less. less) (λ some. absurd (not_enough some)) (cases_lt budget enough)
 
-due_is : (seed : ℕ) (settings : Settings) (answer is : DemoAnswer) → answer ≡ is → IsDue seed settings is → IsDue seed settings answer
-due_is seed settings answer is same due = subst (IsDue seed settings) (sym same) due
-
-pub open_due : (seed : ℕ) (settings : Settings) (why : Unsolved) (answer : DemoAnswer) → SaysWhy settings why answer
-    → (enough ≤ settings.budget → LacksMemory why) → IsDue seed settings answer
-open_due seed settings (Budget taken) answer says small =
-    due_is seed settings answer (UnknownBudget settings.budget) says (refl, low settings.budget small)
-open_due seed settings (Slots refusal) answer says small =
-    due_is seed settings answer (UnknownProofs settings.slots) says (refl, low settings.budget small)
-open_due seed settings Memory answer says small = due_is seed settings answer OutOfMemory says tt
+-- what is left open has the status 3 or 7
+open_not : (open : Open) (status : ℕ) → (3 ≡ status → ⊥) → (7 ≡ status → ⊥) → open_status open ≡ status → ⊥
+open_not open status not_3 not_7 is =
+    ⊎_elim (λ three. not_3 (sym three ∙ is)) (λ seven. not_7 (sym seven ∙ is)) (open_status-3_or_7 open)
 
 -- ---- what is promised
 
@@ -43,55 +35,38 @@ module _ (seed : ℕ) (settings : Settings) (before now : Option (List ℕ)) whe
     counts = due.1;
     output = written ∙ ap (λ (n : ℕ). append before (counts_line n wins)) due.0;
   }
-  counted_of (UnknownBudget budget) zero due written = absurd (omega arith)
-  counted_of (UnknownProofs slots) zero due written = absurd (omega arith)
-  counted_of OutOfMemory zero due written = absurd (omega arith)
+  counted_of (LeftOpen open) zero due written = absurd (open_not open 0 (λ e. omega (arith, e)) (λ e. omega (arith, e)) zero)
 
   no_refusal_of : (answer : DemoAnswer) (finish : Finish) → status_of answer ≡ 0 → finish.tally ≡ tally_of settings answer
-      → (finish.tally.budgets ≡ 0) × (finish.tally.proofs ≡ 0)
+      → CountsNoRefusal finish.tally
   no_refusal_of (Counted number wins) finish zero counted = (rw counted refl, rw counted refl)
-  no_refusal_of (UnknownBudget budget) finish zero counted = absurd (omega arith)
-  no_refusal_of (UnknownProofs slots) finish zero counted = absurd (omega arith)
-  no_refusal_of OutOfMemory finish zero counted = absurd (omega arith)
+  no_refusal_of (LeftOpen open) finish zero counted = absurd (open_not open 0 (λ e. omega (arith, e)) (λ e. omega (arith, e)) zero)
 
   solved_of : (answer : DemoAnswer) → enough ≤ settings.budget → IsDue seed settings answer → IsUnlessCutShort (status_of answer) 0
   solved_of (Counted number wins) some due = inl refl
-  solved_of (UnknownBudget budget) some due = absurd (omega (arith, some, due.1))
-  solved_of (UnknownProofs slots) some due = absurd (omega (arith, some, due.1))
-  solved_of OutOfMemory some due = inr (inr refl)
+  solved_of (LeftOpen open) some due =
+      inr (inr (open_without_cause settings (settings.budget < enough) open (λ less. omega (arith, some, less)) due))
 
   unknown_of : (answer : DemoAnswer) (finish : Finish) → status_of answer ≡ 3 → IsDue seed settings answer
       → now ≡ append before (answer_text answer) → finish.tally ≡ tally_of settings answer
       → (settings.budget < enough) × SaysUnknown settings before now finish.tally
-  unknown_of (Counted number wins) finish three due written counted = absurd (omega arith)
-  unknown_of (UnknownBudget budget) finish three due written counted = (
-    due.1,
-    inl (written ∙ ap (λ (n : ℕ). append before (unknown_budget_line n)) due.0, rw counted refl),
-  )
-  unknown_of (UnknownProofs slots) finish three due written counted = (
-    due.1,
-    inr (written ∙ ap (λ (n : ℕ). append before (unknown_proofs_line n)) due.0, rw counted refl),
-  )
-  unknown_of OutOfMemory finish three due written counted = absurd (omega arith)
+  unknown_of (Counted number wins) finish three due written counted = absurd (omega (arith, three))
+  unknown_of (LeftOpen open) finish three due written counted =
+      open_unknown settings (settings.budget < enough) before now finish.tally open three due written counted
 
-  memory_of : (answer : DemoAnswer) → status_of answer ≡ 7 → now ≡ append before (answer_text answer)
+  memory_of : (answer : DemoAnswer) (finish : Finish) → status_of answer ≡ 7 → now ≡ append before (answer_text answer)
       → now ≡ append before out_of_memory_line
-  memory_of (Counted number wins) seven written = absurd (omega arith)
-  memory_of (UnknownBudget budget) seven written = absurd (omega arith)
-  memory_of (UnknownProofs slots) seven written = absurd (omega arith)
-  memory_of OutOfMemory seven written = written
+  memory_of (Counted number wins) finish seven written = absurd (omega (arith, seven))
+  memory_of (LeftOpen open) finish seven written =
+      open_memory settings (settings.budget < enough) before now finish.tally open seven written
 
 status_not_6 : (answer : DemoAnswer) → status_of answer ≡ 6 → ⊥
-status_not_6 (Counted number wins) six = omega arith
-status_not_6 (UnknownBudget budget) six = omega arith
-status_not_6 (UnknownProofs slots) six = omega arith
-status_not_6 OutOfMemory six = omega arith
+status_not_6 (Counted number wins) six = omega (arith, six)
+status_not_6 (LeftOpen open) six = open_not open 6 (λ e. omega (arith, e)) (λ e. omega (arith, e)) six
 
 status_of_demo : (answer : DemoAnswer) → (status_of answer ≡ 3) ⊎ IsUnlessCutShort (status_of answer) 0
 status_of_demo (Counted number wins) = inr (inl refl)
-status_of_demo (UnknownBudget budget) = inl refl
-status_of_demo (UnknownProofs slots) = inl refl
-status_of_demo OutOfMemory = inr (inr (inr refl))
+status_of_demo (LeftOpen open) = ⊎_elim (λ three. inl three) (λ seven. inr (inr (inr seven))) (open_status-3_or_7 open)
 
 module _ (seed : ℕ) (settings : Settings) (sink sink_now : Writing) (answer : DemoAnswer) (finish : Finish) where
   kept_whole : IsDue seed settings answer → finish.tally ≡ tally_of settings answer → finish.status ≡ status_of answer
@@ -101,7 +76,7 @@ module _ (seed : ℕ) (settings : Settings) (sink sink_now : Writing) (answer : 
     no_refusal = λ zero. no_refusal_of seed settings sink.taken sink_now.taken answer finish (sym same ∙ zero) counted;
     solved = λ some. rw same (solved_of seed settings sink.taken sink_now.taken answer some due);
     unknown = λ three. unknown_of seed settings sink.taken sink_now.taken answer finish (sym same ∙ three) due written counted;
-    memory = λ seven. memory_of seed settings sink.taken sink_now.taken answer (sym same ∙ seven) written;
+    memory = λ seven. memory_of seed settings sink.taken sink_now.taken answer finish (sym same ∙ seven) written;
     write_fault = λ six. absurd (status_not_6 answer (sym same ∙ six));
     none_else = rw same (status_of_demo answer);
   }

@@ -18,13 +18,14 @@ use Rattle.hx_check.proofs.KeptPromises.{of_any}
 use Rattle.hx_app.specs.declared.answers.Answer.{Answer}
 use Rattle.hx_app.specs.declared.answers.Answer.TheVariants.{Solved, UnknownBudget, UnknownProofs, BadPosition, ReadFault, OutOfMemory}
 use Rattle.hx_app.specs.declared.answers.Answer.TheVariants.{TooLong}
-use Rattle.hx_app.specs.declared.finishes.Finish.{Finish}
+use Rattle.hx_finish.specs.declared.finishes.Finish.{Finish}
 use Rattle.hx_app.specs.declared.solutions.Solution.{Solution}
 use Rattle.hx_app.specs.Limits.{most_bytes}
 use Rattle.hx_app.specs.Positions.{IsSmallPosition, IsOpenPosition, IsPositionWithoutChain, IsNoPosition, IsBadPosition}
 use Rattle.hx_app.specs.Answers.{IsSolved, IsDue, IsSolveStatus, preamble_of, answer_text, solution_text, bad_position_line, status_of}
 use Rattle.hx_app.specs.Answers.{tally_of}
-use Rattle.hx_app.specs.Promises.{SaysSolved, SaysUnknown, KeepsPromises}
+use Rattle.hx_finish.specs.Finishes.{SaysUnknown}
+use Rattle.hx_app.specs.Promises.{SaysSolved, KeepsPromises}
 use Rattle.hx_app.proofs.PlainTexts.{plain_first_version}
 use Rattle.hx_app.proofs.Positions.{small_not_open, not_bad, position_text_short}
 use Rattle.std.proofs.lemmas.Option.{IfSome_then}

@@ -3,7 +3,7 @@ use Rattle.std.proofs.Common.{◌≡◌, ℕ, List, sym, subst}
 use Rattle.hx_io.specs.Sources.{Reading}
 use Rattle.hx_io.specs.Sinks.{Writing}
 use Rattle.hx_words.specs.declared.commands.Command.{Command}
-use Rattle.hx_words.specs.declared.commands.Command.TheVariants.{Check, Solve, Htp, Demo, Play, Template}
+use Rattle.hx_words.specs.declared.commands.Command.TheVariants.{Check, Solve, Htp, Demo, Play, Template, Survey}
 use Rattle.hx_words.specs.Commands.{Asks}
 use Rattle.hx_words.proofs.CommandWords.{Asks-one}
 use Rattle.hx_check.specs.Judgements.{IsCheckRun}
@@ -12,10 +12,11 @@ use Rattle.hx_match.specs.Runs.{IsPlayRun}
 use Rattle.hx_match.specs.Promises.{KeepsPromises as PlaysAsPromised}
 use Rattle.hx_claim.specs.Claims.{IsTemplateRun}
 use Rattle.hx_claim.specs.Promises.{KeepsPromises as DecidesAsPromised}
-use Rattle.hx_app.specs.declared.finishes.Finish.{Finish}
+use Rattle.hx_finish.specs.declared.finishes.Finish.{Finish}
 use Rattle.hx_app.specs.Promises.{KeepsPromises as SolvesAsPromised}
 use Rattle.hx_app.specs.Sessions.{KeepsPromises as ServesAsPromised}
 use Rattle.hx_app.specs.DemoPromises.{KeepsPromises as DrawsAsPromised}
+use Rattle.hx_chart.specs.Promises.{KeepsPromises as TabulatesAsPromised}
 use Rattle.hx_app.specs.Runs.{IsRun, Checked, Played, Decided, CountsNothing}
 
 module _ (words : List (List ℕ)) (source source_now : Reading) (sink sink_now : Writing) where
@@ -42,6 +43,7 @@ module _ (words : List (List ℕ)) (source source_now : Reading) (sink sink_now 
   Promises finish (Demo seed settings) = DrawsAsPromised seed settings sink sink_now finish
   Promises finish Play = PlaysAsPromised source source_now sink sink_now finish.status
   Promises finish Template = DecidesAsPromised source source_now sink sink_now finish.status
+  Promises finish (Survey size settings) = TabulatesAsPromised size settings sink sink_now finish
 
   -- words that are this command and also that one are one command, so what is promised of the one is promised of the other
   pub kept : (finish : Finish) (own other : Command) → Asks own words → Asks other words → Promises finish own

@@ -14,7 +14,7 @@ use Rattle.hx_lines.specs.declared.ended.Ended.{Ended}
 use Rattle.hx_lines.specs.declared.ended.Ended.TheVariants.{Stopped, Over, ReadFault, WriteFault, TooLong}
 use Rattle.hx_serve.specs.Serving.{Ends, IsDone, IsTooLong, IsWithinLimits}
 use Rattle.hx_check.proofs.KeptPromises.{of_any}
-use Rattle.hx_app.specs.declared.finishes.Finish.{Finish}
+use Rattle.hx_finish.specs.declared.finishes.Finish.{Finish}
 use Rattle.hx_app.specs.Sessions.{account_of, start_of, status_of_end, EndHasCause, IsSessionRun, EachRunNamesWinners, EachRunIsCounted}
 use Rattle.hx_app.specs.Sessions.{KeepsPromises}
 use Rattle.std.proofs.lemmas.Option.{IfSome_then}

@@ -25,7 +25,7 @@ use Rattle.hx_answers.specs.Endings.{IsWritten, IsReadToEnd}
 use Rattle.hx_app.specs.declared.answers.Answer.{Answer}
 use Rattle.hx_app.specs.declared.answers.Answer.TheVariants.{Solved, UnknownBudget, UnknownProofs, BadPosition}
 use Rattle.hx_app.specs.declared.answers.Answer.TheVariants.{ReadFault, OutOfMemory, TooLong}
-use Rattle.hx_app.specs.declared.finishes.Finish.{Finish}
+use Rattle.hx_finish.specs.declared.finishes.Finish.{Finish}
 use Rattle.hx_app.specs.declared.solutions.Solution.{Solution}
 use Rattle.hx_app.specs.Limits.{most_bytes}
 use Rattle.hx_app.specs.Positions.{IsPositionText, IsOpenPosition, IsPositionWithoutChain, IsBadPosition}

@@ -7,17 +7,14 @@ use Rattle.hx_board.specs.Positions.{Board}
 use Rattle.hx_demo.specs.Draws.{first_positions}
 use Rattle.hx_demo.specs.WinCounts.{WinsSoMany}
 use Rattle.hx_settings.specs.declared.settings.Settings.{Settings}
-use Rattle.hx_solve.specs.declared.unsolved.Unsolved.{Unsolved}
-use Rattle.hx_solve.specs.declared.unsolved.Unsolved.TheVariants.{Budget, Slots, Memory}
-use Rattle.hx_solve.specs.Tallies.{Tallied, tallied}
-use Rattle.hx_answers.specs.Texts.{numbered_text, counted_text, out_of_memory_line, unknown_budget_line}
-use Rattle.hx_answers.specs.Texts.{unknown_proofs_line}
+use Rattle.hx_solve.specs.Tallies.{Tallied}
+use Rattle.hx_answers.specs.Texts.{numbered_text, counted_text}
 use Rattle.hx_answers.specs.Endings.{IsWritten}
 use Rattle.hx_app.specs.declared.demo_answers.DemoAnswer.{DemoAnswer}
-use Rattle.hx_app.specs.declared.demo_answers.DemoAnswer.TheVariants.{Counted, UnknownBudget, UnknownProofs}
-use Rattle.hx_app.specs.declared.demo_answers.DemoAnswer.TheVariants.{OutOfMemory}
+use Rattle.hx_app.specs.declared.demo_answers.DemoAnswer.TheVariants.{Counted, LeftOpen}
 use Rattle.hx_app.specs.declared.demo_answers.WinCounts.{WinCounts}
-use Rattle.hx_app.specs.declared.finishes.Finish.{Finish}
+use Rattle.hx_finish.specs.declared.finishes.Finish.{Finish}
+use Rattle.hx_finish.specs.Opens.{open_text, open_status, open_tally, no_refusal, IsOpenWhere}
 
 -- how many positions are drawn
 abbrev pub positions : ℕ
@@ -40,23 +37,17 @@ counts_line seed wins = draws_text seed ++ wins_text wins ++ counted_text (codes
 -- what is written for each answer
 abbrev pub answer_text : DemoAnswer → List ℕ
 answer_text (Counted seed wins) = counts_line seed wins
-answer_text (UnknownBudget budget) = unknown_budget_line budget
-answer_text (UnknownProofs slots) = unknown_proofs_line slots
-answer_text OutOfMemory = out_of_memory_line
+answer_text (LeftOpen open) = open_text open
 
 -- the exit status that tells each answer, where it was written whole
 abbrev pub status_of : DemoAnswer → ℕ
 status_of (Counted seed wins) = 0
-status_of (UnknownBudget budget) = 3
-status_of (UnknownProofs slots) = 3
-status_of OutOfMemory = 7
+status_of (LeftOpen open) = open_status open
 
--- the refusals that stand behind each answer: of a unit, of a slot, or none
+-- the refusals that stand behind each answer
 abbrev pub tally_of : Settings → DemoAnswer → Tallied
-tally_of settings (Counted seed wins) = tallied settings.budget settings.slots 0 0
-tally_of settings (UnknownBudget budget) = tallied settings.budget settings.slots 1 0
-tally_of settings (UnknownProofs slots) = tallied settings.budget settings.slots 0 1
-tally_of settings OutOfMemory = tallied settings.budget settings.slots 0 0
+tally_of settings (Counted seed wins) = no_refusal settings
+tally_of settings (LeftOpen open) = open_tally settings open
 
 -- of these positions each player wins so many in the game tree, with Black to move, and one player wins each
 pub record AreCounts (boards : List Board) (wins : WinCounts) (count : ℕ) : Type 0 where
@@ -67,9 +58,7 @@ pub record AreCounts (boards : List Board) (wins : WinCounts) (count : ℕ) : Ty
 -- when each answer comes
 abbrev pub IsDue : ℕ → Settings → DemoAnswer → Type 0
 IsDue seed settings (Counted number wins) = (number ≡ seed) × AreCounts (first_positions positions seed) wins positions
-IsDue seed settings (UnknownBudget budget) = (budget ≡ settings.budget) × (settings.budget < enough)
-IsDue seed settings (UnknownProofs slots) = (slots ≡ settings.slots) × (settings.budget < enough)
-IsDue seed settings OutOfMemory = Unit {0}
+IsDue seed settings (LeftOpen open) = IsOpenWhere settings (settings.budget < enough) open
 
 -- A run of `demo`: some answer is due, it was written, and the tally has the refusals behind it.
 pub record IsDemoRun (seed : ℕ) (settings : Settings) (sink sink_now : Writing) (finish : Finish) : Type 0 where
@@ -84,9 +73,3 @@ pub record IsDemoRun (seed : ℕ) (settings : Settings) (sink sink_now : Writing
 abbrev pub one_win_more : Colour → WinCounts → WinCounts
 one_win_more Black wins = record wins { black = wins.black + 1 }
 one_win_more White wins = record wins { white = wins.white + 1 }
-
--- the answer to a refusal of a unit or of a slot, or to want of memory
-abbrev pub SaysWhy : Settings → Unsolved → DemoAnswer → Type 0
-SaysWhy settings (Budget taken) answer = answer ≡ UnknownBudget settings.budget
-SaysWhy settings (Slots refusal) answer = answer ≡ UnknownProofs settings.slots
-SaysWhy settings Memory answer = answer ≡ OutOfMemory

@@ -5,8 +5,8 @@ use Rattle.hx_demo.specs.Draws.{first_positions}
 use Rattle.hx_settings.specs.declared.settings.Settings.{Settings}
 use Rattle.hx_answers.specs.Texts.{out_of_memory_line}
 use Rattle.hx_app.specs.declared.demo_answers.WinCounts.{WinCounts}
-use Rattle.hx_app.specs.declared.finishes.Finish.{Finish}
-use Rattle.hx_app.specs.Promises.{SaysUnknown}
+use Rattle.hx_finish.specs.declared.finishes.Finish.{Finish}
+use Rattle.hx_finish.specs.Finishes.{SaysUnknown, CountsNoRefusal, IsUnlessCutShort}
 use Rattle.hx_app.specs.DemoAnswers.{positions, enough, counts_line, AreCounts}
 
 -- The output is the line of these counts: of the first 200 positions that the seed draws each player wins so many in
@@ -16,16 +16,12 @@ pub record SaysCounts (seed : ℕ) (before now : Option (List ℕ)) : Type 0 whe
   pub counts : AreCounts (first_positions positions seed) wins positions
   pub output : now ≡ append before (counts_line seed wins)
 
--- this status, unless the sink failed or memory was wanting
-abbrev pub IsUnlessCutShort : ℕ → ℕ → Type 0
-IsUnlessCutShort status wanted = (status ≡ wanted) ⊎ ((status ≡ 6) ⊎ (status ≡ 7))
-
 -- The promises of `demo` with its seed and settings, by how far was written to its sink before and is now, and how it
 -- ended.
 pub record KeepsPromises (seed : ℕ) (settings : Settings) (sink sink_now : Writing) (finish : Finish) : Type 0 where
   -- with status 0 the output is the line of the true counts, and no refusal was counted
   pub counted : finish.status ≡ 0 → SaysCounts seed sink.taken sink_now.taken
-  pub no_refusal : finish.status ≡ 0 → (finish.tally.budgets ≡ 0) × (finish.tally.proofs ≡ 0)
+  pub no_refusal : finish.status ≡ 0 → CountsNoRefusal finish.tally
   -- with a budget of at least 986,410 units it ends so, whatever the other options
   pub solved : enough ≤ settings.budget → IsUnlessCutShort finish.status 0
   -- 3 comes only with a lower budget, and only where a refusal was counted, of a unit of the budget or of one of the

@@ -13,13 +13,12 @@ use Rattle.hx_text.specs.TreeTexts.{IsTreeText}
 use Rattle.hx_text.specs.Lengths.{most_nodes}
 use Rattle.hx_proof.specs.Winners.{OnlyWinner}
 use Rattle.hx_settings.specs.declared.settings.Settings.{Settings}
-use Rattle.hx_solve.specs.Tallies.{Tallied}
 use Rattle.hx_answers.specs.Endings.{IsUnlessStopped, AnswersUnlessStopped, IsReadToEnd}
-use Rattle.hx_app.specs.declared.finishes.Finish.{Finish}
+use Rattle.hx_finish.specs.declared.finishes.Finish.{Finish}
+use Rattle.hx_finish.specs.Finishes.{SaysUnknown}
 use Rattle.hx_app.specs.Limits.{most_bytes}
 use Rattle.hx_app.specs.Positions.{IsPositionText, IsSmallPosition, IsOpenPosition, IsPositionWithoutChain}
 use Rattle.hx_app.specs.Positions.{IsNoPosition, IsBadPosition}
-use Rattle.hx_answers.specs.Texts.{unknown_budget_line, unknown_proofs_line}
 use Rattle.hx_app.specs.Answers.{IsSolveStatus, bad_position_line}
 
 -- The input is the text of a position, the output is the text of a valid tree of that position and mover, and the
@@ -43,13 +42,6 @@ pub record SaysSolved (plain_tree : Bool) (input : List ℕ) (taken_before taken
   pub first_version : plain_tree ≡ true → is_text.preamble.version ≡ One
   pub output : taken_now ≡ append taken_before tree
   pub wins : OnlyWinner root.heading
-
--- the output names the budget, and the refusal of a unit was counted once; or it names the slots, and the refusal of a
--- slot was
-abbrev pub SaysUnknown : Settings → Option (List ℕ) → Option (List ℕ) → Tallied → Type 0
-SaysUnknown settings before now tally =
-    ((now ≡ append before (unknown_budget_line settings.budget)) × (tally.budgets ≡ 1))
-    ⊎ ((now ≡ append before (unknown_proofs_line settings.slots)) × (tally.proofs ≡ 1))
 
 -- The promises of `solve` with its settings, and whether the tree is to be plain, by how far its source was read before
 -- and is now, how far was written to its sink, and how it ended. What is said of an input is said of sources that tell

@@ -2,16 +2,18 @@
 use Rattle.std.specs.Prelude.{◌≡◌, ℕ, List, codes, Bool}
 use Rattle.hx_io.specs.Sources.{Reading}
 use Rattle.hx_io.specs.Sinks.{Writing}
+use Rattle.hx_board.specs.Cells.{Extent}
 use Rattle.hx_settings.specs.declared.settings.Settings.{Settings}
 use Rattle.hx_solve.specs.Tallies.{tallied}
 use Rattle.hx_words.specs.declared.commands.Command.{Command}
-use Rattle.hx_words.specs.declared.commands.Command.TheVariants.{Check, Solve, Htp, Demo, Play, Template}
+use Rattle.hx_words.specs.declared.commands.Command.TheVariants.{Check, Solve, Htp, Demo, Play, Template, Survey}
 use Rattle.hx_words.specs.Commands.{Asks}
 use Rattle.hx_answers.specs.Endings.{IsWritten}
 use Rattle.hx_check.specs.Judgements.{IsCheckRun}
 use Rattle.hx_match.specs.Runs.{IsPlayRun}
 use Rattle.hx_claim.specs.Claims.{IsTemplateRun}
-use Rattle.hx_app.specs.declared.finishes.Finish.{Finish}
+use Rattle.hx_chart.specs.Answers.{IsSurveyRun}
+use Rattle.hx_finish.specs.declared.finishes.Finish.{Finish}
 use Rattle.hx_app.specs.Answers.{IsSolveRun}
 use Rattle.hx_app.specs.Sessions.{IsSessionRun}
 use Rattle.hx_app.specs.DemoAnswers.{IsDemoRun}
@@ -37,6 +39,10 @@ IsPlay words = Asks Play words
 abbrev pub IsClaim : List (List ℕ) → Type 0
 IsClaim words = Asks Template words
 
+-- the words are `survey` with the size of a board and these settings
+abbrev pub IsTabled : Extent → Settings → List (List ℕ) → Type 0
+IsTabled size settings words = Asks (Survey size settings) words
+
 -- the words are a command
 abbrev pub IsCommand : List (List ℕ) → Type 0
 IsCommand words = (command : Command) × Asks command words
@@ -50,7 +56,7 @@ abbrev pub CountsNothing : Finish → Type 0
 CountsNothing finish = finish.tally ≡ tallied 0 0 0 0
 
 -- A run: words that are no command are told so, and then the source is left as it was; or they are one, and it ran.
--- `demo` leaves the source as it was too.
+-- `demo` and `survey` leave the source as it was too.
 pub data IsRun (words : List (List ℕ)) (source source_now : Reading) (sink sink_now : Writing)
     (finish : Finish) : Type 0 where
   Refused : (IsCommand words → ⊥) → source_now.left ≡ source.left → CountsNothing finish
@@ -73,4 +79,7 @@ pub data IsRun (words : List (List ℕ)) (source source_now : Reading) (sink sin
       → IsRun words source source_now sink sink_now finish
   Decided : IsClaim words → CountsNothing finish
       → IsTemplateRun source source_now sink sink_now finish.status
+      → IsRun words source source_now sink sink_now finish
+  Tabled : (size : Extent) (settings : Settings) → IsTabled size settings words → source_now.left ≡ source.left
+      → IsSurveyRun size settings sink sink_now finish
       → IsRun words source source_now sink sink_now finish

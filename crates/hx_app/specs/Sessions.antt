@@ -16,7 +16,7 @@ use Rattle.hx_lines.specs.declared.ended.Ended.{Ended}
 use Rattle.hx_lines.specs.declared.ended.Ended.TheVariants.{Stopped, Over, ReadFault, WriteFault, TooLong}
 use Rattle.hx_lines.specs.Services.{most_lines}
 use Rattle.hx_serve.specs.Serving.{Ends, IsDone, IsReadFault, IsTooLong, IsWriteFault, IsWithinLimits}
-use Rattle.hx_app.specs.declared.finishes.Finish.{Finish}
+use Rattle.hx_finish.specs.declared.finishes.Finish.{Finish}
 
 -- what a tally tells of the questions of a session
 abbrev pub account_of : Tallied → Account

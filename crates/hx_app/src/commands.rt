@@ -2,6 +2,7 @@
 
 ghost use Rattle.std.specs.Prelude.{◌≡◌, ◌⊎◌, ℕ, Bool};
 ghost use Rattle.hx_io.specs.Sinks.{SomeWriteFailed};
+ghost use Rattle.hx_board.specs.Cells.{Extent};
 ghost use Rattle.hx_settings.specs.declared.settings.Settings.{Settings as Bounds};
 ghost use Rattle.hx_words.specs.Words.{words_of};
 ghost use Rattle.hx_answers.specs.Endings.{IsWritten};
@@ -11,15 +12,17 @@ ghost use Rattle.hx_claim.specs.Promises.{KeepsPromises as DecidesAsPromised};
 ghost use Rattle.hx_app.specs.Promises.{KeepsPromises as SolvesAsPromised};
 ghost use Rattle.hx_app.specs.Sessions.{KeepsPromises as ServesAsPromised};
 ghost use Rattle.hx_app.specs.DemoPromises.{KeepsPromises as DrawsAsPromised};
-ghost use Rattle.hx_app.specs.Runs.{IsCheck, IsSolve, IsSession, IsDraw, IsPlay, IsClaim, IsCommand, IsRun, CountsNothing, bad_words_line};
+ghost use Rattle.hx_chart.specs.Promises.{KeepsPromises as TabulatesAsPromised};
+ghost use Rattle.hx_app.specs.Runs.{IsCheck, IsSolve, IsSession, IsDraw, IsPlay, IsClaim, IsTabled, IsCommand, IsRun, CountsNothing, bad_words_line};
 
 use crate::demos::run_demo;
-use crate::finishes::Finish;
 use crate::sessions::run_session;
 use crate::solving::run_solve;
 use hx_answers::WRITE_FAULT;
+use hx_chart::run_survey;
 use hx_check::run_check;
 use hx_claim::run_template;
+use hx_finish::Finish;
 use hx_io::{Failed, Gate, Sink, Source, write_all};
 use hx_match::run_play;
 use hx_solve::Tally;
@@ -40,7 +43,8 @@ const BAD_WORDS: u8 = 2;
 /// workers have the gate that holds nobody back. `demo` reads nothing: it draws positions with a seed, solves them, checks
 /// their trees and writes how many each player wins; its workers call the gate, and it may wait for them. `play` reads the
 /// text of a tree of plain nodes, and then plays by it, for its winner, against the moves that follow. `template` reads the
-/// text of a template and writes whether its owner can join the two ends.
+/// text of a template and writes whether its owner can join the two ends. `survey` reads nothing: it finds who wins after each
+/// opening of a board, and writes it as a table; its workers call the gate, and it may wait for them.
 pub fn run<S: Source, K: Sink, G: Gate + Sync, R: Threads + Wait + Sync>(
     rt: &R,
     alloc: Global,
@@ -98,8 +102,16 @@ pub fn run<S: Source, K: Sink, G: Gate + Sync, R: Threads + Wait + Sync>(
         (S.reading source.old) (S.reading source.new)
         (K.writing sink.old) (K.writing sink.new) result.status }
 
-    // `demo` reads nothing.
+    // `survey` keeps its promises: with status 0 the output is the table of who wins after each opening; `unknown` comes only where
+    // not each opening is small, and only where a refusal of a unit or of a slot was counted.
+    ensures survey { (size : Extent) (settings : Bounds) → IsTabled size settings (words_of words.now)
+        → TabulatesAsPromised size settings
+        (K.writing sink.old) (K.writing sink.new) result }
+
+    // `demo` and `survey` read nothing.
     ensures unread { (seed : ℕ) (settings : Bounds) → IsDraw seed settings (words_of words.now)
+        → source.new ≡ source.old }
+    ensures unread_by_survey { (size : Extent) (settings : Bounds) → IsTabled size settings (words_of words.now)
         → source.new ≡ source.old }
 
     // Whatever the words, the status of a failed write has its cause.
@@ -122,6 +134,9 @@ pub fn run<S: Source, K: Sink, G: Gate + Sync, R: Threads + Wait + Sync>(
         Some(Command::Demo { seed, settings }) => run_demo(rt, alloc, seed, settings, sink, gate),
         Some(Command::Play) => uncounted(run_play(alloc, source, sink)),
         Some(Command::Template) => uncounted(run_template(alloc, source, sink)),
+        Some(Command::Survey { size, settings }) => {
+            run_survey(rt, alloc, size, settings, sink, gate)
+        }
         None => uncounted(refuse(sink)),
     }
 }

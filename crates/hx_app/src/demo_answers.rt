@@ -4,10 +4,8 @@ ghost use Rattle.std.specs.Prelude.{◌≡◌};
 ghost use Rattle.hx_io.specs.Sinks.{WritesAll};
 ghost use Rattle.hx_app.specs.DemoAnswers.{status_of, answer_text, draws_text, wins_text, counts_line};
 
-use hx_answers::{
-    OUT_OF_MEMORY, UNKNOWN, write_counted, write_numbered, write_out_of_memory,
-    write_unknown_budget, write_unknown_proofs,
-};
+use hx_answers::{write_counted, write_numbered};
+use hx_finish::{Open, write_open};
 use hx_io::{Failed, Sink};
 
 /// How many positions are drawn.
@@ -25,12 +23,8 @@ pub struct WinCounts {
 pub enum DemoAnswer {
     /// Each position that the seed draws was solved, and its tree was accepted.
     Counted { seed: u64, wins: WinCounts },
-    /// The search for one of the positions used up a budget of so many units.
-    UnknownBudget { budget: u64 },
-    /// It used up so many slots for proofs.
-    UnknownProofs { slots: u32 },
-    /// There was not enough memory.
-    OutOfMemory,
+    /// One of the positions was left open.
+    LeftOpen(Open),
 }
 
 impl DemoAnswer {
@@ -40,8 +34,7 @@ impl DemoAnswer {
     {
         match self {
             DemoAnswer::Counted { .. } => 0,
-            DemoAnswer::UnknownBudget { .. } | DemoAnswer::UnknownProofs { .. } => UNKNOWN,
-            DemoAnswer::OutOfMemory => OUT_OF_MEMORY,
+            DemoAnswer::LeftOpen(open) => open.status(),
         }
     }
 }
@@ -52,9 +45,7 @@ pub(crate) fn write_demo_answer<K: Sink>(sink: &mut K, answer: &DemoAnswer) -> R
 {
     match answer {
         DemoAnswer::Counted { seed, wins } => write_counts(sink, *seed, wins),
-        DemoAnswer::UnknownBudget { budget } => write_unknown_budget(sink, *budget),
-        DemoAnswer::UnknownProofs { slots } => write_unknown_proofs(sink, *slots),
-        DemoAnswer::OutOfMemory => write_out_of_memory(sink),
+        DemoAnswer::LeftOpen(open) => write_open(sink, *open),
     }
 }
 

@@ -8,15 +8,15 @@ ghost use Rattle.hx_settings.specs.Settings.{AreSettings};
 ghost use Rattle.hx_solve.specs.Causes.{HasCause, LacksMemory};
 ghost use Rattle.hx_answers.specs.Endings.{IsWritten};
 ghost use Rattle.hx_app.specs.Roots.{OnlyWins};
-ghost use Rattle.hx_app.specs.DemoAnswers.{positions, enough, answer_text, status_of, tally_of, one_win_more, AreCounts, IsDue, IsDemoRun, SaysWhy};
+ghost use Rattle.hx_app.specs.DemoAnswers.{positions, enough, answer_text, status_of, tally_of, one_win_more, AreCounts, IsDue, IsDemoRun};
 ghost use Rattle.hx_app.specs.DemoPromises.{KeepsPromises};
 
 use crate::demo_answers::{DemoAnswer, POSITIONS, WinCounts, write_demo_answer};
-use crate::finishes::Finish;
 use crate::roots::winner_by_check;
 use hx_answers::WRITE_FAULT;
 use hx_board::{Colour, Memory, Position};
 use hx_demo::Draw;
+use hx_finish::{Finish, LeftOpen, left_open};
 use hx_io::{Failed, Gate, Sink};
 use hx_solve::{Settings, Tally, Unsolved, solve};
 use std::alloc::Global;
@@ -78,7 +78,13 @@ fn settle<G: Gate + Sync, R: Threads + Wait + Sync>(
             answer: DemoAnswer::Counted { seed, wins },
             tally: Tally::new(settings.budget, settings.slots),
         },
-        Err(why) => left_open(settings, why),
+        Err(why) => {
+            let LeftOpen { open, tally } = left_open(settings, why);
+            DemoFinding {
+                answer: DemoAnswer::LeftOpen(open),
+                tally,
+            }
+        }
     }
 }
 
@@ -150,29 +156,4 @@ impl WinCounts {
             },
         }
     }
-}
-
-/// What is to be said where a position was not solved. The refusal is counted.
-fn left_open(settings: Settings, why: Unsolved) -> DemoFinding
-    requires { HasCause settings why }
-    ensures answer { SaysWhy settings why result.answer }
-    ensures counted { result.tally ≡ tally_of settings result.answer }
-{
-    let mut tally = Tally::new(settings.budget, settings.slots);
-    let answer = match why {
-        Unsolved::Budget(refusal) => {
-            tally.add(Unsolved::Budget(refusal));
-            DemoAnswer::UnknownBudget {
-                budget: settings.budget,
-            }
-        }
-        Unsolved::Slots(refusal) => {
-            tally.add(Unsolved::Slots(refusal));
-            DemoAnswer::UnknownProofs {
-                slots: settings.slots,
-            }
-        }
-        Unsolved::Memory => DemoAnswer::OutOfMemory,
-    };
-    DemoFinding { answer, tally }
 }

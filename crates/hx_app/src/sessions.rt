@@ -4,9 +4,9 @@ ghost use Rattle.std.specs.Prelude.{◌≡◌};
 ghost use Rattle.hx_settings.specs.Settings.{AreSettings};
 ghost use Rattle.hx_app.specs.Sessions.{IsSessionRun, KeepsPromises, status_of_end};
 
-use crate::finishes::Finish;
 use crate::searchers::Searcher;
 use hx_answers::{READ_FAULT, TOO_LONG, WRITE_FAULT};
+use hx_finish::Finish;
 use hx_htp::{named_players_win, open_questions_are_counted};
 use hx_io::{Sink, Source};
 use hx_serve::{

@@ -17,11 +17,11 @@ ghost use Rattle.hx_app.specs.Answers.{CanBeWritten, IsDue, IsFound, IsSolveRun,
 ghost use Rattle.hx_app.specs.Promises.{KeepsPromises};
 
 use crate::answers::{Answer, write_answer};
-use crate::finishes::Finish;
 use crate::roots::root_winner;
 use crate::solutions::Solution;
 use hx_answers::{Unread, WRITE_FAULT, read_all};
 use hx_board::{Colour, Position};
+use hx_finish::Finish;
 use hx_io::{Failed, Gate, Sink, Source};
 use hx_lines::LONGEST;
 use hx_reader::read_position;

@@ -1,6 +1,6 @@
 use Rattle.std.proofs.Common.{refl}
-use Rattle.hx_words.specs.declared.commands.Command.TheVariants.{Check, Solve, Htp, Demo, Play, Template}
-use Rattle.hx_app.specs.Runs.{Searched, Served, Drew}
+use Rattle.hx_words.specs.declared.commands.Command.TheVariants.{Check, Solve, Htp, Demo, Play, Template, Survey}
+use Rattle.hx_app.specs.Runs.{Searched, Served, Drew, Tabled}
 use Rattle.hx_app.proofs.RunClauses.{checked_run, played_run, decided_run, kept}
 use Rattle.hx_app.proofs.commands.run.Goals as goal
 
@@ -60,6 +60,18 @@ returns-in-Some-Template-clause-run g c =
     c.run_template.result c.uncounted-in-Some-Template.result (rw c.in-Some-Template.field-0-is at c.in-Some-Template.ensures.finds)
     c.uncounted-in-Some-Template.ensures.status c.uncounted-in-Some-Template.ensures.tally c.run_template.ensures.run
 
+pub returns-in-Some-Survey-clause-run : goal.returns-in-Some-Survey-clause-run
+returns-in-Some-Survey-clause-run g c =
+    Tabled c.in-Some-Survey.size c.in-Some-Survey.settings (rw c.in-Some-Survey.field-0-is at c.in-Some-Survey.ensures.finds) refl
+    c.run_survey.ensures.run
+
+pub returns-in-Some-Survey-clause-survey : goal.returns-in-Some-Survey-clause-survey
+returns-in-Some-Survey-clause-survey g c = λ size settings table.
+    kept _ (g.S.Source.reading c.args.source.now) (g.S.Source.reading c.args.source.now)
+    (g.K.Sink.writing c.args.sink.now) (g.K.Sink.writing c.run_survey.new.sink)
+    c.run_survey.result (Survey c.in-Some-Survey.size c.in-Some-Survey.settings) (Survey size settings)
+    (rw c.in-Some-Survey.field-0-is at c.in-Some-Survey.ensures.finds) table c.run_survey.ensures.promises
+
 pub returns-in-None-clause-check : goal.returns-in-None-clause-check
 returns-in-None-clause-check g c = λ check. absurd (c.in-None.ensures.finds Check check)
 
@@ -80,3 +92,9 @@ returns-in-None-clause-play g c = λ play. absurd (c.in-None.ensures.finds Play 
 
 pub returns-in-None-clause-template : goal.returns-in-None-clause-template
 returns-in-None-clause-template g c = λ template. absurd (c.in-None.ensures.finds Template template)
+
+pub returns-in-None-clause-survey : goal.returns-in-None-clause-survey
+returns-in-None-clause-survey g c = λ size settings table. absurd (c.in-None.ensures.finds (Survey size settings) table)
+
+pub returns-in-None-clause-unread_by_survey : goal.returns-in-None-clause-unread_by_survey
+returns-in-None-clause-unread_by_survey g c = λ size settings table. absurd (c.in-None.ensures.finds (Survey size settings) table)
