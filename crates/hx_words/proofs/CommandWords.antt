@@ -1,6 +1,6 @@
 -- Words are one command at most. The first word is the command's name, and no two names have the same first two letters; the words
 -- behind it tell its seed, its size and its settings.
-use Rattle.std.proofs.Common.{◌≡◌, ◌≢◌, ℕ, ◌+◌, ◌*◌, List, [], ◌∷◌, Bool, get_or, codes, refl, ap, ◌∙◌, subst, arith}
+use Rattle.std.proofs.Common.{◌≡◌, ◌≢◌, ℕ, ◌+◌, ◌*◌, List, [], ◌∷◌, Bool, get_or, codes, refl, ap, arith}
 use Rattle.hx_board.specs.Cells.{Extent}
 use Rattle.hx_settings.specs.declared.settings.Settings.{Settings}
 use Rattle.hx_words.specs.declared.commands.Command.{Command}
@@ -55,15 +55,15 @@ Asks-named words Play asks = record { rest = []; parts = asks; behind = refl }
 Asks-named words Template asks = record { rest = []; parts = asks; behind = refl }
 Asks-named words (Survey size settings) asks = record { rest = asks.0; parts = asks.1; behind = asks.2 }
 
--- the words behind a name are those behind the name of the command
+-- the words behind the first one are what the command may have behind its name
 Asks-behind : (words rest : List (List ℕ)) (name : List ℕ) (command : Command) → words ≡ name ∷ rest → Asks command words
     → AreBehind command rest
 Asks-behind words rest name command is asks =
     let named = Asks-named words command asks in
     let same : named.rest ≡ rest = cc in
-    subst (λ (ws : List (List ℕ)). AreBehind command ws) same named.behind
+    rw same at named.behind
 
--- words that begin with a name are no command whose name has other letters
+-- words that begin with a name are no command whose name begins with other letters
 other_name : (words rest : List (List ℕ)) (name : List ℕ) (command : Command) → letters name ≢ letters (name_of command)
     → words ≡ name ∷ rest → Asks command words → ⊥
 other_name words rest name command differ is asks =
@@ -98,35 +98,27 @@ Asks-survey words rest is none other asks = other_name words rest (codes "survey
 
 -- ---- one command
 
--- the same words behind `solve` ask for the same search
-one_search : (rest : List (List ℕ)) (m n : Bool) (a b : Settings) → AreSearchOptions m a rest → AreSearchOptions n b rest
-    → Solve a m ≡ Solve b n
-one_search rest m n a b p q =
-    let flags : m ≡ n = search-flag rest m n a b p q in
-    let flagged : AreSearchOptions n a rest = subst (λ (plain : Bool). AreSearchOptions plain a rest) flags p in
-    ap (λ (plain : Bool). Solve a plain) flags ∙ ap (λ (settings : Settings). Solve settings n) (search-settings rest n a b flagged q)
-
-one_demo : (rest : List (List ℕ)) (m n : ℕ) (a b : Settings) → SeedAndOptions m a rest → SeedAndOptions n b rest → Demo m a ≡ Demo n b
-one_demo rest m n a b p q =
-    ap (λ (seed : ℕ). Demo seed a) (SeedAndOptions-seed rest m n a b p q)
-    ∙ ap (λ (settings : Settings). Demo n settings) (SeedAndOptions-settings rest m n a b p q)
-
-one_survey : (rest : List (List ℕ)) (m n : Extent) (a b : Settings) → SizeAndOptions m a rest → SizeAndOptions n b rest
-    → Survey m a ≡ Survey n b
-one_survey rest m n a b p q =
-    ap (λ (size : Extent). Survey size a) (SizeAndOptions-size rest m n a b p q)
-    ∙ ap (λ (settings : Settings). Survey n settings) (SizeAndOptions-settings rest m n a b p q)
-
 -- the same name and the same words behind it are the same command
 one_behind : (rest : List (List ℕ)) (a b : Command) → name_of a ≡ name_of b → AreBehind a rest → AreBehind b rest → a ≡ b
 one_behind rest Check Check same p q = refl
-one_behind rest (Solve settings m) (Solve other n) same p q = one_search rest m n settings other p q
-one_behind rest (Htp settings) (Htp other) same p q = ap Htp (AreOptions-one rest settings other p q)
-one_behind rest (Demo m settings) (Demo n other) same p q = one_demo rest m n settings other p q
+one_behind rest (Solve a m) (Solve b n) same p q =
+    let flags : m ≡ n = search-flag rest m n a b p q in
+    let settings : a ≡ b = search-settings rest n a b (rw flags at p) q in
+    cc
+one_behind rest (Htp a) (Htp b) same p q = ap Htp (AreOptions-one rest a b p q)
+one_behind rest (Demo m a) (Demo n b) same p q =
+    let seeds : m ≡ n = SeedAndOptions-seed rest m n a b p q in
+    let settings : a ≡ b = SeedAndOptions-settings rest m n a b p q in
+    cc
 one_behind rest Play Play same p q = refl
 one_behind rest Template Template same p q = refl
-one_behind rest (Survey m settings) (Survey n other) same p q = one_survey rest m n settings other p q
-one_behind rest a b same p q = absurd (let e = ap letters same in omega arith)
+one_behind rest (Survey m a) (Survey n b) same p q =
+    let sizes : m ≡ n = SizeAndOptions-size rest m n a b p q in
+    let settings : a ≡ b = SizeAndOptions-settings rest m n a b p q in
+    cc
+one_behind rest a b same p q =
+    let differ : letters (name_of a) ≢ letters (name_of b) = omega arith in
+    absurd (differ (ap letters same))
 
 pub Asks-one : (words : List (List ℕ)) (a b : Command) → Asks a words → Asks b words → a ≡ b
 Asks-one words a b p q =

@@ -1,4 +1,4 @@
-use Rattle.std.proofs.Common.{◌≡◌, ◌∷◌, ap, ◌∙◌, string_bytes}
+use Rattle.std.proofs.Common.{ap, string_bytes}
 use Rattle.hx_words.specs.Words.{words_of}
 use Rattle.hx_words.proofs.SizeWords.{SizeAndOptions-no_size, SizeAndOptions-no_options}
 use Rattle.hx_words.proofs.sizes.size_and_settings_in.Goals as goal
