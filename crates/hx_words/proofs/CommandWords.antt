@@ -1,151 +1,128 @@
--- Words are one command at most: the first tells which, and the others its seed and its settings.
-use Rattle.std.proofs.Common.{◌≡◌, ◌≢◌, ℕ, List, [], ◌∷◌, Bool, get_or, codes, refl, ap, ◌∙◌, subst, arith}
+-- Words are one command at most. The first word is the command's name, and no two names have the same first two letters; the words
+-- behind it tell its seed, its size and its settings.
+use Rattle.std.proofs.Common.{◌≡◌, ◌≢◌, ℕ, ◌+◌, ◌*◌, List, [], ◌∷◌, Bool, get_or, codes, refl, ap, arith}
+use Rattle.hx_board.specs.Cells.{Extent}
 use Rattle.hx_settings.specs.declared.settings.Settings.{Settings}
 use Rattle.hx_words.specs.declared.commands.Command.{Command}
-use Rattle.hx_words.specs.declared.commands.Command.TheVariants.{Check, Solve, Htp, Demo, Play, Template}
+use Rattle.hx_words.specs.declared.commands.Command.TheVariants.{Check, Solve, Htp, Demo, Play, Template, Survey}
 use Rattle.hx_words.specs.Choices.{AreOptions}
 use Rattle.hx_words.specs.Seeds.{SeedAndOptions}
+use Rattle.hx_words.specs.Sizes.{SizeAndOptions}
 use Rattle.hx_words.specs.Searches.{AreSearchOptions}
-use Rattle.hx_words.specs.Commands.{Asks, NameAndOptions, IsSolve, IsDemo}
+use Rattle.hx_words.specs.Commands.{Asks}
 use Rattle.hx_words.proofs.Leads.{AreOptions-one}
 use Rattle.hx_words.proofs.SearchWords.{search-settings, search-flag}
 use Rattle.hx_words.proofs.SeedWords.{SeedAndOptions-seed, SeedAndOptions-settings}
+use Rattle.hx_words.proofs.SizeWords.{SizeAndOptions-size, SizeAndOptions-settings}
 
--- words do not begin with two names that differ in their first letters
-pub one_name : (words rest more : List (List ℕ)) (name other : List ℕ) → get_or name 0 0 ≢ get_or other 0 0
-    → words ≡ name ∷ rest → words ≡ other ∷ more → ⊥
-one_name words rest more name other letters is is_other =
-    let same : name ≡ other = cc in
-    letters (ap (λ (w : List ℕ). get_or w 0 0) same)
+-- ---- a name, and the words behind it
 
--- a name is no command with settings where the words after it are no options
-no_options : (words rest : List (List ℕ)) (name : List ℕ) (settings : Settings) → words ≡ name ∷ rest
-    → ((settings : Settings) → AreOptions rest settings → ⊥) → NameAndOptions name settings words → ⊥
-no_options words rest name settings is none asks =
-    let P : List (List ℕ) → Type 0 = λ ws. AreOptions ws settings in
-    let same : asks.0 ≡ rest = cc in
-    none settings (subst P same asks.2)
+abbrev name_of : Command → List ℕ
+name_of Check = codes "check"
+name_of (Solve settings plain_tree) = codes "solve"
+name_of (Htp settings) = codes "htp"
+name_of (Demo seed settings) = codes "demo"
+name_of Play = codes "play"
+name_of Template = codes "template"
+name_of (Survey size settings) = codes "survey"
 
--- nor is `solve` one where the words after it do not ask for a search
-no_search : (words rest : List (List ℕ)) (settings : Settings) (plain_tree : Bool) → words ≡ codes "solve" ∷ rest
-    → ((found : Settings × Bool) → AreSearchOptions found.1 found.0 rest → ⊥) → IsSolve settings plain_tree words → ⊥
-no_search words rest settings plain_tree is none asks =
-    let P : List (List ℕ) → Type 0 = λ ws. AreSearchOptions plain_tree settings ws in
-    let same : asks.0 ≡ rest = cc in
-    none (settings, plain_tree) (subst P same asks.2)
+-- what the words behind the name are
+abbrev AreBehind : Command → List (List ℕ) → Type 0
+AreBehind Check rest = rest ≡ []
+AreBehind (Solve settings plain_tree) rest = AreSearchOptions plain_tree settings rest
+AreBehind (Htp settings) rest = AreOptions rest settings
+AreBehind (Demo seed settings) rest = SeedAndOptions seed settings rest
+AreBehind Play rest = rest ≡ []
+AreBehind Template rest = rest ≡ []
+AreBehind (Survey size settings) rest = SizeAndOptions size settings rest
+
+-- the first two letters of a name, as one number
+abbrev letters : List ℕ → ℕ
+letters name = 256 * get_or name 0 0 + get_or name 1 0
+
+-- the words are the name of the command, and what may be behind it
+record IsNamed (command : Command) (words : List (List ℕ)) : Type 0 where
+  rest : List (List ℕ)
+  parts : words ≡ name_of command ∷ rest
+  behind : AreBehind command rest
+
+Asks-named : (words : List (List ℕ)) (command : Command) → Asks command words → IsNamed command words
+Asks-named words Check asks = record { rest = []; parts = asks; behind = refl }
+Asks-named words (Solve settings plain_tree) asks = record { rest = asks.0; parts = asks.1; behind = asks.2 }
+Asks-named words (Htp settings) asks = record { rest = asks.0; parts = asks.1; behind = asks.2 }
+Asks-named words (Demo seed settings) asks = record { rest = asks.0; parts = asks.1; behind = asks.2 }
+Asks-named words Play asks = record { rest = []; parts = asks; behind = refl }
+Asks-named words Template asks = record { rest = []; parts = asks; behind = refl }
+Asks-named words (Survey size settings) asks = record { rest = asks.0; parts = asks.1; behind = asks.2 }
+
+-- the words behind the first one are what the command may have behind its name
+Asks-behind : (words rest : List (List ℕ)) (name : List ℕ) (command : Command) → words ≡ name ∷ rest → Asks command words
+    → AreBehind command rest
+Asks-behind words rest name command is asks =
+    let named = Asks-named words command asks in
+    let same : named.rest ≡ rest = cc in
+    rw same at named.behind
+
+-- words that begin with a name are no command whose name begins with other letters
+other_name : (words rest : List (List ℕ)) (name : List ℕ) (command : Command) → letters name ≢ letters (name_of command)
+    → words ≡ name ∷ rest → Asks command words → ⊥
+other_name words rest name command differ is asks =
+    let named = Asks-named words command asks in
+    let same : name ≡ name_of command = cc in
+    differ (ap letters same)
+
+-- ---- what is no command: a name, and words behind it that are not what they must be
 
 pub Asks-solve : (words rest : List (List ℕ)) → words ≡ codes "solve" ∷ rest
     → ((found : Settings × Bool) → AreSearchOptions found.1 found.0 rest → ⊥) → (command : Command) → Asks command words → ⊥
-Asks-solve words rest solve none Check asks =
-    one_name words [] rest (codes "check") (codes "solve") (omega arith) asks solve
-Asks-solve words rest solve none (Solve settings plain_tree) asks = no_search words rest settings plain_tree solve none asks
-Asks-solve words rest solve none (Htp settings) asks =
-    one_name words asks.0 rest (codes "htp") (codes "solve") (omega arith) asks.1 solve
-Asks-solve words rest solve none (Demo seed settings) asks =
-    one_name words asks.0 rest (codes "demo") (codes "solve") (omega arith) asks.1 solve
-Asks-solve words rest solve none Play asks =
-    one_name words [] rest (codes "play") (codes "solve") (omega arith) asks solve
-Asks-solve words rest solve none Template asks =
-    one_name words [] rest (codes "template") (codes "solve") (omega arith) asks solve
+Asks-solve words rest is none (Solve settings plain_tree) asks =
+    none (settings, plain_tree) (Asks-behind words rest (codes "solve") (Solve settings plain_tree) is asks)
+Asks-solve words rest is none other asks = other_name words rest (codes "solve") other (omega arith) is asks
 
 pub Asks-htp : (words rest : List (List ℕ)) → words ≡ codes "htp" ∷ rest
     → ((settings : Settings) → AreOptions rest settings → ⊥) → (command : Command) → Asks command words → ⊥
-Asks-htp words rest htp none Check asks =
-    one_name words [] rest (codes "check") (codes "htp") (omega arith) asks htp
-Asks-htp words rest htp none (Solve settings plain_tree) asks =
-    one_name words asks.0 rest (codes "solve") (codes "htp") (omega arith) asks.1 htp
-Asks-htp words rest htp none (Htp settings) asks = no_options words rest (codes "htp") settings htp none asks
-Asks-htp words rest htp none (Demo seed settings) asks =
-    one_name words asks.0 rest (codes "demo") (codes "htp") (omega arith) asks.1 htp
-Asks-htp words rest htp none Play asks =
-    one_name words [] rest (codes "play") (codes "htp") (omega arith) asks htp
-Asks-htp words rest htp none Template asks =
-    one_name words [] rest (codes "template") (codes "htp") (omega arith) asks htp
-
--- nor is `demo` a command where the words after it are no seed and options
-no_seed : (words rest : List (List ℕ)) (seed : ℕ) (settings : Settings) → words ≡ codes "demo" ∷ rest
-    → ((found : ℕ × Settings) → SeedAndOptions found.0 found.1 rest → ⊥) → IsDemo seed settings words → ⊥
-no_seed words rest seed settings is none asks =
-    let P : List (List ℕ) → Type 0 = λ ws. SeedAndOptions seed settings ws in
-    let same : asks.0 ≡ rest = cc in
-    none (seed, settings) (subst P same asks.2)
+Asks-htp words rest is none (Htp settings) asks = none settings (Asks-behind words rest (codes "htp") (Htp settings) is asks)
+Asks-htp words rest is none other asks = other_name words rest (codes "htp") other (omega arith) is asks
 
 pub Asks-demo : (words rest : List (List ℕ)) → words ≡ codes "demo" ∷ rest
     → ((found : ℕ × Settings) → SeedAndOptions found.0 found.1 rest → ⊥) → (command : Command) → Asks command words → ⊥
-Asks-demo words rest demo none Check asks =
-    one_name words [] rest (codes "check") (codes "demo") (omega arith) asks demo
-Asks-demo words rest demo none (Solve settings plain_tree) asks =
-    one_name words asks.0 rest (codes "solve") (codes "demo") (omega arith) asks.1 demo
-Asks-demo words rest demo none (Htp settings) asks =
-    one_name words asks.0 rest (codes "htp") (codes "demo") (omega arith) asks.1 demo
-Asks-demo words rest demo none (Demo seed settings) asks = no_seed words rest seed settings demo none asks
-Asks-demo words rest demo none Play asks =
-    one_name words [] rest (codes "play") (codes "demo") (omega arith) asks demo
-Asks-demo words rest demo none Template asks =
-    one_name words [] rest (codes "template") (codes "demo") (omega arith) asks demo
+Asks-demo words rest is none (Demo seed settings) asks =
+    none (seed, settings) (Asks-behind words rest (codes "demo") (Demo seed settings) is asks)
+Asks-demo words rest is none other asks = other_name words rest (codes "demo") other (omega arith) is asks
 
--- the same name has the same options behind it, and they choose the same settings
-one_choice : (words : List (List ℕ)) (name : List ℕ) (a b : Settings) → NameAndOptions name a words
-    → NameAndOptions name b words → a ≡ b
-one_choice words name a b p q =
-    let P : List (List ℕ) → Type 0 = λ ws. AreOptions ws b in
-    let same : q.0 ≡ p.0 = cc in
-    AreOptions-one p.0 a b p.2 (subst P same q.2)
+pub Asks-survey : (words rest : List (List ℕ)) → words ≡ codes "survey" ∷ rest
+    → ((found : Extent × Settings) → SizeAndOptions found.0 found.1 rest → ⊥) → (command : Command) → Asks command words → ⊥
+Asks-survey words rest is none (Survey size settings) asks =
+    none (size, settings) (Asks-behind words rest (codes "survey") (Survey size settings) is asks)
+Asks-survey words rest is none other asks = other_name words rest (codes "survey") other (omega arith) is asks
 
--- `solve` has the same words behind it, and they ask for the same search
-one_search : (words : List (List ℕ)) (m n : Bool) (a b : Settings) → IsSolve a m words → IsSolve b n words → Solve a m ≡ Solve b n
-one_search words m n a b p q =
-    let P : List (List ℕ) → Type 0 = λ ws. AreSearchOptions n b ws in
-    let same : q.0 ≡ p.0 = cc in
-    let other : AreSearchOptions n b p.0 = subst P same q.2 in
-    let flags : m ≡ n = search-flag p.0 m n a b p.2 other in
-    let flagged : AreSearchOptions n a p.0 = subst (λ (plain : Bool). AreSearchOptions plain a p.0) flags p.2 in
-    ap (λ (plain : Bool). Solve a plain) flags
-    ∙ ap (λ (settings : Settings). Solve settings n) (search-settings p.0 n a b flagged other)
+-- ---- one command
 
--- `demo` has the same words behind it, and they tell the same seed and choose the same settings
-one_demo : (words : List (List ℕ)) (m n : ℕ) (a b : Settings) → IsDemo m a words → IsDemo n b words → Demo m a ≡ Demo n b
-one_demo words m n a b p q =
-    let P : List (List ℕ) → Type 0 = λ ws. SeedAndOptions n b ws in
-    let same : q.0 ≡ p.0 = cc in
-    let other : SeedAndOptions n b p.0 = subst P same q.2 in
-    ap (λ (seed : ℕ). Demo seed a) (SeedAndOptions-seed p.0 m n a b p.2 other)
-    ∙ ap (λ (settings : Settings). Demo n settings) (SeedAndOptions-settings p.0 m n a b p.2 other)
+-- the same name and the same words behind it are the same command
+one_behind : (rest : List (List ℕ)) (a b : Command) → name_of a ≡ name_of b → AreBehind a rest → AreBehind b rest → a ≡ b
+one_behind rest Check Check same p q = refl
+one_behind rest (Solve a m) (Solve b n) same p q =
+    let flags : m ≡ n = search-flag rest m n a b p q in
+    let settings : a ≡ b = search-settings rest n a b (rw flags at p) q in
+    cc
+one_behind rest (Htp a) (Htp b) same p q = ap Htp (AreOptions-one rest a b p q)
+one_behind rest (Demo m a) (Demo n b) same p q =
+    let seeds : m ≡ n = SeedAndOptions-seed rest m n a b p q in
+    let settings : a ≡ b = SeedAndOptions-settings rest m n a b p q in
+    cc
+one_behind rest Play Play same p q = refl
+one_behind rest Template Template same p q = refl
+one_behind rest (Survey m a) (Survey n b) same p q =
+    let sizes : m ≡ n = SizeAndOptions-size rest m n a b p q in
+    let settings : a ≡ b = SizeAndOptions-settings rest m n a b p q in
+    cc
+one_behind rest a b same p q =
+    let differ : letters (name_of a) ≢ letters (name_of b) = omega arith in
+    absurd (differ (ap letters same))
 
 pub Asks-one : (words : List (List ℕ)) (a b : Command) → Asks a words → Asks b words → a ≡ b
-Asks-one words Check Check p q = refl
-Asks-one words Check (Solve other n) p q = absurd (one_name words [] q.0 (codes "check") (codes "solve") (omega arith) p q.1)
-Asks-one words Check (Htp other) p q = absurd (one_name words [] q.0 (codes "check") (codes "htp") (omega arith) p q.1)
-Asks-one words Check (Demo n other) p q = absurd (one_name words [] q.0 (codes "check") (codes "demo") (omega arith) p q.1)
-Asks-one words Check Play p q = absurd (one_name words [] [] (codes "check") (codes "play") (omega arith) p q)
-Asks-one words Check Template p q = absurd (one_name words [] [] (codes "check") (codes "template") (omega arith) p q)
-Asks-one words (Solve settings m) Check p q = absurd (one_name words p.0 [] (codes "solve") (codes "check") (omega arith) p.1 q)
-Asks-one words (Solve settings m) (Solve other n) p q = one_search words m n settings other p q
-Asks-one words (Solve settings m) (Htp other) p q = absurd (one_name words p.0 q.0 (codes "solve") (codes "htp") (omega arith) p.1 q.1)
-Asks-one words (Solve settings m) (Demo n other) p q = absurd (one_name words p.0 q.0 (codes "solve") (codes "demo") (omega arith) p.1 q.1)
-Asks-one words (Solve settings m) Play p q = absurd (one_name words p.0 [] (codes "solve") (codes "play") (omega arith) p.1 q)
-Asks-one words (Solve settings m) Template p q = absurd (one_name words p.0 [] (codes "solve") (codes "template") (omega arith) p.1 q)
-Asks-one words (Htp settings) Check p q = absurd (one_name words p.0 [] (codes "htp") (codes "check") (omega arith) p.1 q)
-Asks-one words (Htp settings) (Solve other n) p q = absurd (one_name words p.0 q.0 (codes "htp") (codes "solve") (omega arith) p.1 q.1)
-Asks-one words (Htp settings) (Htp other) p q = ap Htp (one_choice words (codes "htp") settings other p q)
-Asks-one words (Htp settings) (Demo n other) p q = absurd (one_name words p.0 q.0 (codes "htp") (codes "demo") (omega arith) p.1 q.1)
-Asks-one words (Htp settings) Play p q = absurd (one_name words p.0 [] (codes "htp") (codes "play") (omega arith) p.1 q)
-Asks-one words (Htp settings) Template p q = absurd (one_name words p.0 [] (codes "htp") (codes "template") (omega arith) p.1 q)
-Asks-one words (Demo m settings) Check p q = absurd (one_name words p.0 [] (codes "demo") (codes "check") (omega arith) p.1 q)
-Asks-one words (Demo m settings) (Solve other n) p q = absurd (one_name words p.0 q.0 (codes "demo") (codes "solve") (omega arith) p.1 q.1)
-Asks-one words (Demo m settings) (Htp other) p q = absurd (one_name words p.0 q.0 (codes "demo") (codes "htp") (omega arith) p.1 q.1)
-Asks-one words (Demo m settings) (Demo n other) p q = one_demo words m n settings other p q
-Asks-one words (Demo m settings) Play p q = absurd (one_name words p.0 [] (codes "demo") (codes "play") (omega arith) p.1 q)
-Asks-one words (Demo m settings) Template p q = absurd (one_name words p.0 [] (codes "demo") (codes "template") (omega arith) p.1 q)
-Asks-one words Play Check p q = absurd (one_name words [] [] (codes "play") (codes "check") (omega arith) p q)
-Asks-one words Play (Solve other n) p q = absurd (one_name words [] q.0 (codes "play") (codes "solve") (omega arith) p q.1)
-Asks-one words Play (Htp other) p q = absurd (one_name words [] q.0 (codes "play") (codes "htp") (omega arith) p q.1)
-Asks-one words Play (Demo n other) p q = absurd (one_name words [] q.0 (codes "play") (codes "demo") (omega arith) p q.1)
-Asks-one words Play Play p q = refl
-Asks-one words Play Template p q = absurd (one_name words [] [] (codes "play") (codes "template") (omega arith) p q)
-Asks-one words Template Check p q = absurd (one_name words [] [] (codes "template") (codes "check") (omega arith) p q)
-Asks-one words Template (Solve other n) p q = absurd (one_name words [] q.0 (codes "template") (codes "solve") (omega arith) p q.1)
-Asks-one words Template (Htp other) p q = absurd (one_name words [] q.0 (codes "template") (codes "htp") (omega arith) p q.1)
-Asks-one words Template (Demo n other) p q = absurd (one_name words [] q.0 (codes "template") (codes "demo") (omega arith) p q.1)
-Asks-one words Template Play p q = absurd (one_name words [] [] (codes "template") (codes "play") (omega arith) p q)
-Asks-one words Template Template p q = refl
+Asks-one words a b p q =
+    let named = Asks-named words a p in
+    let other = Asks-named words b q in
+    let same : name_of a ≡ name_of b = cc in
+    one_behind named.rest a b same named.behind (Asks-behind words named.rest (name_of a) b named.parts q)

@@ -3,4 +3,5 @@ pub mod Spellings
 pub mod Leads
 pub mod SearchWords
 pub mod SeedWords
+pub mod SizeWords
 pub mod CommandWords

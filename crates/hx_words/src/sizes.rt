@@ -1,6 +1,5 @@
 //! The size of the board of `survey`, which follows the name of the command: its rows and then its columns.
 
-ghost use Rattle.std.specs.Prelude.{◌≡◌};
 ghost use Rattle.hx_board.specs.Finds.{Finds};
 ghost use Rattle.hx_words.specs.Words.{words_of};
 ghost use Rattle.hx_words.specs.Sizes.{IsSizeSpelled, SizeAndOptions};

@@ -1,9 +1,10 @@
 use Rattle.std.proofs.Common.{◌≡◌, codes, sym, ap, ◌∙◌, string_bytes}
 use Rattle.hx_words.specs.Words.{words_of}
-use Rattle.hx_words.proofs.CommandWords.{Asks-solve, Asks-htp, Asks-demo}
+use Rattle.hx_words.proofs.CommandWords.{Asks-solve, Asks-htp, Asks-demo, Asks-survey}
 use Rattle.hx_words.proofs.Leads.{AreOptions-settings}
 use Rattle.hx_words.proofs.SearchWords.{search-limits}
 use Rattle.hx_words.proofs.SeedWords.{SeedAndOptions-limits}
+use Rattle.hx_words.proofs.SizeWords.{SizeAndOptions-limits}
 use Rattle.hx_words.proofs.commands.command_of.Goals as goal
 
 pub returns-in_err-settings-in-solve-clause-finds : goal.returns-in_err-settings-in-solve-clause-finds
@@ -43,3 +44,16 @@ pub returns-in_ok-seed-in-demo-clause-limits : goal.returns-in_ok-seed-in-demo-c
 returns-in_ok-seed-in-demo-clause-limits c =
     SeedAndOptions-limits
     (words_of c.in_ok-name.rest.now) c.in_ok-seed-in-demo.seed c.in_ok-seed-in-demo.settings c.in_ok-seed-in-demo.ensures
+
+pub returns-in_err-size-in-survey-clause-finds : goal.returns-in_err-size-in-survey-clause-finds
+returns-in_err-size-in-survey-clause-finds c =
+    let words = ap words_of c.in_ok-name.ensures.cases.0 in
+    let name : string_bytes c.in_ok-name.name.now ≡ codes "survey" = sym c.as_str.ensures.value ∙ c.in-survey.is in
+    rw c.from_residual-in_err-size-in-survey.ensures
+    (Asks-survey (words_of c.args.words.now) (words_of c.in_ok-name.rest.now) (cc)
+    c.in_err-size-in-survey.ensures)
+
+pub returns-in_ok-size-in-survey-clause-limits : goal.returns-in_ok-size-in-survey-clause-limits
+returns-in_ok-size-in-survey-clause-limits c =
+    SizeAndOptions-limits
+    (words_of c.in_ok-name.rest.now) c.in_ok-size-in-survey.size c.in_ok-size-in-survey.settings c.in_ok-size-in-survey.ensures
