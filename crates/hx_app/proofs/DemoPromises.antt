@@ -8,22 +8,17 @@ use Rattle.hx_answers.specs.Texts.{out_of_memory_line}
 use Rattle.hx_answers.specs.Endings.{IsWritten, Whole, Cut}
 use Rattle.hx_app.specs.declared.demo_answers.DemoAnswer.{DemoAnswer}
 use Rattle.hx_app.specs.declared.demo_answers.DemoAnswer.TheVariants.{Counted, LeftOpen}
-use Rattle.hx_finish.specs.declared.opens.Open.{Open}
+use Rattle.hx_finish.specs.declared.wanting.Wanting.{Wanting}
 use Rattle.hx_finish.specs.declared.finishes.Finish.{Finish}
-use Rattle.hx_finish.specs.Opens.{open_status}
+use Rattle.hx_finish.specs.Wants.{wanting_status}
 use Rattle.hx_finish.specs.Finishes.{SaysUnknown, CountsNoRefusal, IsUnlessCutShort}
-use Rattle.hx_finish.proofs.OpenEnds.{open_unknown, open_memory, open_without_cause, open_status-3_or_7}
+use Rattle.hx_finish.proofs.WantingEnds.{wanting_unknown, wanting_memory, wanting_without_cause, wanting_status-3_or_7, wanting_status-not}
 use Rattle.hx_app.specs.DemoAnswers.{enough, counts_line, answer_text, status_of, tally_of, IsDue}
 use Rattle.hx_app.specs.DemoPromises.{SaysCounts, KeepsPromises}
 
 -- what is left open is so only with a lower budget
 pub low_budget : (budget : ℕ) → (enough ≤ budget → ⊥) → budget < enough
 low_budget budget not_enough = ⊎_elim (λ less. less) (λ some. absurd (not_enough some)) (cases_lt budget enough)
-
--- what is left open has the status 3 or 7
-open_not : (open : Open) (status : ℕ) → (3 ≡ status → ⊥) → (7 ≡ status → ⊥) → open_status open ≡ status → ⊥
-open_not open status not_3 not_7 is =
-    ⊎_elim (λ three. not_3 (sym three ∙ is)) (λ seven. not_7 (sym seven ∙ is)) (open_status-3_or_7 open)
 
 -- ---- what is promised
 
@@ -35,38 +30,38 @@ module _ (seed : ℕ) (settings : Settings) (before now : Option (List ℕ)) whe
     counts = due.1;
     output = written ∙ ap (λ (n : ℕ). append before (counts_line n wins)) due.0;
   }
-  counted_of (LeftOpen open) zero due written = absurd (open_not open 0 (λ e. omega (arith, e)) (λ e. omega (arith, e)) zero)
+  counted_of (LeftOpen wanting) zero due written = absurd (wanting_status-not wanting 0 (λ e. omega (arith, e)) (λ e. omega (arith, e)) zero)
 
   no_refusal_of : (answer : DemoAnswer) (finish : Finish) → status_of answer ≡ 0 → finish.tally ≡ tally_of settings answer
       → CountsNoRefusal finish.tally
   no_refusal_of (Counted number wins) finish zero counted = (rw counted refl, rw counted refl)
-  no_refusal_of (LeftOpen open) finish zero counted = absurd (open_not open 0 (λ e. omega (arith, e)) (λ e. omega (arith, e)) zero)
+  no_refusal_of (LeftOpen wanting) finish zero counted = absurd (wanting_status-not wanting 0 (λ e. omega (arith, e)) (λ e. omega (arith, e)) zero)
 
   solved_of : (answer : DemoAnswer) → enough ≤ settings.budget → IsDue seed settings answer → IsUnlessCutShort (status_of answer) 0
   solved_of (Counted number wins) some due = inl refl
-  solved_of (LeftOpen open) some due =
-      inr (inr (open_without_cause settings (settings.budget < enough) open (λ less. omega (arith, some, less)) due))
+  solved_of (LeftOpen wanting) some due =
+      inr (inr (wanting_without_cause settings (settings.budget < enough) wanting (λ less. omega (arith, some, less)) due))
 
   unknown_of : (answer : DemoAnswer) (finish : Finish) → status_of answer ≡ 3 → IsDue seed settings answer
       → now ≡ append before (answer_text answer) → finish.tally ≡ tally_of settings answer
       → (settings.budget < enough) × SaysUnknown settings before now finish.tally
   unknown_of (Counted number wins) finish three due written counted = absurd (omega (arith, three))
-  unknown_of (LeftOpen open) finish three due written counted =
-      open_unknown settings (settings.budget < enough) before now finish.tally open three due written counted
+  unknown_of (LeftOpen wanting) finish three due written counted =
+      wanting_unknown settings (settings.budget < enough) before now finish.tally wanting three due written counted
 
   memory_of : (answer : DemoAnswer) (finish : Finish) → status_of answer ≡ 7 → now ≡ append before (answer_text answer)
       → now ≡ append before out_of_memory_line
   memory_of (Counted number wins) finish seven written = absurd (omega (arith, seven))
-  memory_of (LeftOpen open) finish seven written =
-      open_memory settings (settings.budget < enough) before now finish.tally open seven written
+  memory_of (LeftOpen wanting) finish seven written =
+      wanting_memory settings (settings.budget < enough) before now finish.tally wanting seven written
 
 status_not_6 : (answer : DemoAnswer) → status_of answer ≡ 6 → ⊥
 status_not_6 (Counted number wins) six = omega (arith, six)
-status_not_6 (LeftOpen open) six = open_not open 6 (λ e. omega (arith, e)) (λ e. omega (arith, e)) six
+status_not_6 (LeftOpen wanting) six = wanting_status-not wanting 6 (λ e. omega (arith, e)) (λ e. omega (arith, e)) six
 
 status_of_demo : (answer : DemoAnswer) → (status_of answer ≡ 3) ⊎ IsUnlessCutShort (status_of answer) 0
 status_of_demo (Counted number wins) = inr (inl refl)
-status_of_demo (LeftOpen open) = ⊎_elim (λ three. inl three) (λ seven. inr (inr (inr seven))) (open_status-3_or_7 open)
+status_of_demo (LeftOpen wanting) = ⊎_elim (λ three. inl three) (λ seven. inr (inr (inr seven))) (wanting_status-3_or_7 wanting)
 
 module _ (seed : ℕ) (settings : Settings) (sink sink_now : Writing) (answer : DemoAnswer) (finish : Finish) where
   kept_whole : IsDue seed settings answer → finish.tally ≡ tally_of settings answer → finish.status ≡ status_of answer

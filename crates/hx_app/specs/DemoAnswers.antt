@@ -14,7 +14,7 @@ use Rattle.hx_app.specs.declared.demo_answers.DemoAnswer.{DemoAnswer}
 use Rattle.hx_app.specs.declared.demo_answers.DemoAnswer.TheVariants.{Counted, LeftOpen}
 use Rattle.hx_app.specs.declared.demo_answers.WinCounts.{WinCounts}
 use Rattle.hx_finish.specs.declared.finishes.Finish.{Finish}
-use Rattle.hx_finish.specs.Opens.{open_text, open_status, open_tally, no_refusal, IsOpenWhere}
+use Rattle.hx_finish.specs.Wants.{wanting_text, wanting_status, wanting_tally, no_refusal, IsWantingWhere}
 
 -- how many positions are drawn
 abbrev pub positions : ℕ
@@ -37,17 +37,17 @@ counts_line seed wins = draws_text seed ++ wins_text wins ++ counted_text (codes
 -- what is written for each answer
 abbrev pub answer_text : DemoAnswer → List ℕ
 answer_text (Counted seed wins) = counts_line seed wins
-answer_text (LeftOpen open) = open_text open
+answer_text (LeftOpen wanting) = wanting_text wanting
 
 -- the exit status that tells each answer, where it was written whole
 abbrev pub status_of : DemoAnswer → ℕ
 status_of (Counted seed wins) = 0
-status_of (LeftOpen open) = open_status open
+status_of (LeftOpen wanting) = wanting_status wanting
 
 -- the refusals that stand behind each answer
 abbrev pub tally_of : Settings → DemoAnswer → Tallied
 tally_of settings (Counted seed wins) = no_refusal settings
-tally_of settings (LeftOpen open) = open_tally settings open
+tally_of settings (LeftOpen wanting) = wanting_tally settings wanting
 
 -- of these positions each player wins so many in the game tree, with Black to move, and one player wins each
 pub record AreCounts (boards : List Board) (wins : WinCounts) (count : ℕ) : Type 0 where
@@ -58,7 +58,7 @@ pub record AreCounts (boards : List Board) (wins : WinCounts) (count : ℕ) : Ty
 -- when each answer comes
 abbrev pub IsDue : ℕ → Settings → DemoAnswer → Type 0
 IsDue seed settings (Counted number wins) = (number ≡ seed) × AreCounts (first_positions positions seed) wins positions
-IsDue seed settings (LeftOpen open) = IsOpenWhere settings (settings.budget < enough) open
+IsDue seed settings (LeftOpen wanting) = IsWantingWhere settings (settings.budget < enough) wanting
 
 -- A run of `demo`: some answer is due, it was written, and the tally has the refusals behind it.
 pub record IsDemoRun (seed : ℕ) (settings : Settings) (sink sink_now : Writing) (finish : Finish) : Type 0 where

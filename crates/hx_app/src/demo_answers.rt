@@ -5,7 +5,7 @@ ghost use Rattle.hx_io.specs.Sinks.{WritesAll};
 ghost use Rattle.hx_app.specs.DemoAnswers.{status_of, answer_text, draws_text, wins_text, counts_line};
 
 use hx_answers::{write_counted, write_numbered};
-use hx_finish::{Open, write_open};
+use hx_finish::{Wanting, write_wanting};
 use hx_io::{Failed, Sink};
 
 /// How many positions are drawn.
@@ -24,7 +24,7 @@ pub enum DemoAnswer {
     /// Each position that the seed draws was solved, and its tree was accepted.
     Counted { seed: u64, wins: WinCounts },
     /// One of the positions was left open.
-    LeftOpen(Open),
+    LeftOpen(Wanting),
 }
 
 impl DemoAnswer {
@@ -34,7 +34,7 @@ impl DemoAnswer {
     {
         match self {
             DemoAnswer::Counted { .. } => 0,
-            DemoAnswer::LeftOpen(open) => open.status(),
+            DemoAnswer::LeftOpen(wanting) => wanting.status(),
         }
     }
 }
@@ -45,7 +45,7 @@ pub(crate) fn write_demo_answer<K: Sink>(sink: &mut K, answer: &DemoAnswer) -> R
 {
     match answer {
         DemoAnswer::Counted { seed, wins } => write_counts(sink, *seed, wins),
-        DemoAnswer::LeftOpen(open) => write_open(sink, *open),
+        DemoAnswer::LeftOpen(wanting) => write_wanting(sink, *wanting),
     }
 }
 

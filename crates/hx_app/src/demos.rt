@@ -79,9 +79,9 @@ fn settle<G: Gate + Sync, R: Threads + Wait + Sync>(
             tally: Tally::new(settings.budget, settings.slots),
         },
         Err(why) => {
-            let LeftOpen { open, tally } = left_open(settings, why);
+            let LeftOpen { wanting, tally } = left_open(settings, why);
             DemoFinding {
-                answer: DemoAnswer::LeftOpen(open),
+                answer: DemoAnswer::LeftOpen(wanting),
                 tally,
             }
         }

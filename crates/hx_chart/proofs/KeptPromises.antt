@@ -7,21 +7,16 @@ use Rattle.hx_settings.specs.declared.settings.Settings.{Settings}
 use Rattle.hx_survey.specs.Surveys.{IsSurvey, AreSmall}
 use Rattle.hx_answers.specs.Texts.{out_of_memory_line}
 use Rattle.hx_answers.specs.Endings.{IsWritten, Whole, Cut}
-use Rattle.hx_finish.specs.declared.opens.Open.{Open}
+use Rattle.hx_finish.specs.declared.wanting.Wanting.{Wanting}
 use Rattle.hx_finish.specs.declared.finishes.Finish.{Finish}
-use Rattle.hx_finish.specs.Opens.{open_status}
+use Rattle.hx_finish.specs.Wants.{wanting_status}
 use Rattle.hx_finish.specs.Finishes.{SaysUnknown, CountsNoRefusal, IsUnlessCutShort}
-use Rattle.hx_finish.proofs.OpenEnds.{open_unknown, open_memory, open_without_cause, open_status-3_or_7}
+use Rattle.hx_finish.proofs.WantingEnds.{wanting_unknown, wanting_memory, wanting_without_cause, wanting_status-3_or_7, wanting_status-not}
 use Rattle.hx_chart.specs.declared.answers.Answer.{Answer}
 use Rattle.hx_chart.specs.declared.answers.Answer.TheVariants.{Surveyed, LeftOpen}
 use Rattle.hx_chart.specs.Texts.{table_text}
 use Rattle.hx_chart.specs.Answers.{answer_text, status_of, tally_of, IsDue}
 use Rattle.hx_chart.specs.Promises.{SaysTable, KeepsPromises}
-
--- what is left open has the status 3 or 7
-open_not : (open : Open) (status : ℕ) → (3 ≡ status → ⊥) → (7 ≡ status → ⊥) → open_status open ≡ status → ⊥
-open_not open status not_3 not_7 is =
-    ⊎_elim (λ three. not_3 (sym three ∙ is)) (λ seven. not_7 (sym seven ∙ is)) (open_status-3_or_7 open)
 
 module _ (size : Extent) (settings : Settings) (before now : Option (List ℕ)) where
   surveyed_of : (answer : Answer) → status_of answer ≡ 0 → IsDue size settings answer → now ≡ append before (answer_text answer)
@@ -31,38 +26,38 @@ module _ (size : Extent) (settings : Settings) (before now : Option (List ℕ)) 
     survey = due.1;
     output = written ∙ ap (λ (s : Extent). append before (table_text s table.black)) due.0;
   }
-  surveyed_of (LeftOpen open) zero due written = absurd (open_not open 0 (λ e. omega (arith, e)) (λ e. omega (arith, e)) zero)
+  surveyed_of (LeftOpen wanting) zero due written = absurd (wanting_status-not wanting 0 (λ e. omega (arith, e)) (λ e. omega (arith, e)) zero)
 
   no_refusal_of : (answer : Answer) (finish : Finish) → status_of answer ≡ 0 → finish.tally ≡ tally_of settings answer
       → CountsNoRefusal finish.tally
   no_refusal_of (Surveyed table) finish zero counted = (rw counted refl, rw counted refl)
-  no_refusal_of (LeftOpen open) finish zero counted = absurd (open_not open 0 (λ e. omega (arith, e)) (λ e. omega (arith, e)) zero)
+  no_refusal_of (LeftOpen wanting) finish zero counted = absurd (wanting_status-not wanting 0 (λ e. omega (arith, e)) (λ e. omega (arith, e)) zero)
 
   small_of : (answer : Answer) → AreSmall size settings.budget → IsDue size settings answer → IsUnlessCutShort (status_of answer) 0
   small_of (Surveyed table) small due = inl refl
-  small_of (LeftOpen open) small due =
-      inr (inr (open_without_cause settings (¬ AreSmall size settings.budget) open (λ not_small. not_small small) due))
+  small_of (LeftOpen wanting) small due =
+      inr (inr (wanting_without_cause settings (¬ AreSmall size settings.budget) wanting (λ not_small. not_small small) due))
 
   unknown_of : (answer : Answer) (finish : Finish) → status_of answer ≡ 3 → IsDue size settings answer
       → now ≡ append before (answer_text answer) → finish.tally ≡ tally_of settings answer
       → (¬ AreSmall size settings.budget) × SaysUnknown settings before now finish.tally
   unknown_of (Surveyed table) finish three due written counted = absurd (omega (arith, three))
-  unknown_of (LeftOpen open) finish three due written counted =
-      open_unknown settings (¬ AreSmall size settings.budget) before now finish.tally open three due written counted
+  unknown_of (LeftOpen wanting) finish three due written counted =
+      wanting_unknown settings (¬ AreSmall size settings.budget) before now finish.tally wanting three due written counted
 
   memory_of : (answer : Answer) (finish : Finish) → status_of answer ≡ 7 → now ≡ append before (answer_text answer)
       → now ≡ append before out_of_memory_line
   memory_of (Surveyed table) finish seven written = absurd (omega (arith, seven))
-  memory_of (LeftOpen open) finish seven written =
-      open_memory settings (¬ AreSmall size settings.budget) before now finish.tally open seven written
+  memory_of (LeftOpen wanting) finish seven written =
+      wanting_memory settings (¬ AreSmall size settings.budget) before now finish.tally wanting seven written
 
 status_not_6 : (answer : Answer) → status_of answer ≡ 6 → ⊥
 status_not_6 (Surveyed table) six = omega (arith, six)
-status_not_6 (LeftOpen open) six = open_not open 6 (λ e. omega (arith, e)) (λ e. omega (arith, e)) six
+status_not_6 (LeftOpen wanting) six = wanting_status-not wanting 6 (λ e. omega (arith, e)) (λ e. omega (arith, e)) six
 
 status_is : (answer : Answer) → (status_of answer ≡ 3) ⊎ IsUnlessCutShort (status_of answer) 0
 status_is (Surveyed table) = inr (inl refl)
-status_is (LeftOpen open) = ⊎_elim (λ three. inl three) (λ seven. inr (inr (inr seven))) (open_status-3_or_7 open)
+status_is (LeftOpen wanting) = ⊎_elim (λ three. inl three) (λ seven. inr (inr (inr seven))) (wanting_status-3_or_7 wanting)
 
 module _ (size : Extent) (settings : Settings) (sink sink_now : Writing) (answer : Answer) (finish : Finish) where
   kept_whole : IsDue size settings answer → finish.tally ≡ tally_of settings answer → finish.status ≡ status_of answer

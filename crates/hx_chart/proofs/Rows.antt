@@ -1,5 +1,6 @@
 -- The letters of a row, and the lines of rows, one after the other.
-use Rattle.std.proofs.Common.{◌≡◌, ℕ, ◌+◌, List, [], ◌∷◌, ◌++◌, refl, ap, add-one}
+use Rattle.std.proofs.Common.{◌≡◌, ℕ, ◌+◌, List, [], ◌∷◌, ◌++◌, refl, ap, ◌∙◌, add-one}
+use Rattle.hx_board.specs.declared.colours.Colour.{Colour}
 use Rattle.hx_board.specs.Cells.{index_of}
 use Rattle.hx_survey.specs.Surveys.{winner_at}
 use Rattle.hx_chart.specs.Texts.{letter_of, letters, row_line, row_lines}
@@ -7,6 +8,12 @@ use Rattle.hx_chart.specs.Texts.{letter_of, letters, row_line, row_lines}
 -- the letter of a cell
 abbrev pub letter_at : ℕ → ℕ → ℕ → List ℕ
 letter_at black row col = letter_of (winner_at black (index_of row col)) ∷ []
+
+-- the letter that was found for a cell is the one that is due there
+pub is_letter : {black row col cell byte : ℕ} {winner : Colour} → cell ≡ index_of row col → winner ≡ winner_at black cell
+    → byte ≡ letter_of winner → byte ∷ [] ≡ letter_at black row col
+is_letter {black = black} at is letter =
+    ap (λ (b : ℕ). b ∷ []) (letter ∙ ap letter_of (is ∙ ap (winner_at black) at))
 
 pub letters-none : (black row : ℕ) → letters black row 0 ≡ []
 unfolding letters

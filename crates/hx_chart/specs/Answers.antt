@@ -7,7 +7,7 @@ use Rattle.hx_solve.specs.Tallies.{Tallied}
 use Rattle.hx_survey.specs.Surveys.{IsSurvey, AreSmall}
 use Rattle.hx_answers.specs.Endings.{IsWritten}
 use Rattle.hx_finish.specs.declared.finishes.Finish.{Finish}
-use Rattle.hx_finish.specs.Opens.{open_text, open_status, open_tally, no_refusal, IsOpenWhere}
+use Rattle.hx_finish.specs.Wants.{wanting_text, wanting_status, wanting_tally, no_refusal, IsWantingWhere}
 use Rattle.hx_chart.specs.declared.answers.Answer.{Answer}
 use Rattle.hx_chart.specs.declared.answers.Answer.TheVariants.{Surveyed, LeftOpen}
 use Rattle.hx_chart.specs.Texts.{table_text}
@@ -15,23 +15,23 @@ use Rattle.hx_chart.specs.Texts.{table_text}
 -- what is written for each answer
 abbrev pub answer_text : Answer → List ℕ
 answer_text (Surveyed table) = table_text table.size table.black
-answer_text (LeftOpen open) = open_text open
+answer_text (LeftOpen wanting) = wanting_text wanting
 
 -- the exit status that tells each answer, where it was written whole
 abbrev pub status_of : Answer → ℕ
 status_of (Surveyed table) = 0
-status_of (LeftOpen open) = open_status open
+status_of (LeftOpen wanting) = wanting_status wanting
 
 -- the refusals that stand behind each answer
 abbrev pub tally_of : Settings → Answer → Tallied
 tally_of settings (Surveyed table) = no_refusal settings
-tally_of settings (LeftOpen open) = open_tally settings open
+tally_of settings (LeftOpen wanting) = wanting_tally settings wanting
 
 -- When each answer comes: a table only where it tells who wins after each opening, and a limit only where not each opening
 -- is small under the budget.
 abbrev pub IsDue : Extent → Settings → Answer → Type 0
 IsDue size settings (Surveyed table) = (table.size ≡ size) × IsSurvey size table.black
-IsDue size settings (LeftOpen open) = IsOpenWhere settings (¬ AreSmall size settings.budget) open
+IsDue size settings (LeftOpen wanting) = IsWantingWhere settings (¬ AreSmall size settings.budget) wanting
 
 -- A run of `survey`: some answer is due, it was written, and the tally has the refusals behind it.
 pub record IsSurveyRun (size : Extent) (settings : Settings) (sink sink_now : Writing) (finish : Finish) : Type 0 where

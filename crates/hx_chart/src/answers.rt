@@ -5,7 +5,7 @@ ghost use Rattle.hx_io.specs.Sinks.{WritesAll};
 ghost use Rattle.hx_chart.specs.Answers.{answer_text, status_of};
 
 use crate::texts::write_table;
-use hx_finish::{Open, write_open};
+use hx_finish::{Wanting, write_wanting};
 use hx_io::{Failed, Sink};
 use hx_survey::Table;
 
@@ -16,7 +16,7 @@ pub enum Answer {
     Surveyed(Table),
 
     /// Some opening was left open.
-    LeftOpen(Open),
+    LeftOpen(Wanting),
 }
 
 impl Answer {
@@ -26,7 +26,7 @@ impl Answer {
     {
         match self {
             Answer::Surveyed(_) => 0,
-            Answer::LeftOpen(open) => open.status(),
+            Answer::LeftOpen(wanting) => wanting.status(),
         }
     }
 }
@@ -37,6 +37,6 @@ pub(crate) fn write_answer<K: Sink>(sink: &mut K, answer: &Answer) -> Result<(),
 {
     match answer {
         Answer::Surveyed(table) => write_table(sink, table),
-        Answer::LeftOpen(open) => write_open(sink, *open),
+        Answer::LeftOpen(wanting) => write_wanting(sink, *wanting),
     }
 }

@@ -67,9 +67,9 @@ fn settle<G: Gate + Sync, R: Threads + Wait + Sync>(
             tally: Tally::new(settings.budget, settings.slots),
         },
         Err(why) => {
-            let LeftOpen { open, tally } = left_open(settings, why);
+            let LeftOpen { wanting, tally } = left_open(settings, why);
             Finding {
-                answer: Answer::LeftOpen(open),
+                answer: Answer::LeftOpen(wanting),
                 tally,
             }
         }

@@ -1,1 +1,1 @@
-pub mod OpenEnds
+pub mod WantingEnds

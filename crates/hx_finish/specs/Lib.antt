@@ -1,2 +1,2 @@
-pub mod Opens
+pub mod Wants
 pub mod Finishes

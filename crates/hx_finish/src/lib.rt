@@ -1,9 +1,8 @@
-//! How a run ends that searches: its exit status with the refusals that were counted, and what is told where the search was left
-//! open.
+//! How a run ends that searches: its exit status with the refusals that were counted, and what is told where it came to no answer.
 #![tactic(auto)]
 
 mod finishes;
-mod opens;
+mod wanting;
 
 pub use finishes::Finish;
-pub use opens::{LeftOpen, Open, left_open, write_open};
+pub use wanting::{LeftOpen, Wanting, left_open, write_wanting};
