@@ -10,9 +10,9 @@ abbrev pub letter_at : ℕ → ℕ → ℕ → List ℕ
 letter_at black row col = letter_of (winner_at black (index_of row col)) ∷ []
 
 -- the letter that was found for a cell is the one that is due there
-pub is_letter : {black row col cell byte : ℕ} {winner : Colour} → cell ≡ index_of row col → winner ≡ winner_at black cell
+pub is_letter : (black row col : ℕ) {cell byte : ℕ} {winner : Colour} → cell ≡ index_of row col → winner ≡ winner_at black cell
     → byte ≡ letter_of winner → byte ∷ [] ≡ letter_at black row col
-is_letter {black = black} at is letter =
+is_letter black row col at is letter =
     ap (λ (b : ℕ). b ∷ []) (letter ∙ ap letter_of (is ∙ ap (winner_at black) at))
 
 pub letters-none : (black row : ℕ) → letters black row 0 ≡ []

@@ -16,24 +16,29 @@ loop-col-init g c = record {
 pub returns-in-Err : goal.returns-in-Err
 returns-in-Err g c =
     let black = c.args.table.now.black in
+    let row = c.args.row in
+    let col = c.loop-col.col in
     let front = λ (bytes : List ℕ). TakesFront (g.K.Sink.writing c.loop-col.sink).taken (g.K.Sink.writing c.write_all.new.sink).taken bytes in
+    let same = is_letter black row col c.in-Some.ensures.1 c.winner.ensures c.letter_of.ensures in
     record {
-  bytes = cut_short (letters black c.args.row) (letter_at black c.args.row) (letters-next black c.args.row) _ _ _ c.loop-col.col
-      c.args.table.now.size.cols (omega (arith, c.loop-col-test.true, c.cols-col-end.ensures.value)) c.loop-col.invariant.out
-      (subst front (is_letter c.in-Some.ensures.1 c.winner.ensures c.letter_of.ensures) c.in-Err.ensures.bytes);
-  cause = record {
-    later = omega (arith, c.loop-col.invariant.later, c.in-Err.ensures.cause.later);
-    failed = omega (arith, c.loop-col.invariant.later, c.in-Err.ensures.cause.failed);
-  };
-}
+      bytes = cut_short (letters black row) (letter_at black row) (letters-next black row) _ _ _ col c.args.table.now.size.cols
+          (omega (arith, c.loop-col-test.true, c.cols-col-end.ensures.value)) c.loop-col.invariant.out
+          (subst front same c.in-Err.ensures.bytes);
+      cause = record {
+        later = omega (arith, c.loop-col.invariant.later, c.in-Err.ensures.cause.later);
+        failed = omega (arith, c.loop-col.invariant.later, c.in-Err.ensures.cause.failed);
+      };
+    }
 
 pub loop-col-preserved : goal.loop-col-preserved
 loop-col-preserved g c =
     let black = c.args.table.now.black in
+    let row = c.args.row in
+    let col = c.loop-col.col in
     let out = λ (bytes : List ℕ). (g.K.Sink.writing c.write_all.new.sink).taken ≡ append (g.K.Sink.writing c.loop-col.sink).taken bytes in
+    let same = is_letter black row col c.in-Some.ensures.1 c.winner.ensures c.letter_of.ensures in
     record {
-  out = one_more (letters black c.args.row) (letter_at black c.args.row) (letters-next black c.args.row) _ _ _ c.loop-col.col
-      c.loop-col.invariant.out
-      (subst out (is_letter c.in-Some.ensures.1 c.winner.ensures c.letter_of.ensures) c.in-Ok.ensures.bytes);
-  later = omega (arith, c.loop-col.invariant.later, c.in-Ok.ensures.cause.later);
-}
+      out = one_more (letters black row) (letter_at black row) (letters-next black row) _ _ _ col c.loop-col.invariant.out
+          (subst out same c.in-Ok.ensures.bytes);
+      later = omega (arith, c.loop-col.invariant.later, c.in-Ok.ensures.cause.later);
+    }
