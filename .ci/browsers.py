@@ -8,6 +8,7 @@ import json
 import os
 import pathlib
 import queue
+import re
 import shutil
 import signal
 import subprocess
@@ -19,7 +20,7 @@ BROWSERS, NODES = ("chromium", "chromium-browser", "google-chrome", "firefox"), 
 OLDEST_NODE = 18
 PATIENCE = 60  # seconds for a page of a browser
 REPORT = """const report = async (came) => {
-  await fetch("/", { method: "POST", body: JSON.stringify(came) });
+  await fetch("/PLACE", { method: "POST", body: JSON.stringify(came) });
   if (NEXT < COUNT) location = "/NEXT";
 };
 """
@@ -39,12 +40,14 @@ def may_run(program):
 
 def report_in(program, place, count):
     """How one of so many pages reports."""
-    return "" if is_node(program) else REPORT.replace("NEXT", str(place + 1)).replace("COUNT", str(count))
+    words = {"PLACE": place, "NEXT": place + 1, "COUNT": count}
+    return "" if is_node(program) else re.sub("[A-Z]{4,}", lambda word: str(words.get(word[0], word[0])), REPORT)
 
 
 def run_all(program, pages):
-    """What each page reported, up to the first that reported nothing."""
-    return (by_node if is_node(program) else by_browser)(program, pages)
+    """What each page reported, or none."""
+    came = (by_node if is_node(program) else by_browser)(program, pages)
+    return [came.get(place) for place in range(len(pages))]
 
 
 def by_node(program, pages):
@@ -53,7 +56,7 @@ def by_node(program, pages):
         for path, text in zip(paths, pages):
             path.write_text(text)
         ended = subprocess.run([program, DOCUMENT, *paths], stdout=subprocess.PIPE, text=True)
-    return [json.loads(line) for line in ended.stdout.splitlines()]
+    return dict(enumerate(map(json.loads, ended.stdout.splitlines())))
 
 
 class Server(http.server.ThreadingHTTPServer):
@@ -65,20 +68,27 @@ class Server(http.server.ThreadingHTTPServer):
         self.pages, self.reports = pages, queue.Queue()
         threading.Thread(target=self.serve_forever, daemon=True).start()
 
+    def handle_error(self, request, client_address):
+        """A browser may leave a page while it comes."""
+
 
 class Answers(http.server.BaseHTTPRequestHandler):
     def do_GET(self):
         place = self.path[1:]
         is_page = place.isdecimal() and int(place) < len(self.server.pages)
-        self.send_response(200 if is_page else 404)
-        self.send_header("Content-Type", "text/html; charset=utf-8")
-        self.end_headers()
-        self.wfile.write(self.server.pages[int(place)].encode() if is_page else b"")
+        self.answer(200 if is_page else 404, self.server.pages[int(place)].encode() if is_page else b"")
 
     def do_POST(self):
-        self.server.reports.put(json.loads(self.rfile.read(int(self.headers["Content-Length"]))))
-        self.send_response(200)
+        report = json.loads(self.rfile.read(int(self.headers["Content-Length"])))
+        self.server.reports.put((int(self.path[1:]), report))
+        self.answer(200, b"")
+
+    def answer(self, status, content):
+        self.send_response(status)
+        self.send_header("Content-Type", "text/html; charset=utf-8")
+        self.send_header("Content-Length", str(len(content)))
         self.end_headers()
+        self.wfile.write(content)
 
     def log_message(self, *_):
         """Standard error has only what differs."""
@@ -93,11 +103,12 @@ def started_browser(program, address, folder):
 
 
 def by_browser(program, pages):
-    server, came, folder = Server(pages), [], tempfile.mkdtemp()
+    server, came, folder = Server(pages), {}, tempfile.mkdtemp()
     browser = started_browser(program, f"http://127.0.0.1:{server.server_port}/0", folder)
     try:
         while len(came) < len(pages):
-            came.append(server.reports.get(timeout=PATIENCE))
+            place, report = server.reports.get(timeout=PATIENCE)
+            came[place] = report  # which a browser may send twice
     except queue.Empty:
         pass
     finally:

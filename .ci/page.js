@@ -13,12 +13,17 @@
     await shown;
   }
 
-  // Behind a key nothing need change.
-  async function pressed(key) {
+  const numberShown = () => Number(document.getElementById("number").value);
+
+  // A key, or a click on the line of a cell. One that is to lead to another node has time for that, and one that is not has
+  // little.
+  async function pressed([key, wanted]) {
     const shown = changed();
-    dispatchEvent(new KeyboardEvent("keydown", { key }));
-    await Promise.race([shown, later(300)]);
-    return Number(document.getElementById("number").value);
+    const patience = wanted === numberShown() ? 100 : 10000;
+    if (key.startsWith("line ")) answers.get(key.slice(5)).onclick();
+    else dispatchEvent(new KeyboardEvent("keydown", { key }));
+    await Promise.race([shown, later(patience)]);
+    return numberShown();
   }
 
   function lookedAt(number) {
