@@ -1,27 +1,40 @@
 // Shows one node of the tree: the one whose number stands behind the # of the address, or else the root.
-// `nodes` has the record of each node, as records.py makes it.
 
-const root = nodes.length - 1;
 const byId = (id) => document.getElementById(id);
 const panel = byId("node");
-const cells = [...document.querySelectorAll(".cell")];
+const cells = new Map([...document.querySelectorAll("[data-cell]")].map((cell) => [cell.dataset.cell, cell]));
 const colour = { black: "Black", white: "White" };
-const other = { black: "white", white: "black" };
+const MARKS = ["black", "white", "carrier", "chosen", "black-fill", "white-fill"];
+const MOST_PARENTS = 100; // that are listed
 
-// The child of each cell that is moved to, in a node by `move` or `all`.
-function childByCell(node) {
-  if (node.rule === "move") return new Map([[node.chosen, node.child]]);
-  return new Map((node.lines || []).filter(([, kind]) => kind === "child").map(([cell, , child]) => [cell, child]));
+const isThere = (number) => number <= root;
+const counted = (count, word) => `${count} ${word}${count === 1 ? "" : "s"}`;
+
+// ---- The board
+
+function draw(record) {
+  const named = MARKS.map((mark) => [mark, new Set((record[mark] || "").split(" "))]);
+  for (const [name, cell] of cells) named.forEach(([mark, those]) => cell.classList.toggle(mark, those.has(name)));
+  document.querySelector(".chain").setAttribute("points", pointsOf(record).join(" "));
 }
 
-function childrenOf(node) {
-  return new Set("child" in node ? [node.child] : childByCell(node).values());
+// The corners of the line along a chain, from side to side.
+function pointsOf({ chain, winner }) {
+  if (!chain) return [];
+  const middles = chain.split(" ").map((name) => cells.get(name).getAttribute("transform").match(/[\d.]+/g).map(Number));
+  const [x, y] = winner === "black" ? [0, cellEdge] : [cellWide / 2, 0];
+  const [[left, top], [right, bottom]] = [middles[0], middles.at(-1)];
+  return [[left - x, top - y], ...middles, [right + x, bottom + y]].map((point) => point.map((at) => at.toFixed(1)).join());
 }
 
-const parents = nodes.map(() => []);
-nodes.forEach((node, number) => {
-  for (const child of childrenOf(node)) if (child < nodes.length) parents[child].push(number);
-});
+// A click on a cell goes to the child that answers it, or to which the winner moves by it.
+function setClicks(record, children) {
+  const leads = new Map(children.map(([cell, child]) => [cell || record.chosen, child]));
+  for (const [name, cell] of cells) {
+    cell.classList.toggle("leads", leads.has(name));
+    cell.onclick = leads.has(name) ? () => go(leads.get(name)) : null;
+  }
+}
 
 // ---- Elements
 
@@ -33,26 +46,47 @@ function make(name, held, properties = {}) {
 }
 
 const paragraph = (...held) => make("p", held);
+const code = (word) => make("code", [word]);
 
 // A heading, and a list of what is held under it.
-function listed(title, name, items, properties = {}) {
-  const lines = items.map((item) => make("li", item));
+function listed(title, name, lines, properties = {}) {
   return [make("h2", [title]), lines.length ? make(name, lines, properties) : paragraph("None.")];
 }
 
-function linkTo(number) {
-  return number < nodes.length ? make("a", [`node ${number}`], { href: `#${number}` }) : `node ${number}, which is missing`;
+const asLines = (items) => items.map((item) => make("li", item));
+const linkTo = (number) => make("a", [`node ${number}`], { href: `#${number}` });
+
+// A child: its number, its rule and what comes there.
+function childTold(number) {
+  if (!isThere(number)) return [`node ${number}, which is missing`];
+  const head = headOf(number);
+  return [linkTo(number), " by ", code(head.rule), `: ${comesNow[head.rule](head, colour[head.winner], number)}`];
 }
 
+const comesNow = {
+  chain: (head, winner) => `${winner} has a chain`,
+  links: (head, winner) => `${winner} has a link between his sides`,
+  move: ({ values: [cell] }, winner) => `${winner} moves to ${cell}`,
+  all: ({ values: [, threats, lines] }) => `${counted(Number(threats), "threat")} and ${counted(Number(lines), "line")}`,
+  turned: ({ values: [child] }) => `node ${child} has it turned by 180 degrees`,
+  fill: (head, winner, number) => {
+    const last = afterFills(number);
+    return last.rule === "fill" ? `${winner} fills cells` : `${winner} fills cells, then ${comesNow[last.rule](last, winner)}`;
+  },
+};
+
 // The link that a step gives. A click marks its carrier on the board, and a second one what was marked before.
-function linkShown(node, name, [told, carrier]) {
-  if (!told) return [make("code", [name]), ": no link"];
-  const button = make("button", [make("code", [name]), `: ${told}, on ${carrier || "no cell"}`], { type: "button" });
+let shownLink = null;
+
+function linkShown(record, name, [told, carrier]) {
+  if (!told) return [code(name), ": no link"];
+  const button = make("button", [code(name), `: ${told}, on ${carrier || "no cell"}`], { type: "button" });
   button.onclick = () => {
-    const isNew = !button.classList.contains("shown");
-    panel.querySelectorAll(".shown").forEach((old) => old.classList.remove("shown"));
+    const isNew = shownLink !== button;
+    if (shownLink) shownLink.classList.remove("shown");
     button.classList.toggle("shown", isNew);
-    draw(node, isNew ? carrier : node.carrier, isNew ? "" : node.chosen);
+    shownLink = isNew ? button : null;
+    draw(isNew ? { ...record, carrier, chosen: "" } : record);
   };
   return [button];
 }
@@ -60,17 +94,18 @@ function linkShown(node, name, [told, carrier]) {
 // ---- What a node says
 
 const meaning = {
-  chain: (node, winner) => [`${winner} has a chain.`],
-  links: (node, winner) => [`The last step makes a link between ${winner}'s two sides, on ${node.carrier || "no cell"}.`],
-  move: (node, winner) => [`${winner} moves to ${node.chosen}, and `, linkTo(node.child), " shows that this wins."],
-  all: (node, winner, opponent) => [
+  chain: (record, winner) => [`${winner} has a chain.`],
+  links: (record, winner) => [`The last step makes a link between ${winner}'s two sides, on ${record.carrier || "no cell"}.`],
+  move: (record, winner) => [`${winner} moves to ${record.chosen}. That this wins shows `, ...childTold(record.child), "."],
+  all: (record, winner, opponent) => [
     `After each move of ${opponent}'s, ${winner} wins: by a threat that the move leaves whole, or by the move's line.`],
-  fill: (node, winner) => [`${winner} fills cells, and `, linkTo(node.child), " shows that this wins."],
-  turned: (node, winner) => [linkTo(node.child), ` shows that ${winner} wins this position turned by 180 degrees.`],
+  fill: (record, winner) => [`${winner} fills cells. That this wins shows `, ...childTold(record.child), "."],
+  turned: (record, winner) => [
+    `That ${winner} wins this position turned by 180 degrees shows `, ...childTold(record.child), "."],
 };
 
 const lineTold = {
-  child: ([cell, , child]) => [`${cell}: `, linkTo(child)],
+  child: ([cell, , child]) => [`${cell}: `, ...childTold(child)],
   dead: ([cell, , better], opponent) => [`${cell}: ${opponent} does no worse by ${better}, after which ${cell} is dead`],
   pair: ([cell, , named], opponent) => {
     const [better, partner] = named.split(" ");
@@ -84,61 +119,144 @@ const fillTold = {
   pair: (named, winner) => [`${named.replace(" ", " and ")}: a captured pair of ${winner}'s`],
 };
 
-function answersTold(node, opponent) {
-  const threats = node.threats.map(([step, ...link]) => linkShown(node, `threat ${step}`, link));
+function answersTold(record, opponent) {
+  const threats = record.threats.map(([step, ...link]) => linkShown(record, `threat ${step}`, link));
   const which = threats.length ? "the empty cells that all threats share" : "all empty cells";
   return [
-    ...listed("Threats", "ul", threats),
-    paragraph(`To be answered are ${which}: ${node.chosen || "none"}.`),
-    ...listed("Lines", "ul", node.lines.map((line) => lineTold[line[1]](line, opponent))),
+    paragraph(`To be answered are ${which}: ${record.chosen || "none"}.`),
+    ...listed("Lines", "ul", record.lines.map((line) => answerMade(line, opponent))),
+    ...listed("Threats", "ul", asLines(threats)),
   ];
 }
 
-function stepsTold(node) {
-  return listed("Steps", "ol", node.steps.map(([name, ...link]) => linkShown(node, name, link)), { start: 0 });
+// A line of answers. One with a child can be marked, and the arrow keys follow the marked one.
+function answerMade(line, opponent) {
+  const [cell, kind, child] = line;
+  const element = make("li", lineTold[kind](line, opponent));
+  if (kind === "child" && isThere(child)) {
+    element.className = "line";
+    element.onclick = () => pick(cell);
+    element.addEventListener("focusin", () => pick(cell));
+    answers.set(cell, element);
+  }
+  return element;
 }
 
-function told(number) {
-  const node = nodes[number];
-  const [winner, opponent] = [colour[node.winner], colour[other[node.winner]]];
+function parentsTold(number) {
+  const parents = parentsOf(number);
+  const more = parents.length - MOST_PARENTS;
+  return [
+    ...listed("Child of", "ul", asLines(parents.slice(0, MOST_PARENTS).map((parent) => parentTold(parent, number)))),
+    ...(more > 0 ? [paragraph(`And of ${counted(more, "node")} more.`)] : []),
+  ];
+}
+
+function parentTold(parent, number) {
+  const { rule, mover } = headOf(parent);
+  const moves = childrenOf(parent).filter(([cell, child]) => cell && child === number).map(([cell]) => cell);
+  return [linkTo(parent), " by ", code(rule), moves.length ? `, after ${colour[mover]}'s ${moves.join(", ")}` : ""];
+}
+
+function told(number, record) {
+  const [winner, opponent] = [colour[record.winner], colour[other[record.winner]]];
+  const fills = (record.fills || []).map(([kind, named]) => fillTold[kind](named, winner, opponent));
+  const steps = (record.steps || []).map(([name, ...link]) => linkShown(record, name, link));
   return [
     make("h2", [`Node ${number}${number === root ? ", the root" : ""}`]),
-    paragraph(`${colour[node.mover]} is to move. ${winner} is said to win, by the rule `, make("code", [node.rule]), "."),
-    paragraph(...meaning[node.rule](node, winner, opponent)),
-    ...(node.threats ? answersTold(node, opponent) : []),
-    ...(node.fills ? listed("Fill steps", "ol", node.fills.map(([kind, named]) => fillTold[kind](named, winner, opponent))) : []),
-    ...(node.steps ? stepsTold(node) : []),
-    ...listed("Child of", "ul", parents[number].map((parent) => [linkTo(parent)])),
+    paragraph(`${colour[record.mover]} is to move. ${winner} is said to win, by the rule `, code(record.rule), "."),
+    paragraph(...meaning[record.rule](record, winner, opponent)),
+    ...(record.threats ? answersTold(record, opponent) : []),
+    ...(record.fills ? listed("Fill steps", "ol", asLines(fills)) : []),
+    ...parentsTold(number),
+    ...(record.steps ? listed("Steps", "ol", asLines(steps), { start: 0 }) : []),
   ];
 }
 
-// ---- The board, and going from node to node
+// ---- Going from node to node
 
-function draw(node, carrier, chosen) {
-  const marks = Object.entries({ black: node.black, white: node.white, carrier, chosen });
-  const named = marks.map(([mark, text]) => [mark, new Set(text.split(" "))]);
-  const children = childByCell(node);
-  for (const cell of cells) {
-    const { cell: name } = cell.dataset;
-    for (const [mark, those] of named) cell.classList.toggle(mark, those.has(name));
-    cell.classList.toggle("leads", children.has(name));
-    cell.onclick = children.has(name) ? () => { location.hash = children.get(name); } : null;
+const way = []; // the nodes that were shown on the way to this one, which is the last
+const cameFrom = new Map(); // the parent from which a node was gone to
+const wentTo = new Map(); // the child that was gone to from a node
+let answers = new Map(); // the lines of this node that have a child, by their cells
+let picked = null; // the child to which the arrow keys go, with its cell
+
+function go(number) {
+  location.hash = number;
+}
+
+// Marks a line and its cell.
+function pick(cell) {
+  picked = childrenOf(way.at(-1)).find(([name, child]) => name === cell && isThere(child)) || null;
+  for (const [name, line] of answers) line.classList.toggle("picked", name === cell);
+  for (const [name, element] of cells) element.classList.toggle("picked", name === cell);
+}
+
+// The line that was followed before, or else the first.
+function pickFirst(number, children) {
+  const present = children.filter(([, child]) => isThere(child));
+  const [cell] = present.find(([, child]) => child === wentTo.get(number)) || present[0] || ["none"];
+  pick(cell);
+}
+
+function noteWay(number) {
+  const before = way.at(-1);
+  if (way.at(-2) === number) way.pop();
+  else if (before !== number) way.push(number);
+  if (before !== undefined && childrenOf(before).some(([, child]) => child === number)) {
+    cameFrom.set(number, before);
+    wentTo.set(before, number);
   }
 }
 
-function show() {
+function askedNumber() {
   const asked = Number.parseInt(location.hash.slice(1), 10);
-  const number = asked >= 0 && asked <= root ? asked : root;
-  panel.replaceChildren(...told(number));
-  draw(nodes[number], nodes[number].carrier, nodes[number].chosen);
+  return asked >= 0 && isThere(asked) ? asked : root;
+}
+
+function show() {
+  const number = askedNumber();
+  const record = recordOf(number);
+  const children = childrenOf(number);
+  noteWay(number);
+  [answers, shownLink] = [new Map(), null];
+  panel.replaceChildren(...told(number, record));
+  draw(record);
+  setClicks(record, children.filter(([, child]) => isThere(child)));
+  pickFirst(number, children);
   byId("number").value = number;
   byId("to-earlier").href = `#${Math.max(number - 1, 0)}`;
   byId("to-later").href = `#${Math.min(number + 1, root)}`;
+  scrollTo(0, 0);
+}
+
+function goDown() {
+  if (picked) go(picked[1]);
+}
+
+function goUp() {
+  const number = way.at(-1);
+  const parent = cameFrom.has(number) ? cameFrom.get(number) : parentsOf(number)[0];
+  if (parent !== undefined) go(parent);
+}
+
+// Never out of the page.
+function goBack() {
+  if (way.length > 1) history.back();
+}
+
+const keys = { ArrowRight: goDown, ArrowDown: goDown, ArrowUp: goUp, ArrowLeft: goBack };
+
+function press(event) {
+  const isForPage = event.key in keys && !(event.altKey || event.ctrlKey || event.metaKey || event.shiftKey);
+  if (!isForPage || event.target === byId("number")) return;
+  event.preventDefault();
+  keys[event.key]();
 }
 
 byId("to-root").href = `#${root}`;
 byId("number").max = root;
-byId("number").onchange = (event) => { location.hash = event.target.value; };
-byId("count").textContent = `of ${nodes.length}`;
+byId("number").onchange = (event) => go(event.target.value);
+byId("count").textContent = `of ${root + 1}`;
 addEventListener("hashchange", show);
+addEventListener("keydown", press);
 show();

@@ -1,17 +1,21 @@
-"""A board as a picture: hexagons with coordinates, coloured sides, stones, and the marks of a record."""
+"""A board as a picture: hexagons with coordinates, coloured sides, stones, the marks of a record, and a key to them.
+
+A mark of a cell is a class of it, and board.css says how it looks.
+"""
 import html
 import math
 import pathlib
 
-from tree_page.records import LETTERS, check, name
+from tree_page.records import LETTERS, cell_of, check, name
 
 STYLE = pathlib.Path(__file__).with_name("board.css")
-MARKS = ("black", "white", "carrier", "chosen")
+MARKS = ("black", "white", "carrier", "chosen", "black-fill", "white-fill")
 WIDE = 42.0  # of a cell
 EDGE = WIDE / math.sqrt(3)
 MARGIN = 38.0  # above and on the left, where the coordinates stand
 NARROW = 14.0  # the other two margins
-LETTER_WIDE, LINE_HIGH = 7.0, 20.0  # of a caption
+LETTER_WIDE, LINE_HIGH = 8.0, 20.0  # of a caption
+KEY_HIGH, KEY_SCALE, KEY_TEXT = 24.0, 0.4, 26.0  # of a line of the key; of its cell; how far to the right its words begin
 # The corners of a cell from its middle, clockwise from the top.
 CORNERS = [(0, -EDGE), (WIDE / 2, -EDGE / 2), (WIDE / 2, EDGE / 2), (0, EDGE), (-WIDE / 2, EDGE / 2),
            (-WIDE / 2, -EDGE / 2)]
@@ -58,16 +62,56 @@ def coordinates(size):
         yield f'<text x="{x - WIDE / 2 - 18:.1f}" y="{y + 5:.1f}">{row + 1}</text>'
 
 
+HEXAGON = f'<polygon points="{spelled(CORNERS)}"/><circle r="{EDGE * 0.62:.1f}"/>'
+
+
 def cell_drawn(cell, marks):
     x, y = middle(cell)
     return (f'<g class="{" ".join(["cell", *marks])}" data-cell="{name(cell)}" transform="translate({x:.1f},{y:.1f})">'
-            f'<title>{name(cell)}</title><polygon points="{spelled(CORNERS)}"/><circle r="{EDGE * 0.62:.1f}"/></g>')
+            f'<title>{name(cell)}</title>{HEXAGON}</g>')
 
 
 def cells(size, record):
-    named = {mark: set(record[mark].split()) for mark in MARKS}
+    named = {mark: set(record.get(mark, "").split()) for mark in MARKS}
     for cell in size.cells:
         yield cell_drawn(cell, [mark for mark in MARKS if name(cell) in named[mark]])
+
+
+def chain_drawn(record):
+    """The chain of a record that tells one, from side to side. In the page it is none yet."""
+    if "chain" not in record:
+        return []
+    middles = list(map(middle, map(cell_of, record["chain"].split())))
+    if middles:
+        x, y = (0, EDGE) if record["winner"] == "black" else (WIDE / 2, 0)
+        (left, top), (right, bottom) = middles[0], middles[-1]
+        middles = [(left - x, top - y), *middles, (right + x, bottom + y)]
+    return [f'<polyline class="chain" points="{spelled(middles)}"/>']
+
+
+def mark_drawn(mark, x, y):
+    """A mark as a key shows it."""
+    if mark == "chain":
+        return f'<polyline class="chain" points="{spelled([(x - 7, y), (x + 7, y)])}"/>'
+    return f'<g class="cell {mark}" transform="translate({x:.1f},{y:.1f}) scale({KEY_SCALE})">{HEXAGON}</g>'
+
+
+def key_drawn(key, high):
+    """Under the board a line for each mark: how it looks, and what it says."""
+    for place, (mark, words) in enumerate(key):
+        y = high + KEY_HIGH * (place + 0.4)
+        yield mark_drawn(mark, NARROW + 9, y)
+        yield f'<text class="key" x="{NARROW + KEY_TEXT:.1f}" y="{y + 5:.1f}">{html.escape(words, quote=False)}</text>'
+
+
+def key_of(record):
+    """What each mark in the picture of a root says."""
+    winner, opponent = record["winner"].capitalize(), check.OTHER[record["winner"]].capitalize()
+    is_all = record["rule"] == "all"
+    said = {"chosen": f"moves of {opponent}'s to be answered" if is_all else f"{record['chosen']}, {winner}'s winning move",
+            "carrier": f"cells of {winner}'s {'threats' if is_all else 'link'}", "black-fill": "filled in with Black's stones",
+            "white-fill": "filled in with White's stones", "chain": f"{winner}'s chain"}
+    return [(mark, words) for mark, words in said.items() if record.get(mark)]
 
 
 def caption_drawn(lines, wide, high):
@@ -75,15 +119,17 @@ def caption_drawn(lines, wide, high):
         yield f'<text x="{wide / 2:.1f}" y="{high + LINE_HIGH * (place + 0.5):.1f}">{html.escape(line)}</text>'
 
 
-def picture(size, record, chosen_sides=(), caption=()):
-    """The board of a record, as a picture that needs no other file. The lines of a caption stand under it."""
+def picture(size, record, chosen_sides=(), caption=(), key=()):
+    """The board of a record, as a picture that needs no other file. A key and the lines of a caption stand under it."""
     board_wide = MARGIN + WIDE * (size.columns + (size.rows - 1) / 2) + NARROW
     board_high = MARGIN + EDGE * (1.5 * size.rows + 0.5) + NARROW
-    wide = max([board_wide, *(2 * NARROW + LETTER_WIDE * len(line) for line in caption)])
-    high = board_high + LINE_HIGH * len(caption)
+    wide = max([board_wide, *(2 * NARROW + LETTER_WIDE * len(line) for line in caption),
+                *(2 * NARROW + KEY_TEXT + LETTER_WIDE * len(words) for _, words in key)])
+    key_high = KEY_HIGH * len(key)
+    high = board_high + key_high + LINE_HIGH * len(caption)
     return "\n".join([
         f'<svg xmlns="http://www.w3.org/2000/svg" viewBox="0 0 {wide:.0f} {high:.0f}" width="{wide:.0f}" '
         f'height="{high:.0f}" role="img" aria-label="the board">',
         f"<style>\n{STYLE.read_text()}</style>", '<rect class="ground" width="100%" height="100%" rx="8"/>',
-        *sides(size, chosen_sides), *coordinates(size), *cells(size, record), *caption_drawn(caption, wide, board_high),
-        "</svg>\n"])
+        *sides(size, chosen_sides), *coordinates(size), *cells(size, record), *chain_drawn(record),
+        *key_drawn(key, board_high), *caption_drawn(caption, wide, board_high + key_high), "</svg>\n"])

@@ -1,6 +1,7 @@
-"""What a page is told of the nodes of a tree, as the text says it: cells by their names, a set of cells as one text.
+"""What is told of the nodes of a tree, as the text says it: cells by their names, a set of cells as one text.
 
-The text is read by checkers/check.py, and what link a step gives is taken from there.
+The text is read by checkers/check.py, and what link a step gives is taken from there. A picture shows the record of a
+root. The page makes the same records of its own, in tree.js and links.js; `.ci/page` holds them against these.
 """
 import io
 import pathlib
@@ -17,24 +18,33 @@ class NoTree(Exception):
     """The bytes are not the text of a tree."""
 
 
-def read_nodes(content):
-    """The nodes of a text, each as the checker reads it."""
+def nodes_of(content):
+    """The nodes of a text, one after the other, each as the checker reads it."""
     lines = check.Lines(io.BytesIO(content))
     try:
         rules, size = check.read_preamble(lines)
-        nodes = []
-        while (words := lines.next_words())[0] != "end" or not nodes:
-            nodes.append(check.read_node(lines, words, rules, size))
-        check.require(words == ["end", str(len(nodes)), nodes[-1][0].winner])
+        count = 0
+        while (words := lines.next_words())[0] != "end" or not count:
+            node = check.read_node(lines, words, rules, size)
+            count += 1
+            yield node
+        check.require(words == ["end", str(count), node[0].winner])
         lines.end()
     except (check.Wrong, check.TooLong):
         raise NoTree(f"line {lines.number} is not of the text of a tree") from None
-    return nodes
+
+
+def read_nodes(content):
+    return list(nodes_of(content))
 
 
 def name(cell):
     row, column = divmod(cell, check.WIDTH)
     return f"{LETTERS[column]}{row + 1}"
+
+
+def cell_of(word):
+    return check.WIDTH * (int(word[1:]) - 1) + LETTERS.index(word[0])
 
 
 def names(cells):
@@ -84,15 +94,44 @@ def steps_told(heading, steps, links):
     return [[step_spelled(*step), *link_told(link, heading.winner)] for step, link in zip(steps, links)]
 
 
-def record_of(node):
-    """The marks of a board are its carrier, and the cells on which the node's rule turns."""
-    heading, rule, values, entries = node
+def record_of(nodes, number):
+    """What is told of the node with this number. The chosen cells are those on which its rule turns."""
+    heading, rule, values, entries = nodes[number]
     return {"black": names(heading.board.black), "white": names(heading.board.white), "mover": heading.mover,
-            "winner": heading.winner, "rule": rule, "carrier": "", "chosen": "", **OF_RULE[rule](heading, values, *entries)}
+            "winner": heading.winner, "rule": rule, "carrier": "", "chosen": "",
+            **OF_RULE[rule](heading, values, *entries), **({"chosen": move_after(nodes, number)} if rule == "fill" else {})}
+
+
+def move_after(nodes, number):
+    """The move to which the fill steps of a node lead, from child to child by `fill`, or nothing.
+
+    A child stands before its node; where it does not the tree is wrong, and the way ends."""
+    _, rule, values, _ = nodes[number]
+    while rule == "fill" and values[-1] < number:
+        number = values[-1]
+        _, rule, values, _ = nodes[number]
+    return name(values[0]) if rule == "move" else ""
+
+
+def chain_of(board, player):
+    """The cells of a shortest chain, from the player's first side to his last one, or none."""
+    touching, own = board.size.touching[player], board.of(player)
+    before, reached = {}, [check.FIRST]
+    for vertex in reached:  # which grows
+        if check.has(touching[vertex], check.LAST):
+            return way_to(vertex, before)
+        found = [cell for cell in check.members_of(touching[vertex] & own) if cell not in before]
+        before.update(dict.fromkeys(found, vertex))
+        reached += found
+    return []
+
+
+def way_to(cell, before):
+    return [*way_to(before[cell], before), cell] if cell in before else []
 
 
 def of_chain(heading, values):
-    return {}
+    return {"chain": names_listed(chain_of(heading.board, heading.winner))}
 
 
 def of_move(heading, values):
@@ -121,8 +160,11 @@ def of_all(heading, values, steps, threats, answers):
 
 
 def of_fill(heading, values, fills):
-    return {"chosen": " ".join(names_listed(cells) for _, cells in fills), "child": values[-1],
-            "fills": [[kind, names_listed(cells)] for kind, cells in fills]}
+    """Each player has the cells that the fill steps give him."""
+    others = {cell for kind, cells in fills for cell in cells if kind == "other"}
+    own = {cell for kind, cells in fills for cell in cells if kind != "other"}
+    return {f"{check.OTHER[heading.winner]}-fill": names_listed(sorted(others)), f"{heading.winner}-fill": names_listed(sorted(own)),
+            "child": values[-1], "fills": [[kind, names_listed(cells)] for kind, cells in fills]}
 
 
 def of_turned(heading, values):

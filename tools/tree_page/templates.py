@@ -5,7 +5,7 @@ import re
 import subprocess
 
 from tree_page.pictures import picture
-from tree_page.records import check, end_told, name, names
+from tree_page.records import cell_of, check, end_told, name, names
 
 TOP = pathlib.Path(__file__).resolve().parents[2]
 PROGRAM = TOP / "crates" / "hx_main" / "out" / "hx_main"
@@ -29,7 +29,7 @@ def answer_to(content):
 
 
 def vertex_of(word):
-    return SIDES[word] if word in SIDES else check.WIDTH * (int(word[1:]) - 1) + ord(word[0]) - ord("a")
+    return SIDES[word] if word in SIDES else cell_of(word)
 
 
 def template_picture(content):

@@ -43,7 +43,7 @@ module _ (words : List (List ℕ)) (source source_now : Reading) (sink sink_now 
   Promises finish (Demo seed settings) = DrawsAsPromised seed settings sink sink_now finish
   Promises finish Play = PlaysAsPromised source source_now sink sink_now finish.status
   Promises finish Template = DecidesAsPromised source source_now sink sink_now finish.status
-  Promises finish (Survey size settings) = TabulatesAsPromised size settings sink sink_now finish
+  Promises finish (Survey survey) = TabulatesAsPromised survey.size survey.settings sink sink_now finish
 
   -- words that are this command and also that one are one command, so what is promised of the one is promised of the other
   pub kept : (finish : Finish) (own other : Command) → Asks own words → Asks other words → Promises finish own

@@ -41,7 +41,7 @@ IsClaim words = Asks Template words
 
 -- the words are `survey` with the size of a board and these settings
 abbrev pub IsTabled : Extent → Settings → List (List ℕ) → Type 0
-IsTabled size settings words = Asks (Survey size settings) words
+IsTabled size settings words = Asks (Survey (record { size = size; settings = settings })) words
 
 -- the words are a command
 abbrev pub IsCommand : List (List ℕ) → Type 0

@@ -134,8 +134,8 @@ pub fn run<S: Source, K: Sink, G: Gate + Sync, R: Threads + Wait + Sync>(
         Some(Command::Demo { seed, settings }) => run_demo(rt, alloc, seed, settings, sink, gate),
         Some(Command::Play) => uncounted(run_play(alloc, source, sink)),
         Some(Command::Template) => uncounted(run_template(alloc, source, sink)),
-        Some(Command::Survey { size, settings }) => {
-            run_survey(rt, alloc, size, settings, sink, gate)
+        Some(Command::Survey(survey)) => {
+            run_survey(rt, alloc, survey.size, survey.settings, sink, gate)
         }
         None => uncounted(refuse(sink)),
     }

@@ -24,7 +24,7 @@ name_of (Htp settings) = codes "htp"
 name_of (Demo seed settings) = codes "demo"
 name_of Play = codes "play"
 name_of Template = codes "template"
-name_of (Survey size settings) = codes "survey"
+name_of (Survey survey) = codes "survey"
 
 -- what the words behind the name are
 abbrev AreBehind : Command → List (List ℕ) → Type 0
@@ -34,7 +34,7 @@ AreBehind (Htp settings) rest = AreOptions rest settings
 AreBehind (Demo seed settings) rest = SeedAndOptions seed settings rest
 AreBehind Play rest = rest ≡ []
 AreBehind Template rest = rest ≡ []
-AreBehind (Survey size settings) rest = SizeAndOptions size settings rest
+AreBehind (Survey survey) rest = SizeAndOptions survey.size survey.settings rest
 
 -- the first two letters of a name, as one number
 abbrev letters : List ℕ → ℕ
@@ -53,7 +53,7 @@ Asks-named words (Htp settings) asks = record { rest = asks.0; parts = asks.1; b
 Asks-named words (Demo seed settings) asks = record { rest = asks.0; parts = asks.1; behind = asks.2 }
 Asks-named words Play asks = record { rest = []; parts = asks; behind = refl }
 Asks-named words Template asks = record { rest = []; parts = asks; behind = refl }
-Asks-named words (Survey size settings) asks = record { rest = asks.0; parts = asks.1; behind = asks.2 }
+Asks-named words (Survey survey) asks = record { rest = asks.0; parts = asks.1; behind = asks.2 }
 
 -- the words behind the first one are what the command may have behind its name
 Asks-behind : (words rest : List (List ℕ)) (name : List ℕ) (command : Command) → words ≡ name ∷ rest → Asks command words
@@ -92,8 +92,8 @@ Asks-demo words rest is none other asks = other_name words rest (codes "demo") o
 
 pub Asks-survey : (words rest : List (List ℕ)) → words ≡ codes "survey" ∷ rest
     → ((found : Extent × Settings) → SizeAndOptions found.0 found.1 rest → ⊥) → (command : Command) → Asks command words → ⊥
-Asks-survey words rest is none (Survey size settings) asks =
-    none (size, settings) (Asks-behind words rest (codes "survey") (Survey size settings) is asks)
+Asks-survey words rest is none (Survey survey) asks =
+    none (survey.size, survey.settings) (Asks-behind words rest (codes "survey") (Survey survey) is asks)
 Asks-survey words rest is none other asks = other_name words rest (codes "survey") other (omega arith) is asks
 
 -- ---- one command
@@ -112,9 +112,9 @@ one_behind rest (Demo m a) (Demo n b) same p q =
     cc
 one_behind rest Play Play same p q = refl
 one_behind rest Template Template same p q = refl
-one_behind rest (Survey m a) (Survey n b) same p q =
-    let sizes : m ≡ n = SizeAndOptions-size rest m n a b p q in
-    let settings : a ≡ b = SizeAndOptions-settings rest m n a b p q in
+one_behind rest (Survey a) (Survey b) same p q =
+    let sizes : a.size ≡ b.size = SizeAndOptions-size rest a.size b.size a.settings b.settings p q in
+    let settings : a.settings ≡ b.settings = SizeAndOptions-settings rest a.size b.size a.settings b.settings p q in
     cc
 one_behind rest a b same p q =
     let differ : letters (name_of a) ≢ letters (name_of b) = omega arith in

@@ -36,7 +36,7 @@ Asks (Htp settings) words = NameAndOptions (codes "htp") settings words
 Asks (Demo seed settings) words = IsDemo seed settings words
 Asks Play words = words ≡ codes "play" ∷ []
 Asks Template words = words ≡ codes "template" ∷ []
-Asks (Survey size settings) words = IsSurvey size settings words
+Asks (Survey survey) words = IsSurvey survey.size survey.settings words
 
 -- the settings of the command, if it has any, are those that a search may have
 abbrev pub IsWithinLimits : Command → Type 0
@@ -46,4 +46,4 @@ IsWithinLimits (Htp settings) = AreSettings settings
 IsWithinLimits (Demo seed settings) = AreSettings settings
 IsWithinLimits Play = Unit {0}
 IsWithinLimits Template = Unit {0}
-IsWithinLimits (Survey size settings) = AreSettings settings
+IsWithinLimits (Survey survey) = AreSettings survey.settings

@@ -33,11 +33,15 @@ pub enum Command {
     Play,
     /// Tell whether a template holds.
     Template,
-    /// Tell who wins after each opening of a board of this size.
-    Survey {
-        size: Size,
-        settings: Settings,
-    },
+    /// Tell who wins after each opening of a board.
+    Survey(Survey),
+}
+
+/// The size of the board whose openings are asked for, and the settings of the search.
+#[derive(Clone, Copy, Debug, PartialEq, Eq)]
+pub struct Survey {
+    pub size: Size,
+    pub settings: Settings,
 }
 
 /// The command that the words are. The program's own name is not one of them.
@@ -85,7 +89,7 @@ pub fn command_of(words: &[String]) -> Option<Command>
         }
         "survey" => {
             let (size, settings) = size_and_settings_in(rest)?;
-            Some(Command::Survey { size, settings })
+            Some(Command::Survey(Survey { size, settings }))
         }
         _ => None,
     }

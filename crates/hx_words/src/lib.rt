@@ -15,5 +15,5 @@ mod seeds;
 mod settings;
 mod sizes;
 
-pub use commands::{Command, command_of};
+pub use commands::{Command, Survey, command_of};
 pub use laws::one_command;

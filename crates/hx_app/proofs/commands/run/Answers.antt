@@ -62,14 +62,15 @@ returns-in-Some-Template-clause-run g c =
 
 pub returns-in-Some-Survey-clause-run : goal.returns-in-Some-Survey-clause-run
 returns-in-Some-Survey-clause-run g c =
-    Tabled c.in-Some-Survey.size c.in-Some-Survey.settings (rw c.in-Some-Survey.field-0-is at c.in-Some-Survey.ensures.finds) refl
+    Tabled c.in-Some-Survey.survey.size c.in-Some-Survey.survey.settings
+    (rw c.in-Some-Survey.field-0-is at c.in-Some-Survey.ensures.finds) refl
     c.run_survey.ensures.run
 
 pub returns-in-Some-Survey-clause-survey : goal.returns-in-Some-Survey-clause-survey
 returns-in-Some-Survey-clause-survey g c = λ size settings table.
     kept _ (g.S.Source.reading c.args.source.now) (g.S.Source.reading c.args.source.now)
     (g.K.Sink.writing c.args.sink.now) (g.K.Sink.writing c.run_survey.new.sink)
-    c.run_survey.result (Survey c.in-Some-Survey.size c.in-Some-Survey.settings) (Survey size settings)
+    c.run_survey.result (Survey c.in-Some-Survey.survey) (Survey (record { size = size; settings = settings }))
     (rw c.in-Some-Survey.field-0-is at c.in-Some-Survey.ensures.finds) table c.run_survey.ensures.promises
 
 pub returns-in-None-clause-check : goal.returns-in-None-clause-check
@@ -94,7 +95,7 @@ pub returns-in-None-clause-template : goal.returns-in-None-clause-template
 returns-in-None-clause-template g c = λ template. absurd (c.in-None.ensures.finds Template template)
 
 pub returns-in-None-clause-survey : goal.returns-in-None-clause-survey
-returns-in-None-clause-survey g c = λ size settings table. absurd (c.in-None.ensures.finds (Survey size settings) table)
+returns-in-None-clause-survey g c = λ size settings table. absurd (c.in-None.ensures.finds (Survey (record { size = size; settings = settings })) table)
 
 pub returns-in-None-clause-unread_by_survey : goal.returns-in-None-clause-unread_by_survey
-returns-in-None-clause-unread_by_survey g c = λ size settings table. absurd (c.in-None.ensures.finds (Survey size settings) table)
+returns-in-None-clause-unread_by_survey g c = λ size settings table. absurd (c.in-None.ensures.finds (Survey (record { size = size; settings = settings })) table)
