@@ -1,6 +1,6 @@
 -- Words are one command at most. The first word is the command's name, and no two names have the same first two letters; the words
 -- behind it tell its seed, its size and its settings.
-use Rattle.std.proofs.Common.{◌≡◌, ◌≢◌, ℕ, ◌+◌, ◌*◌, List, [], ◌∷◌, Bool, get_or, codes, refl, ap, arith}
+use Rattle.std.proofs.Common.{◌≡◌, ◌∙◌, ◌≢◌, ℕ, ◌+◌, ◌*◌, List, [], ◌∷◌, Bool, get_or, codes, refl, ap, arith}
 use Rattle.hx_board.specs.Cells.{Extent}
 use Rattle.hx_settings.specs.declared.settings.Settings.{Settings}
 use Rattle.hx_words.specs.declared.commands.Command.{Command}
@@ -115,7 +115,8 @@ one_behind rest Template Template same p q = refl
 one_behind rest (Survey a) (Survey b) same p q =
     let sizes : a.size ≡ b.size = SizeAndOptions-size rest a.size b.size a.settings b.settings p q in
     let settings : a.settings ≡ b.settings = SizeAndOptions-settings rest a.size b.size a.settings b.settings p q in
-    cc
+    ap (λ (size : Extent). Survey (record { size = size; settings = a.settings })) sizes
+    ∙ ap (λ (chosen : Settings). Survey (record { size = b.size; settings = chosen })) settings
 one_behind rest a b same p q =
     let differ : letters (name_of a) ≢ letters (name_of b) = omega arith in
     absurd (differ (ap letters same))
