@@ -2,3 +2,4 @@ pub mod Surveys
 -- ---- words for the functions inside the crate alone
 pub mod Ends
 pub mod Readings
+pub mod Orders

@@ -5,6 +5,7 @@
 #![tactic(auto)]
 
 mod openings;
+mod order;
 mod readings;
 mod surveys;
 mod tables;

@@ -14,6 +14,7 @@ ghost use Rattle.hx_crew.specs.Seats.{IsEndedBy};
 ghost use Rattle.hx_survey.specs.Surveys.{HasOpening, HasOpeningsOf};
 ghost use Rattle.hx_survey.specs.Ends.{is_proof};
 
+use crate::order::middlemost;
 use hx_board::{Cell, Colour, Mask, Position, Size};
 use hx_book::{Either, look_either};
 use hx_crew::{Bench, Done, Errand, Seats};
@@ -117,7 +118,7 @@ impl Openings {
         share
     }
 
-    /// Goes through these openings, up to one that is left open.
+    /// Goes through these openings, from the middle of the board to its edge, up to one that is left open.
     fn go_through<G: Gate, R: Wait>(
         &self,
         rt: &R,
@@ -142,12 +143,12 @@ impl Openings {
         let worker = seats.worker;
         // The proof takes from here that the board is one, so that its cells are below 128.
         let _rows = self.size.rows();
-        let Some(first) = cells.least(self.size) else {
+        let Some(first) = middlemost(self.size, cells) else {
             unreachable!()
         };
         let mut done = self.visit(rt, alloc, gate, bench, seats, first);
         let mut left = cells.without(first);
-        while let Some(cell) = left.least(self.size) {
+        while let Some(cell) = middlemost(self.size, left) {
             if !is_proof(&done.ended) {
                 return done;
             }
