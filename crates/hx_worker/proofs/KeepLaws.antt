@@ -1,5 +1,5 @@
 -- What every function of a search keeps: so do two of them, one after the other.
-use Rattle.std.proofs.Common.{rules, ◌≡◌, refl, sym, ap, ◌∙◌, ℕ, ◌<◌, [], ◌∷◌, arith}
+use Rattle.std.proofs.Common.{◌≡◌, refl, sym, ap, ◌∙◌, ℕ, ◌<◌, [], ◌∷◌, arith}
 use Rattle.hx_book.specs.Sights.{Sight, Grows}
 use Rattle.hx_book.proofs.SightLaws.{grows-itself, grows-on}
 use Rattle.hx_count.specs.Machine.{Account, holding, releasing, held_in_all}
