@@ -1,7 +1,7 @@
 //! The proof of a search's own position, which is the root of a tree.
 //!
-//! An entry that serves the position proves it by fill steps, and names no move. So where the mover wins by a move, a node by that
-//! move is stored for the position itself: then the last node of a tree names it.
+//! An entry that serves the position proves it by fill steps, and names no move, and so does what fill-in leaves. So where the mover
+//! wins by a move, a node by that move is stored for the position itself: then the last node of a tree names it.
 
 ghost use Rattle.std.specs.Prelude.{IfSome};
 ghost use Rattle.hx_board.specs.Positions.{IsEmpty};
