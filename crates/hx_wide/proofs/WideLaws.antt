@@ -1,5 +1,5 @@
 -- An entry of a position serves it. So what is stored at the position itself serves it too, and a refusal is one either way.
-use Rattle.std.proofs.Common.{◌≡◌, Bool, true, false, ℕ, List, refl, ap, subst, Option, None, Some}
+use Rattle.std.proofs.Common.{Bool, true, false, ℕ, List, refl, ap, subst, Option, None, Some}
 use Rattle.std.specs.Prelude.{IfSome}
 use Rattle.hx_board.specs.declared.colours.Colour.{Colour}
 use Rattle.hx_board.specs.Colours.{other_of}

@@ -2,6 +2,7 @@
 //! opponent's stones of fill-in stay.
 
 ghost use Rattle.std.specs.Prelude.{IfSome};
+ghost use Rattle.hx_board.specs.Positions.{Board};
 ghost use Rattle.hx_fill.specs.Fills.{IsFillIn};
 ghost use Rattle.hx_book.specs.WiderEntry.{IsWiderFound};
 ghost use Rattle.hx_book.specs.Sights.{Grows};
@@ -48,17 +49,17 @@ fn all_cells(steps: &[FillStep]) -> Mask {
     cells
 }
 
-/// Stores the winner's own steps where the opponent has all cells that an entry that serves the filled position does not need.
-fn fill_wide<P: Proofs, R: Wait>(
+/// Stores the winner's own steps where the opponent has all cells that an entry that serves a position after them does not need.
+pub(crate) fn fill_wide<P: Proofs, R: Wait>(
     rt: &R,
     alloc: Global,
     proofs: &mut P,
     to_move: Colour,
-    filled: &Filled,
+    fills: &[Fill],
     wider: &Wider,
 ) -> Option<Stored>
-    requires { IsWiderFound P.is_plain (P.sight proofs.old).list filled.now.position to_move
-        wider.now.found.winner wider.now }
+    requires { (board : Board)
+        × IsWiderFound P.is_plain (P.sight proofs.old).list board to_move wider.now.found.winner wider.now }
     ensures grew { Grows (P.sight proofs.old) (P.sight proofs.new) }
     ensures refusal { IfSome result
         (IsTrueRefusal (P.sight proofs.new).list (P.sight proofs.new).slots) }
@@ -67,7 +68,7 @@ fn fill_wide<P: Proofs, R: Wait>(
         return None;
     }
     let winner = wider.found.winner;
-    let Ok(steps) = own_steps(alloc, filled.steps.as_slice(), winner) else {
+    let Ok(steps) = own_steps(alloc, fills, winner) else {
         return None;
     };
     if steps.is_empty() {
@@ -101,7 +102,8 @@ pub fn widen_fill<P: Proofs, R: Wait>(
     let Some(wider) = look_wider_either(rt, proofs, &filled.position, to_move) else {
         return Stored::Missing;
     };
-    let tried = fill_wide(rt, alloc, proofs, to_move, filled, &wider);
+    let fills = filled.steps.as_slice();
+    let tried = fill_wide(rt, alloc, proofs, to_move, fills, &wider);
     if let Some(stored) = end_of(rt, proofs, position, to_move, tried) {
         return stored;
     }

@@ -23,6 +23,6 @@ pub use chains::widen_chain;
 pub use fills::widen_fill;
 pub use links::widen_links;
 pub use moves::widen_move;
-pub use roots::store_root;
+pub use roots::{store_root, store_root_move};
 pub use turns::widen_turned;
 pub use wider::{look_wider_either, store_wider};

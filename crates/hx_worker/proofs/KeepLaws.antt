@@ -1,5 +1,6 @@
 -- What every function of a search keeps: so do two of them, one after the other.
-use Rattle.std.proofs.Common.{rules, ◌≡◌, refl, sym, ap, ◌∙◌, ℕ, ◌<◌, [], ◌∷◌, arith}
+use Rattle.std.proofs.Common.{◌≡◌, refl, sym, ap, ◌∙◌, ℕ, ◌<◌, List, [], ◌∷◌, arith}
+use Rattle.hx_board.specs.declared.colours.Colour.{Colour}
 use Rattle.hx_book.specs.Sights.{Sight, Grows}
 use Rattle.hx_book.proofs.SightLaws.{grows-itself, grows-on}
 use Rattle.hx_count.specs.Machine.{Account, holding, releasing, held_in_all}
@@ -144,6 +145,20 @@ put-back Played old put played last is stands back =
     }
 put-back Same old put played last is stands back = stands-moved _ _ _ _ is stands back
 put-back (Other set) old put played last is stands back = stands-same _ _ (back ∙ is)
+
+-- a stone was put on a set, and taken back after links came: the set is what it was
+pub undone-same : (old put reached last : Standing) → put.player ≡ old.player → put.past ≡ old.present ∷ old.past
+    → StandsAgain put reached → last.player ≡ reached.player → reached.past ≡ last.present ∷ last.past → last ≡ old
+undone-same old put reached last player past stands same_player back =
+    let lists : old.present ∷ old.past ≡ last.present ∷ last.past = sym past ∙ sym stands.same_past ∙ back in
+    let one : last.player ≡ old.player = same_player ∙ stands.same_player ∙ player in
+    let two : last.present ≡ old.present = cc in
+    let three : last.past ≡ old.past = cc in
+    let first : last ≡ record last { player = old.player } = ap (λ (it : Colour). record last { player = it }) one in
+    let second : record last { player = old.player } ≡ record old { past = last.past } =
+        ap (λ (it : State). record { player = old.player; present = it; past = last.past }) two in
+    let third : record old { past = last.past } ≡ old = ap (λ (it : List State). record old { past = it }) three in
+    first ∙ second ∙ third
 
 -- what a turn put can be taken back after the turns that came in between
 pub has-play : (before : Before) (old put played : Standing) → IsPut before old put → StandsAgain put played → HasPlay before played

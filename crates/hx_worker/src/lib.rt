@@ -13,6 +13,7 @@ mod left_hints;
 mod looks;
 mod outcomes;
 mod proved_moves;
+mod root_moves;
 mod rounds;
 mod searches;
 mod sets;
