@@ -4,7 +4,7 @@
 //! A word has the two numbers of a hint, so what is read was left by one worker, and a mark of the position that they are of: the
 //! upper twenty binary digits of its number, whose lower ones find the word. The word of a position with another mark reads as one
 //! that nobody wrote. Without marks a search fails once it has more units than words: 8 by 8 after d5 takes 70,098 units with a
-//! million words, and is not solved by 400,001 with 65,536; with marks it takes UNITS with 65,536.
+//! million words, and is not solved by 400,001 with 65,536; with marks it takes 76,883 with 65,536.
 //!
 //! No search leaves a word of zeros, so a worker can tell that a word was never written. No clause can say what a word holds
 //! later, while others step; so a store answers with a value that no other call makes, and that tells which word got which numbers.
