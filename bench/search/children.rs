@@ -3,7 +3,7 @@
 use crate::focus::Focus;
 use crate::stones::after;
 use crate::turns::Turn;
-use crate::workers::{Outcome, Worker, is_proved, open, word};
+use crate::workers::{Outcome, Worker, is_proved, number, open};
 use hx_board::{CELLS, Cell, Memory};
 use hx_fill::Must;
 use hx_pn::{Numbers, focus};
@@ -14,7 +14,7 @@ use hx_tree::{Found, Rule};
 pub(crate) struct Child {
     pub(crate) cell: Cell,
     pub(crate) numbers: Numbers,
-    pub(crate) word: u32,
+    pub(crate) number: u64,
 }
 
 /// The moves of a turn.
@@ -69,20 +69,20 @@ impl<'a> Worker<'a> {
     /// empty cells, the more to prove. None where the cell holds a stone.
     fn child(&self, turn: &Turn, cell: Cell) -> Option<Child> {
         let after = after(&turn.filled, turn.to_move, cell)?;
-        let word = word(&after, turn.to_move.other());
+        let number = number(&after, turn.to_move.other());
         let empty = turn.filled.position().empty_count();
         let first = Numbers {
             phi: (empty / 16).saturating_add(1),
             delta: 1,
         };
-        let numbers = match self.hint(word) {
+        let numbers = match self.hint(number) {
             Some(hint) if !is_proved(hint) => hint,
             _ => first,
         };
         Some(Child {
             cell,
             numbers,
-            word,
+            number,
         })
     }
 
@@ -95,7 +95,7 @@ impl<'a> Worker<'a> {
         let in_focus = focus(u32::try_from(children.len()).unwrap_or(u32::MAX)) as usize;
         let mut seen = Focus::none();
         for (place, child) in children.iter().take(in_focus).enumerate() {
-            match self.hint(child.word) {
+            match self.hint(child.number) {
                 Some(hint) if is_proved(hint) => return Look::Proved(place),
                 Some(hint) => seen = seen.with(place, hint),
                 None => seen = seen.with(place, child.numbers),
@@ -116,7 +116,7 @@ impl<'a> Worker<'a> {
         for later in 0..count {
             let place = count.wrapping_sub(later).wrapping_sub(1);
             let child = moves.children.get(place).copied()?;
-            if self.hint(child.word).is_some_and(is_proved) {
+            if self.hint(child.number).is_some_and(is_proved) {
                 let ended = self.look_at(rt, turn, moves, place);
                 if ended.is_some() {
                     return ended;
@@ -140,7 +140,7 @@ impl<'a> Worker<'a> {
         match self.look(rt, after.position(), turn.to_move.other()) {
             Some(found) => self.proved(rt, turn, moves, place, found),
             None => {
-                self.leave(child.word, open(child.numbers));
+                self.leave(child.number, open(child.numbers));
                 None
             }
         }

@@ -8,7 +8,7 @@ ghost use Rattle.hx_linkset.specs.States.{IsLiveAt};
 use crate::children::Moves;
 use crate::measures::{add, moment};
 use crate::turns::Turn;
-use crate::workers::{Outcome, Worker, open, word};
+use crate::workers::{Outcome, Worker, number, open};
 use hx_board::{CELLS, Colour, Memory, Position, Vertex, chain};
 use hx_fill::{Filled, steps_for};
 use hx_link::{Kind, Step, Steps};
@@ -71,7 +71,7 @@ impl<'a> Worker<'a> {
                 Ok(self.store(rt, &turn.before, turn.to_move, found.winner, rule))
             }
             Outcome::Open(numbers) => {
-                self.leave(word(&turn.before, turn.to_move), open(numbers));
+                self.leave(number(&turn.before, turn.to_move), open(numbers));
                 Ok(outcome)
             }
             Outcome::Stopped => Ok(outcome),

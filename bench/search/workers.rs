@@ -3,15 +3,15 @@
 use crate::book::Shelf;
 use crate::measures::{Measured, add, moment};
 use hx_board::{Colour, Position};
-use hx_count::Hints;
-use hx_pn::{INF, Numbers};
+use hx_count::{HIGHEST_KEPT, Hints};
+use hx_pn::Numbers;
 use hx_search::Workspace;
 use hx_tree::{Found, Heading, Rule};
 use hx_turn::Orientations;
 use std::alloc::Global;
 
 /// A phi or a delta that says that the position is proved, and that the book has it.
-const PROVED: u32 = INF - 1;
+const PROVED: u32 = HIGHEST_KEPT;
 
 /// What came of a turn.
 #[derive(Clone, Copy)]
@@ -52,21 +52,21 @@ pub(crate) fn open(numbers: Numbers) -> Numbers {
     }
 }
 
-/// The word of the hint of a position and mover, which the turned position shares.
-pub(crate) fn word(here: &Orientations, to_move: Colour) -> u32 {
-    (here.number(to_move) & 0xffffffff) as u32
+/// The number of a position and mover, which the turned position shares.
+pub(crate) fn number(here: &Orientations, to_move: Colour) -> u64 {
+    here.number(to_move)
 }
 
 impl<'a> Worker<'a> {
-    /// The hint of a word. None where none was left.
-    pub(crate) fn hint(&self, word: u32) -> Option<Numbers> {
-        let found = self.hints.get(word);
+    /// The hint of the position that has this number. None where none was left.
+    pub(crate) fn hint(&self, number: u64) -> Option<Numbers> {
+        let found = self.hints.get(number);
         if found.is_unseen() { None } else { Some(found) }
     }
 
-    /// Leaves a hint at a word.
-    pub(crate) fn leave(&self, word: u32, numbers: Numbers) {
-        self.hints.set(word, numbers);
+    /// Leaves a hint of the position that has this number.
+    pub(crate) fn leave(&self, number: u64, numbers: Numbers) {
+        self.hints.set(number, numbers);
     }
 
     /// Looks in the book.
@@ -108,7 +108,7 @@ impl<'a> Worker<'a> {
         } else {
             (PROVED, 1)
         };
-        self.leave(word(here, to_move), Numbers { phi, delta });
+        self.leave(number(here, to_move), Numbers { phi, delta });
         Outcome::Proved(Found { index, winner })
     }
 }

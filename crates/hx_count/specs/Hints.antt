@@ -1,36 +1,46 @@
 -- Proof numbers as hints keep them: those of a position that somebody looked at, and whose winner is not known.
-use Rattle.std.specs.Prelude.{ℕ, ◌+◌, ◌-◌, ◌*◌, ◌/◌, ◌%◌, ◌<◌, ◌≤◌, ◌==◌}
+use Rattle.std.specs.Prelude.{ℕ, ◌+◌, ◌*◌, ◌/◌, ◌%◌, ◌<◌, ◌≤◌, ◌==◌}
 use Rattle.std.specs.Prelude.{if◌then◌else◌, min, max}
 use Rattle.atomic_table.specs.Seated.{TableId}
 use Rattle.hx_pn.specs.declared.proof_numbers.TheConstants.{INF, UNSEEN}
 use Rattle.hx_pn.specs.declared.proof_numbers.Numbers.{Numbers}
 use Rattle.hx_count.specs.declared.hints.Stored.{Stored}
-use Rattle.hx_count.specs.declared.hints.TheConstants.{HALF}
-
--- the nearest number that decides nothing
-abbrev pub opened : ℕ → ℕ
-opened number = max 1 (min number (INF - 1))
+use Rattle.hx_count.specs.declared.hints.TheConstants.{A_MARK, A_NUMBER, HIGHEST_KEPT}
 
 -- neither number decides anything
 pub record AreOpen (numbers : Numbers) : Type 0 where
   pub phi : (1 ≤ numbers.phi) × (numbers.phi < INF)
   pub delta : (1 ≤ numbers.delta) × (numbers.delta < INF)
 
--- the numbers that are read where these were left: open, and where both are the highest open number, delta one less
+-- numbers that a hint can have
+pub record AreKept (numbers : Numbers) : Type 0 where
+  pub phi : (1 ≤ numbers.phi) × (numbers.phi ≤ HIGHEST_KEPT)
+  pub delta : (1 ≤ numbers.delta) × (numbers.delta ≤ HIGHEST_KEPT)
+
+-- the nearest number that a hint can have
+abbrev pub within_kept : ℕ → ℕ
+within_kept number = max 1 (min number HIGHEST_KEPT)
+
+-- the numbers that are read where these were left
 abbrev pub kept_of : Numbers → Numbers
-kept_of numbers = record {
-  phi = opened numbers.phi;
-  delta = min (opened numbers.delta) (if opened numbers.phi == INF - 1 then INF - 2 else INF - 1);
-}
+kept_of numbers = record { phi = within_kept numbers.phi; delta = within_kept numbers.delta }
 
--- both numbers in one word
-abbrev pub word_of : Numbers → ℕ
-word_of numbers = numbers.phi * HALF + numbers.delta
+-- the mark of a position that has this number, and of a word: the upper twenty binary digits
+abbrev pub mark_of : ℕ → ℕ
+mark_of number = number / A_MARK
 
--- the numbers of a word: those of a position that nobody looked at where the word was never written
-abbrev pub numbers_of : ℕ → Numbers
-numbers_of word =
-    if word == 0 then UNSEEN else record { phi = opened (word / HALF); delta = opened (word % HALF) }
+-- the mark of the position that has this number, and the numbers of its hint, in one word
+abbrev pub word_of : ℕ → Numbers → ℕ
+word_of number numbers = mark_of number * A_MARK + numbers.phi * A_NUMBER + numbers.delta
+
+-- the numbers that a word tells of the position that has this number: those of a position that nobody looked at where the
+-- word was never written, or for another mark
+abbrev pub numbers_of : ℕ → ℕ → Numbers
+numbers_of number word =
+    if word == 0 then UNSEEN
+    else (if mark_of word == mark_of number
+    then kept_of (record { phi = word / A_NUMBER % A_NUMBER; delta = word % A_NUMBER })
+    else UNSEEN)
 
 -- one store: in which table, at which place, and the word that was put there
 pub record LeftAt : Type 0 where
@@ -38,9 +48,10 @@ pub record LeftAt : Type 0 where
   pub place : ℕ
   pub word : ℕ
 
--- the store of these numbers
+-- the store of these numbers for the position that has this number
 abbrev pub left : TableId → ℕ → Numbers → LeftAt
-left table place numbers = record { table = table; place = place; word = word_of numbers }
+left table number numbers =
+    record { table = table; place = number % table.words; word = word_of number numbers }
 
 -- ---- words for the functions inside the crate alone
 

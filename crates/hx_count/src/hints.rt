@@ -1,13 +1,17 @@
 //! Proof numbers that workers leave for one another. They are hints: a word may be overwritten at any time, also by the
 //! numbers of another position, and no proof rests on one.
 //!
-//! The two numbers of a hint lie in one word, so what is read was left by one worker. No search leaves a word of zeros, so a
-//! worker can tell that a word was never written. No clause can say what a word holds later, while others step; so a store
-//! answers with a value that no other call makes, and that tells which word got which numbers.
+//! A word has the two numbers of a hint, so what is read was left by one worker, and a mark of the position that they are of: the
+//! upper twenty binary digits of its number, whose lower ones find the word. The word of a position with another mark reads as one
+//! that nobody wrote. Without marks a search fails once it has more units than words: 8 by 8 after d5 takes 70,098 units with a
+//! million words, and is not solved by 400,001 with 65,536; with marks it takes 76,883 with 65,536.
+//!
+//! No search leaves a word of zeros, so a worker can tell that a word was never written. No clause can say what a word holds
+//! later, while others step; so a store answers with a value that no other call makes, and that tells which word got which numbers.
 
-ghost use Rattle.std.specs.Prelude.{◌≡◌, ◌≢◌, ◌<◌, ◌≤◌, ◌%◌, IfOk};
+ghost use Rattle.std.specs.Prelude.{◌≡◌, ◌≢◌, ◌<◌, ◌≤◌, ◌%◌, ℕ, IfOk};
 ghost use Rattle.hx_pn.specs.declared.proof_numbers.Numbers.{Numbers as PlainNumbers};
-ghost use Rattle.hx_count.specs.Hints.{AreOpen, opened, kept_of, word_of, numbers_of, left};
+ghost use Rattle.hx_count.specs.Hints.{AreOpen, AreKept, kept_of, mark_of, word_of, numbers_of, left};
 ghost use Rattle.hx_count.specs.HintWords.{AnyWords, no_store, stores};
 
 use atomic_table::{Play, Seat, Table, TableRule};
@@ -16,8 +20,14 @@ use hx_pn::{INF, Numbers, UNSEEN};
 use std::alloc::Global;
 use std::marker::Model;
 
-/// How many different numbers one half of a word can have.
-const HALF: u64 = 4_294_967_296;
+/// How many different words have the same mark.
+const A_MARK: u64 = 17_592_186_044_416;
+
+/// How many different values there is room for in a word for each of the two numbers.
+const A_NUMBER: u64 = 4_194_304;
+
+/// The highest number that a hint has.
+pub const HIGHEST_KEPT: u32 = 4_194_303;
 
 /// What one store did: at which place which word was put. No value of it is made: it stands in contracts.
 pub struct Stored {
@@ -73,52 +83,54 @@ impl Model for Left {
     ghost view = { λ l. left_by l.seat.table_id l.seat.me.0 };
 }
 
-/// The nearest number of a position whose winner is not known.
-fn open(number: u32) -> u32
-    ensures value { result ≡ opened number }
-    ensures open { (1 ≤ result) × (result < INF) }
-{
-    number.clamp(1, INF - 1)
-}
-
-/// The numbers that a table keeps in place of these. They are these, where both are at least 1 and below `INF`, and they are not
-/// `UNSEEN`. Of `UNSEEN` delta is one less, so that a word that was written can be told from one that was not. A number below 1 is
-/// kept as 1, and one that is not below `INF` as the highest that is.
+/// The numbers that a table keeps in place of these: each is brought into 1 to `HIGHEST_KEPT`. So they are never `UNSEEN`, and a
+/// word that was written can be told from one that was not.
 pub fn kept(numbers: Numbers) -> Numbers
     ensures value { result ≡ kept_of numbers }
+    ensures kept { AreKept result }
     ensures open { AreOpen result }
     ensures seen { result ≢ UNSEEN }
-    ensures same { AreOpen numbers → numbers ≢ UNSEEN → result ≡ numbers }
+    ensures same { AreKept numbers → result ≡ numbers }
 {
-    let phi = open(numbers.phi);
-    let highest = if phi == INF - 1 { INF - 2 } else { INF - 1 };
     Numbers {
-        phi,
-        delta: open(numbers.delta).min(highest),
+        phi: numbers.phi.clamp(1, HIGHEST_KEPT),
+        delta: numbers.delta.clamp(1, HIGHEST_KEPT),
     }
 }
 
-/// Both numbers in one word.
-fn word_of(numbers: Numbers) -> u64
-    ensures { result ≡ word_of numbers }
+/// The mark of the position that has this number, or of which a word tells: the upper twenty binary digits.
+fn mark_of(number: u64) -> u64
+    ensures { result ≡ mark_of number }
 {
-    u64::from(numbers.phi) * HALF + u64::from(numbers.delta)
+    number / A_MARK
 }
 
-/// The numbers that a word has, and `UNSEEN` of a word that nobody wrote.
-fn numbers_of(word: u64) -> Numbers
-    ensures value { result ≡ numbers_of word }
-    ensures open { AreOpen result }
-    ensures back { (numbers : PlainNumbers) → AreOpen numbers → word ≡ word_of numbers
-        → result ≡ numbers }
+/// The mark of the position that has this number, and both numbers of its hint, in one word.
+fn word_of(number: u64, numbers: Numbers) -> u64
+    requires { AreKept numbers }
+    ensures { result ≡ word_of number numbers }
 {
-    if word == 0 {
+    mark_of(number) * A_MARK + u64::from(numbers.phi) * A_NUMBER + u64::from(numbers.delta)
+}
+
+/// The numbers that a word tells of the position that has this number: `UNSEEN` where nobody wrote the word, or for a position
+/// with another mark.
+fn numbers_of(number: u64, word: u64) -> Numbers
+    ensures value { result ≡ numbers_of number word }
+    ensures open { AreOpen result }
+    ensures unwritten { word ≡ 0 → result ≡ UNSEEN }
+    ensures back { (numbers : PlainNumbers) → AreKept numbers → word ≡ word_of number numbers
+        → result ≡ numbers }
+    ensures other { (other : ℕ) (numbers : PlainNumbers) → mark_of other ≢ mark_of number
+        → AreKept numbers → word ≡ word_of other numbers → result ≡ UNSEEN }
+{
+    if word == 0 || mark_of(word) != mark_of(number) {
         return UNSEEN;
     }
-    Numbers {
-        phi: open((word / HALF) as u32),
-        delta: open((word % HALF) as u32),
-    }
+    kept(Numbers {
+        phi: (word / A_NUMBER % A_NUMBER) as u32,
+        delta: (word % A_NUMBER) as u32,
+    })
 }
 
 impl Hints {
@@ -136,22 +148,23 @@ impl Hints {
         Ok(Hints { table, words })
     }
 
-    /// The numbers at a place, which is taken modulo the words. Both are at least 1 and below `INF`. They are `UNSEEN` where nobody
-    /// wrote the word, and else what `kept` gives for the numbers that were left there last.
-    pub fn get(&self, place: u32) -> Numbers
+    /// The numbers of the position that has this number. Both are at least 1 and below `INF`. They are `UNSEEN` where nobody wrote
+    /// the word for a position with its mark, and else what `kept` gives for the numbers that were left so last.
+    pub fn get(&self, number: u64) -> Numbers
         ensures phi { (1 ≤ result.phi) × (result.phi < INF) }
         ensures delta { (1 ≤ result.delta) × (result.delta < INF) }
     {
-        numbers_of(self.table.shared.peek((place % self.words) as usize))
+        let place = (number % u64::from(self.words)) as usize;
+        numbers_of(number, self.table.shared.peek(place))
     }
 
-    /// Leaves numbers at a place, which is taken modulo the words, as `kept` gives them, with one store.
-    pub fn set(&self, place: u32, numbers: Numbers) -> Left
-        ensures { result ≡ left self.now (place % self.now.words) (kept_of numbers) }
+    /// Leaves the numbers of the position that has this number, as `kept` gives them, with one store.
+    pub fn set(&self, number: u64, numbers: Numbers) -> Left
+        ensures { result ≡ left self.now number (kept_of numbers) }
     {
-        let at = (place % self.words) as usize;
-        let word = word_of(kept(numbers));
-        let (_before, seat) = self.table.shared.swap_new_seat::<Storing>(at, word);
+        let place = (number % u64::from(self.words)) as usize;
+        let word = word_of(number, kept(numbers));
+        let (_before, seat) = self.table.shared.swap_new_seat::<Storing>(place, word);
         Left { seat }
     }
 }

@@ -16,7 +16,7 @@ mod views;
 
 pub use counts::Counts;
 pub use events::{CountEvent, MOST_HELD};
-pub use hints::{Hints, Left, kept};
+pub use hints::{HIGHEST_KEPT, Hints, Left, kept};
 pub use laws::{hold_adds_one, release_takes_back};
 pub use seats::{CountSeat, Spent};
 pub use totals::Totals;

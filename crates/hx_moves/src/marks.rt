@@ -5,44 +5,36 @@
 //! once, with no unit: on 7 by 7 that takes off three units of ten. To look for an entry of the position after each move,
 //! marked or not, brings no more and takes four to six times the looks.
 //!
-//! A hint may be of another position. So a mark is no proof, and one that proves to be wrong is written anew.
+//! A hint may be of another position, though seldom. So a mark is no proof, and one that proves to be wrong is written anew.
 
 ghost use Rattle.std.specs.Prelude.{◌≡◌, ◌⊎◌};
 ghost use Rattle.hx_pn.specs.Numbers.{IsNumbers};
 ghost use Rattle.hx_moves.specs.Given.{IsHint};
 ghost use Rattle.hx_moves.specs.Marks.{open_of};
 
-use hx_count::Hints;
-use hx_pn::{INF, Numbers};
-
-/// The highest number that a hint can have.
-const HIGHEST: u32 = INF - 1;
+use hx_count::{HIGHEST_KEPT, Hints};
+use hx_pn::Numbers;
 
 /// The mark of a position that is proved.
 const PROVED: Numbers = Numbers {
-    phi: HIGHEST,
+    phi: HIGHEST_KEPT,
     delta: 1,
 };
 
-/// The word of the hint of a position and mover that have this number.
-fn hint_word(number: u64) -> u32 {
-    (number & 0xffff_ffff) as u32
-}
-
-/// The nearest numbers of a position that is not proved, between 1 and two below `INF`. No mark has them.
+/// The nearest numbers of a position that is not proved: at least 1, and below the highest that a hint has. No mark has them.
 pub fn open(numbers: Numbers) -> Numbers
     ensures value { result ≡ open_of numbers }
     ensures numbers { IsNumbers result }
 {
     Numbers {
-        phi: numbers.phi.clamp(1, HIGHEST - 1),
-        delta: numbers.delta.clamp(1, HIGHEST - 1),
+        phi: numbers.phi.clamp(1, HIGHEST_KEPT - 1),
+        delta: numbers.delta.clamp(1, HIGHEST_KEPT - 1),
     }
 }
 
 /// Whether the hint of the position and mover that have this number says that they are proved.
 pub fn is_marked(hints: &Hints, number: u64) -> bool {
-    hints.get(hint_word(number)) == PROVED
+    hints.get(number) == PROVED
 }
 
 /// The numbers that the hint of a position and mover tells, or these, where it tells none.
@@ -51,7 +43,7 @@ pub(crate) fn hinted_or(hints: &Hints, number: u64, others: Numbers) -> Numbers
     ensures told { (result ≡ others) ⊎ IsHint result }
     ensures numbers { IsNumbers result }
 {
-    let hint = hints.get(hint_word(number));
+    let hint = hints.get(number);
     if hint.is_unseen() || hint == PROVED {
         others
     } else {
@@ -61,10 +53,10 @@ pub(crate) fn hinted_or(hints: &Hints, number: u64, others: Numbers) -> Numbers
 
 /// Leaves the mark of a position and mover that have this number.
 pub fn leave_mark(hints: &Hints, number: u64) {
-    hints.set(hint_word(number), PROVED);
+    hints.set(number, PROVED);
 }
 
 /// Leaves the numbers of a position and mover that are not proved.
 pub fn leave_open(hints: &Hints, number: u64, numbers: Numbers) {
-    hints.set(hint_word(number), open(numbers));
+    hints.set(number, open(numbers));
 }

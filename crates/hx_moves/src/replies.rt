@@ -38,14 +38,15 @@ pub struct Replies {
     counts: Hints,
 }
 
-/// The word of a mover's move to a cell after the opponent's to the last cell.
-fn word(mover: Colour, last: Cell, cell: Cell) -> u32
+/// The word of a mover's move to a cell after the opponent's to the last cell. It stands for the number of a position, and since it
+/// is below the words of the table no two share one.
+fn word(mover: Colour, last: Cell, cell: Cell) -> u64
     ensures { result < WORDS }
 {
     let pair = u32::from(last.index()) * MOST_CELLS + u32::from(cell.index());
     match mover {
-        Colour::Black => pair,
-        Colour::White => pair + WORDS_OF_MOVER,
+        Colour::Black => u64::from(pair),
+        Colour::White => u64::from(pair + WORDS_OF_MOVER),
     }
 }
 
