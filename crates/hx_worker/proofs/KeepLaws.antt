@@ -6,7 +6,12 @@ use Rattle.hx_book.proofs.SightLaws.{grows-itself, grows-on}
 use Rattle.hx_count.specs.Machine.{Account, holding, releasing, held_in_all}
 use Rattle.hx_count.specs.Seats.{Seat, Origin, own as own_account}
 use Rattle.hx_count.proofs.MachineLaws.{held-holding-le, releasing-held}
-use Rattle.hx_linkset.specs.States.{State, Standing}
+use Rattle.hx_link.specs.declared.links.Link.{Link}
+use Rattle.hx_link.specs.declared.steps.Step.{Step}
+use Rattle.hx_linkset.specs.States.{State, Standing, added}
+use Rattle.hx_linkset.specs.Answers.{IsAdded}
+use Rattle.hx_linkset.specs.declared.sets.Added.{Added}
+use Rattle.hx_linkset.specs.declared.sets.Added.TheVariants.{New, Covered, Refused, Limit}
 use Rattle.hx_moves.specs.Keeps.{KeepsSeat}
 use Rattle.hx_worker.specs.declared.searches.Search.{Search}
 use Rattle.hx_worker.specs.declared.sets.Before.{Before}
@@ -25,12 +30,27 @@ stands-same old new same = record {
   same_past = ap (λ (set : Standing). set.past) same;
 }
 
+stands-more : (old new : Standing) (link : Link) (step : Step) → new ≡ record old { present = added old.present link step }
+    → StandsAgain old new
+stands-more old new link step grown = record {
+  same_player = ap (λ (set : Standing). set.player) grown;
+  same_board = ap (λ (set : Standing). set.present.board) grown;
+  same_past = ap (λ (set : Standing). set.past) grown;
+}
+
 pub stands-on : (first second third : Standing) → StandsAgain first second → StandsAgain second third → StandsAgain first third
 stands-on first second third one two = record {
   same_player = two.same_player ∙ one.same_player;
   same_board = two.same_board ∙ one.same_board;
   same_past = two.same_past ∙ one.same_past;
 }
+
+-- what a step gives is added to a set, or is not
+pub stands-added : (old new : Standing) (step : Step) (answer : Added) → IsAdded old new step answer → StandsAgain old new
+stands-added old new step (New place) is = stands-more old new _ _ is.grown
+stands-added old new step (Covered place) is = stands-same old new is.same
+stands-added old new step Refused is = stands-same old new is.same
+stands-added old new step Limit is = stands-same old new is.same
 
 pub seat-itself : (seat : Seat) → KeepsSeat seat seat
 seat-itself seat = record { same_made = refl; same_held = refl; still_refused = λ is. is }
@@ -156,7 +176,7 @@ undone-same old put reached last player past stands same_player back =
     let three : last.past ≡ old.past = cc in
     let first : last ≡ record last { player = old.player } = ap (λ (it : Colour). record last { player = it }) one in
     let second : record last { player = old.player } ≡ record old { past = last.past } =
-        ap (λ (it : State). record { player = old.player; present = it; past = last.past }) two in
+    ap (λ (it : State). record { player = old.player; present = it; past = last.past }) two in
     let third : record old { past = last.past } ≡ old = ap (λ (it : List State). record old { past = it }) three in
     first ∙ second ∙ third
 

@@ -10,6 +10,7 @@ mod closing;
 mod ended;
 mod jobs;
 mod left_hints;
+mod linked_moves;
 mod looks;
 mod outcomes;
 mod proved_moves;
