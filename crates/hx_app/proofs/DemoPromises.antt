@@ -1,5 +1,5 @@
 -- What a run of `demo` says with each status: each answer has a status of its own, or its line tells it.
-use Rattle.std.proofs.Common.{◌≡◌, ◌⊎◌, ℕ, ◌<◌, ◌≤◌, inl, inr, ⊎_elim, List, refl, sym, ap, ◌∙◌, subst, arith}
+use Rattle.std.proofs.Common.{◌≡◌, ◌⊎◌, ℕ, ◌<◌, ◌≤◌, inl, inr, ⊎_elim, List, refl, sym, ap, ◌∙◌, arith}
 use Rattle.std.specs.Prelude.{Option}
 use Rattle.std.proofs.lemmas.Bool.{cases_lt}
 use Rattle.hx_io.specs.Sinks.{Writing, SomeWriteFailed, append}
@@ -8,9 +8,7 @@ use Rattle.hx_answers.specs.Texts.{out_of_memory_line}
 use Rattle.hx_answers.specs.Endings.{IsWritten, Whole, Cut}
 use Rattle.hx_app.specs.declared.demo_answers.DemoAnswer.{DemoAnswer}
 use Rattle.hx_app.specs.declared.demo_answers.DemoAnswer.TheVariants.{Counted, LeftOpen}
-use Rattle.hx_finish.specs.declared.wanting.Wanting.{Wanting}
 use Rattle.hx_finish.specs.declared.finishes.Finish.{Finish}
-use Rattle.hx_finish.specs.Wants.{wanting_status}
 use Rattle.hx_finish.specs.Finishes.{SaysUnknown, CountsNoRefusal, IsUnlessCutShort}
 use Rattle.hx_finish.proofs.WantingEnds.{wanting_unknown, wanting_memory, wanting_without_cause, wanting_status-3_or_7, wanting_status-not}
 use Rattle.hx_app.specs.DemoAnswers.{enough, counts_line, answer_text, status_of, tally_of, IsDue}

@@ -15,6 +15,6 @@ mod solving;
 pub use answers::Answer;
 pub use commands::run;
 pub use demo_answers::{DemoAnswer, WinCounts};
-pub use laws::check_accepts_what_solve_writes;
 pub use hx_finish::Finish;
+pub use laws::check_accepts_what_solve_writes;
 pub use solutions::Solution;

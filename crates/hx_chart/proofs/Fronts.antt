@@ -10,8 +10,7 @@ module _ (front piece : ℕ → List ℕ) (next : (n : ℕ) → front (n + 1) �
   later_front n zero = ([], ap front (omega arith) ∙ sym (append-nil (front n)))
   later_front n (suc more) =
       let before = later_front n more in
-      let one : n + suc more ≡ (n + more) + 1 = omega arith in
-      (
+      let one : n + suc more ≡ (n + more) + 1 = omega arith in (
         before.0 ++ piece (n + more),
         ap front one ∙ next (n + more) ∙ ap (λ (l : List ℕ). l ++ piece (n + more)) before.1
             ∙ append_assoc (front n) before.0 (piece (n + more)),

@@ -1,15 +1,13 @@
 -- What a run of `survey` says with each status: each answer has a status of its own, or its line tells it.
-use Rattle.std.proofs.Common.{◌≡◌, ◌⊎◌, ℕ, inl, inr, ⊎_elim, List, refl, sym, ap, ◌∙◌, subst, arith}
+use Rattle.std.proofs.Common.{◌≡◌, ◌⊎◌, ℕ, inl, inr, ⊎_elim, List, refl, sym, ap, ◌∙◌, arith}
 use Rattle.std.specs.Prelude.{Option}
 use Rattle.hx_io.specs.Sinks.{Writing, SomeWriteFailed, append}
 use Rattle.hx_board.specs.Cells.{Extent}
 use Rattle.hx_settings.specs.declared.settings.Settings.{Settings}
-use Rattle.hx_survey.specs.Surveys.{IsSurvey, AreSmall}
+use Rattle.hx_survey.specs.Surveys.{AreSmall}
 use Rattle.hx_answers.specs.Texts.{out_of_memory_line}
 use Rattle.hx_answers.specs.Endings.{IsWritten, Whole, Cut}
-use Rattle.hx_finish.specs.declared.wanting.Wanting.{Wanting}
 use Rattle.hx_finish.specs.declared.finishes.Finish.{Finish}
-use Rattle.hx_finish.specs.Wants.{wanting_status}
 use Rattle.hx_finish.specs.Finishes.{SaysUnknown, CountsNoRefusal, IsUnlessCutShort}
 use Rattle.hx_finish.proofs.WantingEnds.{wanting_unknown, wanting_memory, wanting_without_cause, wanting_status-3_or_7, wanting_status-not}
 use Rattle.hx_chart.specs.declared.answers.Answer.{Answer}

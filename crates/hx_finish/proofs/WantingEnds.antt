@@ -11,7 +11,7 @@ use Rattle.hx_answers.specs.Texts.{out_of_memory_line, unknown_budget_line, unkn
 use Rattle.hx_finish.specs.declared.wanting.Wanting.{Wanting}
 use Rattle.hx_finish.specs.declared.wanting.Wanting.TheVariants.{UnknownBudget, UnknownProofs, OutOfMemory}
 use Rattle.hx_finish.specs.Wants.{wanting_text, wanting_status, wanting_tally, IsWantingWhere, Tells}
-use Rattle.hx_finish.specs.Finishes.{SaysUnknown, IsUnlessCutShort}
+use Rattle.hx_finish.specs.Finishes.{SaysUnknown}
 
 wanting_is : (settings : Settings) (cause : Type 0) (wanting is : Wanting) → wanting ≡ is → IsWantingWhere settings cause is
     → IsWantingWhere settings cause wanting

@@ -1,7 +1,6 @@
-use Rattle.std.proofs.Common.{◌≡◌, ℕ, ap, ◌∙◌, sym, subst}
+use Rattle.std.proofs.Common.{◌≡◌, ℕ, ap, ◌∙◌}
 use Rattle.std.specs.Prelude.{codes, ◌-◌, ◌*◌}
 use Rattle.hx_board.specs.Sets.{count_below}
-use Rattle.hx_io.specs.Sinks.{WritesAll}
 use Rattle.hx_io.proofs.SinkLaws.{WritesAll-then, WritesAll-cut}
 use Rattle.hx_answers.specs.Texts.{numbered_text, counted_text}
 use Rattle.hx_chart.proofs.texts.write_counts.Goals as goal
@@ -16,8 +15,8 @@ returns-in-Ok g c =
     WritesAll-then _ _ _ _ _ (numbered_text (codes "black ") black) (counted_text (codes " white ") (size.rows * size.cols - black))
     (rw is_black at c.in-Ok.ensures)
     (rw (c.saturating_sub.ensures ∙ ap (λ (n : ℕ). n * c.from-2.result - c.from-black.result) rows
-        ∙ ap (λ (n : ℕ). size.rows * n - c.from-black.result) cols ∙ ap (λ (n : ℕ). size.rows * size.cols - n) is_black)
-        at c.write_counted.ensures)
+    ∙ ap (λ (n : ℕ). size.rows * n - c.from-black.result) cols ∙ ap (λ (n : ℕ). size.rows * size.cols - n) is_black)
+    at c.write_counted.ensures)
 
 pub returns-in-Err : goal.returns-in-Err
 returns-in-Err g c =

@@ -1,4 +1,4 @@
-use Rattle.std.proofs.Common.{◌≡◌, ◌∷◌, [], List, ℕ, sym, ap, ◌∙◌, subst, arith}
+use Rattle.std.proofs.Common.{◌≡◌, List, ℕ, sym, ap, ◌∙◌, subst, arith}
 use Rattle.hx_io.specs.Sinks.{append, TakesFront}
 use Rattle.hx_io.proofs.SinkLaws.{append-nil}
 use Rattle.hx_chart.specs.Texts.{letters}

@@ -1,4 +1,4 @@
-use Rattle.std.proofs.Common.{◌≡◌, ℕ, sym, ap, ◌∙◌, arith}
+use Rattle.std.proofs.Common.{sym, ap, ◌∙◌, arith}
 use Rattle.hx_io.specs.Sinks.{append}
 use Rattle.hx_io.proofs.SinkLaws.{append-nil}
 use Rattle.hx_chart.specs.Texts.{row_line, row_lines}

@@ -1,5 +1,4 @@
-use Rattle.std.proofs.Common.{◌≡◌, ℕ, true, ◌<◌, arith, subst}
-use Rattle.hx_board.specs.Sets.{has}
+use Rattle.std.proofs.Common.{◌<◌, arith}
 use Rattle.hx_board.proofs.CellLaws.{on_board-small}
 use Rattle.hx_board.proofs.Tallies.{count_below-remove}
 use Rattle.hx_survey.proofs.order.middlemost.Goals as goal
