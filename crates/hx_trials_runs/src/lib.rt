@@ -19,6 +19,8 @@ mod runs;
 #[cfg(test)]
 mod seats;
 #[cfg(test)]
+mod surveys;
+#[cfg(test)]
 mod turns;
 #[cfg(test)]
 mod waits;
