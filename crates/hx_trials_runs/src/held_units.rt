@@ -1,6 +1,6 @@
 //! A worker that is held at its gate has no unit yet.
 
-use super::runs::output_of;
+use super::runs::came_of;
 use super::turns::LONG;
 use super::waits::comes;
 use hx_io::Gate;
@@ -50,8 +50,8 @@ fn a_worker_that_is_held_has_no_unit(rt: HostRuntime) -> Result<(), Fail> {
         missed: AtomicU64::new(0),
     };
     let words = ["solve", "--workers", "2", "--budget", "3"];
-    let output = output_of(&rt, rt.alloc(), &words, LONG, &gate)?;
-    assert_eq!(rt; output.as_slice(), b"unknown budget 3\n".as_slice());
+    let came = came_of(&rt, rt.alloc(), &words, LONG, &gate)?;
+    assert_eq!(rt; came.output.as_slice(), b"unknown budget 3\n".as_slice());
     assert_eq!(rt; gate.missed.load(Ordering::SeqCst), 0);
     Ok(())
 }

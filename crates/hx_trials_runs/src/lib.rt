@@ -2,8 +2,8 @@
 //!
 //! No clause sees a gate. So it is shown here that as many workers search as were asked for, that each asks for a unit only after a call,
 //! which tells its number and that of its turn, and that two work at the same time. No clause says either when a worker holds a loss
-//! word, nor how much harder a move looks for it. What the commands answer is tried on the built program, by the scripts beside
-//! `.ci/run`.
+//! word, nor how much harder a move looks for it. Each clause lets a run give up for want of memory; that with ample memory a survey
+//! writes its table is shown here too. What the commands answer else is tried on the built program, by the scripts beside `.ci/run`.
 #![tactic(auto)]
 
 #[cfg(test)]
@@ -18,6 +18,8 @@ mod meetings;
 mod runs;
 #[cfg(test)]
 mod seats;
+#[cfg(test)]
+mod surveys;
 #[cfg(test)]
 mod turns;
 #[cfg(test)]

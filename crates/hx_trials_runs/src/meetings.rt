@@ -1,6 +1,6 @@
 //! Two workers work at the same time.
 
-use super::runs::output_of;
+use super::runs::came_of;
 use super::waits::comes;
 use hx_io::Gate;
 use std::sync::atomic::{AtomicU64, Ordering};
@@ -38,8 +38,8 @@ fn two_workers_meet(rt: HostRuntime) -> Result<(), Fail> {
         met: AtomicU64::new(0),
     };
     let words = ["solve", "--workers", "2"];
-    let output = output_of(&rt, rt.alloc(), &words, FOUR_BY_FOUR, &gate)?;
-    assert!(rt; output.as_slice().ends_with(b" black\n"));
+    let came = came_of(&rt, rt.alloc(), &words, FOUR_BY_FOUR, &gate)?;
+    assert!(rt; came.output.as_slice().ends_with(b" black\n"));
     assert_eq!(rt; gate.met.load(Ordering::SeqCst), 1);
     Ok(())
 }

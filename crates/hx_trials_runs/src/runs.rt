@@ -1,4 +1,4 @@
-//! Runs of `solve` over a source and a sink in memory, with a gate.
+//! Runs of a command over a source and a sink in memory, with a gate.
 
 use hx_app::run;
 use hx_io::{Gate, MemorySink, MemorySource};
@@ -19,18 +19,28 @@ fn words_of(alloc: Global, words: &[&str]) -> Result<Vec<String>, AllocError> {
     Ok(owned)
 }
 
-/// What the command of these words writes for a position.
-pub(crate) fn output_of<G: Gate + Sync, R: Threads + Wait + Sync>(
+/// What came of a run.
+#[derive(Drop)]
+pub(crate) struct Came {
+    pub status: u8,
+    pub output: Vec<u8>,
+}
+
+/// What the command of these words writes for an input, and how it ends.
+pub(crate) fn came_of<G: Gate + Sync, R: Threads + Wait + Sync>(
     rt: &R,
     alloc: Global,
     words: &[&str],
-    position: &str,
+    input: &str,
     gate: &G,
-) -> Result<Vec<u8>, Fail> {
+) -> Result<Came, Fail> {
     let words = words_of(alloc, words)?;
-    let text = position.as_bytes().to_vec(alloc)?;
+    let text = input.as_bytes().to_vec(alloc)?;
     let mut source = MemorySource::new(text, 4096, Vec::new(alloc));
     let mut sink = MemorySink::new(alloc, ROOM, 4096, Vec::new(alloc))?;
-    let _finish = run(rt, alloc, &words, &mut source, &mut sink, gate);
-    Ok(sink.bytes().to_vec(alloc)?)
+    let finish = run(rt, alloc, &words, &mut source, &mut sink, gate);
+    Ok(Came {
+        status: finish.status,
+        output: sink.bytes().to_vec(alloc)?,
+    })
 }

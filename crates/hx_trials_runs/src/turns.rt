@@ -1,6 +1,6 @@
 //! Which workers come to their turns, how often, and with which numbers.
 
-use super::runs::output_of;
+use super::runs::came_of;
 use hx_io::Gate;
 use std::alloc::{AllocError, Global};
 use std::process::Abort;
@@ -77,8 +77,8 @@ fn assert_turns<R: Threads + Wait + Sync + Abort>(
     workers: u64,
 ) -> Result<(), Fail> {
     let calls = Calls::none(alloc)?;
-    let output = output_of(rt, alloc, words, LONG, &calls)?;
-    assert_eq!(rt; output.as_slice(), answer.as_bytes());
+    let came = came_of(rt, alloc, words, LONG, &calls)?;
+    assert_eq!(rt; came.output.as_slice(), answer.as_bytes());
     assert_eq!(rt; calls.seen(), (turns, workers));
     assert_eq!(rt; calls.wrong.load(Ordering::SeqCst), 0);
     Ok(())
