@@ -4,7 +4,7 @@ _hx() {
     local word=${COMP_WORDS[COMP_CWORD]} options='' given place
     COMPREPLY=()
     if [ "$COMP_CWORD" = 1 ]; then
-        COMPREPLY=($(compgen -W 'solve check play htp demo template' -- "$word"))
+        COMPREPLY=($(compgen -W 'solve check play htp demo template survey' -- "$word"))
         return
     fi
     # The word after one of these is its number.
@@ -15,6 +15,7 @@ _hx() {
     solve) options=' --plain-tree --workers --budget --proofs ' ;;
     htp) options=' --workers --budget --proofs ' ;;
     demo) [ "$COMP_CWORD" = 2 ] || options=' --workers --budget --proofs ' ;;
+    survey) [ "$COMP_CWORD" -le 3 ] || options=' --workers --budget --proofs ' ;;
     esac
     # Each option is given once.
     for ((place = 2; place < ${#COMP_WORDS[@]}; place++)); do
