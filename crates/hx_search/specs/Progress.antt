@@ -52,7 +52,7 @@ IsPassed old new Fact AtLimit = IsStuck new
 
 -- what became of candidates: where one was added there are more links, and no more than there may be
 abbrev pub IsTaken : Standing → Standing → Taken → Type 0
-IsTaken old new (New index) = (length old.present.links < length new.present.links)
+IsTaken old new (New index is_shared) = (length old.present.links < length new.present.links)
     × (length new.present.links ≤ MOST_LINKS)
 IsTaken old new NoMore = Unit {0}
 IsTaken old new NoRoom = Unit {0}

@@ -6,7 +6,7 @@
 //! Most candidates are covered when they are taken out. So one is small and copied about, and its
 //! step, which may need memory, is made only for those that are wanted.
 
-use crate::covers::{Caps, is_wanted};
+use crate::covers::{Caps, shared_where_wanted};
 use hx_board::{CELLS, Mask, Memory, Vertex};
 use hx_link::{Kind, Parts, Step};
 use hx_linkset::LinkSet;
@@ -44,9 +44,10 @@ impl Candidate {
         }
     }
 
-    /// Whether no live link covers it, and there is room for it among those of its ends.
-    pub(crate) fn is_wanted(&self, set: &LinkSet, caps: &Caps) -> bool {
-        is_wanted(set, caps, self.kind(), &self.a, &self.b, self.carrier)
+    /// The cells that it shares with all live links of its kind and ends. None where one of them covers it, or there is no
+    /// room for it among them.
+    pub(crate) fn shared_where_wanted(&self, set: &LinkSet, caps: &Caps) -> Option<Mask> {
+        shared_where_wanted(set, caps, self.kind(), &self.a, &self.b, self.carrier)
     }
 }
 

@@ -60,15 +60,17 @@ pub(crate) fn is_covered(set: &LinkSet, kind: Kind, a: &Vertex, b: &Vertex, carr
     false
 }
 
-/// Whether no live link of this kind and these ends lies inside the carrier, and there are few.
-pub(crate) fn is_wanted(
+/// The cells of the carrier that all live links of this kind and these ends have. None where one of them lies inside the
+/// carrier, or they are many.
+pub(crate) fn shared_where_wanted(
     set: &LinkSet,
     caps: &Caps,
     kind: Kind,
     a: &Vertex,
     b: &Vertex,
     carrier: Mask,
-) -> bool {
+) -> Option<Mask> {
+    let mut shared = carrier;
     let most = if is_side(a) && is_side(b) {
         set.count()
     } else {
@@ -77,13 +79,15 @@ pub(crate) fn is_wanted(
     let mut next = set.first_of(kind, *a, *b);
     for _ in 0..most {
         let Some(index) = next else {
-            return true;
+            return Some(shared);
         };
         match set.held(index) {
-            Some(link) if !link.carrier.inside(carrier) => {}
-            _ => return false,
+            Some(link) if !link.carrier.inside(carrier) => {
+                shared = shared.meet(link.carrier);
+            }
+            _ => return None,
         }
         next = set.next_of(index);
     }
-    next.is_none()
+    if next.is_none() { Some(shared) } else { None }
 }

@@ -20,8 +20,9 @@ use hx_linkset::{Added, LinkSet};
 /// What became of the candidates of one size.
 #[derive(Clone, Copy)]
 enum Taken {
-    /// One was added at this index.
-    New(u32),
+    /// One was added at this index; and whether all live links of its kind and ends, it too, share a cell. (Not the cells:
+    /// the proof of a loop takes no mask out of a value.)
+    New(u32, bool),
 
     /// None is left.
     NoMore,
@@ -39,16 +40,16 @@ fn take(set: &mut LinkSet, workspace: &mut Workspace, cells: usize) -> Result<Ta
         let Some(candidate) = workspace.candidates.pop(cells) else {
             return Ok(Taken::NoMore);
         };
-        let is_wanted = candidate.is_wanted(set, &workspace.caps);
-        if !is_wanted {
+        let Some(shared) = candidate.shared_where_wanted(set, &workspace.caps) else {
             continue;
-        }
+        };
+        let is_shared = !shared.is_empty();
         let step = match workspace.candidates.step(set.allocator(), &candidate) {
             Ok(step) => step,
             Err(Memory) => return Err(Memory),
         };
         match set.add(step) {
-            Ok(Added::New(index)) => return Ok(Taken::New(index)),
+            Ok(Added::New(index)) => return Ok(Taken::New(index, is_shared)),
             Ok(Added::Covered(_)) => {}
             Ok(Added::Refused) => {}
             Ok(Added::Limit) => return Ok(Taken::Full),
@@ -99,7 +100,7 @@ fn take_all(
 {
     loop {
         match take(set, workspace, cells) {
-            Ok(Taken::New(index)) => {
+            Ok(Taken::New(index, is_shared)) => {
                 let Some(link) = set.link(index) else {
                     return Ok(Run::Through);
                 };
@@ -107,7 +108,7 @@ fn take_all(
                 if is_last {
                     return Ok(Run::Ended);
                 }
-                if workspace.look_at(set, index, &link).is_err() {
+                if workspace.look_at_new(set, index, &link, is_shared).is_err() {
                     return Err(Memory);
                 }
             }

@@ -30,8 +30,9 @@ struct Part {
 /// Lists that are kept from one search to the next.
 #[derive(Drop)]
 pub(crate) struct OrLists {
-    /// The live Semi links of two ends.
+    /// The live Semi links of two ends, and the cells that all of them have. Where there are such cells there is no Or.
     parts: Vec<Part>,
+    shared: Mask,
 
     /// Those of them that lack a cell of the first part.
     others: Vec<Part>,
@@ -44,14 +45,16 @@ impl OrLists {
     pub(crate) fn new(alloc: Global) -> Result<OrLists, Memory> {
         Ok(OrLists {
             parts: Vec::with_capacity(alloc, ROOM).map_err(|_| Memory)?,
+            shared: Mask::empty(),
             others: Vec::with_capacity(alloc, ROOM).map_err(|_| Memory)?,
             wide: Vec::new(alloc),
         })
     }
 
-    /// Finds the live Semi links of two ends.
+    /// Finds the live Semi links of two ends, and what they share.
     fn find_parts(&mut self, set: &LinkSet, a: &Vertex, b: &Vertex) -> Result<(), Memory> {
         self.parts.clear();
+        self.shared = set.position().size().all();
         let mut next = set.first_of(Kind::Semi, *a, *b);
         for _ in 0..set.count() {
             let Some(index) = next else {
@@ -63,6 +66,7 @@ impl OrLists {
                     link: index,
                     carrier: link.carrier,
                 };
+                self.shared = self.shared.meet(link.carrier);
                 self.parts.push(part).map_err(|_| Memory)?;
             }
         }
@@ -213,16 +217,7 @@ fn best_of(parts: &[Part], chosen: &Chosen) -> Option<Part> {
     best
 }
 
-/// Whether some cell is in all these links.
-fn share_a_cell(start: &Part, parts: &[Part]) -> bool {
-    let mut shared = start.carrier;
-    for part in parts {
-        shared = shared.meet(part.carrier);
-    }
-    !shared.is_empty()
-}
-
-/// Adds the Ors of one of the live Semi links of two ends with others of them.
+/// Adds the Ors of one of the live Semi links of two ends, which share no cell, with others of them.
 fn push_ors_of(
     set: &LinkSet,
     candidates: &mut Candidates,
@@ -246,8 +241,7 @@ fn push_ors_of(
             return Ok(());
         }
     }
-    let has_full = set.first_of(Kind::Full, *a, *b).is_some();
-    if has_full || share_a_cell(start, lists.others.as_slice()) {
+    if set.first_of(Kind::Full, *a, *b).is_some() {
         return Ok(());
     }
     push_wide(candidates, lists, a, b, start)
@@ -262,6 +256,9 @@ pub(crate) fn push_ors(
     link: &Link,
 ) -> Result<(), Memory> {
     lists.find_parts(set, &link.a, &link.b)?;
+    if !lists.shared.is_empty() {
+        return Ok(());
+    }
     let start = Part {
         link: index,
         carrier: link.carrier,
@@ -279,6 +276,9 @@ pub(crate) fn push_ors_between(
     b: &Vertex,
 ) -> Result<(), Memory> {
     lists.find_parts(set, a, b)?;
+    if !lists.shared.is_empty() {
+        return Ok(());
+    }
     for place in 1..lists.parts.len() {
         let Some(start) = lists.parts.get(place).copied() else {
             break;

@@ -38,7 +38,22 @@ impl Workspace {
         self.candidates.clear();
     }
 
-    /// Adds what a new link makes possible.
+    /// Adds what a new link makes possible, where it is known whether all live links of its kind and ends share a cell. A
+    /// cell that all Semi links of two ends have is in all parts of each Or, so there is none.
+    pub(crate) fn look_at_new(
+        &mut self,
+        set: &LinkSet,
+        index: u32,
+        link: &Link,
+        is_shared: bool,
+    ) -> Result<(), Memory> {
+        if link.kind == Kind::Semi && is_shared {
+            return Ok(());
+        }
+        self.look_at(set, index, link)
+    }
+
+    /// Adds what a link makes possible.
     pub(crate) fn look_at(&mut self, set: &LinkSet, index: u32, link: &Link) -> Result<(), Memory> {
         match link.kind {
             Kind::Full => push_ands(set, &self.ends, &mut self.candidates, index, link),
