@@ -130,7 +130,8 @@ class DrawnPosition(Drawing):
             self.mover = found[1]
 
     def mover_by_stones(self):
-        """Black begins."""
+        """Who is to move in a game that Black began. Other numbers of stones come only of positions that are made up, and a guess would be
+        wrong half the time."""
         black, white = (sum(cells.count(stone) for cells in self.rows) for stone in "bw")
         if black - white not in (0, 1):
             raise self.wrong(f"black to move, or white to move, since {black} black and {white} white stones do not tell it", "nothing")

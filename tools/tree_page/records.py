@@ -1,7 +1,8 @@
 """What is told of the nodes of a tree, as the text says it: cells by their names, a set of cells as one text.
 
-The text is read by checkers/check.py, and what link a step gives is taken from there. A picture shows the record of a
-root. The page makes the same records of its own, in tree.js and links.js; `.ci/page` holds them against these.
+The text is read by checkers/check.py, so that there is no third reader of its grammar, and what link a step gives is taken
+from there. A picture shows the record of a root. The page makes the same records of its own, in tree.js and links.js;
+`.ci/page` holds them against these.
 """
 import io
 import pathlib
