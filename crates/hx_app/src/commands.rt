@@ -160,6 +160,7 @@ fn uncounted(status: u8) -> Finish
     ensures status { result.status ≡ status }
     ensures tally { CountsNothing result }
 {
+    // Such a run has no settings, so it has a budget of 0 and no slots.
     Finish {
         status,
         tally: Tally::new(0, 0),

@@ -32,6 +32,7 @@ impl Model for Groups {
 
     ghost view = { λ g. g.graph };
 
+    // It says that the table is exactly `Joined`, which is no proposition in the prover's sense; the toolchain takes it.
     ghost invariant = { λ g. AreJoined g.graph.board g.graph.player g.joined };
 }
 

@@ -1,6 +1,10 @@
 -- The buckets of a book and its two sets of chains, for the functions inside the crate. One has an entry's bucket by
 -- its position and mover, and the other by its winner's stones and its mover, so that the entries which may be wider
 -- than a position are in one bucket.
+--
+-- The size is not in the bucket by stones, since the positions of a search are of one size; nor is the winner, who is
+-- told by the colour of the stones unless there are none. In the bucket by position a remainder in place of the product
+-- took a find a fifth longer.
 use Rattle.std.specs.Prelude.{ℕ, ◌*◌, ◌/◌, ◌^◌, ◌≤◌, List}
 use Rattle.hx_board.specs.declared.colours.Colour.{Colour}
 use Rattle.hx_board.specs.declared.colours.Colour.TheVariants.{Black, White}

@@ -1,6 +1,7 @@
 -- Chains of entries, for the functions inside the crate. Each entry has a bucket, by a key of the book's choice. The
 -- entries of a bucket are chained: from its head to the newest of them, and from each to the next older one. A link
--- is 0 at the end of a chain, and else one more than the place of an entry.
+-- is 0 at the end of a chain, and else one more than the place of an entry. So it is one statement for heads and
+-- entries that a link leads to the newest entry of a bucket below a bound.
 use Rattle.std.specs.Prelude.{◌≡◌, ℕ, ◌+◌, ◌-◌, ◌<◌, ◌≤◌, List, [], ◌∷◌, ◌++◌, length, set, slice_get, slice_index}
 use Rattle.std.specs.declared.option.Option.TheVariants.{Some}
 use Rattle.hx_tree.specs.declared.nodes.Node.{Node}

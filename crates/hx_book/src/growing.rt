@@ -1,4 +1,7 @@
 //! A list of proofs that only grows, over a book of one's own or one that is shared.
+//!
+//! That a list is plain is a fact of its type: `is_plain` takes no value of the type, so no contract has to say that it stays
+//! the same. `plain` has no body in the trait: one that answers false would have to be proved of every type.
 
 ghost use Rattle.std.specs.Prelude.{◌≡◌, Bool, true};
 ghost use Rattle.hx_tree.specs.Plain.{IsPlain};

@@ -1,5 +1,11 @@
 -- The book machine: a list of proofs that workers look in and add to. The list is one for all; how much of it each
 -- worker has seen is a number of nodes at its front.
+--
+-- A step is a relation between a state, an event, an answer and the next state, since which entry is the first is a
+-- statement about a list and nothing that is computed there. The counts are numbers, so their step is computed.
+--
+-- There is no event for `look_wider`: its reply is not settled by the list, since any wider entry is a good answer, and
+-- it changes nothing but what the worker has seen. What a worker needs of it stands in its clauses.
 use Rattle.std.specs.Prelude.{◌≡◌, ℕ, max, List, [], length, replicate, set, slice_index}
 use Rattle.hx_board.specs.declared.colours.Colour.{Colour}
 use Rattle.hx_board.specs.Positions.{Board}

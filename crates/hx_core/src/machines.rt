@@ -1,4 +1,6 @@
 //! One event after the other.
+//!
+//! `can_happen` is public beside `apply`, since a caller must be able to test what that requires of an event.
 
 ghost use Rattle.std.specs.Prelude.{◌≡◌, ◌<◌, ◌↔◌, IsTrue, IfOk, length};
 ghost use Rattle.hx_tree.specs.Rules.{IsRightNode};

@@ -1,5 +1,11 @@
 -- The rule of the table. There is one history, of which each seat has seen a front. Word 0 counts its spends, granted
 -- and refused; each other word is a loss word.
+--
+-- What public clauses take from this file stands first, in a few lines: the state after a history, and which lists are
+-- histories. The rule is said in the same words, so the file is read as a whole.
+--
+-- A rule that some list of numbers with mine in it has this sum would say no more than that my own is at most the sum,
+-- so this one has a history.
 use Rattle.std.specs.Prelude.{◌≡◌, ℕ, zero, suc, ◌+◌, ◌^◌, ◌<◌, ◌≤◌, min, ◌==◌}
 use Rattle.std.specs.Prelude.{List, [], ◌∷◌, ◌++◌, length, take, drop, slice_index, sum_by, count_by}
 use mathlib.Core.Option.{some}

@@ -1,5 +1,10 @@
 -- The counts machine: a budget of units that workers spend, and loss words that they hold, release and look at. Its
 -- state is what each worker has. A history is the list of events from the start, the oldest first.
+--
+-- That a worker was refused is in the state, so that a seat's whole state is what it has seen; a further spend of a
+-- refused seat takes no step and is no event. A look at a loss word is an event, though it changes nothing: its place
+-- in the one history is what its number is the sum at. Else a call that reads nothing and answers 0 would do for a
+-- fresh seat, which need not have seen what others hold.
 use Rattle.std.specs.Prelude.{◌≡◌, ℕ, zero, suc, ◌+◌, ◌-◌, ◌<◌, ◌≤◌}
 use Rattle.std.specs.Prelude.{Bool, true, false, nat_lt, if◌then◌else◌}
 use Rattle.std.specs.Prelude.{List, [], ◌∷◌, length, sum, sum_by, count_by, replicate}

@@ -7,7 +7,8 @@
 //! million words, and is not solved by 400,001 with 65,536; with marks it takes 76,883 with 65,536.
 //!
 //! No search leaves a word of zeros, so a worker can tell that a word was never written. No clause can say what a word holds
-//! later, while others step; so a store answers with a value that no other call makes, and that tells which word got which numbers.
+//! later, while others step; so a store answers with a value that no other call makes, and that tells which word got which
+//! numbers. A seat at the hints for each worker would say no more, and would go through every call of hx_moves and hx_worker.
 
 ghost use Rattle.std.specs.Prelude.{◌≡◌, ◌≢◌, ◌<◌, ◌≤◌, ◌%◌, ℕ, IfOk};
 ghost use Rattle.hx_pn.specs.declared.proof_numbers.Numbers.{Numbers as PlainNumbers};

@@ -15,6 +15,9 @@ use thiserror::Error;
 pub struct CountSeat {
     pub(crate) seat: Seat<(), View>,
     pub(crate) granted: u64,
+
+    // Of all words together: a caller knows which words it holds, and a table of 65,536 words
+    // for each seat would be needed for nothing else.
     pub(crate) held: u32,
     pub(crate) refused: bool,
 }

@@ -1,4 +1,7 @@
 -- How many positions of a list a player wins, by the game tree alone.
+--
+-- It is a relation of the list and the number, since no program that decides who wins stands in a contract. `one_count`
+-- says that it is one number.
 use Rattle.std.specs.Prelude.{ℕ, suc, List, [], ◌∷◌}
 use Rattle.hx_board.specs.declared.colours.Colour.{Colour}
 use Rattle.hx_board.specs.declared.colours.Colour.TheVariants.{Black}

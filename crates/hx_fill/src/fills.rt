@@ -1,4 +1,7 @@
 //! What fill-in leaves behind: the steps that were done and the position after them.
+//!
+//! A fill has a player, so the fills are a vector of their own and no list of a rule, whose fill steps are all for
+//! one winner. `steps_for` gives them, as the list that `Rule::Fill` holds.
 
 ghost use Rattle.std.specs.Prelude.{◌≡◌, [], OnOk};
 ghost use Rattle.hx_inferior.specs.Inferior.{MayFill};

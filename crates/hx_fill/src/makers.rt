@@ -29,7 +29,7 @@ pub(crate) struct Makers {
 }
 
 /// What is known of an empty cell with these open neighbours, and its makers among some empty cells. The fewer these are, the sooner
-/// none of them is left.
+/// none of them is left: so a partner's are asked about one cell, and whether a cell is dead about none.
 pub(crate) fn makers_of(view: &View, cell: Cell, around: VertexSet, among: Mask) -> Makers
     requires empty { IsEmpty view.now.board cell }
     requires around { IsSetOf view.now.board.size

@@ -2,7 +2,8 @@
 //!
 //! A round goes once over the empty cells for one player, with what was joined at its start, and fills what is dead or a captured
 //! pair. That stays right when stones come elsewhere, so a round may fill many cells without a further flood. Rounds for
-//! the one and for the other player alternate, until two in a row have filled nothing.
+//! the one and for the other player alternate, until two in a row have filled nothing. To ask both players again after each
+//! round that filled something took a fifteenth more rounds in a search.
 
 ghost use Rattle.std.specs.Prelude.{◌≡◌, IfOk, OnOk, true};
 ghost use Rattle.hx_board.specs.Sets.{has};

@@ -54,6 +54,7 @@ fn links_between(set: &LinkSet) -> Result<Vec<Between>, Memory>
         let carrier = set.carrier(place);
         links.push_reserved(Between { place, carrier });
     }
+    // Of links with as many cells the older one comes first. No clause speaks of that order.
     links
         .sort_by_key(|link| link.carrier.count())
         .map_err(|_| Memory)?;

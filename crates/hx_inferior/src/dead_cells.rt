@@ -20,5 +20,6 @@ pub fn dead(position: &Position, colour: Colour, cell: Cell) -> bool
         return false;
     }
     let around = open_around(position, colour, cell);
+    // This makes no table: the checker asks of each position once or twice. hx_fill, which asks of all empty cells, has one.
     all_joined(position, colour, around)
 }

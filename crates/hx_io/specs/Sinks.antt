@@ -1,4 +1,7 @@
 -- What a sink took, where it tells that, and what a write adds to it.
+--
+-- What was taken and the faults are one record, `Writing`, as those of a source are (Sources.antt). The clauses of a
+-- call that writes a whole text are one record too, `WritesAll`.
 use Rattle.std.specs.Prelude.{◌≡◌, ℕ, ◌<◌, ◌≤◌, List, ◌++◌, take, length, Result, MatchResult, IfOk, Option, None, Some}
 use Rattle.hx_io.specs.Causes.{HasCause, Rose}
 

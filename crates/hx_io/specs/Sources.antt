@@ -1,4 +1,7 @@
 -- What a source has left, where it tells that, and what a read takes of it.
+--
+-- What is left and the faults are one record, `Reading`: contracts name both, and with one ghost state for them a
+-- contract names half as many values.
 use Rattle.std.specs.Prelude.{◌≡◌, ℕ, List, [], ◌++◌, take, Result, MatchResult, Option, None, Some, IfSome, IfOk}
 use Rattle.hx_io.specs.Causes.{HasCause, Rose}
 

@@ -21,6 +21,7 @@ pub struct Derived {
     pub steps: Steps,
 
     /// For each named link, in their order, the place of the step that gives it.
+    // It is no `Threats`, since those are of hx_tree, on which this crate does not stand.
     pub places: Vec<u32>,
 }
 

@@ -5,7 +5,7 @@
 //! it: who goes along a list looks up no link.
 //!
 //! A link stands in the lists of its ends, live or not, for as long as it is held. Which of them are live is read off the
-//! entries as they are gone along.
+//! entries as they are gone along. Lists that are chained by index were slower.
 
 ghost use Rattle.std.specs.Prelude.{◌≡◌, ◌<◌, List, [], ◌∷◌, ◌++◌, length, filter, slice_set, slice_index_or, IfOk, OnOk, OnErr};
 ghost use Rattle.hx_board.specs.VertexSets.{IsSomeVertex};

@@ -4,8 +4,9 @@
 //! taken back. The live ones of each kind and pair of ends are chained, so `add` looks for a cover in one chain alone.
 //! A play, of one stone or of several, is one pass over all links: it takes those that are
 //! live no more out of their chains and writes them on a log. `undo` cuts off what came since, and puts
-//! the logged ones back in opposite order, which makes the chains what they were. The Full links stand
-//! once more in a list for each of their ends.
+//! the logged ones back in opposite order, which makes the chains what they were. The stones of a turn, its own and those of
+//! fill-in, are one play, so that they cost one pass and one making of the groups. The Full links stand once more in a list for
+//! each of their ends.
 //!
 //! Of the calls that change the set `add` alone takes memory, and `new` takes all that `play` and `undo`
 //! need; `derivation` takes the memory of what it answers. A board has at most `CELLS` empty cells and
@@ -210,6 +211,7 @@ impl LinkSet {
             → result ≡ link.carrier }
         ensures none { slice_get self.now.present.links index ≡ None → result ≡ 0 }
     {
+        // A `requires` would have each caller prove what it has read a line before.
         match self.held(index) {
             None => Mask::empty(),
             Some(link) => link.carrier,

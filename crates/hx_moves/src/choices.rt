@@ -2,6 +2,8 @@
 //!
 //! Of the moves in focus the turn goes down to the one with the least delta, as df-pn does. Those out of focus count together as
 //! one move more (`rest.rt`).
+//!
+//! One call reads hints and losses, `told_by`. What follows, `choice_by`, is a function of what was told, as its clause says.
 
 ghost use Rattle.std.specs.Prelude.{◌≡◌, ◌<◌, ◌≤◌, length, MatchOption};
 ghost use Rattle.std.specs.List.{All};

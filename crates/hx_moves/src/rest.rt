@@ -5,6 +5,8 @@
 //! one with few. On 7 by 7 after a5, a6, b4 and g4 together this takes a fifth of the units off, and after e6 a tenth; but the openings
 //! of 6 by 6 take a twenty-fifth more, and 8 by 8 after d5 a third more. Five or six as one do about as well; two, four and seven as one
 //! take a quarter to a half more after g4.
+//!
+//! They stand in the list of numbers as one move that no turn goes down to, so hx_pn and its formulas stay as they are.
 
 ghost use Rattle.std.specs.Prelude.{◌≡◌, ◌<◌, IfSome, IsSome};
 ghost use Rattle.hx_pn.specs.Numbers.{IsNumbers};

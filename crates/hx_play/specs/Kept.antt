@@ -1,5 +1,12 @@
 -- The links that a player keeps: Full links on cells that are still empty, which share no cell. Once the ends of each
 -- are joined, the player has a chain. They were made on an earlier board, the base.
+--
+-- Links are read once, on the base. On a later board the same steps may give none: an And over a cell on which the
+-- player has a stone is no And over a cell, and an Or of which a part is broken is none. So a move is read off the
+-- links of the base.
+--
+-- Where kept links lead (`lead`) is said of every later board. Nothing is said of a path of links, of their order or of
+-- which end comes first; more stones keep the clause by themselves, and each rule of steps changes it in one lemma.
 use Rattle.std.specs.Prelude.{◌≡◌, ◌≢◌, ◌≤◌, ◌⊎◌, ℕ, Bool, true, false, List, Contains, slice_get, slice_index_or}
 use Rattle.std.specs.Prelude.{Option, IfSome}
 use Rattle.std.specs.declared.option.Option.TheVariants.{Some, None}

@@ -5,6 +5,11 @@
 //! one of them alone. What is kept are Full links that share no cell and on whose cells the opponent has no stone. When the
 //! opponent has moved, the player moves in the link that the stone touches: it takes the cell over which a part that the stone
 //! leaves alone goes. The two links of that part are Full, and are kept in place of the Or.
+//!
+//! A list of places would want a bound on its length, which only a count of carriers that share no cell gives.
+//!
+//! A call that moves in links answers a cell, or None where the player has a chain. So none of them requires that there is no
+//! chain; `answer` of players.rt alone does, with a branch that is never taken.
 
 ghost use Rattle.std.specs.Prelude.{◌≡◌, ◌+◌, ◌<◌, ◌≤◌, ℕ, List, [], length, false, Some, None, Option, MatchOption, Contains, slice_get};
 ghost use Rattle.hx_board.specs.Positions.{Board};
@@ -223,6 +228,7 @@ fn cell_between(size: Size, whole: Mask, first: Mask, second: Mask) -> Cell
     requires { (cell : ℕ) × IsOver size whole first second cell }
     ensures { IsOver size whole first second result }
 {
+    // To find it by the ends of the links would ask which end of each is the common one.
     match whole.minus(first.union(second)).least(size) {
         Some(cell) => cell,
         None => unreachable!(),

@@ -37,6 +37,9 @@ pub enum Served {
 /// Plays a game whose opponent's moves are the lines that are held and those of the source, one cell a line. First of all it
 /// names the player, and makes its first move where it is its turn.
 ///
+/// It asks nothing of what was played before, and goes on from the game that the player has: from the root where the player was
+/// just made.
+///
 /// Each answer is written before the next read, and no read follows a chain. It takes no memory.
 pub fn serve<S: Source, K: Sink>(
     lines: &mut LineCutter,

@@ -4,6 +4,9 @@
 //! new: ends that lost a Full link may have another Or; what an own stone joins has Bases; a stone
 //! that stood for its group hands its links over to the vertex that stands for it now; and over a
 //! new stone that stands for its group Ands become Full. Nothing else is tried.
+//!
+//! A call then passes over no list of all links: what stones took away is `dropped` of the set,
+//! and Ands run over its `full_at_within`.
 
 use crate::ends::standing_stones;
 use crate::pairs::Pairs;

@@ -3,6 +3,9 @@
 //! A closed set holds very many links, and most of them are of no use. Here links are made only between vertices that stand
 //! for their groups, and few of each pair of ends; the smallest come first, and the first one that decides the position may
 //! end it.
+//!
+//! A set that a call has left Open can be played on, and taken back, with nothing kept beside it. Of one that is decided not
+//! all links were tried, and a later call does not catch up with what was left.
 
 ghost use Rattle.std.specs.Prelude.{IfOk};
 ghost use Rattle.hx_linkset.specs.States.{IsRight};

@@ -2,7 +2,8 @@
 //!
 //! Two empty cells have one where they touch, or where a group of stones that has no side joins
 //! them. Those that only a side joins, or a group that has one, have none: links between cells
-//! along a side are many, and of no use, since each of these cells has a link to the side.
+//! along a side are many, and of no use, since each of these cells has a link to the side. With
+//! them links after a stone were nearly twice as many, and reaching took three times as long.
 
 ghost use Rattle.hx_board.specs.Cells.{OnBoard};
 

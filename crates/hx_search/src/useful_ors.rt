@@ -1,4 +1,7 @@
 //! The Ors that a new Semi link makes possible, of few parts.
+//!
+//! Parts are looked at in the order in which they came. Since links are added by their size, that is nearly the order by size,
+//! and no sort is wanted.
 
 use crate::candidates::Candidates;
 use crate::covers::is_covered;
@@ -10,7 +13,7 @@ use std::alloc::Global;
 /// The most Ors for a new Semi link.
 const MOST_FOUND: u32 = 8;
 
-/// The most parts that are looked at for a new Semi link.
+/// The most parts that are looked at for a new Semi link. One that takes nothing away counts too.
 const MOST_VISITS: u32 = 60;
 
 /// The most parts of an Or that is searched for. Where no such Or is found, one of more parts is tried, up to the most
@@ -140,6 +143,7 @@ impl OrSearch {
         candidates: &mut Candidates,
         chosen: &Chosen,
     ) -> Result<(), Memory> {
+        // An Or that a live link covers ends the search as a new one does.
         self.found = self.found.saturating_add(1);
         if is_covered(set, Kind::Full, &self.a, &self.b, chosen.carrier) {
             return Ok(());

@@ -289,7 +289,8 @@ impl Shared {
         self.table.shared.store::<GivingBack>(seat, 0, word);
     }
 
-    /// Takes in a note. The load after the join is the step at which both lists are fronts of the one list.
+    /// Takes in a note. A join of seats tells nothing of their lists; the load after it is a step of the table, at which both
+    /// are fronts of its one list.
     fn absorb(&self, seat: &mut Seat<Option<Book>, View>, note: Seat<Option<Book>, View>)
         requires tables { (seat.old.table_id ≡ self.now.made.table)
             × (note.table_id ≡ self.now.made.table) }

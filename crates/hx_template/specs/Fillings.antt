@@ -1,4 +1,7 @@
 -- The boards that play in a carrier leads to, and the number of each in base three.
+--
+-- A played cell stays in the carrier, and the free cells are those of it that are empty. To take it out would come to
+-- the same, and would want a lemma at each move.
 use Rattle.std.specs.Prelude.{◌≡◌, ℕ, zero, suc, ◌+◌, ◌*◌, ◌^◌, Bool, true, false, if◌then◌else◌}
 use Rattle.hx_board.specs.declared.colours.Colour.{Colour}
 use Rattle.hx_board.specs.Colours.{other_of}

@@ -38,6 +38,8 @@ pub fn local(
 ) -> Result<bool, Memory>
     requires few { count_below 128 carrier ≤ MOST_CELLS }
     requires empty { (cell : ℕ) → has carrier cell ≡ true → IsEmpty position.now cell }
+    // The ends of a link differ, are no stones of the opponent's, and are outside the carrier where they are empty cells. The
+    // answer is exact without that, so a caller has less to show; a text may ask for more.
     requires a_vertex { IsVertex position.now.size a }
     requires b_vertex { IsVertex position.now.size b }
     ensures { IfOk result (λ answer.

@@ -1,5 +1,7 @@
 -- The entries of a node, which are its lines after the first: its steps, then its threats, then its answers; or its
 -- fill steps.
+--
+-- One law serves the four kinds of entries. A fifth would need a case more of `Entry` and a list more in the reader.
 use Rattle.std.specs.Prelude.{ℕ, ◌+◌, List, [], ◌∷◌, ◌++◌, length, map, codes}
 use Rattle.std.specs.Fmt.{decimal}
 use Rattle.hx_board.specs.Cells.{Extent, OnBoard}

@@ -1,4 +1,8 @@
 //! The versions of a tree's text, and what the lines before its nodes say.
+//!
+//! Version and size are one value, `Preamble`, since a node fits in a text by both: a text of
+//! version 1 has no turned node. The places of the reader, the definitions of texts and the
+//! laws over them take it whole.
 
 ghost use Rattle.std.specs.Prelude.{◌≡◌, ◌↔◌, IsTrue};
 ghost use Rattle.hx_text.specs.Versions.{IsTurnedNode, HasTurned};

@@ -1,4 +1,5 @@
--- When a node is right.
+-- When a node is right. Its board is a position, which laws over lists of nodes need: a list that
+-- only a proof speaks of may have boards that are none.
 use Rattle.std.specs.Prelude.{◌≡◌, ℕ, List, [], slice_get, IsSomeAnd}
 use Rattle.hx_board.specs.Colours.{other_of}
 use Rattle.hx_board.specs.Positions.{IsBoard, IsEmpty, put}

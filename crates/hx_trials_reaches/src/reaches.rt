@@ -20,6 +20,10 @@
 //! | at most 8 Full ones with more than eight rows or columns | nine_by_four | full | 11691 | 11692 |
 //! | at most 32 Semi ones there | none | | | |
 //! | the end at the first link that decides | nine_by_four | full | 11691 | 14167 |
+//!
+//! A change of what is useful changes these numbers, and is to be judged by the answers beside them: how many differ from those
+//! on a new set and on a closed one (none), and how many links between the sides closed sets alone have (one in each of two
+//! rows).
 
 use hx_board::Colour::{Black, White};
 use hx_board::{CELLS, Cell, Colour, Position, Size, Vertex};

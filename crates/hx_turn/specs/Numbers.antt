@@ -1,5 +1,9 @@
 -- Two numbers of a position and mover: one of the position as it stands, and one that the turned position has too. Both
 -- differ between most positions and movers.
+--
+-- They are exact, for the prover must know that equal positions and movers have equal numbers, and so equal buckets in
+-- a book. No contract of a book speaks of them. Whoever has one orientation alone can use the folded number: a book
+-- does, and the position is turned only where it has no entry.
 use Rattle.std.specs.Prelude.{ℕ, ◌*◌, ◌/◌, ◌%◌, ◌^◌, nat_le, bit_xor, if◌then◌else◌}
 use Rattle.hx_board.specs.declared.colours.Colour.{Colour}
 use Rattle.hx_board.specs.declared.colours.Colour.TheVariants.{Black, White}

@@ -1,6 +1,9 @@
 //! Proofs that whichever move the opponent makes, a player wins after it. They need the carriers of the threats, what some proofs
 //! after moves of the opponent's need, so chosen that each other move is outside one of them, and the cells of the lines that name
 //! a better cell.
+//!
+//! The functions have no struct as a worker's have: each needs others of the list of proofs, the position and the set of links,
+//! and what they promise is the one clause `grew`.
 
 ghost use Rattle.std.specs.Prelude.{◌≡◌, ℕ, true, IfSome, IfNone};
 ghost use Rattle.hx_board.specs.Colours.{other_of};

@@ -24,6 +24,8 @@ pub fn widen_turned<P: Proofs, R: Wait>(
     ensures grew { Grows (P.sight proofs.old) (P.sight proofs.new) }
     ensures stored { IsStoredWide P.is_plain (P.sight proofs.new).list (P.sight proofs.new).slots
         position.now to_move result }
+    // A valid list has no two entries that name different winners so. But a list of proofs is not known to be valid where nodes
+    // are made, and to say so there would tie each node to the game tree.
     ensures missing { MissingFor (LacksTurned P.is_plain (P.sight proofs.old).list (P.sight proofs.new).list
         position.now to_move) result }
     ensures memory { HadMemory result }

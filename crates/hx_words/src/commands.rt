@@ -1,4 +1,7 @@
 //! The commands of the program. Each is told by its first word.
+//!
+//! Size and settings of `survey` are a struct, and no fields of `Command` as the seed of `demo` is: where a `match`
+//! takes a `Size` by its own name out of an enum of another crate, the kit's borrow checker gives no proof.
 
 ghost use Rattle.std.specs.Prelude.{IfSome};
 ghost use Rattle.hx_board.specs.Finds.{Finds};

@@ -24,6 +24,7 @@ pub(crate) fn seed_and_settings_in(words: &[String]) -> Option<(u64, Settings)>
 fn seed_of(word: &str) -> Option<u64>
     ensures { Finds result (IsSeed word.now) }
 {
+    // `parse` takes a sign too.
     if word.len() > MOST_DIGITS || word.starts_with('+') {
         return None;
     }

@@ -92,6 +92,7 @@ impl<P: Proofs, G: Gate, R: Wait> Search<'_, P, G, R, Workspace, LinkSet> {
             return None;
         };
         let other = situation.to_move.other();
+        // Where the entry is of the turned position alone, the turned node is stored at once: a node of all moves looks for it.
         match widen_turned(worker.rt, self.proofs, there.position(), other) {
             Stored::Done => self.by_move(situation, moves, place, &child),
             Stored::Refused(refusal) => Some(Outcome::NoSlots(refusal)),
@@ -156,6 +157,8 @@ impl<P: Proofs, G: Gate, R: Wait> Search<'_, P, G, R, Workspace, LinkSet> {
                 known
             }
             Outcome::Open(numbers) => {
+                // The turn left them as a hint too, but by now the hint's word may be another position's. Without this three of
+                // the eight boards of `.ci/units` take another number of units.
                 moves.note(down.place, open(numbers));
                 None
             }

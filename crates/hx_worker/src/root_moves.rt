@@ -46,6 +46,9 @@ impl<P: Proofs, G: Gate, R: Wait> Search<'_, P, G, R, Workspace, LinkSet> {
         }
         let worker = self.worker;
         let position = start.here.position();
+        // What proves the filled position after a move serves the position itself after the same move: the winner's own fill
+        // steps stay right after a further stone of his, and the checker judges them there. The node by that move comes before
+        // any other of the position, which has one alone. Done once a search, it costs a node in twenty and no unit.
         store_root_move(
             worker.rt,
             worker.alloc,

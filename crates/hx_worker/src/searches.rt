@@ -1,8 +1,11 @@
 //! What a worker searches with.
 //!
 //! Each function of a search works with all of this, so it stands in one struct, and what every one of them keeps is one word
-//! (`Keeps` of specs/). The sets of links are the mover's and the other player's, so they are exchanged before a turn of the other
-//! player, and again after it (`turns.rt`).
+//! (`Keeps` of specs/). The proofs and the seat are borrowed, so it says too that these are the same borrows.
+//!
+//! The sets of links are the mover's and the other player's, so they are exchanged before a turn of the other player, and again
+//! after it (`turns.rt`). They are owned, so that this, and putting one aside for a new one, is done by moves of their fields
+//! alone.
 
 ghost use Rattle.std.specs.Prelude.{◌≡◌};
 
@@ -26,6 +29,7 @@ pub(crate) struct Search<'a, P, G, R, W, L> {
     pub(crate) others: L,
 }
 
+// It says what is left behind the borrows.
 impl<'a, P, G, R, W: Drop, L: Drop> Drop for Search<'a, P, G, R, W, L> {
     fn drop(self)
         ensures proofs { self.exit.1.0.now ≡ self.entry.proofs.now }

@@ -169,6 +169,7 @@ impl<P: Proofs, G: Gate, R: Wait> Search<'_, P, G, R, Workspace, LinkSet> {
             return Outcome::Open(down.child.numbers);
         }
         let word = loss_word(down.child.number);
+        // Before the turn below asks for its unit: so other workers see the hold while this one waits at its gate.
         self.worker.counts.hold(self.seat, word);
         swap(&mut self.own, &mut self.others);
         let outcome = self.turn(&down.start, depth - 1);
