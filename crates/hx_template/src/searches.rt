@@ -5,7 +5,7 @@
 //! that lead to it. An entry names the player to move, so nothing is asked of how many stones there are.
 //!
 //! From the bottom up there would be no recursion: all 3^12 fillings of twelve cells in falling order of their numbers, each
-//! from those with one stone more. But play comes to few of them, so from the top the mean was eighty times less.
+//! from those with one stone more. But play comes to few of them: from the top one in eighty was judged, on the mean.
 
 ghost use Rattle.std.specs.Prelude.{◌≡◌, ℕ, ◌↔◌, IsTrue, false, not};
 ghost use Rattle.hx_board.specs.Colours.{other_of};
