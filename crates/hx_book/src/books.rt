@@ -4,6 +4,10 @@
 //! its position and mover, and a second one, from its winner's stones and mover; the entries of a bucket are chained. What
 //! `find` answers does not depend on the buckets, nor does whether `find_wider` answers. All memory is taken at the start, but
 //! for what `into_tree` takes.
+//!
+//! A full book with as many slots as buckets has the longest chains: a hit visits 1.5 entries and a miss 1, as numbers as
+//! good as random give them. An entry takes 160 bytes besides the lists of its rule: 144 for the node, and in each of the
+//! two sets of chains 4 for its link and 4 for a bucket; with twice as many buckets 168.
 
 ghost use Rattle.std.specs.Prelude.{◌≡◌, ◌≢◌, ◌<◌, ◌≤◌, ◌↔◌, IsTrue, false, [], length, IfOk};
 ghost use Rattle.hx_tree.specs.Rules.{IsRightNode};

@@ -2,6 +2,9 @@
 //!
 //! Word 0 of the table counts the spends, and each other word is a loss word. A spend adds one to word 0 and looks at the number
 //! before it: so no two spends take the same unit, and no worker waits for another.
+//!
+//! When the program runs a spend is that one addition and nothing beside it: what a seat knows of the history is there for
+//! the proof alone.
 
 ghost use Rattle.std.specs.Prelude.{◌≡◌, ◌<◌, ◌≤◌, ◌^◌, [], true, false, map, sum_by, slice_index, IfOk, IfErr, IsErr, length};
 ghost use Rattle.std.specs.List.{All, Any};

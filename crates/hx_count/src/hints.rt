@@ -9,6 +9,11 @@
 //! No search leaves a word of zeros, so a worker can tell that a word was never written. No clause can say what a word holds
 //! later, while others step; so a store answers with a value that no other call makes, and that tells which word got which
 //! numbers. A seat at the hints for each worker would say no more, and would go through every call of hx_moves and hx_worker.
+//!
+//! With a million words marks bring little: over the openings of 7 by 7, those of 6 by 6 in one book, and d5, 704,237 units
+//! are taken with them and 722,361 without. But the number of words hardly counts with them: bench/search takes 13,911
+//! units for 7 by 7 after e6 with 65,536 words, and 15,437 to 15,443 with 262,144 to 16,777,216. Marks of ten digits took
+//! as many units, where they were tried.
 
 ghost use Rattle.std.specs.Prelude.{◌≡◌, ◌≢◌, ◌<◌, ◌≤◌, ◌%◌, ℕ, IfOk};
 ghost use Rattle.hx_pn.specs.declared.proof_numbers.Numbers.{Numbers as PlainNumbers};

@@ -1,4 +1,7 @@
 //! The list of places that an Or names. Contracts see it as the list of its items.
+//!
+//! With the places in the step itself `play` took 4,488 kilobytes for a plain tree of the empty 7 by 7 board, where it
+//! takes 3,168, and a search of 7 by 7 after e6 20.1 megabytes and no less time, where it takes 17.8.
 
 ghost use Rattle.std.specs.Prelude.{◌≡◌, nat_eq, IfOk};
 ghost use Rattle.std.specs.Cmp.{partial_equiv_from_equiv};

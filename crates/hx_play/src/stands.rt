@@ -2,6 +2,9 @@
 //!
 //! It is at a node whose position is on the board, and follows the tree by moves and child lines. From a node by links, or from a
 //! threat that the opponent's stone leaves alone, on it keeps links and reads no node any more.
+//!
+//! The links of a node's steps are made when play comes to the node, which is most of the time of an answer; an answer in
+//! links that are kept looks at marks alone.
 
 ghost use Rattle.std.specs.Prelude.{◌≡◌, ◌≤◌, ℕ, [], List, length, Some, MatchOption, slice_get, IfNone};
 ghost use Rattle.std.specs.Vec.{vec_capacity};

@@ -1,5 +1,6 @@
 //! In which order openings are gone through: from the middle of the board to its edge. Those in the middle are the easiest, and what
-//! is proved of them serves those at the edge: a survey of 6 by 6 takes 6,516 units so, and 7,425 in cell order.
+//! is proved of them serves those at the edge: a survey of 6 by 6 takes 6,516 units so, 7,425 in cell order, 6,555 row by row from the
+//! middle, and 7,302 from the edge to the middle.
 
 ghost use Rattle.std.specs.Prelude.{◌≡◌, ℕ, false, MatchOption};
 ghost use Rattle.hx_board.specs.Cells.{OnBoard};
