@@ -5,8 +5,7 @@ use Rattle.hx_settings.specs.declared.settings.Settings.{Settings}
 use Rattle.hx_settings.specs.Settings.{AreSettings}
 use Rattle.hx_words.specs.declared.commands.Command.{Command}
 use Rattle.hx_words.specs.declared.commands.Command.TheVariants.{Check, Solve, Htp, Demo, Play, Template, Survey}
-use Rattle.hx_words.specs.Choices.{AreOptions}
-use Rattle.hx_words.specs.Searches.{AreSearchOptions}
+use Rattle.hx_words.specs.Options.{AreOptions, AreSearchOptions}
 use Rattle.hx_words.specs.Seeds.{SeedAndOptions}
 use Rattle.hx_words.specs.Sizes.{SizeAndOptions}
 
