@@ -15,7 +15,7 @@ PART = re.compile(r"(<!-- claims: (\w+) -->\n)(.*?)(<!-- end -->\n)", re.S)
 
 # The lists, in reading order: what each is asked for.
 LISTS = {
-    "check": [("run", "check:proof,yes,wrong")],
+    "check": [("run", "check:answers.proof,answers.yes,answers.wrong")],
     "solve": [("run", "solve:answers.solved,answers.unknown,refusal")],
     "named_players_win": [("named_players_win", None)],
     "seat_names_winners": [("seat_names_winners", None)],

@@ -1,19 +1,14 @@
 -- What is no position is refused: each status but 4 and those of faults is that of a position, or of an input above the limit.
-use Rattle.std.proofs.Common.{◌≡◌, ◌⊎◌, ℕ, ◌<◌, ◌≤◌, inl, inr, ⊎_elim, List, length, Bool, arith}
+use Rattle.std.proofs.Common.{◌≡◌, ◌⊎◌, ℕ, ◌≤◌, inl, inr, ⊎_elim, List, length, Bool, arith}
 use Rattle.std.specs.Prelude.{Option, None, Some, IfSome}
 use Rattle.std.proofs.lemmas.Bool.{cases_lt}
 use Rattle.hx_lines.specs.Lines.{longest}
 use Rattle.hx_settings.specs.declared.settings.Settings.{Settings}
-use Rattle.hx_answers.specs.Endings.{IsStopped, IsUnlessStopped}
+use Rattle.hx_answers.specs.Endings.{IsUnlessStopped}
+use Rattle.hx_check.proofs.Refusals.{stopped}
 use Rattle.hx_finish.specs.declared.finishes.Finish.{Finish}
 use Rattle.hx_app.specs.Positions.{IsNoPosition}
 use Rattle.hx_app.specs.Promises.{Answers}
-
-stopped : (status : ℕ) → 5 ≤ status → status < 8 → IsStopped status
-stopped status least most =
-    ⊎_elim (λ five. inl (omega (arith, least, five)))
-    (λ more. ⊎_elim (λ six. inr (inl (omega (arith, more, six)))) (λ seven. inr (inr (omega (arith, most, seven)))) (cases_lt status 7))
-    (cases_lt status 6)
 
 pub no_position_refused : (settings : Settings) (plain_tree : Bool) (left before now : Option (List ℕ)) (finish : Finish)
     → IfSome left (λ input. Answers settings plain_tree input before now finish)

@@ -60,17 +60,14 @@ pub fn run<S: Source, K: Sink, G: Gate + Sync, R: Threads + Wait + Sync>(
         (S.reading source.old) (S.reading source.new)
         (K.writing sink.old) (K.writing sink.new) result }
 
-    // `check` keeps its promises: with status 0 the input was read to its end and is the text of a valid tree, which the
-    // output says, and the player that it names wins and the other does not; it accepts exactly the valid trees that have no
-    // more nodes than a text may have, however many bytes they have.
+    // `check` keeps its promises: it accepts exactly the texts of valid trees within its limits, and the player that it names
+    // wins and the other does not.
     ensures check { words_of words.now ≡ codes "check" ∷ [] → ChecksAsPromised
         (S.reading source.old) (S.reading source.new)
         (K.writing sink.old) (K.writing sink.new) result.status }
 
-    // `solve` keeps its promises: with status 0 the input was read to its end, the output is the text of a valid tree of the
-    // input's position, and the player that it names wins and the other does not; `unknown` comes only where a refusal of a
-    // unit or of a slot was counted, of a unit only for a position without a chain, unless the budget is 0. With
-    // `--plain-tree` each node of the tree is plain.
+    // `solve` keeps its promises: with status 0 the output is the text of a valid tree of the input's position, and its winner
+    // wins and the other does not; `unknown` comes only where a unit or a slot was refused.
     ensures solve { (settings : Bounds) (plain_tree : Bool) → IsSolve settings plain_tree (words_of words.now)
         → SolvesAsPromised settings plain_tree
         (S.reading source.old) (S.reading source.new)

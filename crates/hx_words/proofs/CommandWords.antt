@@ -7,7 +7,8 @@ use Rattle.hx_words.specs.declared.commands.Command.{Command}
 use Rattle.hx_words.specs.declared.commands.Command.TheVariants.{Check, Solve, Htp, Demo, Play, Template, Survey}
 use Rattle.hx_words.specs.Seeds.{SeedAndOptions}
 use Rattle.hx_words.specs.Sizes.{SizeAndOptions}
-use Rattle.hx_words.specs.Options.{AreOptions, AreSearchOptions}
+use Rattle.hx_words.specs.Options.{AreOptions}
+use Rattle.hx_words.specs.Choices.{AreSearchOptions}
 use Rattle.hx_words.specs.Commands.{Asks}
 use Rattle.hx_words.proofs.OptionWords.{AreOptions-one, search-settings, search-flag}
 use Rattle.hx_words.proofs.SeedWords.{SeedAndOptions-seed, SeedAndOptions-settings}

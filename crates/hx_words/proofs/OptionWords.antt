@@ -12,10 +12,10 @@ use Rattle.hx_words.specs.declared.settings.Setting.{Setting}
 use Rattle.hx_words.specs.declared.settings.Setting.TheVariants.{Workers, Budget, Proofs}
 use Rattle.hx_words.specs.declared.options.Choice.{Choice}
 use Rattle.hx_words.specs.declared.choices.Chosen.{Chosen}
-use Rattle.hx_words.specs.Options.{IsOption, Sets, Choose, End, Flag, Next, defaults, AreOptions, AreSearchOptions}
+use Rattle.hx_words.specs.Options.{IsOption, Sets, Choose, End, Flag, Next, defaults, AreOptions}
 use Rattle.hx_words.specs.Settings.{name_of, least_of, most_of}
 use Rattle.hx_words.specs.Choices.{Spelled, Apart, Joined, nothing, number_for, with_number, Adds, Lead, Done, Then, settings_of}
-use Rattle.hx_words.specs.Choices.{AreChoicesAfter, AreChoices, AreSearchChoices, plain_tree_flag}
+use Rattle.hx_words.specs.Choices.{AreChoicesAfter, AreChoices, AreSearchChoices, AreSearchOptions, plain_tree_flag}
 use Rattle.hx_words.proofs.Names.{name_of-injective}
 use Rattle.hx_words.proofs.Leads.{AreChoices-one, AreChoices-settings}
 use Rattle.hx_words.proofs.SearchWords.{choices-settings, choices-flag}

@@ -7,7 +7,7 @@ use Rattle.hx_words.specs.declared.settings.Setting.TheVariants.{Workers, Budget
 use Rattle.hx_words.specs.declared.options.Choice.{Choice}
 use Rattle.hx_words.specs.declared.choices.Chosen.{Chosen}
 use Rattle.hx_words.specs.Settings.{name_of, least_of, most_of}
-use Rattle.hx_words.specs.Options.{IsValue}
+use Rattle.hx_words.specs.Options.{IsValue, Choose, defaults}
 
 -- the word is the name of the setting, an equals sign, and a value which is the number
 pub record IsJoined (choice : Choice) (word : List ℕ) : Type 0 where
@@ -98,3 +98,8 @@ pub record AreChoicesAndFlag (words : List (List ℕ)) (settings : Settings) : T
 abbrev pub AreSearchChoices : Bool → Settings → List (List ℕ) → Type 0
 AreSearchChoices false settings words = AreChoices words settings
 AreSearchChoices true settings words = AreChoicesAndFlag words settings
+
+-- the words are options of `solve`, which choose one worker where they have the flag
+abbrev pub AreSearchOptions : Bool → Settings → List (List ℕ) → Type 0
+AreSearchOptions plain_tree settings words =
+    Choose settings plain_tree [] defaults words × (plain_tree ≡ true → settings.workers ≡ 1)

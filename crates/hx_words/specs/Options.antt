@@ -43,8 +43,3 @@ defaults = record { workers = 1; budget = 1000000; slots = 65536 }
 -- the words are options, and these are the settings that they choose
 abbrev pub AreOptions : List (List ℕ) → Settings → Type 0
 AreOptions words settings = Choose settings false [] defaults words
-
--- the words are options of `solve`: with the flag they choose one worker
-abbrev pub AreSearchOptions : Bool → Settings → List (List ℕ) → Type 0
-AreSearchOptions plain_tree settings words =
-    Choose settings plain_tree [] defaults words × (plain_tree ≡ true → settings.workers ≡ 1)
