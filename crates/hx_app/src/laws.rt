@@ -30,8 +30,8 @@ pub fn a_plain_tree_is_of_the_first_version()
         → solved.is_text.preamble.version ≡ One }
 {}
 
-/// `solve` answers 4 to each input within the limit that is the text of no position, unless a fault or want of memory comes in its
-/// place.
+/// `solve` answers 4 to each input within the limit that is the text of no position, unless a fault or want of memory comes in
+/// its place.
 pub fn what_is_no_position_is_refused()
     ensures { (settings : Bounds) (plain_tree : Bool) (source source_now : Reading)
         (sink sink_now : Writing) (finish : FinishValue)

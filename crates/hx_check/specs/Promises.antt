@@ -40,8 +40,10 @@ pub record Answers (input : List ℕ) (before now : Option (List ℕ)) (status :
   pub proof : IsProof input → IsUnlessStopped status 0
   pub wrong : status ≡ 1 → IsNoProof input
   -- the line or the node that is named is the first that is at fault
-  pub no_text : (line : ℕ) → IsNoText NodesAreRight input line → AnswersUnlessStopped (no_text_line line) 1 before now status
-  pub no_node : (node : ℕ) → IsNoNode NodesAreRight input node → AnswersUnlessStopped (no_node_line node) 1 before now status
+  pub no_text : (line : ℕ) → IsNoText NodesAreRight input line
+      → AnswersUnlessStopped (no_text_line line) 1 before now status
+  pub no_node : (node : ℕ) → IsNoNode NodesAreRight input node
+      → AnswersUnlessStopped (no_node_line node) 1 before now status
   pub long : IsLong NodesAreRight input → IsUnlessStopped status 8
   pub too_long : status ≡ 8 → IsLong NodesAreRight input
 

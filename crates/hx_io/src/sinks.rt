@@ -11,8 +11,7 @@ pub trait Sink {
     /// How far was written to it: what it took, if it tells that, and how many calls failed.
     ghost writing: { Self → Writing };
 
-    /// Takes the first bytes of the piece, and answers how many they are: at least 1, and at most
-    /// the piece's length. `Failed` takes none.
+    /// Takes the first bytes of the piece, and answers how many they are.
     fn write(&mut self, piece: &[u8]) -> Result<usize, Failed>
         requires { 0 < length piece.now }
         ensures { Writes (writing self.old) (writing self.new) result piece.now };

@@ -21,9 +21,7 @@ pub trait Source {
     /// How far it was read: what is left, if it tells that, and how many calls failed.
     ghost reading: { Self → Reading };
 
-    /// Reads the next bytes into the front of the buffer, and answers how many they are: at most
-    /// the buffer's length, and 0 only at the end. `Failed` loses nothing: the same bytes are still
-    /// to be read. What the buffer holds behind the bytes that were read is not told.
+    /// Reads the next bytes into the front of the buffer, and answers how many they are. What it holds behind them is not told.
     fn read(&mut self, buffer: &mut [u8]) -> Result<usize, Failed>
         requires { 0 < length buffer.old }
         ensures bound { ReadsAtMost result buffer.new }

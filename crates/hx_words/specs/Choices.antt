@@ -1,5 +1,5 @@
--- What options choose, one after the other, as the calls go from option to option: words for the functions inside the crate
--- alone. That they say the same as those of Options is proved.
+-- What options choose, one after the other, as the calls go from option to option: words for the functions inside the
+-- crate alone. That they say the same as those of Options is proved.
 use Rattle.std.specs.Prelude.{◌≡◌, ℕ, ◌≤◌, List, [], ◌∷◌, ◌++◌, codes, unwrap_or, Option, None, Some, Bool, true, false}
 use Rattle.hx_settings.specs.declared.settings.Settings.{Settings}
 use Rattle.hx_words.specs.declared.settings.Setting.{Setting}
