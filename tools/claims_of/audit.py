@@ -15,8 +15,8 @@ PART = re.compile(r"(<!-- claims: (\w+) -->\n)(.*?)(<!-- end -->\n)", re.S)
 
 # The lists, in reading order: what each is asked for.
 LISTS = {
-    "check": [("run", "check:proof,yes,wrong")],
-    "solve": [("run", "solve:solved,unknown")],
+    "check": [("run", "check:answers.proof,answers.yes,answers.wrong")],
+    "solve": [("run", "solve:answers.solved,answers.unknown,refusal")],
     "named_players_win": [("named_players_win", None)],
     "seat_names_winners": [("seat_names_winners", None)],
     "one_winner": [("one_winner", None)],
@@ -28,7 +28,7 @@ COUNTED = {
     "a valid tree, `IsValidTree`": [("hx_tree::IsValidTree", None)],
 }
 TITLES = {
-    "check": "`yes`, `proof` and `wrong` of `check`", "solve": "`solved` and `unknown` of `solve`",
+    "check": "`yes`, `proof` and `wrong` of `check`", "solve": "`solved`, `unknown` and `refusal` of `solve`",
     "named_players_win": "`named_players_win`", "seat_names_winners": "`seat_names_winners`", "one_winner": "`one_winner`",
 }
 

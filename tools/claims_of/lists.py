@@ -83,6 +83,12 @@ class Lists:
         where = f"{file.where}: {key.name}"
         return Entry(key, file.where, pieces, [self.repository.word(word, [file.imports], where, file) for word in words])
 
+    def of_field(self, key, field):
+        """What one field of a record rests on."""
+        file = self.repository.specs(key.crate, key.module, key.full_name())
+        words, _ = self.of_fields(file, key.name, [field])
+        return [self.repository.word(word, [file.imports], f"{file.where}: {key.name}", file) for word in words]
+
     @staticmethod
     def of_fields(file, name, fields):
         """The words and the text of a record with some of its fields, and those before them that these have."""

@@ -99,7 +99,7 @@ def of_function(repository, lists, item, around, part):
     module = re.search(r"/src/(.*)\.rt$", item.file.where)[1]
     key = Key("clause", item.file.where.split("/")[1], module, f"{item.name} {name}".strip())
     entry = Entry(key, item.file.where, [signature_lines(item), *(lines_of(item, clause) for clause in clauses)], uses)
-    return Asked(entry, restricted(repository, uses, fields.split(","), item.where()) if fields else {})
+    return Asked(entry, restricted(repository, lists, uses, fields.split(","), item.where()) if fields else {})
 
 
 def what_is_around(item, around):
@@ -121,12 +121,19 @@ def lines_of(item, clause):
     return item.file.lines(clause.begin, clause.end)
 
 
-def restricted(repository, uses, fields, where):
-    """The record among what a clause rests on that has all these fields."""
-    found = {one for one in uses if isinstance(one, Key) and all(has_part(repository, one, field) for field in fields)}
+def restricted(repository, lists, uses, fields, where):
+    """The record among what a clause rests on that has all these fields. Behind a point is a field of the record that the field before it
+    promises."""
+    own = list(dict.fromkeys(field.partition(".")[0] for field in fields))
+    found = {one for one in uses if isinstance(one, Key) and all(has_part(repository, one, field) for field in own)}
     if len(found) != 1:
-        raise Fault(f"{where}: {len(found)} records have the fields {', '.join(fields)}")
-    return {found.pop(): fields}
+        raise Fault(f"{where}: {len(found)} records have the fields {', '.join(own)}")
+    record, only = found.pop(), {}
+    for field in own:
+        inside = [one.partition(".")[2] for one in fields if one.startswith(f"{field}.")]
+        if inside:
+            only |= restricted(repository, lists, lists.of_field(record, field), inside, f"{where}: {field}")
+    return {record: own, **only}
 
 
 # ---- Lists

@@ -8,7 +8,7 @@ numbered_text words n = words ++ decimal n
 
 -- some words, a number and an LF
 abbrev pub counted_text : List ℕ → ℕ → List ℕ
-counted_text words n = numbered_text words n ++ 10 ∷ []
+counted_text words n = (words ++ decimal n) ++ 10 ∷ []
 
 -- ---- the answers that come in the place of another one
 

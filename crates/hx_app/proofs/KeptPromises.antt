@@ -1,18 +1,25 @@
 -- What a run of `solve` says with each status: each answer fits its cause alone, since an input that one answer is true of is
 -- not an input that another is true of.
-use Rattle.std.proofs.Common.{◌≡◌, ◌↔◌, ℕ, ◌<◌, ◌≤◌, Bool, inl, inr, List, length, refl, sym, ap, ◌∙◌, subst, arith}
-use Rattle.std.specs.Prelude.{Option, None, Some, IfSome}
+use Rattle.std.proofs.Common.{◌≡◌, ◌↔◌, ◌⊎◌, ℕ, ◌<◌, ◌≤◌, Bool, inl, inr, List, length, refl, sym, ap, ◌∙◌, subst, arith}
+use Rattle.std.specs.Prelude.{Option, None, Some, IfSome, codes}
 use Rattle.hx_io.specs.Sources.{Reading, SomeReadFailed}
 use Rattle.hx_io.specs.Sinks.{Writing, SomeWriteFailed, append}
+use Rattle.hx_board.specs.declared.colours.Colour.{Colour}
+use Rattle.hx_board.specs.Positions.{Board}
+use Rattle.hx_board.specs.Graph.{HasNoChain}
+use Rattle.hx_board.specs.Counts.{IsSmall}
+use Rattle.hx_lines.specs.Lines.{longest}
 use Rattle.hx_proof.proofs.TreeSoundness.{root_wins}
 use Rattle.hx_text.specs.declared.versions.Version.TheVariants.{Two}
 use Rattle.hx_text.specs.declared.versions.Preamble.{Preamble}
 use Rattle.hx_text.specs.Versions.{HasTurned}
+use Rattle.hx_text.specs.Grammars.{IsFaultyLine}
+use Rattle.hx_text.specs.PositionTexts.{ArePositionLines}
 use Rattle.hx_text.proofs.WholeTrees.{written_with}
 use Rattle.hx_text.proofs.OneFault.{one_position_fault}
 use Rattle.hx_settings.specs.declared.settings.Settings.{Settings}
 use Rattle.hx_solve.specs.Tallies.{Tallied}
-use Rattle.hx_answers.specs.Texts.{unknown_budget_line, unknown_proofs_line}
+use Rattle.hx_answers.specs.Texts.{counted_text, unknown_budget_line, unknown_proofs_line}
 use Rattle.hx_answers.specs.Endings.{IsWritten, Whole, Cut, IsUnlessStopped, AnswersUnlessStopped, IsReadToEnd}
 use Rattle.hx_check.proofs.KeptPromises.{of_any}
 use Rattle.hx_app.specs.declared.answers.Answer.{Answer}
@@ -20,15 +27,12 @@ use Rattle.hx_app.specs.declared.answers.Answer.TheVariants.{Solved, UnknownBudg
 use Rattle.hx_app.specs.declared.answers.Answer.TheVariants.{TooLong}
 use Rattle.hx_finish.specs.declared.finishes.Finish.{Finish}
 use Rattle.hx_app.specs.declared.solutions.Solution.{Solution}
-use Rattle.hx_app.specs.Limits.{most_bytes}
-use Rattle.hx_app.specs.Positions.{IsSmallPosition, IsOpenPosition, IsPositionWithoutChain, IsNoPosition, IsBadPosition}
-use Rattle.hx_app.specs.Answers.{IsSolved, IsDue, IsSolveStatus, preamble_of, answer_text, solution_text, bad_position_line, status_of}
+use Rattle.hx_app.specs.Positions.{IsPositionText, IsTextWhere, IsNoPosition}
+use Rattle.hx_app.specs.Answers.{IsSolved, IsDue, preamble_of, answer_text, solution_text, status_of}
 use Rattle.hx_app.specs.Answers.{tally_of}
 use Rattle.hx_finish.specs.Finishes.{SaysUnknown}
 use Rattle.hx_app.specs.Promises.{SaysSolved, KeepsPromises}
-use Rattle.hx_app.proofs.PlainTexts.{plain_first_version}
 use Rattle.hx_app.proofs.Positions.{small_not_open, not_bad, position_text_short}
-use Rattle.std.proofs.lemmas.Option.{IfSome_then}
 
 says_solved : (plain_tree : Bool) (input : List ℕ) (solution : Solution) (taken_before taken_now : Option (List ℕ))
     → IsSolved plain_tree input solution → taken_now ≡ append taken_before (solution_text solution)
@@ -37,25 +41,21 @@ says_solved plain_tree input solution taken_before taken_now is output =
     let text = written_with (preamble_of solution) solution.nodes.items solution.winner (rw is.size is.text.is_board.0) is.fits
     (record { root = is.tree.root; last = is.tree.last; same = sym is.winner }) (omega (arith, is.tree.few)) in
     let HasVersion : Preamble → Type 0 = λ preamble. (preamble.version ≡ Two) ↔ HasTurned solution.nodes.items in
+    let OfBoard : Board → Type 0 = λ board. IsPositionText input board is.tree.root.heading.to_move in
+    let OfMover : Colour → Type 0 = λ mover. IsPositionText input is.board mover in
     record {
-      board = is.board;
-      mover = is.mover;
-      text = is.text;
       nodes = solution.nodes.items;
       root = is.tree.root;
       valid = is.tree.valid;
       few = omega (arith, is.tree.few);
       last = is.tree.last;
-      position = is.tree.position;
-      to_move = is.tree.to_move;
+      text = subst OfBoard (sym is.tree.position) (subst OfMover (sym is.tree.to_move) is.text);
+      wins = root_wins solution.nodes.items is.tree.root is.tree.valid is.tree.last;
       tree = solution_text solution;
       is_text = text.0;
       version = subst HasVersion (sym text.1) is.version;
       plain = is.plain;
-      first_version = λ asked.
-          plain_first_version _ solution.nodes.items (subst HasVersion (sym text.1) is.version) (is.plain asked);
       output = output;
-      wins = root_wins solution.nodes.items is.tree.root is.tree.valid is.tree.last;
     }
 
 -- ---- what an answer says of an input that the source tells
@@ -71,45 +71,34 @@ module _ (settings : Settings) (plain_tree : Bool) (input : List ℕ) (rose : Ty
   solved_of OutOfMemory before now zero due written = absurd (omega arith)
   solved_of TooLong before now zero due written = absurd (omega arith)
 
-  small_of : (answer : Answer) → IsSmallPosition settings.budget input → IsDue settings plain_tree (Some input) rose answer
-      → IsUnlessStopped (status_of answer) 0
+  small_of : (answer : Answer) → IsTextWhere (λ board. IsSmall board settings.budget) input
+      → IsDue settings plain_tree (Some input) rose answer → IsUnlessStopped (status_of answer) 0
   small_of (Solved solution) small due = inl refl
-  small_of (UnknownBudget budget) small due = absurd (small_not_open settings.budget input small due.1.1.open_position)
+  small_of (UnknownBudget budget) small due = absurd (small_not_open settings.budget input small due.1.1.not_small)
   small_of (UnknownProofs slots) small due = absurd (small_not_open settings.budget input small due.1.1)
   small_of (BadPosition line) small due = absurd (not_bad input small.board small.mover line small.text due.1)
   small_of ReadFault small due = inr (inl refl)
   small_of OutOfMemory small due = inr (inr (inr refl))
   small_of TooLong small due = absurd (omega (arith, due, position_text_short small.text))
 
-  no_position_of : (answer : Answer) → length input ≤ most_bytes → IsNoPosition input → IsDue settings plain_tree (Some input) rose answer
-      → IsUnlessStopped (status_of answer) 4
-  no_position_of (Solved solution) short none due =
-      let is : IsSolved plain_tree input solution = due.1 in absurd (none is.board is.mover is.text)
-  no_position_of (UnknownBudget budget) short none due =
-      let is : IsOpenPosition settings.budget input = due.1.1.open_position in absurd (none is.board is.mover is.text)
-  no_position_of (UnknownProofs slots) short none due =
-      let is : IsOpenPosition settings.budget input = due.1.1 in absurd (none is.board is.mover is.text)
-  no_position_of (BadPosition line) short none due = inl refl
-  no_position_of ReadFault short none due = inr (inl refl)
-  no_position_of OutOfMemory short none due = inr (inr (inr refl))
-  no_position_of TooLong short none due = absurd (omega arith)
-
   position_line_of : (answer : Answer) (line : ℕ) (before now : Option (List ℕ)) → now ≡ append before (answer_text answer)
-      → length input ≤ most_bytes → IsBadPosition input line → IsDue settings plain_tree (Some input) rose answer
-      → AnswersUnlessStopped (bad_position_line line) 4 before now (status_of answer)
+      → length input ≤ longest → IsFaultyLine ArePositionLines input line
+      → IsDue settings plain_tree (Some input) rose answer
+      → AnswersUnlessStopped (counted_text (codes "bad position ") line) 4 before now (status_of answer)
   position_line_of (Solved solution) line before now written short bad due =
       let is : IsSolved plain_tree input solution = due.1 in absurd (not_bad input is.board is.mover line is.text bad)
   position_line_of (UnknownBudget budget) line before now written short bad due =
-      let is : IsOpenPosition settings.budget input = due.1.1.open_position in absurd (not_bad input is.board is.mover line is.text bad)
+      let is = due.1.1.not_small in absurd (not_bad input is.board is.mover line is.text bad)
   position_line_of (UnknownProofs slots) line before now written short bad due =
-      let is : IsOpenPosition settings.budget input = due.1.1 in absurd (not_bad input is.board is.mover line is.text bad)
+      let is = due.1.1 in absurd (not_bad input is.board is.mover line is.text bad)
   position_line_of (BadPosition other) line before now written short bad due =
-      inl (refl, written ∙ ap (λ (n : ℕ). append before (bad_position_line n)) (one_position_fault input other line due.1 bad))
+      let at : ℕ → Option (List ℕ) = λ n. append before (counted_text (codes "bad position ") n) in
+      inl (refl, written ∙ ap at (one_position_fault input other line due.1 bad))
   position_line_of ReadFault line before now written short bad due = inr (inl refl)
   position_line_of OutOfMemory line before now written short bad due = inr (inr (inr refl))
   position_line_of TooLong line before now written short bad due = absurd (omega arith)
 
-  long_of : (answer : Answer) → most_bytes < length input → IsDue settings plain_tree (Some input) rose answer
+  long_of : (answer : Answer) → longest < length input → IsDue settings plain_tree (Some input) rose answer
       → IsUnlessStopped (status_of answer) 8
   long_of (Solved solution) long due = absurd (omega (arith, long, due.0))
   long_of (UnknownBudget budget) long due = absurd (omega (arith, long, due.1.0))
@@ -119,58 +108,60 @@ module _ (settings : Settings) (plain_tree : Bool) (input : List ℕ) (rose : Ty
   long_of OutOfMemory long due = inr (inr (inr refl))
   long_of TooLong long due = inl refl
 
--- ---- what a status says of what was left, whatever the answer
+  unknown_of : (answer : Answer) → status_of answer ≡ 3 → IsDue settings plain_tree (Some input) rose answer
+      → IsTextWhere (λ board. ¬ IsSmall board settings.budget) input
+  unknown_of (Solved solution) three due = absurd (omega arith)
+  unknown_of (UnknownBudget budget) three due = due.1.1.not_small
+  unknown_of (UnknownProofs slots) three due = due.1.1
+  unknown_of (BadPosition line) three due = absurd (omega arith)
+  unknown_of ReadFault three due = absurd (omega arith)
+  unknown_of OutOfMemory three due = absurd (omega arith)
+  unknown_of TooLong three due = absurd (omega arith)
+
+  no_chain_of : (answer : Answer) (tally : Tallied) → status_of answer ≡ 3 → tally ≡ tally_of settings answer → tally.budgets ≡ 1
+      → 0 < settings.budget → IsDue settings plain_tree (Some input) rose answer → IsTextWhere HasNoChain input
+  no_chain_of (Solved solution) tally three counted one some due = absurd (omega arith)
+  no_chain_of (UnknownBudget budget) tally three counted one some due = due.1.1.no_chain some
+  no_chain_of (UnknownProofs slots) tally three counted one some due =
+      absurd (omega (arith, one, ap (λ (t : Tallied). t.budgets) counted))
+  no_chain_of (BadPosition line) tally three counted one some due = absurd (omega arith)
+  no_chain_of ReadFault tally three counted one some due = absurd (omega arith)
+  no_chain_of OutOfMemory tally three counted one some due = absurd (omega arith)
+  no_chain_of TooLong tally three counted one some due = absurd (omega arith)
+
+  bad_of : (answer : Answer) → status_of answer ≡ 4 → IsDue settings plain_tree (Some input) rose answer → IsNoPosition input
+  bad_of (Solved solution) four due = absurd (omega arith)
+  bad_of (UnknownBudget budget) four due = absurd (omega arith)
+  bad_of (UnknownProofs slots) four due = absurd (omega arith)
+  bad_of (BadPosition line) four due = λ board mover text. not_bad input board mover line text due.1
+  bad_of ReadFault four due = absurd (omega arith)
+  bad_of OutOfMemory four due = absurd (omega arith)
+  bad_of TooLong four due = absurd (omega arith)
+
+  too_long_of : (answer : Answer) → status_of answer ≡ 8 → IsDue settings plain_tree (Some input) rose answer → longest < length input
+  too_long_of (Solved solution) eight due = absurd (omega arith)
+  too_long_of (UnknownBudget budget) eight due = absurd (omega arith)
+  too_long_of (UnknownProofs slots) eight due = absurd (omega arith)
+  too_long_of (BadPosition line) eight due = absurd (omega arith)
+  too_long_of ReadFault eight due = absurd (omega arith)
+  too_long_of OutOfMemory eight due = absurd (omega arith)
+  too_long_of TooLong eight due = due
+
+-- ---- what a status says, whatever the input
 
 module _ (settings : Settings) (plain_tree : Bool) (rose : Type 0) where
-  unknown_of : (left : Option (List ℕ)) (answer : Answer) (finish : Finish) (before now : Option (List ℕ)) → status_of answer ≡ 3
-      → IsDue settings plain_tree left rose answer → now ≡ append before (answer_text answer) → finish.tally ≡ tally_of settings answer
-      → IfSome left (IsOpenPosition settings.budget) × SaysUnknown settings before now finish.tally
-  unknown_of left (Solved solution) finish before now three due written counted = absurd (omega arith)
-  unknown_of left (UnknownBudget budget) finish before now three due written counted = (
-    IfSome_then left due.1 (λ input left_open. left_open.1.open_position),
-    inl (written ∙ ap (λ (n : ℕ). append before (unknown_budget_line n)) due.0, rw counted refl),
-  )
-  unknown_of left (UnknownProofs slots) finish before now three due written counted = (
-    IfSome_then left due.1 (λ input left_open. left_open.1),
-    inr (written ∙ ap (λ (n : ℕ). append before (unknown_proofs_line n)) due.0, rw counted refl),
-  )
-  unknown_of left (BadPosition line) finish before now three due written counted = absurd (omega arith)
-  unknown_of left ReadFault finish before now three due written counted = absurd (omega arith)
-  unknown_of left OutOfMemory finish before now three due written counted = absurd (omega arith)
-  unknown_of left TooLong finish before now three due written counted = absurd (omega arith)
-
-  no_chain_of : (before : Option (List ℕ)) (answer : Answer) (tally : Tallied) → status_of answer ≡ 3 → tally ≡ tally_of settings answer
-      → tally.budgets ≡ 1 → 0 < settings.budget → IsDue settings plain_tree before rose answer → IfSome before IsPositionWithoutChain
-  no_chain_of None answer tally three counted one some due = tt
-  no_chain_of (Some input) (Solved solution) tally three counted one some due = absurd (omega arith)
-  no_chain_of (Some input) (UnknownBudget budget) tally three counted one some due = due.1.1.no_chain some
-  no_chain_of (Some input) (UnknownProofs slots) tally three counted one some due =
-      absurd (omega (arith, one, ap (λ (t : Tallied). t.budgets) counted))
-  no_chain_of (Some input) (BadPosition line) tally three counted one some due = absurd (omega arith)
-  no_chain_of (Some input) ReadFault tally three counted one some due = absurd (omega arith)
-  no_chain_of (Some input) OutOfMemory tally three counted one some due = absurd (omega arith)
-  no_chain_of (Some input) TooLong tally three counted one some due = absurd (omega arith)
-
-  bad_of : (before : Option (List ℕ)) (answer : Answer) → status_of answer ≡ 4 → IsDue settings plain_tree before rose answer
-      → IfSome before IsNoPosition
-  bad_of None answer four due = tt
-  bad_of (Some input) (Solved solution) four due = absurd (omega arith)
-  bad_of (Some input) (UnknownBudget budget) four due = absurd (omega arith)
-  bad_of (Some input) (UnknownProofs slots) four due = absurd (omega arith)
-  bad_of (Some input) (BadPosition line) four due = λ board mover text. not_bad input board mover line text due.1
-  bad_of (Some input) ReadFault four due = absurd (omega arith)
-  bad_of (Some input) OutOfMemory four due = absurd (omega arith)
-  bad_of (Some input) TooLong four due = absurd (omega arith)
-
-  too_long_of : (before : Option (List ℕ)) (answer : Answer) → status_of answer ≡ 8 → IsDue settings plain_tree before rose answer
-      → IfSome before (λ input. most_bytes < length input)
-  too_long_of before (Solved solution) eight due = absurd (omega arith)
-  too_long_of before (UnknownBudget budget) eight due = absurd (omega arith)
-  too_long_of before (UnknownProofs slots) eight due = absurd (omega arith)
-  too_long_of before (BadPosition line) eight due = absurd (omega arith)
-  too_long_of before ReadFault eight due = absurd (omega arith)
-  too_long_of before OutOfMemory eight due = absurd (omega arith)
-  too_long_of before TooLong eight due = due
+  refusal_of : (left : Option (List ℕ)) (answer : Answer) (tally : Tallied) (before now : Option (List ℕ)) → status_of answer ≡ 3
+      → IsDue settings plain_tree left rose answer → now ≡ append before (answer_text answer) → tally ≡ tally_of settings answer
+      → SaysUnknown settings before now tally
+  refusal_of left (Solved solution) tally before now three due written counted = absurd (omega arith)
+  refusal_of left (UnknownBudget budget) tally before now three due written counted =
+      inl (written ∙ ap (λ (n : ℕ). append before (unknown_budget_line n)) due.0, rw counted refl)
+  refusal_of left (UnknownProofs slots) tally before now three due written counted =
+      inr (written ∙ ap (λ (n : ℕ). append before (unknown_proofs_line n)) due.0, rw counted refl)
+  refusal_of left (BadPosition line) tally before now three due written counted = absurd (omega arith)
+  refusal_of left ReadFault tally before now three due written counted = absurd (omega arith)
+  refusal_of left OutOfMemory tally before now three due written counted = absurd (omega arith)
+  refusal_of left TooLong tally before now three due written counted = absurd (omega arith)
 
   read_fault_of : (before : Option (List ℕ)) (answer : Answer) → status_of answer ≡ 5 → IsDue settings plain_tree before rose answer → rose
   read_fault_of before (Solved solution) five due = absurd (omega arith)
@@ -181,7 +172,7 @@ module _ (settings : Settings) (plain_tree : Bool) (rose : Type 0) where
   read_fault_of before OutOfMemory five due = absurd (omega arith)
   read_fault_of before TooLong five due = absurd (omega arith)
 
-status_of_solve : (answer : Answer) → IsSolveStatus (status_of answer)
+status_of_solve : (answer : Answer) → (status_of answer ≡ 0) ⊎ ((3 ≤ status_of answer) × (status_of answer ≤ 8))
 status_of_solve (Solved solution) = inl refl
 status_of_solve (UnknownBudget budget) = inr (omega arith, omega arith)
 status_of_solve (UnknownProofs slots) = inr (omega arith, omega arith)
@@ -220,22 +211,23 @@ module _ (settings : Settings) (plain_tree : Bool) (source source_now : Reading)
       → finish.tally ≡ tally_of settings answer → finish.status ≡ status_of answer
       → sink_now.taken ≡ append sink.taken (answer_text answer) → KeepsPromises settings plain_tree source source_now sink sink_now finish
   kept_whole due read counted same written = record {
-    solved = λ zero. told _ due
-        (λ input is. solved_of settings plain_tree input FailedHere answer sink.taken sink_now.taken (sym same ∙ zero) is written);
+    answers = told _ due (λ input is. record {
+      solved = λ zero.
+          solved_of settings plain_tree input FailedHere answer sink.taken sink_now.taken (sym same ∙ zero) is written;
+      small = λ small. rw same (small_of settings plain_tree input FailedHere answer small is);
+      unknown = λ three. unknown_of settings plain_tree input FailedHere answer (sym same ∙ three) is;
+      no_chain = λ three one some.
+          no_chain_of settings plain_tree input FailedHere answer finish.tally (sym same ∙ three) counted one some is;
+      bad_position = λ four. bad_of settings plain_tree input FailedHere answer (sym same ∙ four) is;
+      position_line = λ line short bad.
+          rw same (position_line_of settings plain_tree input FailedHere answer line sink.taken sink_now.taken written short bad is);
+      long = λ long. rw same (long_of settings plain_tree input FailedHere answer long is);
+      too_long = λ eight. too_long_of settings plain_tree input FailedHere answer (sym same ∙ eight) is;
+    });
     read_to_end = λ zero. read (sym same ∙ zero);
-    small = told _ due (λ input is small. rw same (small_of settings plain_tree input FailedHere answer small is));
-    unknown = λ three.
-        unknown_of settings plain_tree FailedHere source.left answer finish sink.taken sink_now.taken (sym same ∙ three) due
+    refusal = λ three.
+        refusal_of settings plain_tree FailedHere source.left answer finish.tally sink.taken sink_now.taken (sym same ∙ three) due
         written counted;
-    no_chain = λ three one some.
-        no_chain_of settings plain_tree FailedHere source.left answer finish.tally (sym same ∙ three) counted one some due;
-    no_position = told _ due (λ input is short none. rw same (no_position_of settings plain_tree input FailedHere answer short none is));
-    position_line = told _ due
-        (λ input is line short bad.
-        rw same (position_line_of settings plain_tree input FailedHere answer line sink.taken sink_now.taken written short bad is));
-    bad_position = λ four. bad_of settings plain_tree FailedHere source.left answer (sym same ∙ four) due;
-    long = told _ due (λ input is long. rw same (long_of settings plain_tree input FailedHere answer long is));
-    too_long = λ eight. too_long_of settings plain_tree FailedHere source.left answer (sym same ∙ eight) due;
     read_fault = λ five. read_fault_of settings plain_tree FailedHere source.left answer (sym same ∙ five) due;
     write_fault = λ six. absurd (status_not_6 answer (sym same ∙ six));
     none_else = rw same (status_of_solve answer);
@@ -244,16 +236,18 @@ module _ (settings : Settings) (plain_tree : Bool) (source source_now : Reading)
   -- the sink failed before it took all of an answer
   kept_cut : finish.status ≡ 6 → SomeWriteFailed sink sink_now → KeepsPromises settings plain_tree source source_now sink sink_now finish
   kept_cut six failed = record {
-    solved = λ zero. absurd (omega (arith, six, zero));
+    answers = of_any source.left _ (λ input. record {
+      solved = λ zero. absurd (omega (arith, six, zero));
+      small = λ small. inr (inr (inl six));
+      unknown = λ three. absurd (omega (arith, six, three));
+      no_chain = λ three one some. absurd (omega (arith, six, three));
+      bad_position = λ four. absurd (omega (arith, six, four));
+      position_line = λ line short bad. inr (inr (inl six));
+      long = λ long. inr (inr (inl six));
+      too_long = λ eight. absurd (omega (arith, six, eight));
+    });
     read_to_end = λ zero. absurd (omega (arith, six, zero));
-    small = of_any source.left _ (λ input small. inr (inr (inl six)));
-    unknown = λ three. absurd (omega (arith, six, three));
-    no_chain = λ three one some. absurd (omega (arith, six, three));
-    no_position = of_any source.left _ (λ input short none. inr (inr (inl six)));
-    position_line = of_any source.left _ (λ input line short bad. inr (inr (inl six)));
-    bad_position = λ four. absurd (omega (arith, six, four));
-    long = of_any source.left _ (λ input long. inr (inr (inl six)));
-    too_long = λ eight. absurd (omega (arith, six, eight));
+    refusal = λ three. absurd (omega (arith, six, three));
     read_fault = λ five. absurd (omega (arith, six, five));
     write_fault = λ is. failed;
     none_else = inr (omega (arith, six), omega (arith, six));

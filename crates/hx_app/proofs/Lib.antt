@@ -4,6 +4,7 @@ pub mod SolvedTrees
 pub mod OpenPositions
 pub mod PlainTexts
 pub mod KeptPromises
+pub mod Refusals
 pub mod SearcherLaws
 pub mod SessionPromises
 pub mod DrawnWins

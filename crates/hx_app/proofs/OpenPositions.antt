@@ -19,10 +19,10 @@ pub left_open_found : (settings : Settings) (plain_tree : Bool) (input : List �
 left_open_found settings plain_tree input board mover (Budget taken) answer text small none says = rw says (
   refl,
   record {
-    open_position = record { board = board; mover = mover; text = text; not_small = small };
-    no_chain = λ some. record { board = board; mover = mover; text = text; no_chain = none tt some };
+    not_small = record { board = board; mover = mover; text = text; holds = small };
+    no_chain = λ some. record { board = board; mover = mover; text = text; holds = none tt some };
   },
 )
 left_open_found settings plain_tree input board mover (Slots refusal) answer text small none says =
-    rw says (refl, record { board = board; mover = mover; text = text; not_small = small })
+    rw says (refl, record { board = board; mover = mover; text = text; holds = small })
 left_open_found settings plain_tree input board mover Memory answer text small none says = rw says tt

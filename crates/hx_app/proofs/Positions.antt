@@ -9,15 +9,15 @@ use Rattle.hx_board.specs.declared.colours.Colour.TheVariants.{Black, White}
 use Rattle.hx_board.specs.Cells.{Extent, IsExtent}
 use Rattle.hx_board.specs.Positions.{Board, IsBoard}
 use Rattle.hx_board.specs.Counts.{IsSmall}
+use Rattle.hx_lines.specs.Lines.{longest}
 use Rattle.hx_reader.specs.declared.positions.TextFault.{TextFault}
 use Rattle.hx_letters.specs.Words.{spaced, mask_word, colour_word}
-use Rattle.hx_text.specs.Grammars.{text_of}
-use Rattle.hx_text.specs.PositionTexts.{position_text, position_title, size_line, stones_line, move_line}
+use Rattle.hx_text.specs.Grammars.{text_of, IsFaultyLine}
+use Rattle.hx_text.specs.PositionTexts.{ArePositionLines, position_text, position_title, size_line, stones_line, move_line}
 use Rattle.hx_letters.proofs.Masks.{length-hex}
 use Rattle.hx_letters.proofs.WordLengths.{length-colour_word, length-small}
 use Rattle.hx_reader.proofs.WholeReads.{spelled_is_read}
-use Rattle.hx_app.specs.Limits.{most_bytes}
-use Rattle.hx_app.specs.Positions.{IsPositionText, IsSmallPosition, IsOpenPosition, IsBadPosition}
+use Rattle.hx_app.specs.Positions.{IsPositionText, IsTextWhere}
 
 abbrev found : Board → Colour → Result (Board × Colour) TextFault
 found board mover = Ok (board, mover)
@@ -43,13 +43,15 @@ same_position input a b m n is_a is_b =
     same_found a b m n (spelled_is_read input (found a m) (is_a.is_board, is_a.same) b n is_b.is_board is_b.same)
 
 -- no position is small under a budget and also not
-pub small_not_open : (budget : ℕ) (input : List ℕ) → IsSmallPosition budget input → IsOpenPosition budget input → ⊥
+pub small_not_open : (budget : ℕ) (input : List ℕ) → IsTextWhere (λ board. IsSmall board budget) input
+    → IsTextWhere (λ board. ¬ IsSmall board budget) input → ⊥
 small_not_open budget input small other =
     let same : small.board ≡ other.board = same_position input small.board other.board small.mover other.mover small.text other.text in
-    other.not_small (subst (λ (board : Board). IsSmall board budget) same small.small)
+    other.holds (subst (λ (board : Board). IsSmall board budget) same small.holds)
 
 -- the text of a position has no wrong line
-pub not_bad : (input : List ℕ) (board : Board) (mover : Colour) (line : ℕ) → IsPositionText input board mover → IsBadPosition input line → ⊥
+pub not_bad : (input : List ℕ) (board : Board) (mover : Colour) (line : ℕ) → IsPositionText input board mover
+    → IsFaultyLine ArePositionLines input line → ⊥
 unfolding text_of
 not_bad input board mover line is bad =
     failed_not_found line board mover (spelled_is_read input (failed line) bad board mover is.is_board is.same)
@@ -107,5 +109,5 @@ length-position_text board mover is =
       length-none,
     )
 
-pub position_text_short : {input : List ℕ} {board : Board} {mover : Colour} → IsPositionText input board mover → length input ≤ most_bytes
+pub position_text_short : {input : List ℕ} {board : Board} {mover : Colour} → IsPositionText input board mover → length input ≤ longest
 position_text_short {input} {board} {mover} is = omega (arith, ap length is.same, length-position_text board mover is.is_board)

@@ -1,17 +1,21 @@
 -- What `solve` answers, and when.
-use Rattle.std.specs.Prelude.{◌≡◌, ◌↔◌, ◌⊎◌, ℕ, ◌<◌, ◌≤◌, List, length, flat_map, codes, Option, IfSome, Bool, true}
+use Rattle.std.specs.Prelude.{◌≡◌, ◌↔◌, ℕ, ◌<◌, ◌≤◌, List, length, flat_map, codes, Option, IfSome, Bool, true}
 use Rattle.std.specs.List.{All}
 use Rattle.hx_io.specs.Sources.{Reading, SomeReadFailed}
 use Rattle.hx_io.specs.Sinks.{Writing}
 use Rattle.hx_board.specs.declared.colours.Colour.{Colour}
 use Rattle.hx_board.specs.Positions.{Board}
+use Rattle.hx_board.specs.Graph.{HasNoChain}
+use Rattle.hx_board.specs.Counts.{IsSmall}
+use Rattle.hx_lines.specs.Lines.{longest}
 use Rattle.hx_tree.specs.declared.nodes.Node.{Node}
 use Rattle.hx_tree.specs.Plain.{ArePlain}
 use Rattle.hx_text.specs.declared.versions.Version.{Version}
 use Rattle.hx_text.specs.declared.versions.Version.TheVariants.{Two}
 use Rattle.hx_text.specs.declared.versions.Preamble.{Preamble}
 use Rattle.hx_text.specs.Versions.{HasTurned}
-use Rattle.hx_text.specs.Grammars.{text_of}
+use Rattle.hx_text.specs.Grammars.{text_of, IsFaultyLine}
+use Rattle.hx_text.specs.PositionTexts.{ArePositionLines}
 use Rattle.hx_text.specs.TreeTexts.{EachNodeFits, ListsFit, node_lines, written_tree}
 use Rattle.hx_text.specs.Lengths.{most_nodes}
 use Rattle.hx_settings.specs.declared.settings.Settings.{Settings}
@@ -27,8 +31,7 @@ use Rattle.hx_app.specs.declared.answers.Answer.TheVariants.{Solved, UnknownBudg
 use Rattle.hx_app.specs.declared.answers.Answer.TheVariants.{ReadFault, OutOfMemory, TooLong}
 use Rattle.hx_finish.specs.declared.finishes.Finish.{Finish}
 use Rattle.hx_app.specs.declared.solutions.Solution.{Solution}
-use Rattle.hx_app.specs.Limits.{most_bytes}
-use Rattle.hx_app.specs.Positions.{IsPositionText, IsOpenPosition, IsPositionWithoutChain, IsBadPosition}
+use Rattle.hx_app.specs.Positions.{IsPositionText, IsTextWhere}
 
 -- what the lines before the nodes say in the text of a solution's tree
 abbrev pub preamble_of : Solution → Preamble
@@ -38,16 +41,12 @@ preamble_of solution = record { version = solution.version; size = solution.size
 abbrev pub solution_text : Solution → List ℕ
 solution_text solution = written_tree (preamble_of solution) solution.nodes.items solution.winner
 
--- the line that names a wrong line of a position
-abbrev pub bad_position_line : ℕ → List ℕ
-bad_position_line line = counted_text (codes "bad position ") line
-
 -- what is written for each answer
 abbrev pub answer_text : Answer → List ℕ
 answer_text (Solved solution) = solution_text solution
 answer_text (UnknownBudget budget) = unknown_budget_line budget
 answer_text (UnknownProofs slots) = unknown_proofs_line slots
-answer_text (BadPosition line) = bad_position_line line
+answer_text (BadPosition line) = counted_text (codes "bad position ") line
 answer_text ReadFault = read_fault_line
 answer_text OutOfMemory = out_of_memory_line
 answer_text TooLong = too_long_line
@@ -92,12 +91,12 @@ pub record IsSolved (plain_tree : Bool) (input : List ℕ) (solution : Solution)
 -- the input is the text of a position that is not small under the budget, and in which, unless the budget is 0, neither
 -- player has a chain
 pub record IsLeftOpen (budget : ℕ) (input : List ℕ) : Type 0 where
-  pub open_position : IsOpenPosition budget input
-  pub no_chain : 0 < budget → IsPositionWithoutChain input
+  pub not_small : IsTextWhere (λ board. ¬ IsSmall board budget) input
+  pub no_chain : 0 < budget → IsTextWhere HasNoChain input
 
 -- the whole input, which has no more bytes than are read
 abbrev pub WithinLimit : Option (List ℕ) → (List ℕ → Type 0) → Type 0
-WithinLimit left says = IfSome left (λ input. (length input ≤ most_bytes) × says input)
+WithinLimit left says = IfSome left (λ input. (length input ≤ longest) × says input)
 
 -- When each answer comes: what the source had left before, and whether its faults rose.
 abbrev pub IsDue : Settings → Bool → Option (List ℕ) → Type 0 → Answer → Type 0
@@ -106,11 +105,12 @@ IsDue settings plain_tree before rose (Solved solution) =
 IsDue settings plain_tree before rose (UnknownBudget budget) =
     (budget ≡ settings.budget) × WithinLimit before (IsLeftOpen settings.budget)
 IsDue settings plain_tree before rose (UnknownProofs slots) =
-    (slots ≡ settings.slots) × WithinLimit before (IsOpenPosition settings.budget)
-IsDue settings plain_tree before rose (BadPosition line) = WithinLimit before (λ input. IsBadPosition input line)
+    (slots ≡ settings.slots) × WithinLimit before (IsTextWhere (λ board. ¬ IsSmall board settings.budget))
+IsDue settings plain_tree before rose (BadPosition line) =
+    WithinLimit before (λ input. IsFaultyLine ArePositionLines input line)
 IsDue settings plain_tree before rose ReadFault = rose
 IsDue settings plain_tree before rose OutOfMemory = Unit {0}
-IsDue settings plain_tree before rose TooLong = IfSome before (λ input. most_bytes < length input)
+IsDue settings plain_tree before rose TooLong = IfSome before (λ input. longest < length input)
 
 -- A run of `solve`: some answer is due, for a tree the input was read to its end, the answer was written, and the tally
 -- has the refusals behind it.
@@ -121,10 +121,6 @@ pub record IsSolveRun (settings : Settings) (plain_tree : Bool) (source source_n
   pub read_to_end : status_of answer ≡ 0 → IsReadToEnd source.left source_now.left
   pub written : IsWritten sink sink_now (answer_text answer) (status_of answer) finish.status
   pub counted : finish.tally ≡ tally_of settings answer
-
--- a status of `solve`
-abbrev pub IsSolveStatus : ℕ → Type 0
-IsSolveStatus status = (status ≡ 0) ⊎ ((3 ≤ status) × (status ≤ 8))
 
 -- ---- words for the functions inside the crate alone
 
@@ -138,8 +134,8 @@ IsFound settings plain_tree input (Solved solution) = IsSolved plain_tree input 
 IsFound settings plain_tree input (UnknownBudget budget) =
     (budget ≡ settings.budget) × IsLeftOpen settings.budget input
 IsFound settings plain_tree input (UnknownProofs slots) =
-    (slots ≡ settings.slots) × IsOpenPosition settings.budget input
-IsFound settings plain_tree input (BadPosition line) = IsBadPosition input line
+    (slots ≡ settings.slots) × IsTextWhere (λ board. ¬ IsSmall board settings.budget) input
+IsFound settings plain_tree input (BadPosition line) = IsFaultyLine ArePositionLines input line
 IsFound settings plain_tree input ReadFault = ⊥
 IsFound settings plain_tree input OutOfMemory = Unit {0}
 IsFound settings plain_tree input TooLong = ⊥

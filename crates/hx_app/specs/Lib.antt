@@ -1,4 +1,3 @@
-pub mod Limits
 pub mod Positions
 pub mod Answers
 pub mod Promises

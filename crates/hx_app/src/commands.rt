@@ -1,10 +1,11 @@
 //! The top call: from the words of the command line to the exit status.
 
-ghost use Rattle.std.specs.Prelude.{◌≡◌, ◌⊎◌, ℕ, Bool};
+ghost use Rattle.std.specs.Prelude.{◌≡◌, ◌⊎◌, ℕ, [], ◌∷◌, codes, Bool};
 ghost use Rattle.hx_io.specs.Sinks.{SomeWriteFailed};
 ghost use Rattle.hx_board.specs.Cells.{Extent};
 ghost use Rattle.hx_settings.specs.declared.settings.Settings.{Settings as Bounds};
 ghost use Rattle.hx_words.specs.Words.{words_of};
+ghost use Rattle.hx_words.specs.Commands.{NameAndOptions, IsSolve, IsDemo, IsSurvey};
 ghost use Rattle.hx_answers.specs.Endings.{IsWritten};
 ghost use Rattle.hx_check.specs.Promises.{KeepsPromises as ChecksAsPromised};
 ghost use Rattle.hx_match.specs.Promises.{KeepsPromises as PlaysAsPromised};
@@ -13,7 +14,7 @@ ghost use Rattle.hx_app.specs.Promises.{KeepsPromises as SolvesAsPromised};
 ghost use Rattle.hx_app.specs.Sessions.{KeepsPromises as ServesAsPromised};
 ghost use Rattle.hx_app.specs.DemoPromises.{KeepsPromises as DrawsAsPromised};
 ghost use Rattle.hx_chart.specs.Promises.{KeepsPromises as TabulatesAsPromised};
-ghost use Rattle.hx_app.specs.Runs.{IsCheck, IsSolve, IsSession, IsDraw, IsPlay, IsClaim, IsTabled, IsCommand, IsRun, CountsNothing, bad_words_line};
+ghost use Rattle.hx_app.specs.Runs.{IsCommand, IsRun, CountsNothing, bad_words_line};
 
 use crate::demos::run_demo;
 use crate::sessions::run_session;
@@ -59,17 +60,14 @@ pub fn run<S: Source, K: Sink, G: Gate + Sync, R: Threads + Wait + Sync>(
         (S.reading source.old) (S.reading source.new)
         (K.writing sink.old) (K.writing sink.new) result }
 
-    // `check` keeps its promises: with status 0 the input was read to its end and is the text of a valid tree, which the
-    // output says, and the player that it names wins and the other does not; it accepts exactly the valid trees that have no
-    // more nodes than a text may have, however many bytes they have.
-    ensures check { IsCheck (words_of words.now) → ChecksAsPromised
+    // `check` keeps its promises: it accepts exactly the texts of valid trees within its limits, and the player that it names
+    // wins and the other does not.
+    ensures check { words_of words.now ≡ codes "check" ∷ [] → ChecksAsPromised
         (S.reading source.old) (S.reading source.new)
         (K.writing sink.old) (K.writing sink.new) result.status }
 
-    // `solve` keeps its promises: with status 0 the input was read to its end, the output is the text of a valid tree of the
-    // input's position, and the player that it names wins and the other does not; `unknown` comes only where a refusal of a
-    // unit or of a slot was counted, of a unit only for a position without a chain, unless the budget is 0. With
-    // `--plain-tree` each node of the tree is plain.
+    // `solve` keeps its promises: with status 0 the output is the text of a valid tree of the input's position, and its winner
+    // wins and the other does not; `unknown` comes only where a unit or a slot was refused.
     ensures solve { (settings : Bounds) (plain_tree : Bool) → IsSolve settings plain_tree (words_of words.now)
         → SolvesAsPromised settings plain_tree
         (S.reading source.old) (S.reading source.new)
@@ -77,41 +75,41 @@ pub fn run<S: Source, K: Sink, G: Gate + Sync, R: Threads + Wait + Sync>(
 
     // `htp` keeps its promises: the output is the replies of a session to the lines of the input; a player that it names wins;
     // `unknown` comes only where a refusal of a unit or of a slot was counted.
-    ensures htp { (settings : Bounds) → IsSession settings (words_of words.now)
+    ensures htp { (settings : Bounds) → NameAndOptions (codes "htp") settings (words_of words.now)
         → ServesAsPromised settings
         (S.reading source.old) (S.reading source.new)
         (K.writing sink.old) (K.writing sink.new) result }
 
     // `demo` keeps its promises: with status 0 the output is how many of the positions that the seed draws each player wins;
     // `unknown` comes only with a budget below 986,410, and only where a refusal of a unit or of a slot was counted.
-    ensures demo { (seed : ℕ) (settings : Bounds) → IsDraw seed settings (words_of words.now)
+    ensures demo { (seed : ℕ) (settings : Bounds) → IsDemo seed settings (words_of words.now)
         → DrawsAsPromised seed settings
         (K.writing sink.old) (K.writing sink.new) result }
 
     // `play` keeps its promises: with status 0 the input begins with the text of a valid tree of plain nodes, and the output is a
     // game by it, over the lines behind it, in which its winner has played to a chain; each input gets the game or the refusal
     // that is due to it.
-    ensures play { IsPlay (words_of words.now) → PlaysAsPromised
+    ensures play { words_of words.now ≡ codes "play" ∷ [] → PlaysAsPromised
         (S.reading source.old) (S.reading source.new)
         (K.writing sink.old) (K.writing sink.new) result.status }
 
     // `template` keeps its promises: with status 0 or 1 the input was read to its end and is the text of a template, whose owner
     // can join its ends with 0 and cannot with 1, whatever the other player does; each input gets the answer or the refusal that
     // is due to it.
-    ensures template { IsClaim (words_of words.now) → DecidesAsPromised
+    ensures template { words_of words.now ≡ codes "template" ∷ [] → DecidesAsPromised
         (S.reading source.old) (S.reading source.new)
         (K.writing sink.old) (K.writing sink.new) result.status }
 
     // `survey` keeps its promises: with status 0 the output is the table of who wins after each opening; `unknown` comes only where
     // not each opening is small, and only where a refusal of a unit or of a slot was counted.
-    ensures survey { (size : Extent) (settings : Bounds) → IsTabled size settings (words_of words.now)
+    ensures survey { (size : Extent) (settings : Bounds) → IsSurvey size settings (words_of words.now)
         → TabulatesAsPromised size settings
         (K.writing sink.old) (K.writing sink.new) result }
 
     // `demo` and `survey` read nothing.
-    ensures unread { (seed : ℕ) (settings : Bounds) → IsDraw seed settings (words_of words.now)
+    ensures unread { (seed : ℕ) (settings : Bounds) → IsDemo seed settings (words_of words.now)
         → source.new ≡ source.old }
-    ensures unread_by_survey { (size : Extent) (settings : Bounds) → IsTabled size settings (words_of words.now)
+    ensures unread_by_survey { (size : Extent) (settings : Bounds) → IsSurvey size settings (words_of words.now)
         → source.new ≡ source.old }
 
     // Whatever the words, the status of a failed write has its cause.

@@ -16,5 +16,8 @@ pub use answers::Answer;
 pub use commands::run;
 pub use demo_answers::{DemoAnswer, WinCounts};
 pub use hx_finish::Finish;
-pub use laws::check_accepts_what_solve_writes;
+pub use laws::{
+    a_plain_tree_is_of_the_first_version, check_accepts_what_solve_writes,
+    what_is_no_position_is_refused,
+};
 pub use solutions::Solution;

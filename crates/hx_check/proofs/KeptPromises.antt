@@ -1,6 +1,6 @@
 -- What a run says with each status: each judgement fits its cause alone, since an input that one judgement is true of is not an
 -- input that another is true of.
-use Rattle.std.proofs.Common.{◌≡◌, ℕ, inl, inr, List, refl, sym, ap, ◌∙◌, subst, arith}
+use Rattle.std.proofs.Common.{◌≡◌, ◌⊎◌, ℕ, ◌≤◌, inl, inr, List, refl, sym, ap, ◌∙◌, subst, arith}
 use Rattle.std.proofs.lemmas.Option.{IfSome_then}
 use Rattle.std.specs.Prelude.{Option, None, Some, IfSome}
 use Rattle.hx_io.specs.Sources.{Reading, SomeReadFailed}
@@ -13,7 +13,7 @@ use Rattle.hx_check.specs.declared.judgements.Judgement.TheVariants.{Yes, No}
 use Rattle.hx_check.specs.declared.faults.Fault.{Fault}
 use Rattle.hx_check.specs.declared.faults.Fault.TheVariants.{NoText, NoNode, ReadFault, OutOfMemory, TooLong}
 use Rattle.hx_check.specs.Judging.{NodesAreRight, IsYes, IsNoText, IsNoNode, ReadsNoFault}
-use Rattle.hx_check.specs.Judgements.{IsLong, IsDue, IsCheckStatus, fault_text, judgement_text, no_text_line, no_node_line}
+use Rattle.hx_check.specs.Judgements.{IsLong, IsDue, fault_text, judgement_text, no_text_line, no_node_line}
 use Rattle.hx_check.specs.Judgements.{status_of, status_of_fault, yes_text}
 use Rattle.hx_check.specs.Promises.{SaysYes, IsProof, IsNoProof, KeepsPromises}
 use Rattle.hx_check.proofs.Demands.{right_asks}
@@ -66,15 +66,6 @@ module _ (input : List ℕ) (after : Option (List ℕ)) (rose : Type 0) where
   proof_of (No ReadFault) proof due = inr (inl refl)
   proof_of (No OutOfMemory) proof due = inr (inr (inr refl))
   proof_of (No TooLong) proof due = absurd (text_not_long input proof.nodes proof.text proof.few due)
-
-  no_proof_of : (judgement : Judgement) → ¬ IsLong NodesAreRight input → IsNoProof input → IsDue (Some input) after rose judgement
-      → IsUnlessStopped (status_of judgement) 1
-  no_proof_of (Yes root) within none due = let yes : IsYes input root = due.0 in absurd (none yes.nodes yes.text yes.valid)
-  no_proof_of (No (NoText line)) within none due = inl refl
-  no_proof_of (No (NoNode node)) within none due = inl refl
-  no_proof_of (No ReadFault) within none due = inr (inl refl)
-  no_proof_of (No OutOfMemory) within none due = inr (inr (inr refl))
-  no_proof_of (No TooLong) within none due = absurd (within due)
 
   long_of : (judgement : Judgement) → IsLong NodesAreRight input → IsDue (Some input) after rose judgement
       → IsUnlessStopped (status_of judgement) 8
@@ -136,7 +127,7 @@ module _ (after : Option (List ℕ)) (rose : Type 0) where
   read_fault_of before (No OutOfMemory) five due = absurd (omega arith)
   read_fault_of before (No TooLong) five due = absurd (omega arith)
 
-status_of_check : (judgement : Judgement) → IsCheckStatus (status_of judgement)
+status_of_check : (judgement : Judgement) → (status_of judgement ≤ 1) ⊎ ((5 ≤ status_of judgement) × (status_of judgement ≤ 8))
 status_of_check (Yes root) = inl (omega arith)
 status_of_check (No (NoText line)) = inl (omega arith)
 status_of_check (No (NoNode node)) = inl (omega arith)
@@ -184,18 +175,18 @@ module _ (source source_now : Reading) (sink sink_now : Writing) where
   kept_of : (judgement : Judgement) → IsDueHere judgement → sink_now.taken ≡ append sink.taken (judgement_text judgement)
       → KeepsPromises source source_now sink sink_now (status_of judgement)
   kept_of judgement due written = record {
-    yes = λ zero. told judgement _ due
-        (λ input is. yes_of input source_now.left FailedHere judgement sink.taken sink_now.taken zero is written);
+    answers = told judgement _ due (λ input is. record {
+      yes = λ zero. yes_of input source_now.left FailedHere judgement sink.taken sink_now.taken zero is written;
+      proof = λ proof. proof_of input source_now.left FailedHere judgement proof is;
+      wrong = λ one. wrong_of source_now.left FailedHere (Some input) judgement one is;
+      no_text = λ line text.
+          line_of input source_now.left FailedHere sink.taken sink_now.taken judgement line written text is;
+      no_node = λ node wrong.
+          node_of input source_now.left FailedHere sink.taken sink_now.taken judgement node written wrong is;
+      long = λ long. long_of input source_now.left FailedHere judgement long is;
+      too_long = λ eight. too_long_of source_now.left FailedHere (Some input) judgement eight is;
+    });
     read_to_end = λ zero. read_to_end_of source_now.left FailedHere source.left judgement zero due;
-    proof = told judgement _ due (λ input is proof. proof_of input source_now.left FailedHere judgement proof is);
-    no_proof = told judgement _ due (λ input is within none. no_proof_of input source_now.left FailedHere judgement within none is);
-    wrong = λ one. wrong_of source_now.left FailedHere source.left judgement one due;
-    no_text = told judgement _ due
-        (λ input is line text. line_of input source_now.left FailedHere sink.taken sink_now.taken judgement line written text is);
-    no_node = told judgement _ due
-        (λ input is node wrong. node_of input source_now.left FailedHere sink.taken sink_now.taken judgement node written wrong is);
-    long = told judgement _ due (λ input is long. long_of input source_now.left FailedHere judgement long is);
-    too_long = λ eight. too_long_of source_now.left FailedHere source.left judgement eight due;
     read_fault = λ five. read_fault_of source_now.left FailedHere source.left judgement five due;
     write_fault = λ six. absurd (status_not_6 judgement six);
     none_else = status_of_check judgement;
@@ -209,15 +200,16 @@ module _ (source source_now : Reading) (sink sink_now : Writing) where
   -- the sink failed before it took all of a judgement
   pub kept_cut : SomeWriteFailed sink sink_now → KeepsPromises source source_now sink sink_now 6
   kept_cut failed = record {
-    yes = λ zero. absurd (omega (arith, zero));
+    answers = of_any source.left _ (λ input. record {
+      yes = λ zero. absurd (omega (arith, zero));
+      proof = λ proof. inr (inr (inl refl));
+      wrong = λ one. absurd (omega (arith, one));
+      no_text = λ line text. inr (inr (inl refl));
+      no_node = λ node wrong. inr (inr (inl refl));
+      long = λ long. inr (inr (inl refl));
+      too_long = λ eight. absurd (omega (arith, eight));
+    });
     read_to_end = λ zero. absurd (omega (arith, zero));
-    proof = of_any source.left _ (λ input proof. inr (inr (inl refl)));
-    no_proof = of_any source.left _ (λ input within none. inr (inr (inl refl)));
-    wrong = λ one. absurd (omega (arith, one));
-    no_text = of_any source.left _ (λ input line text. inr (inr (inl refl)));
-    no_node = of_any source.left _ (λ input node wrong. inr (inr (inl refl)));
-    long = of_any source.left _ (λ input long. inr (inr (inl refl)));
-    too_long = λ eight. absurd (omega (arith, eight));
     read_fault = λ five. absurd (omega (arith, five));
     write_fault = λ is. failed;
     none_else = inr (omega arith, omega arith);

@@ -12,3 +12,4 @@ pub mod Endings
 pub mod ReadTexts
 pub mod OneFault
 pub mod KeptPromises
+pub mod Refusals

@@ -1,5 +1,5 @@
 -- What is said of an input, and when.
-use Rattle.std.specs.Prelude.{◌≡◌, ◌⊎◌, ℕ, ◌≤◌, List, [], ◌∷◌, ◌++◌, codes, Option, Some, IfSome}
+use Rattle.std.specs.Prelude.{◌≡◌, ◌⊎◌, ℕ, List, [], ◌∷◌, ◌++◌, codes, Option, Some, IfSome}
 use Rattle.hx_io.specs.Sources.{Reading, SomeReadFailed}
 use Rattle.hx_io.specs.Sinks.{Writing}
 use Rattle.hx_board.specs.declared.colours.Colour.{Colour}
@@ -74,10 +74,6 @@ IsFaultDue Meets before after rose TooLong = IfSome before (IsLong Meets)
 abbrev pub IsDue : Option (List ℕ) → Option (List ℕ) → Type 0 → Judgement → Type 0
 IsDue before after rose (Yes root) = IfSome before (λ input. IsYes input root × (after ≡ Some []))
 IsDue before after rose (No fault) = IsFaultDue NodesAreRight before after rose fault
-
--- a status of the command
-abbrev pub IsCheckStatus : ℕ → Type 0
-IsCheckStatus status = (status ≤ 1) ⊎ ((5 ≤ status) × (status ≤ 8))
 
 -- A run of the command: some judgement is due, and it was written.
 pub record IsCheckRun (source source_now : Reading) (sink sink_now : Writing) (status : ℕ) : Type 0 where

@@ -16,4 +16,4 @@ pub use check::run_check;
 pub use faults::{Fault, write_fault};
 pub use judgements::Judgement;
 pub use judges::{Brought, Judge};
-pub use laws::one_fault;
+pub use laws::{one_fault, what_is_no_proof_is_refused};

@@ -11,7 +11,7 @@ next_count count = min (count + 1) last_count
 
 -- the count rose, or it stands at its last value
 abbrev pub Rose : ℕ → ℕ → Type 0
-Rose before now = next_count before ≤ now
+Rose before now = min (before + 1) (2 ^ 64 - 1) ≤ now
 
 -- the count of faults has not fallen, and where the call failed it rose
 pub record HasCause {T E : Type 0} (before now : ℕ) (result : Result T E) : Type 0 where

@@ -5,8 +5,7 @@
 use Rattle.std.specs.Prelude.{◌≡◌, ℕ, ◌<◌, ◌≤◌, List, ◌++◌, take, length, Result, MatchResult, IfOk, Option, None, Some}
 use Rattle.hx_io.specs.Causes.{HasCause, Rose}
 
--- how far was written to a sink: the bytes that it took so far, or `None` where it tells nothing of them, and how many
--- of its calls failed, up to the last value
+-- how far was written to a sink: the bytes taken, or `None` where it tells nothing of them, and how many calls failed
 pub record Writing : Type 0 where
   pub taken : Option (List ℕ)
   pub faults : ℕ
@@ -20,19 +19,10 @@ abbrev pub append : Option (List ℕ) → List ℕ → Option (List ℕ)
 append None bytes = None
 append (Some taken) bytes = Some (taken ++ bytes)
 
--- at `Ok(n)`, n is from 1 to the piece's length
-abbrev pub WritesSome : {E : Type 0} → Result ℕ E → List ℕ → Type 0
-WritesSome result piece = IfOk result (λ n. (0 < n) × (n ≤ length piece))
-
--- at `Ok(n)` the first n bytes of the piece were added; at `Err` nothing was
-abbrev pub WriteAdds : {E : Type 0} → Option (List ℕ) → Option (List ℕ) → Result ℕ E → List ℕ → Type 0
-WriteAdds old new result piece = MatchResult result (λ n. new ≡ append old (take n piece)) (λ _. new ≡ old)
-
--- what a write does, by how far was written before and is now: the sink took some of the piece or nothing, and where it
--- failed the count of faults rose
+-- what a write does: the sink takes some bytes from the front of the piece, or it fails and takes none
 pub record Writes {E : Type 0} (before now : Writing) (result : Result ℕ E) (piece : List ℕ) : Type 0 where
-  pub bound : WritesSome result piece
-  pub bytes : WriteAdds before.taken now.taken result piece
+  pub bound : IfOk result (λ n. (0 < n) × (n ≤ length piece))
+  pub bytes : MatchResult result (λ n. now.taken ≡ append before.taken (take n piece)) (λ _. now.taken ≡ before.taken)
   pub cause : HasCause before.faults now.faults result
 
 -- the bytes up to some place before their end were added

@@ -5,8 +5,7 @@
 use Rattle.std.specs.Prelude.{◌≡◌, ℕ, List, [], ◌++◌, take, Result, MatchResult, Option, None, Some, IfSome, IfOk}
 use Rattle.hx_io.specs.Causes.{HasCause, Rose}
 
--- how far a source was read: the bytes that are not yet read, or `None` where it tells nothing of them, and how many of
--- its calls failed, up to the last value
+-- how far a source was read: the bytes left, or `None` where it tells nothing of them, and how many calls failed
 pub record Reading : Type 0 where
   pub left : Option (List ℕ)
   pub faults : ℕ
@@ -24,14 +23,9 @@ prepend bytes (Some left) = Some (bytes ++ left)
 abbrev pub IsAtEnd : Option (List ℕ) → Type 0
 IsAtEnd left = IfSome left (λ bytes. bytes ≡ [])
 
--- at `Ok(n)` the first n bytes of the buffer left the front; at `Err` nothing did
-abbrev pub ReadTakes : {E : Type 0} → Option (List ℕ) → Option (List ℕ) → Result ℕ E → List ℕ → Type 0
-ReadTakes old new result buffer = MatchResult result (λ n. old ≡ prepend (take n buffer) new) (λ _. new ≡ old)
-
--- what a read does, by how far the source was read before and is now: it took bytes to the front of the buffer, none
--- only at the end, and where it failed the count of faults rose
+-- what a read does: it takes bytes into the front of the buffer, none only at the end, or it fails and takes none
 pub record Reads {E : Type 0} (before now : Reading) (result : Result ℕ E) (buffer : List ℕ) : Type 0 where
-  pub bytes : ReadTakes before.left now.left result buffer
+  pub bytes : MatchResult result (λ n. before.left ≡ prepend (take n buffer) now.left) (λ _. now.left ≡ before.left)
   pub end : IfOk result (λ n. n ≡ 0 → IsAtEnd now.left)
   pub cause : HasCause before.faults now.faults result
 

@@ -11,7 +11,7 @@ HeadingWins heading = Wins heading.winner heading.position heading.to_move
 
 -- the heading's winner wins, and the other player does not
 pub record OnlyWinner (heading : Heading) : Type 0 where
-  pub wins : HeadingWins heading
+  pub wins : Wins heading.winner heading.position heading.to_move
   pub other_does_not : ¬ Wins (other_of heading.winner) heading.position heading.to_move
 
 -- the winner of each node wins, and the other player does not

@@ -5,13 +5,12 @@ use Rattle.hx_board.specs.Cells.{Extent}
 use Rattle.hx_settings.specs.declared.settings.Settings.{Settings}
 use Rattle.hx_words.specs.declared.commands.Command.{Command}
 use Rattle.hx_words.specs.declared.commands.Command.TheVariants.{Check, Solve, Htp, Demo, Play, Template, Survey}
-use Rattle.hx_words.specs.Choices.{AreOptions}
 use Rattle.hx_words.specs.Seeds.{SeedAndOptions}
 use Rattle.hx_words.specs.Sizes.{SizeAndOptions}
-use Rattle.hx_words.specs.Searches.{AreSearchOptions}
+use Rattle.hx_words.specs.Options.{AreOptions}
+use Rattle.hx_words.specs.Choices.{AreSearchOptions}
 use Rattle.hx_words.specs.Commands.{Asks}
-use Rattle.hx_words.proofs.Leads.{AreOptions-one}
-use Rattle.hx_words.proofs.SearchWords.{search-settings, search-flag}
+use Rattle.hx_words.proofs.OptionWords.{AreOptions-one, search-settings, search-flag}
 use Rattle.hx_words.proofs.SeedWords.{SeedAndOptions-seed, SeedAndOptions-settings}
 use Rattle.hx_words.proofs.SizeWords.{SizeAndOptions-size, SizeAndOptions-settings}
 

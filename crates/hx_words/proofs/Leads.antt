@@ -11,8 +11,8 @@ use Rattle.hx_words.specs.declared.options.Choice.{Choice}
 use Rattle.hx_words.specs.declared.choices.Chosen.{Chosen}
 use Rattle.hx_words.specs.Words.{words_of}
 use Rattle.hx_words.specs.Settings.{least_of, most_of}
-use Rattle.hx_words.specs.Options.{Spelled, HasNoOption}
-use Rattle.hx_words.specs.Choices.{nothing, with_number, Adds, Lead, Done, Then, settings_of, AreOptions, AreOptionsAfter, LeadsAway}
+use Rattle.hx_words.specs.Choices.{Spelled, HasNoOption}
+use Rattle.hx_words.specs.Choices.{nothing, with_number, Adds, Lead, Done, Then, settings_of, AreChoices, AreChoicesAfter, LeadsAway}
 use Rattle.hx_words.proofs.Spellings.{Spelled-one, Spelled-some}
 
 -- the same end
@@ -124,27 +124,27 @@ pub none-no_option : HasNoOption []
 none-no_option choice rest spelled = Spelled-some choice [] rest refl spelled
 
 -- from one start the words are options for one choice of settings
-pub AreOptionsAfter-one : (before : Chosen) (words : List (List ℕ)) (a b : Settings) → AreOptionsAfter before words a
-    → AreOptionsAfter before words b → a ≡ b
-AreOptionsAfter-one before words a b p q =
+pub AreChoicesAfter-one : (before : Chosen) (words : List (List ℕ)) (a b : Settings) → AreChoicesAfter before words a
+    → AreChoicesAfter before words b → a ≡ b
+AreChoicesAfter-one before words a b p q =
     let end = Lead-one words before [] [] p.chosen q.chosen none-no_option none-no_option p.lead q.lead in
     p.same ∙ ap settings_of end.chosen ∙ sym q.same
 
-pub AreOptionsAfter-settings : (before : Chosen) (words : List (List ℕ)) (settings : Settings)
-    → AreSettings (settings_of before) → AreOptionsAfter before words settings → AreSettings settings
-AreOptionsAfter-settings before words settings within options =
+pub AreChoicesAfter-settings : (before : Chosen) (words : List (List ℕ)) (settings : Settings)
+    → AreSettings (settings_of before) → AreChoicesAfter before words settings → AreSettings settings
+AreChoicesAfter-settings before words settings within options =
     let P : Settings → Type 0 = λ s. AreSettings s in
     subst P (sym options.same) (Lead-settings words before [] options.chosen options.lead within)
 
-pub AreOptions-one : (words : List (List ℕ)) (a b : Settings) → AreOptions words a → AreOptions words b → a ≡ b
-AreOptions-one words a b p q = AreOptionsAfter-one nothing words a b p q
+pub AreChoices-one : (words : List (List ℕ)) (a b : Settings) → AreChoices words a → AreChoices words b → a ≡ b
+AreChoices-one words a b p q = AreChoicesAfter-one nothing words a b p q
 
-pub AreOptions-settings : (words : List (List ℕ)) (settings : Settings) → AreOptions words settings
+pub AreChoices-settings : (words : List (List ℕ)) (settings : Settings) → AreChoices words settings
     → AreSettings settings
-AreOptions-settings words settings options = AreOptionsAfter-settings nothing words settings nothing-settings options
+AreChoices-settings words settings options = AreChoicesAfter-settings nothing words settings nothing-settings options
 
 -- words that lead no further than to some words are no options
-pub AreOptionsAfter-no_end : (before : Chosen) (words rest : List (List ℕ)) (now : Chosen) → LeadsAway words before rest now
-    → (rest ≡ [] → ⊥) → (settings : Settings) → AreOptionsAfter before words settings → ⊥
-AreOptionsAfter-no_end before words rest now away some settings options =
+pub AreChoicesAfter-no_end : (before : Chosen) (words rest : List (List ℕ)) (now : Chosen) → LeadsAway words before rest now
+    → (rest ≡ [] → ⊥) → (settings : Settings) → AreChoicesAfter before words settings → ⊥
+AreChoicesAfter-no_end before words rest now away some settings options =
     some (Lead-one words before rest [] now options.chosen away.last none-no_option away.lead options.lead).words_left

@@ -6,7 +6,7 @@ use Rattle.hx_letters.proofs.Cuts.{cut_same, cut_rest, Lacks-append_mark}
 use Rattle.hx_words.specs.declared.settings.Setting.{Setting}
 use Rattle.hx_words.specs.declared.settings.Setting.TheVariants.{Workers, Budget, Proofs}
 use Rattle.hx_words.specs.Settings.{name_of}
-use Rattle.hx_words.specs.Searches.{plain_tree_flag}
+use Rattle.hx_words.specs.Choices.{plain_tree_flag}
 
 -- names that differ in their third letters
 apart : {Same : Type 0} (name other : List ℕ) → get_or name 2 0 ≢ get_or other 2 0 → name ≡ other → Same

@@ -3,30 +3,30 @@ use Rattle.std.proofs.Common.{◌≡◌, ℕ, List, [], ◌∷◌, Bool, true, f
 use Rattle.hx_settings.specs.declared.settings.Settings.{Settings}
 use Rattle.hx_settings.specs.Settings.{AreSettings}
 use Rattle.hx_words.specs.declared.choices.Chosen.{Chosen}
-use Rattle.hx_words.specs.Choices.{nothing, Lead, AreOptions, AreOptionsAfter, LeadsAway}
-use Rattle.hx_words.specs.Searches.{plain_tree_flag, AreAloneAfter, AreOptionsAndFlag, AreSearchOptions}
+use Rattle.hx_words.specs.Choices.{nothing, Lead, AreChoices, AreChoicesAfter, LeadsAway}
+use Rattle.hx_words.specs.Choices.{plain_tree_flag, AreAloneAfter, AreChoicesAndFlag, AreSearchChoices}
 use Rattle.hx_words.proofs.Spellings.{flag-no_option}
-use Rattle.hx_words.proofs.Leads.{Lead-one, Lead-settings, IsEnd, none-no_option, nothing-settings, AreOptions-one, AreOptions-settings}
-use Rattle.hx_words.proofs.Leads.{AreOptionsAfter-one, AreOptionsAfter-settings}
+use Rattle.hx_words.proofs.Leads.{Lead-one, Lead-settings, IsEnd, none-no_option, nothing-settings, AreChoices-one, AreChoices-settings}
+use Rattle.hx_words.proofs.Leads.{AreChoicesAfter-one, AreChoicesAfter-settings}
 
 -- ---- options that end at some words
 
 -- the flag is the first of the words at which the options end
 pub flag-first : (words rest : List (List ℕ)) (now : Chosen) (settings : Settings) → LeadsAway words nothing rest now
-    → (flagged : AreOptionsAndFlag words settings) → IsEnd rest (plain_tree_flag ∷ flagged.behind) now flagged.before
+    → (flagged : AreChoicesAndFlag words settings) → IsEnd rest (plain_tree_flag ∷ flagged.behind) now flagged.before
 flag-first words rest now settings away flagged =
     Lead-one words nothing rest (plain_tree_flag ∷ flagged.behind) now flagged.before away.last (flag-no_option flagged.behind)
     away.lead flagged.in_front
 
 -- options end where there are no words
 pub options-end : (words rest : List (List ℕ)) (now : Chosen) (settings : Settings) → LeadsAway words nothing rest now
-    → AreOptions words settings → rest ≡ []
+    → AreChoices words settings → rest ≡ []
 options-end words rest now settings away options =
     (Lead-one words nothing rest [] now options.chosen away.last none-no_option away.lead options.lead).words_left
 
 -- words that lead nowhere do not ask for a search
 pub no_search-astray : (words : List (List ℕ)) → ((rest : List (List ℕ)) (now : Chosen) → LeadsAway words nothing rest now → ⊥)
-    → (plain_tree : Bool) (settings : Settings) → AreSearchOptions plain_tree settings words → ⊥
+    → (plain_tree : Bool) (settings : Settings) → AreSearchChoices plain_tree settings words → ⊥
 no_search-astray words astray false settings options =
     astray [] options.chosen (record { lead = options.lead; last = none-no_option })
 no_search-astray words astray true settings flagged =
@@ -36,7 +36,7 @@ no_search-astray words astray true settings flagged =
 -- nor do those that lead to a word that is not the flag
 pub no_search-other_word : (words : List (List ℕ)) (word : List ℕ) (behind rest : List (List ℕ)) (now : Chosen)
     → LeadsAway words nothing rest now → rest ≡ word ∷ behind → (word ≡ plain_tree_flag → ⊥)
-    → (plain_tree : Bool) (settings : Settings) → AreSearchOptions plain_tree settings words → ⊥
+    → (plain_tree : Bool) (settings : Settings) → AreSearchChoices plain_tree settings words → ⊥
 no_search-other_word words word behind rest now away parts other false settings options =
     let none : rest ≡ [] = options-end words rest now settings away options in
     cc
@@ -49,7 +49,7 @@ no_search-other_word words word behind rest now away parts other true settings f
 pub no_search-behind : (words : List (List ℕ)) (word : List ℕ) (behind rest : List (List ℕ)) (now : Chosen)
     → LeadsAway words nothing rest now → rest ≡ word ∷ behind
     → ((settings : Settings) → AreAloneAfter now behind settings → ⊥)
-    → (plain_tree : Bool) (settings : Settings) → AreSearchOptions plain_tree settings words → ⊥
+    → (plain_tree : Bool) (settings : Settings) → AreSearchChoices plain_tree settings words → ⊥
 no_search-behind words word behind rest now away parts none false settings options =
     let end : rest ≡ [] = options-end words rest now settings away options in
     cc
@@ -63,7 +63,7 @@ no_search-behind words word behind rest now away parts none true settings flagge
 -- the flag stands where the options before it end
 pub flag-stands : (words : List (List ℕ)) (word : List ℕ) (behind rest : List (List ℕ)) (now : Chosen) (settings : Settings)
     → LeadsAway words nothing rest now → rest ≡ word ∷ behind → word ≡ plain_tree_flag → AreAloneAfter now behind settings
-    → AreOptionsAndFlag words settings
+    → AreChoicesAndFlag words settings
 flag-stands words word behind rest now settings away parts is after =
     let whole : rest ≡ plain_tree_flag ∷ behind = parts ∙ ap (λ (w : List ℕ). w ∷ behind) is in
     let P : List (List ℕ) → Type 0 = λ ws. Lead words nothing ws now in
@@ -71,37 +71,37 @@ flag-stands words word behind rest now settings away parts is after =
 
 -- ---- one search
 
-flag-one : (words : List (List ℕ)) (a b : Settings) → AreOptionsAndFlag words a → AreOptionsAndFlag words b → a ≡ b
+flag-one : (words : List (List ℕ)) (a b : Settings) → AreChoicesAndFlag words a → AreChoicesAndFlag words b → a ≡ b
 flag-one words a b p q =
     let first = flag-first words (plain_tree_flag ∷ p.behind) p.before b
     (record { lead = p.in_front; last = flag-no_option p.behind }) q in
     let same : q.behind ≡ p.behind = cc in
-    let P : List (List ℕ) → Type 0 = λ ws. AreOptionsAfter p.before ws b in
-    let Q : Chosen → Type 0 = λ chosen. AreOptionsAfter chosen q.behind b in
-    AreOptionsAfter-one p.before p.behind a b p.after.0 (subst P same (subst Q (sym first.chosen) q.after.0))
+    let P : List (List ℕ) → Type 0 = λ ws. AreChoicesAfter p.before ws b in
+    let Q : Chosen → Type 0 = λ chosen. AreChoicesAfter chosen q.behind b in
+    AreChoicesAfter-one p.before p.behind a b p.after.0 (subst P same (subst Q (sym first.chosen) q.after.0))
 
-flag-not_alone : (words : List (List ℕ)) (a b : Settings) → AreOptions words a → AreOptionsAndFlag words b → ⊥
+flag-not_alone : (words : List (List ℕ)) (a b : Settings) → AreChoices words a → AreChoicesAndFlag words b → ⊥
 flag-not_alone words a b options flagged =
     let end : [] ≡ plain_tree_flag ∷ flagged.behind =
     (flag-first words [] options.chosen b (record { lead = options.lead; last = none-no_option }) flagged).words_left in
     cc
 
-pub search-settings : (words : List (List ℕ)) (plain_tree : Bool) (a b : Settings) → AreSearchOptions plain_tree a words
-    → AreSearchOptions plain_tree b words → a ≡ b
-search-settings words false a b p q = AreOptions-one words a b p q
-search-settings words true a b p q = flag-one words a b p q
+pub choices-settings : (words : List (List ℕ)) (plain_tree : Bool) (a b : Settings) → AreSearchChoices plain_tree a words
+    → AreSearchChoices plain_tree b words → a ≡ b
+choices-settings words false a b p q = AreChoices-one words a b p q
+choices-settings words true a b p q = flag-one words a b p q
 
-pub search-flag : (words : List (List ℕ)) (m n : Bool) (a b : Settings) → AreSearchOptions m a words → AreSearchOptions n b words
+pub choices-flag : (words : List (List ℕ)) (m n : Bool) (a b : Settings) → AreSearchChoices m a words → AreSearchChoices n b words
     → m ≡ n
-search-flag words false false a b p q = refl
-search-flag words false true a b p q = absurd (flag-not_alone words a b p q)
-search-flag words true false a b p q = absurd (flag-not_alone words b a q p)
-search-flag words true true a b p q = refl
+choices-flag words false false a b p q = refl
+choices-flag words false true a b p q = absurd (flag-not_alone words a b p q)
+choices-flag words true false a b p q = absurd (flag-not_alone words b a q p)
+choices-flag words true true a b p q = refl
 
 -- the settings stay within the limits of a search
-pub search-limits : (words : List (List ℕ)) (plain_tree : Bool) (settings : Settings) → AreSearchOptions plain_tree settings words
+pub choices-limits : (words : List (List ℕ)) (plain_tree : Bool) (settings : Settings) → AreSearchChoices plain_tree settings words
     → AreSettings settings
-search-limits words false settings options = AreOptions-settings words settings options
-search-limits words true settings flagged =
-    AreOptionsAfter-settings flagged.before flagged.behind settings
+choices-limits words false settings options = AreChoices-settings words settings options
+choices-limits words true settings flagged =
+    AreChoicesAfter-settings flagged.before flagged.behind settings
     (Lead-settings words nothing (plain_tree_flag ∷ flagged.behind) flagged.before flagged.in_front nothing-settings) flagged.after.0

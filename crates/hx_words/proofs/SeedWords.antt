@@ -2,9 +2,9 @@
 use Rattle.std.proofs.Common.{◌≡◌, ℕ, List, ◌∷◌, sym, ◌∙◌}
 use Rattle.hx_settings.specs.declared.settings.Settings.{Settings}
 use Rattle.hx_settings.specs.Settings.{AreSettings}
-use Rattle.hx_words.specs.Choices.{AreOptions}
+use Rattle.hx_words.specs.Options.{AreOptions}
 use Rattle.hx_words.specs.Seeds.{IsSeed, SeedAndOptions}
-use Rattle.hx_words.proofs.Leads.{AreOptions-one, AreOptions-settings}
+use Rattle.hx_words.proofs.OptionWords.{AreOptions-one, AreOptions-settings}
 
 pub IsSeed-one : (word : List ℕ) (m n : ℕ) → IsSeed word m → IsSeed word n → m ≡ n
 IsSeed-one word m n a b = a.same ∙ sym b.same

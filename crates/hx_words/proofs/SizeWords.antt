@@ -3,10 +3,10 @@ use Rattle.std.proofs.Common.{◌≡◌, ℕ, List, ◌∷◌, ap, ◌∙◌}
 use Rattle.hx_board.specs.Cells.{Extent}
 use Rattle.hx_settings.specs.declared.settings.Settings.{Settings}
 use Rattle.hx_settings.specs.Settings.{AreSettings}
-use Rattle.hx_words.specs.Choices.{AreOptions}
+use Rattle.hx_words.specs.Options.{AreOptions}
 use Rattle.hx_words.specs.Sizes.{IsSizeSpelled, SizeAndOptions}
 use Rattle.hx_words.proofs.Spellings.{IsValue-one}
-use Rattle.hx_words.proofs.Leads.{AreOptions-one, AreOptions-settings}
+use Rattle.hx_words.proofs.OptionWords.{AreOptions-one, AreOptions-settings}
 
 pub IsSizeSpelled-one : (rows cols : List ℕ) (a b : Extent) → IsSizeSpelled a rows cols → IsSizeSpelled b rows cols → a ≡ b
 IsSizeSpelled-one rows cols a b p q =

@@ -6,8 +6,8 @@ use Rattle.hx_letters.proofs.Cuts.{cut_same}
 use Rattle.hx_words.specs.declared.settings.Setting.{Setting}
 use Rattle.hx_words.specs.declared.options.Choice.{Choice}
 use Rattle.hx_words.specs.Settings.{name_of}
-use Rattle.hx_words.specs.Options.{IsValue, IsJoined, Spelled, Apart, Joined, HasNoOption}
-use Rattle.hx_words.specs.Searches.{plain_tree_flag}
+use Rattle.hx_words.specs.Options.{IsValue}
+use Rattle.hx_words.specs.Choices.{IsJoined, Spelled, Apart, Joined, HasNoOption, plain_tree_flag}
 use Rattle.hx_words.proofs.Names.{name_of-injective, Lacks-name_of, name_alone, joined_name, joined_value}
 use Rattle.hx_words.proofs.Names.{flag_is_no_name, flag_is_not_joined}
 

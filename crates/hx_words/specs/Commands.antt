@@ -1,12 +1,11 @@
 -- The commands of the program.
-use Rattle.std.specs.Prelude.{◌≡◌, ℕ, List, [], ◌∷◌, codes, Bool}
+use Rattle.std.specs.Prelude.{◌≡◌, ℕ, List, [], ◌∷◌, codes, Bool, true}
 use Rattle.hx_board.specs.Cells.{Extent}
 use Rattle.hx_settings.specs.declared.settings.Settings.{Settings}
 use Rattle.hx_settings.specs.Settings.{AreSettings}
 use Rattle.hx_words.specs.declared.commands.Command.{Command}
 use Rattle.hx_words.specs.declared.commands.Command.TheVariants.{Check, Solve, Htp, Demo, Play, Template, Survey}
-use Rattle.hx_words.specs.Choices.{AreOptions}
-use Rattle.hx_words.specs.Searches.{AreSearchOptions}
+use Rattle.hx_words.specs.Options.{Choose, defaults, AreOptions}
 use Rattle.hx_words.specs.Seeds.{SeedAndOptions}
 use Rattle.hx_words.specs.Sizes.{SizeAndOptions}
 
@@ -15,10 +14,11 @@ abbrev pub NameAndOptions : List ℕ → Settings → List (List ℕ) → Type 0
 NameAndOptions name settings words =
     (options : List (List ℕ)) × (words ≡ name ∷ options) × AreOptions options settings
 
--- the words are `solve` and then options, with the flag among them where the tree is to be plain
+-- the words are `solve` and then options, with the flag and for one worker where the tree is to be plain
 abbrev pub IsSolve : Settings → Bool → List (List ℕ) → Type 0
 IsSolve settings plain_tree words =
-    (options : List (List ℕ)) × (words ≡ codes "solve" ∷ options) × AreSearchOptions plain_tree settings options
+    (options : List (List ℕ)) × (words ≡ codes "solve" ∷ options)
+    × (Choose settings plain_tree [] defaults options × (plain_tree ≡ true → settings.workers ≡ 1))
 
 -- the words are `demo`, a seed and then options
 abbrev pub IsDemo : ℕ → Settings → List (List ℕ) → Type 0

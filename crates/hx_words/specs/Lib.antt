@@ -1,8 +1,7 @@
 pub mod Words
-pub mod Settings
 pub mod Options
-pub mod Choices
-pub mod Searches
 pub mod Seeds
 pub mod Sizes
 pub mod Commands
+pub mod Settings
+pub mod Choices

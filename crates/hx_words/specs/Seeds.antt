@@ -2,7 +2,7 @@
 use Rattle.std.specs.Prelude.{◌≡◌, ℕ, ◌<◌, ◌≤◌, ◌^◌, List, ◌∷◌, length}
 use Rattle.std.specs.Str.Parse.{IsNumeral, digits_value}
 use Rattle.hx_settings.specs.declared.settings.Settings.{Settings}
-use Rattle.hx_words.specs.Choices.{AreOptions}
+use Rattle.hx_words.specs.Options.{AreOptions}
 
 -- one decimal digit or more, at most 20, which are this number, and it is below 2^64
 pub record IsSeed (word : List ℕ) (seed : ℕ) : Type 0 where

@@ -1,4 +1,4 @@
--- The settings that an option may choose.
+-- The settings that an option may choose. These are words for the functions inside the crate alone.
 use Rattle.std.specs.Prelude.{ℕ, List, codes}
 use Rattle.hx_settings.specs.declared.settings.TheConstants.{MOST_WORKERS, MOST_UNITS, MOST_PROOFS}
 use Rattle.hx_words.specs.declared.settings.Setting.{Setting}

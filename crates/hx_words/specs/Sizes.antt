@@ -2,8 +2,7 @@
 use Rattle.std.specs.Prelude.{◌≡◌, ℕ, List, ◌∷◌}
 use Rattle.hx_board.specs.Cells.{Extent, IsExtent}
 use Rattle.hx_settings.specs.declared.settings.Settings.{Settings}
-use Rattle.hx_words.specs.Options.{IsValue}
-use Rattle.hx_words.specs.Choices.{AreOptions}
+use Rattle.hx_words.specs.Options.{IsValue, AreOptions}
 
 -- the two words are the numbers of rows and columns of a board of this size, each spelled as the value of an option
 pub record IsSizeSpelled (size : Extent) (rows cols : List ℕ) : Type 0 where

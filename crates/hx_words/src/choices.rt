@@ -4,7 +4,8 @@ ghost use Rattle.std.specs.Prelude.{◌≡◌, ◌↔◌, IsTrue, IsSome, MatchO
 ghost use Rattle.hx_board.specs.Finds.{Finds};
 ghost use Rattle.hx_words.specs.Words.{words_of};
 ghost use Rattle.hx_words.specs.declared.choices.Chosen.{Chosen as ChosenNumbers};
-ghost use Rattle.hx_words.specs.Choices.{nothing, number_for, Adds, LeadsAway, AreOptions, AreOptionsAfter, settings_of};
+ghost use Rattle.hx_words.specs.Options.{AreOptions};
+ghost use Rattle.hx_words.specs.Choices.{nothing, number_for, Adds, LeadsAway, AreChoicesAfter, settings_of};
 
 use crate::options::{Choice, first_option};
 use crate::settings::Setting;
@@ -27,7 +28,7 @@ pub(crate) fn settings_in(words: &[String]) -> Option<Settings>
 
 /// The settings of a search for which something is chosen already, and which has these words for its further options.
 pub(crate) fn settings_after(before: Chosen, words: &[String]) -> Option<Settings>
-    ensures { Finds result (AreOptionsAfter before (words_of words.now)) }
+    ensures { Finds result (AreChoicesAfter before (words_of words.now)) }
 {
     let (chosen, rest) = take_options(before, words)?;
     if rest.is_empty() {

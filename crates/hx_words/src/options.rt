@@ -4,7 +4,7 @@
 ghost use Rattle.std.specs.Prelude.{MatchOption};
 ghost use Rattle.hx_board.specs.Finds.{Finds};
 ghost use Rattle.hx_words.specs.Words.{words_of};
-ghost use Rattle.hx_words.specs.Options.{Spelled, IsJoined, HasNoOption};
+ghost use Rattle.hx_words.specs.Choices.{Spelled, IsJoined, HasNoOption};
 
 use crate::numbers::number_of;
 use crate::settings::Setting;

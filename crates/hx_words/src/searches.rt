@@ -2,7 +2,7 @@
 
 ghost use Rattle.hx_board.specs.Finds.{Finds};
 ghost use Rattle.hx_words.specs.Words.{words_of};
-ghost use Rattle.hx_words.specs.Searches.{AreSearchOptions, AreAloneAfter};
+ghost use Rattle.hx_words.specs.Choices.{AreSearchChoices, AreAloneAfter};
 
 use crate::choices::{Chosen, settings_after, take_options};
 use hx_settings::Settings;
@@ -12,7 +12,7 @@ const PLAIN_TREE: &str = "--plain-tree";
 
 /// The settings of a search that has these words for its options, and whether the flag is among them.
 pub(crate) fn search_in(words: &[String]) -> Option<(Settings, bool)>
-    ensures { Finds result (λ found. AreSearchOptions found.1 found.0 (words_of words.now)) }
+    ensures { Finds result (λ found. AreSearchChoices found.1 found.0 (words_of words.now)) }
 {
     let (before, rest) = take_options(Chosen::nothing(), words)?;
     let Some((word, behind)) = rest.split_first() else {

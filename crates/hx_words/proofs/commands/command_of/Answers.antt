@@ -1,8 +1,8 @@
 use Rattle.std.proofs.Common.{◌≡◌, codes, sym, ap, ◌∙◌, string_bytes}
 use Rattle.hx_words.specs.Words.{words_of}
 use Rattle.hx_words.proofs.CommandWords.{Asks-solve, Asks-htp, Asks-demo, Asks-survey}
-use Rattle.hx_words.proofs.Leads.{AreOptions-settings}
-use Rattle.hx_words.proofs.SearchWords.{search-limits}
+use Rattle.hx_words.proofs.SearchWords.{choices-limits}
+use Rattle.hx_words.proofs.OptionWords.{AreOptions-settings, choices-searches, searches-choices}
 use Rattle.hx_words.proofs.SeedWords.{SeedAndOptions-limits}
 use Rattle.hx_words.proofs.SizeWords.{SizeAndOptions-limits}
 use Rattle.hx_words.proofs.commands.command_of.Goals as goal
@@ -13,11 +13,21 @@ returns-in_err-settings-in-solve-clause-finds c =
     let name : string_bytes c.in_ok-name.name.now ≡ codes "solve" = sym c.as_str.ensures.value ∙ c.in-solve.is in
     rw c.from_residual-in_err-settings-in-solve.ensures
     (Asks-solve (words_of c.args.words.now) (words_of c.in_ok-name.rest.now) (cc)
-    c.in_err-settings-in-solve.ensures)
+    (λ found options. c.in_err-settings-in-solve.ensures found (searches-choices found.1 found.0 (words_of c.in_ok-name.rest.now) options)))
+
+pub returns-in_ok-settings-in-solve-clause-finds : goal.returns-in_ok-settings-in-solve-clause-finds
+returns-in_ok-settings-in-solve-clause-finds c =
+    let words = ap words_of c.in_ok-name.ensures.cases.0 in
+    let name : string_bytes c.in_ok-name.name.now ≡ codes "solve" = sym c.as_str.ensures.value ∙ c.in-solve.is in (
+      words_of c.in_ok-name.rest.now,
+      cc,
+      choices-searches c.in_ok-settings-in-solve.plain_tree c.in_ok-settings-in-solve.settings
+          (words_of c.in_ok-name.rest.now) c.in_ok-settings-in-solve.ensures,
+    )
 
 pub returns-in_ok-settings-in-solve-clause-limits : goal.returns-in_ok-settings-in-solve-clause-limits
 returns-in_ok-settings-in-solve-clause-limits c =
-    search-limits (words_of c.in_ok-name.rest.now) c.in_ok-settings-in-solve.plain_tree c.in_ok-settings-in-solve.settings
+    choices-limits (words_of c.in_ok-name.rest.now) c.in_ok-settings-in-solve.plain_tree c.in_ok-settings-in-solve.settings
     c.in_ok-settings-in-solve.ensures
 
 pub returns-in_err-settings-in-htp-clause-finds : goal.returns-in_err-settings-in-htp-clause-finds

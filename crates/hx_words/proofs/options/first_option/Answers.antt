@@ -1,7 +1,7 @@
 use Rattle.std.proofs.Common.{◌≡◌, sym, ap, ◌∙◌, string_bytes}
 use Rattle.hx_words.specs.Words.{words_of}
 use Rattle.hx_words.specs.Settings.{name_of}
-use Rattle.hx_words.specs.Options.{Apart, Joined}
+use Rattle.hx_words.specs.Choices.{Apart, Joined}
 use Rattle.hx_words.proofs.Spellings.{Spelled-no_option}
 use Rattle.hx_words.proofs.options.first_option.Goals as goal
 

@@ -1,7 +1,7 @@
 use Rattle.std.proofs.Common.{sym, ap, ◌∙◌}
 use Rattle.hx_settings.specs.declared.settings.Settings.{Settings}
 use Rattle.hx_words.specs.Words.{words_of}
-use Rattle.hx_words.proofs.Leads.{AreOptionsAfter-one}
+use Rattle.hx_words.proofs.Leads.{AreChoicesAfter-one}
 use Rattle.hx_words.proofs.searches.alone_after.Goals as goal
 
 pub returns-in_err-settings : goal.returns-in_err-settings
@@ -10,6 +10,6 @@ returns-in_err-settings c =
 
 pub returns-else-settings-eq1 : goal.returns-else-settings-eq1
 returns-else-settings-eq1 c = λ settings alone.
-    let same = AreOptionsAfter-one c.args.before (words_of c.args.words.now) settings c.in_ok-settings.settings alone.0
+    let same = AreChoicesAfter-one c.args.before (words_of c.args.words.now) settings c.in_ok-settings.settings alone.0
     c.in_ok-settings.ensures in
     c.if-settings-eq1.false (sym (ap (λ (s : Settings). s.workers) same) ∙ alone.1)
