@@ -1,5 +1,5 @@
 -- What a run is good for: who is named wins, and each input gets its judgement.
-use Rattle.std.specs.Prelude.{◌≡◌, ℕ, ◌≤◌, List, length, Option, IfSome}
+use Rattle.std.specs.Prelude.{◌≡◌, ℕ, ◌≤◌, List, length, codes, Option, IfSome}
 use Rattle.hx_io.specs.Sources.{Reading, SomeReadFailed}
 use Rattle.hx_io.specs.Sinks.{Writing, SomeWriteFailed, append}
 use Rattle.hx_tree.specs.declared.nodes.Node.{Node}
@@ -7,9 +7,10 @@ use Rattle.hx_tree.specs.Trees.{IsValidTree, IsRoot}
 use Rattle.hx_text.specs.TreeTexts.{IsTreeText}
 use Rattle.hx_text.specs.Lengths.{most_nodes}
 use Rattle.hx_proof.specs.Winners.{OnlyWinner}
+use Rattle.hx_answers.specs.Texts.{counted_text}
 use Rattle.hx_answers.specs.Endings.{IsUnlessStopped, AnswersUnlessStopped, IsReadToEnd}
 use Rattle.hx_check.specs.Judging.{NodesAreRight, IsNoText, IsNoNode, ReadsNoFault}
-use Rattle.hx_check.specs.Judgements.{IsCheckStatus, IsLong, yes_text, no_text_line, no_node_line}
+use Rattle.hx_check.specs.Judgements.{IsCheckStatus, IsLong, yes_text}
 
 -- The input is the text of a valid tree, the output names the root's winner and its position, and that player wins and
 -- the other does not.
@@ -49,9 +50,9 @@ pub record KeepsPromises (source source_now : Reading) (sink sink_now : Writing)
   pub wrong : status ≡ 1 → IfSome source.left IsNoProof
   -- the line or the node that is named is the first that is at fault
   pub no_text : IfSome source.left (λ input. (line : ℕ) → IsNoText NodesAreRight input line
-      → AnswersUnlessStopped (no_text_line line) 1 sink.taken sink_now.taken status)
+      → AnswersUnlessStopped (counted_text (codes "no text ") line) 1 sink.taken sink_now.taken status)
   pub no_node : IfSome source.left (λ input. (node : ℕ) → IsNoNode NodesAreRight input node
-      → AnswersUnlessStopped (no_node_line node) 1 sink.taken sink_now.taken status)
+      → AnswersUnlessStopped (counted_text (codes "no node ") node) 1 sink.taken sink_now.taken status)
   -- what is above a limit before its first fault is answered with 8, and nothing else
   pub long : IfSome source.left (λ input. IsLong NodesAreRight input → IsUnlessStopped status 8)
   pub too_long : status ≡ 8 → IfSome source.left (IsLong NodesAreRight)
