@@ -7,7 +7,7 @@ use Rattle.hx_tree.specs.declared.nodes.Node.{Node}
 use Rattle.hx_tree.specs.Plain.{ArePlain}
 use Rattle.hx_tree.specs.Trees.{IsRoot}
 use Rattle.hx_text.specs.declared.versions.Version.{Version}
-use Rattle.hx_text.specs.TreeTexts.{EachNodeFits, ListsFit}
+use Rattle.hx_text.specs.TreeTexts.{NodeFits, ListsFit}
 use Rattle.hx_text.specs.Lengths.{most_nodes}
 use Rattle.hx_text.proofs.ValidTrees.{right_nodes_fit, each_lists_fit}
 use Rattle.hx_solve.specs.Solutions.{IsSolution}
@@ -19,7 +19,7 @@ few_nodes : (board : Board) (mover : Colour) (nodes : List Node) → IsSolution 
 few_nodes board mover nodes is = omega (arith, is.few)
 
 solution_fits : (version : Version) (board : Board) (mover : Colour) (nodes : List Node) → IsSolution board mover nodes
-    → IsVersionOf version nodes → EachNodeFits (record { version = version; size = board.size }) nodes
+    → IsVersionOf version nodes → All (NodeFits (record { version = version; size = board.size })) nodes
 solution_fits version board mover nodes is has =
     right_nodes_fit (record { version = version; size = board.size }) nodes is.valid.right (few_nodes board mover nodes is) is.size has.1
 

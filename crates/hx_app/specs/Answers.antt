@@ -16,7 +16,7 @@ use Rattle.hx_text.specs.declared.versions.Preamble.{Preamble}
 use Rattle.hx_text.specs.Versions.{HasTurned}
 use Rattle.hx_text.specs.Grammars.{text_of, IsFaultyLine}
 use Rattle.hx_text.specs.PositionTexts.{ArePositionLines}
-use Rattle.hx_text.specs.TreeTexts.{EachNodeFits, ListsFit, node_lines, written_tree}
+use Rattle.hx_text.specs.TreeTexts.{NodeFits, ListsFit, node_lines, written_tree}
 use Rattle.hx_text.specs.Lengths.{most_nodes}
 use Rattle.hx_settings.specs.declared.settings.Settings.{Settings}
 use Rattle.hx_solve.specs.declared.unsolved.Unsolved.{Unsolved}
@@ -85,7 +85,7 @@ pub record IsSolved (plain_tree : Bool) (input : List ℕ) (solution : Solution)
   pub plain : plain_tree ≡ true → ArePlain solution.nodes.items
   pub size : solution.size ≡ board.size
   pub version : IsVersionOf solution.version solution.nodes.items
-  pub fits : EachNodeFits (preamble_of solution) solution.nodes.items
+  pub fits : All (NodeFits (preamble_of solution)) solution.nodes.items
   pub winner : solution.winner ≡ tree.root.heading.winner
 
 -- the input is the text of a position that is not small under the budget, and in which, unless the budget is 0, neither

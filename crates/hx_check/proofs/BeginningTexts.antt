@@ -12,10 +12,11 @@ use Rattle.hx_text.proofs.ShortLines.{AllShort, AllShort-middle, AllShort-tree_l
 use Rattle.hx_text.proofs.TreeLacks.{AllLack-tree_lines, AllLack-begun}
 use Rattle.hx_reader.proofs.Steps.{end_wrong}
 use Rattle.hx_check.specs.Limits.{BeginsLong}
-use Rattle.hx_check.specs.Judging.{Demand, EndedIn, IsNoText, IsNoNode, IsLongLine, IsTooManyNodes}
+use Rattle.hx_check.specs.Judging.{Demand, EndedIn, IsNoText, IsNoNode, IsLongLine}
 use Rattle.hx_check.specs.Judgements.{IsLong}
-use Rattle.hx_check.proofs.Readings.{GoOn, ended_first, right_among, no_next, many_lines, many_begin, more_nodes}
-use Rattle.hx_check.proofs.LongLines.{none_not_long, lines_not_long}
+use Rattle.hx_check.proofs.Readings.{GoOn, node_end, node_begins, ended_first, right_among, no_next, many_lines, many_begin, more_nodes}
+use Rattle.hx_check.proofs.LongLines.{none_not_long, lines_not_long, long_begins}
+use Rattle.hx_check.proofs.ManyNodes.{ManyNodes, many_of}
 
 pub are_lines : {text : List ℕ} {nodes : List Node} (tree : IsTreeText text nodes) → AreTreeLines tree.lines
 are_lines {text} {nodes} tree = record { preamble = tree.preamble; nodes = nodes; winner = tree.winner; are = tree.are }
@@ -86,11 +87,12 @@ module _ {text : List ℕ} {nodes : List Node} (tree : IsTreeText text nodes) (r
   pub no_wrong_node : {Meets : Demand} {input : List ℕ} → input ≡ text ++ rest → (k : ℕ) → AreRight nodes → IsNoNode Meets input k → ⊥
   no_wrong_node parts k right is =
       is.wrong (right_among is.earlier is.node nodes
-      (nodes_within is.lines is.rest (is.earlier ++ is.node ∷ []) is.ended (within parts is.lines is.rest is.right is.parts))
+      (nodes_within (node_end is) is.rest (is.earlier ++ is.node ∷ []) is.ended
+      (within parts (node_end is) is.rest (node_begins is) is.parts))
       (right (length is.earlier)))
 
   -- there are not too many nodes
-  pub not_too_many : {Meets : Demand} {input : List ℕ} → input ≡ text ++ rest → length nodes ≤ most_nodes → IsTooManyNodes Meets input → ⊥
+  pub not_too_many : {Meets : Demand} {input : List ℕ} → input ≡ text ++ rest → length nodes ≤ most_nodes → ManyNodes Meets input → ⊥
   not_too_many parts few many =
       let on : Within (many_lines many) many.rest = within parts (many_lines many) many.rest (many_begin many) many.parts in
       more_nodes many tree.preamble nodes tree.winner on.more (subst (AreTreeLinesOf tree.preamble nodes tree.winner) on.is tree.are) few
@@ -110,13 +112,13 @@ module _ {text : List ℕ} {nodes : List Node} (tree : IsTreeText text nodes) (r
   pub long_behind : {Meets : Demand} {input : List ℕ} → input ≡ text ++ rest → (long : IsLongLine Meets input)
       → (long.lines ≡ tree.lines) × BeginsLong rest
   long_behind parts long =
-      let on : Within long.lines long.rest = within parts long.lines long.rest long.faultless.begin long.parts in
+      let on : Within long.lines long.rest = within parts long.lines long.rest (long_begins long) long.parts in
       long_by long on.more on.is on.left_is
 
   pub not_long : {Meets : Demand} {input : List ℕ} → input ≡ text ++ rest → length nodes ≤ most_nodes → ¬ BeginsLong rest
       → IsLong Meets input → ⊥
   not_long parts few short (inl long) = short (long_behind parts long).1
-  not_long parts few short (inr many) = not_too_many parts few many
+  not_long parts few short (inr many) = not_too_many parts few (many_of many)
 
 -- ---- a text with nothing behind it
 

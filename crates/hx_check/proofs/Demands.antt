@@ -1,11 +1,10 @@
 -- What is asked of the nodes before a fault: a fault that is due under one demand is due under each that asks less.
-use Rattle.std.proofs.Common.{ℕ, List, ◌++◌, sym, subst}
+use Rattle.std.proofs.Common.{ℕ, List, sym, subst}
 use Rattle.std.proofs.lemmas.Option.{IfSome_then}
 use Rattle.std.proofs.Common.{inl, inr}
-use Rattle.std.specs.Prelude.{Option, flat_map}
+use Rattle.std.specs.Prelude.{Option}
 use Rattle.hx_tree.specs.declared.nodes.Node.{Node}
 use Rattle.hx_tree.specs.Trees.{AreRight}
-use Rattle.hx_text.specs.TreeTexts.{front_lines, node_lines}
 use Rattle.hx_check.specs.declared.faults.Fault.{Fault}
 use Rattle.hx_check.specs.declared.faults.Fault.TheVariants.{NoText, NoNode, ReadFault, OutOfMemory, TooLong}
 use Rattle.hx_check.specs.Judging.{Demand, NodesAreRight, AreThese, AreFaultless, IsNoText, IsNoNode}
@@ -20,31 +19,29 @@ right_asks lines nodes right = right
 
 module _ (Meets Less : Demand)
     (less : (lines : List (List ℕ)) (nodes : List Node) → Meets lines nodes → Less lines nodes) where
+  faultless_less : (lines : List (List ℕ)) → AreFaultless Meets lines → AreFaultless Less lines
+  faultless_less lines is = record { nodes = is.nodes; ended = is.ended; meets = less lines is.nodes is.meets }
+
   no_text_less : (input : List ℕ) (line : ℕ) → IsNoText Meets input line → IsNoText Less input line
   no_text_less input line is =
-      record { fault = is.fault; nodes = is.nodes; ended = is.ended; meets = less is.fault.before is.nodes is.meets; short = is.short }
+      record { fault = is.fault; faultless = faultless_less is.fault.before is.faultless; short = is.short }
 
   no_node_less : (input : List ℕ) (k : ℕ) → IsNoNode Meets input k → IsNoNode Less input k
   no_node_less input k is = record {
     lines = is.lines;
+    last = is.last;
     rest = is.rest;
     parts = is.parts;
-    right = is.right;
-    front = is.front;
-    last = is.last;
-    are = is.are;
     earlier = is.earlier;
     node = is.node;
     ended = is.ended;
-    meets = less is.front is.earlier is.meets;
+    meets = less is.lines is.earlier is.meets;
     count = is.count;
     wrong = is.wrong;
   }
 
-  faultless_less : (lines : List (List ℕ)) → AreFaultless Meets lines → AreFaultless Less lines
-  faultless_less lines is = record { begin = is.begin; nodes = is.nodes; ended = is.ended; meets = less lines is.nodes is.meets }
-
   long_less : (input : List ℕ) → IsLong Meets input → IsLong Less input
+  unfolding faultless_less
   long_less input (inl long) = inl (record {
     lines = long.lines;
     rest = long.rest;
@@ -53,16 +50,14 @@ module _ (Meets Less : Demand)
     long = long.long;
   })
   long_less input (inr many) = inr (record {
-    preamble = many.preamble;
-    is_size = many.is_size;
-    nodes = many.nodes;
-    each = many.each;
-    meets = less (front_lines many.preamble ++ flat_map node_lines many.nodes) many.nodes many.meets;
-    full = many.full;
+    lines = many.lines;
     next = many.next;
-    next_fits = many.next_fits;
     rest = many.rest;
     parts = many.parts;
+    faultless = faultless_less many.lines many.faultless;
+    full = many.full;
+    goes_on = many.goes_on;
+    unended = many.unended;
   })
 
   pub due_less : (before after : Option (List ℕ)) (rose : Type 0) (fault : Fault) → IsFaultDue Meets before after rose fault

@@ -7,13 +7,13 @@ use Rattle.std.proofs.lemmas.List.{length-map}
 use Rattle.std.specs.declared.result.Result.{Result}
 use Rattle.std.specs.declared.result.Result.TheVariants.{Ok, Err}
 use Rattle.std.proofs.lemmas.Option.{same_Some}
-use Rattle.std.specs.Prelude.{IfSome, IsTrue, flat_map}
+use Rattle.std.specs.Prelude.{IfSome, IsTrue}
 use Rattle.hx_io.specs.Causes.{next_count}
 use Rattle.hx_io.specs.Sources.{prepend}
 use Rattle.hx_lines.specs.Lines.{HasLf, longest, lines_of}
 use Rattle.hx_lines.specs.declared.cutters.Cut.{Cut}
 use Rattle.hx_lines.specs.declared.cutters.Cut.TheVariants.{Line, TooLong as Is_too_long, Over}
-use Rattle.hx_lines.specs.Cutters.{Cutter, Stays, CutsLine, IsCut, BeginLong}
+use Rattle.hx_lines.specs.Cutters.{Cutter, Stays, CutsLine, IsTooLong, IsCut, BeginLong}
 use Rattle.hx_lines.proofs.LineLaws.{lines_of-nil, stream-loses}
 use Rattle.hx_lines.proofs.StreamParts.{parts-stay, some_not_none, TellsStream, tells_stream}
 use Rattle.hx_tree.specs.declared.nodes.Node.{Node}
@@ -21,13 +21,14 @@ use Rattle.hx_tree.specs.Rules.{IsRightNode}
 use Rattle.hx_reader.specs.declared.places.Place.{Place}
 use Rattle.hx_letters.specs.Marks.{Lacks}
 use Rattle.hx_text.specs.Grammars.{text_of, Begins}
-use Rattle.hx_text.specs.TreeTexts.{AreTreeLines, front_lines, node_lines, head_line}
+use Rattle.hx_text.specs.TreeTexts.{AreTreeLines, first_line, head_line}
 use Rattle.hx_reader.specs.Places.{Stands, StandsSoFar, IsNextNode}
 use Rattle.hx_text.specs.Lengths.{most_nodes}
 use Rattle.hx_reader.specs.Reader.{HasRead, lines_fed}
 use Rattle.hx_reader.proofs.BegunNodes.{node_of_head}
 use Rattle.hx_reader.proofs.Completions.{Begins-stands}
 use Rattle.hx_text.proofs.Cuts.{text_of-push}
+use Rattle.hx_text.proofs.NodeParts.{first_line-head}
 use Rattle.hx_reader.proofs.Faults.{missing, wrong_line}
 use Rattle.hx_check.specs.declared.faults.Fault.{Fault}
 use Rattle.hx_check.specs.declared.faults.Fault.TheVariants.{NoText, NoNode, ReadFault, OutOfMemory, TooLong}
@@ -41,7 +42,8 @@ use Rattle.hx_check.specs.Judging.{Demand, NodesAreRight, AreThese, IsNoText, Is
 use Rattle.hx_check.specs.Judgements.{IsLong, IsFaultDue, IsDue}
 use Rattle.hx_check.specs.Standings.{HasJudged, JudgedUpTo, HasReadAll, Brings, AnswersNode}
 use Rattle.hx_check.proofs.JudgedNodes.{faultless, few_fed, count_more, judged_node}
-use Rattle.hx_check.proofs.LongLines.{lacks_of, none_not_long}
+use Rattle.hx_check.proofs.ManyNodes.{first_not_last, begins_with_node}
+use Rattle.hx_check.proofs.LongLines.{lacks_of, long_first, none_not_long}
 use Rattle.hx_check.proofs.Standings.{ended_in, few_nodes, not_whole}
 
 -- ---- the input, where it is told
@@ -71,10 +73,20 @@ pub none_of : (old new : Cutter) (rest : List ℕ) (then_left : Option (List ℕ
     → old.held ++ rest ≡ []
 none_of old new rest then_left told = stream-loses _ _ _ _ _ told.is.0.same ∙ ap (λ held. held ++ told.later) told.is.1.none ∙ told.is.2
 
+long_stream : (cutter : Cutter) (rest : List ℕ) → IsTooLong cutter → BeginsLong (cutter.held ++ rest)
+long_stream cutter rest long = record {
+  front = long.front;
+  more = long.more ++ rest;
+  parts = ap (λ held. held ++ rest) long.held ∙ append_assoc long.front long.more rest;
+  plain = long.plain;
+  long = long.long;
+}
+
 pub cut_not_long : (ended : Bool) (old new : Cutter) (rest : List ℕ) (then_left : Option (List ℕ))
     → TellsStream old new rest then_left (Line ended) → ¬ BeginsLong (old.held ++ rest)
 cut_not_long ended old new rest then_left told long =
-    let first : BeginLong (new.line ∷ lines_of (new.held ++ told.later)) = subst BeginLong told.tells long in
+    let first : BeginLong (new.line ∷ lines_of (new.held ++ told.later)) =
+    subst BeginLong told.tells (long_first (old.held ++ rest) long) in
     omega (arith, told.is.short, first)
 
 pub cut_some : (ended : Bool) (old new : Cutter) (rest : List ℕ) (then_left : Option (List ℕ))
@@ -96,12 +108,14 @@ module _ (Meets : Demand) (before : Option (List ℕ)) (judge : Judge) (nodes : 
   pub long_answer : IsCut old new left then_left Is_too_long → IfSome before (IsLong Meets)
   long_answer cut =
       says_of before (text_of lines) old.held left (IsLong Meets) upto.parts
-      (λ input rest is parts. inl (record {
+      (λ input rest is parts.
+      let told : TellsStream old new rest then_left Is_too_long = told_of old new left then_left Is_too_long rest is cut in
+      inl (record {
         lines = lines;
         rest = old.held ++ rest;
         parts = parts;
         faultless = faultless judge nodes lines upto.judged Meets meets;
-        long = (told_of old new left then_left Is_too_long rest is cut).tells;
+        long = subst BeginsLong (sym (stream-loses _ _ _ _ _ told.is.0.same)) (long_stream new told.later told.is.1);
       }))
 
   -- a read failed
@@ -121,9 +135,7 @@ module _ (Meets : Demand) (before : Option (List ℕ)) (judge : Judge) (nodes : 
   no_line input number stream unended parts place lacks short = record {
     fault = missing input lines stream number parts place (Begins-stands judge.reader.place nodes lines upto.judged.read)
         (not_whole judge.reader.place nodes lines unended upto.judged.read) lacks;
-    nodes = nodes;
-    ended = ended_in judge.reader.place nodes lines upto.judged.read upto.judged.few;
-    meets = meets;
+    faultless = faultless judge nodes lines upto.judged Meets meets;
     short = short;
   }
 
@@ -148,9 +160,7 @@ module _ (Meets : Demand) (before : Option (List ℕ)) (judge : Judge) (nodes : 
         fault =
             wrong_line input lines new.line (new.held ++ told.later) number (parts ∙ ap (λ bytes. text_of lines ++ bytes) stream) place
             (Begins-stands judge.reader.place nodes lines upto.judged.read) (lacks_of new.line cut.plain) (wrong refl);
-        nodes = nodes;
-        ended = ended_in judge.reader.place nodes lines upto.judged.read upto.judged.few;
-        meets = meets;
+        faultless = faultless judge nodes lines upto.judged Meets meets;
         short = subst (λ bytes. ¬ BeginsLong bytes) stream (cut_not_long true old new rest then_left told);
       })
   wrong_by false number cut unended place wrong =
@@ -183,20 +193,19 @@ module _ (Meets : Demand) (before : Option (List ℕ)) (judge : Judge) (nodes : 
           let stands : StandsSoFar next.so_far nodes lines =
           subst (λ (p : Place). Stands p nodes lines) next.is upto.judged.read in
           let whole = node_of_head next.so_far.preamble next.head stands.is_size next.fits in
+          let is_first : new.line ≡ first_line whole.0 = next.same ∙ ap head_line (sym whole.2) ∙ sym (first_line-head whole.0) in
           record {
-            preamble = next.so_far.preamble;
-            is_size = stands.is_size;
-            nodes = nodes;
-            each = stands.each;
-            meets = subst (λ (ls : List (List ℕ)). Meets ls nodes) stands.same meets;
-            full = many.0;
-            next = whole.0;
-            next_fits = whole.1;
+            lines = lines;
+            next = new.line;
             rest = later;
-            parts = parts ∙ sym (text_of-push lines new.line later)
-                ∙ ap (λ (ls : List (List ℕ)). text_of (ls ++ new.line ∷ []) ++ later) stands.same
-                ∙ ap (λ (l : List ℕ). text_of ((front_lines next.so_far.preamble ++ flat_map node_lines nodes) ++ l ∷ []) ++ later)
-                (next.same ∙ ap head_line (sym whole.2));
+            parts = parts ∙ sym (text_of-push lines new.line later);
+            faultless = faultless judge nodes lines upto.judged Meets meets;
+            full = many.0;
+            goes_on = subst (λ (l : List ℕ). Begins AreTreeLines (lines ++ l ∷ [])) (sym is_first)
+                (begins_with_node next.so_far.preamble nodes whole.0 lines stands.is_size stands.each whole.1 (omega (arith, many.0))
+                stands.same);
+            unended = λ are. first_not_last next.so_far.preamble nodes whole.0 lines stands.is_size stands.each whole.1 stands.same
+                (subst (λ (l : List ℕ). AreTreeLines (lines ++ l ∷ [])) is_first are);
           }
 
   -- a node that is not right
@@ -208,14 +217,11 @@ module _ (Meets : Demand) (before : Option (List ℕ)) (judge : Judge) (nodes : 
       (λ input rest is parts.
       let told : TellsStream old new rest then_left (Line true) = told_of old new left then_left (Line true) rest is cut in
       record {
-        lines = lines ++ new.line ∷ [];
+        lines = lines;
+        last = new.line;
         rest = new.held ++ told.later;
         parts = parts ∙ ap (λ bytes. text_of lines ++ bytes) (stream_of old new rest then_left told)
             ∙ sym (text_of-push lines new.line (new.held ++ told.later));
-        right = Begins-stands new_judge.reader.place (nodes ++ node ∷ []) (lines ++ new.line ∷ []) reads;
-        front = lines;
-        last = new.line;
-        are = refl;
         earlier = nodes;
         node = node;
         ended = ended_in new_judge.reader.place (nodes ++ node ∷ []) (lines ++ new.line ∷ []) reads

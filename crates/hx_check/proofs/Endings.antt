@@ -24,7 +24,7 @@ use Rattle.hx_check.specs.Judging.{Demand, IsYes, IsNoText}
 use Rattle.hx_check.specs.Standings.{HasJudged, JudgedUpTo, HasReadAll}
 use Rattle.hx_letters.proofs.Ends.{push-some}
 use Rattle.hx_reader.proofs.Steps.{end_wrong}
-use Rattle.hx_check.proofs.Standings.{ended_in}
+use Rattle.hx_check.proofs.JudgedNodes.{faultless}
 use Rattle.hx_check.proofs.DueAnswers.{says_of, none_of, told_of, cut_some, cut_not_long}
 use Rattle.hx_reader.proofs.Completions.{Begins-stands}
 use Rattle.hx_reader.proofs.Faults.{surplus}
@@ -111,9 +111,7 @@ module _ (before : Option (List ℕ)) (judge : Judge) (nodes : List Node) (lines
         fault = surplus input lines (old.held ++ rest) number parts (is ∙ ap (λ (n : ℕ). n + 1) upto.judged.counted)
             (Begins-stands judge.reader.place nodes lines upto.judged.read) (cut_some ended old new rest then_left told)
             (λ next begins. end_wrong all.0 are.0 nodes lines next are.1 begins);
-        nodes = nodes;
-        ended = ended_in judge.reader.place nodes lines upto.judged.read upto.judged.few;
-        meets = meets;
+        faultless = faultless judge nodes lines upto.judged Meets meets;
         short = cut_not_long ended old new rest then_left told;
       })
 

@@ -9,10 +9,11 @@ use Rattle.hx_text.specs.TreeTexts.{AreTreeLines}
 use Rattle.hx_text.proofs.Cuts.{Agree, Second_goes_on, First_goes_on, agree}
 use Rattle.hx_text.proofs.OneFault.{no_more}
 use Rattle.hx_text.proofs.TreeLacks.{AllLack-tree_lines, AllLack-begun}
-use Rattle.hx_check.specs.Judging.{Demand, EndedIn, IsNoText, IsLongLine, IsTooManyNodes}
+use Rattle.hx_check.specs.Judging.{Demand, EndedIn, IsNoText, IsLongLine}
 use Rattle.hx_check.proofs.Readings.{GoOn, ended_first, few_ended, too_many, all_of, many_lines, many_rest, goes_to_end, AllLack-many_lines}
 use Rattle.hx_check.proofs.OneAnswer.{front_nodes}
-use Rattle.hx_check.proofs.LongLines.{GoesOn, goes_on, AllShort-begun}
+use Rattle.hx_check.proofs.LongLines.{GoesOn, goes_on, long_begins, AllShort-begun}
+use Rattle.hx_check.proofs.ManyNodes.{ManyNodes}
 
 -- of two fronts of a list the one that is not longer is a front of the other
 pub front_of : {X : Type 0} (short long x y : List X) → short ++ x ≡ long ++ y → length short ≤ length long
@@ -28,13 +29,14 @@ front_of {X} (first ∷ short) (other ∷ long) x y e less =
 module _ {Meets : Demand} {input : List ℕ} (lines : List (List ℕ)) (rest : List ℕ) (nodes : List Node) (begins : Begins AreTreeLines lines)
     (parts : input ≡ text_of lines ++ rest) (ended : EndedIn lines nodes) where
   before_line_from : {line : ℕ} (text : IsNoText Meets input line) (more : List (List ℕ)) → text.fault.before ≡ lines ++ more
-      → GoOn nodes text.nodes
+      → GoOn nodes text.faultless.nodes
   before_line_from text more is =
-      front_nodes lines more nodes text.nodes ended (subst (λ (ls : List (List ℕ)). EndedIn ls text.nodes) is text.ended)
+      front_nodes lines more nodes text.faultless.nodes ended
+      (subst (λ (ls : List (List ℕ)). EndedIn ls text.faultless.nodes) is text.faultless.ended)
       (subst (Begins AreTreeLines) is text.fault.right)
 
   before_line_by : {line : ℕ} (text : IsNoText Meets input line) → Agree lines text.fault.before rest text.fault.rest
-      → GoOn nodes text.nodes
+      → GoOn nodes text.faultless.nodes
   before_line_by text (Second_goes_on more is left) = before_line_from text more is
   before_line_by {line} text (First_goes_on more is left) =
       let none : more ≡ [] = no_more AreTreeLines AllLack-tree_lines input line text.fault lines more rest is left begins in
@@ -42,7 +44,7 @@ module _ {Meets : Demand} {input : List ℕ} (lines : List (List ℕ)) (rest : L
       (sym (is ∙ ap (λ (ls : List (List ℕ)). text.fault.before ++ ls) none ∙ append-nil text.fault.before) ∙ sym (append-nil lines))
 
   -- before a line at fault
-  pub first_before_line : {line : ℕ} (text : IsNoText Meets input line) → GoOn nodes text.nodes
+  pub first_before_line : {line : ℕ} (text : IsNoText Meets input line) → GoOn nodes text.faultless.nodes
   first_before_line text =
       before_line_by text
       (agree lines text.fault.before rest text.fault.rest (AllLack-begun lines begins)
@@ -55,9 +57,9 @@ module _ {Meets : Demand} {input : List ℕ} (lines : List (List ℕ)) (rest : L
       goes_on input long lines rest (AllLack-begun lines begins) (AllShort-begun lines begins) parts in
       front_nodes lines on.more nodes long.faultless.nodes ended
       (subst (λ (ls : List (List ℕ)). EndedIn ls long.faultless.nodes) on.is long.faultless.ended)
-      (subst (Begins AreTreeLines) on.is long.faultless.begin)
+      (subst (Begins AreTreeLines) on.is (long_begins long))
 
-  of_many_by : (many : IsTooManyNodes Meets input) → Agree (many_lines many) lines many.rest rest → GoOn nodes many.nodes
+  of_many_by : (many : ManyNodes Meets input) → Agree (many_lines many) lines many.rest rest → GoOn nodes many.nodes
   of_many_by many (Second_goes_on more is left) = absurd (too_many many lines more nodes is ended)
   of_many_by many (First_goes_on more is left) =
       let on : GoOn nodes (all_of many) =
@@ -68,7 +70,7 @@ module _ {Meets : Demand} {input : List ℕ} (lines : List (List ℕ)) (rest : L
       record { more = front.0; same = front.1 }
 
   -- where there are too many nodes, among as many as a text may have
-  pub first_of_many : (many : IsTooManyNodes Meets input) → GoOn nodes many.nodes
+  pub first_of_many : (many : ManyNodes Meets input) → GoOn nodes many.nodes
   first_of_many many =
       of_many_by many
       (agree (many_lines many) lines many.rest rest (AllLack-many_lines many) (AllLack-begun lines begins) (sym many.parts ∙ parts))

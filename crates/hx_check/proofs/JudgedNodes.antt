@@ -12,7 +12,6 @@ use Rattle.hx_tree.proofs.TreeGrowth.{one_more_right, headings_of-append}
 use Rattle.hx_text.specs.Grammars.{text_of}
 use Rattle.hx_io.specs.Causes.{next_count}
 use Rattle.hx_reader.specs.Reader.{HasRead, lines_fed}
-use Rattle.hx_reader.proofs.Completions.{Begins-stands}
 use Rattle.hx_text.proofs.Cuts.{text_of-append}
 use Rattle.hx_check.specs.declared.judges.Judge.{Judge}
 use Rattle.hx_check.specs.Judging.{Demand, AreFaultless}
@@ -31,9 +30,8 @@ judged_nothing before judge held judged nothing = record {
 
 module _ (judge : Judge) (nodes : List Node) (lines : List (List ℕ)) (judged : HasJudged judge nodes lines) where
   -- the lines so far have no fault, and they are few
-  pub faultless : (Meets : Demand) → Meets lines nodes → AreFaultless Meets lines
+  abbrev pub faultless : (Meets : Demand) → Meets lines nodes → AreFaultless Meets lines
   faultless Meets meets = record {
-    begin = Begins-stands judge.reader.place nodes lines judged.read;
     nodes = nodes;
     ended = ended_in judge.reader.place nodes lines judged.read judged.few;
     meets = meets;

@@ -1,4 +1,6 @@
 pub mod Demands
+pub mod EndedNodes
+pub mod ManyNodes
 pub mod Standings
 pub mod LineCounts
 pub mod JudgedNodes

@@ -1,83 +1,81 @@
 -- At most one fault with status 1 fits an input, with one number, under each demand that asks for right nodes. Nodes that ended in
 -- the first lines are not more than those that ended in more lines; so where a node is wrong, no line after it is at fault with
 -- right nodes before it.
-use Rattle.std.proofs.Common.{◌≡◌, ◌≢◌, ℕ, ◌<◌, ◌≤◌, List, [], ◌∷◌, ◌++◌, length, refl, sym, ap, ◌∙◌, subst, arith, ⊎_elim, append_assoc}
+use Rattle.std.proofs.Common.{◌≡◌, ℕ, ◌<◌, ◌≤◌, List, [], ◌∷◌, ◌++◌, length, refl, sym, ap, ◌∙◌, subst, arith, ⊎_elim, append_assoc}
 use Rattle.std.proofs.Common.{length-append}
 use Rattle.std.proofs.lemmas.Bool.{cases_lt}
-use Rattle.std.proofs.lemmas.List.{append-nil, append_cancel_left, nil_from_length}
+use Rattle.std.proofs.lemmas.List.{append-nil, append_cancel_left}
 use Rattle.std.proofs.lemmas.Grind.{flat_map-append}
-use Rattle.std.specs.Prelude.{flat_map}
+use Rattle.std.specs.Prelude.{flat_map, All}
+use Rattle.std.proofs.lemmas.List.Elements.{All-head, All-tail}
+use Rattle.hx_board.specs.declared.colours.Colour.{Colour}
 use Rattle.hx_board.specs.Cells.{IsExtent}
 use Rattle.hx_tree.specs.declared.nodes.Node.{Node}
 use Rattle.hx_tree.specs.Trees.{IsLeastWrong}
 use Rattle.hx_tree.proofs.TreeGrowth.{least_wrong-append, least_wrong-last}
+use Rattle.hx_letters.specs.Words.{IsNumber}
 use Rattle.hx_text.specs.declared.versions.Preamble.{Preamble}
 use Rattle.hx_text.specs.Grammars.{Begins}
 use Rattle.hx_text.specs.PositionTexts.{size_line}
-use Rattle.hx_text.specs.TreeTexts.{AreTreeLines, AreTreeLinesOf, EachNodeFits, NodeFits, title_line, front_lines, head_of, head_line}
+use Rattle.hx_text.specs.TreeTexts.{AreTreeLines, AreTreeLinesOf, NodeFits, title_line, front_lines, first_line}
 use Rattle.hx_text.specs.TreeTexts.{node_lines, end_line}
 use Rattle.hx_text.proofs.Cuts.{Agree, Second_goes_on, First_goes_on, agree}
 use Rattle.hx_text.proofs.Alignment.{preamble_injective}
-use Rattle.hx_text.proofs.NodeInjective.{head_not_end, node_cancel}
+use Rattle.hx_text.proofs.NodeInjective.{first_not_end, node_cancel}
 use Rattle.hx_text.proofs.OneFault.{no_more}
 use Rattle.hx_text.proofs.TreeLacks.{AllLack-tree_lines, AllLack-begun}
-use Rattle.hx_check.specs.Judging.{Demand, EndedIn, Before_size, Among_nodes, Inside_node, After_end, IsNoText, IsNoNode}
+use Rattle.hx_check.specs.Judging.{Demand, EndedIn, IsNoText, IsNoNode}
 use Rattle.hx_check.proofs.Demands.{AsksRight}
-use Rattle.hx_check.proofs.Readings.{GoOn, ended_first, right_among}
+use Rattle.hx_check.proofs.EndedNodes.{all_front, all_back, ended_parts, long_lines, part_lacks}
+use Rattle.hx_check.proofs.Readings.{GoOn, node_end, node_begins, ended_first, right_among}
 
 -- lines of these nodes, and then lines that begin with no whole node
 record Ended (lines : List (List ℕ)) (nodes : List Node) : Type 0 where
   preamble : Preamble
   is_size : IsExtent preamble.size.rows preamble.size.cols
-  each : EachNodeFits preamble nodes
+  each : All (NodeFits preamble) nodes
   tail : List (List ℕ)
   same : lines ≡ (front_lines preamble ++ flat_map node_lines nodes) ++ tail
   no_node : (node : Node) (rest : List (List ℕ)) → NodeFits preamble node → tail ≡ node_lines node ++ rest → ⊥
 
-part_no_node : (preamble : Preamble) (node : Node) (part rest : List (List ℕ)) → IsExtent preamble.size.rows preamble.size.cols
-    → NodeFits preamble node
-    → node_lines node ≡ part ++ rest → rest ≢ [] → (other : Node) (more : List (List ℕ)) → NodeFits preamble other → part ≡ node_lines other
-    ++ more → ⊥
-part_no_node preamble node part rest extent fits whole some other more fits_other e =
-    let same : node_lines node ++ [] ≡ node_lines other ++ (more ++ rest) =
-    append-nil (node_lines node) ∙ whole ∙ ap (λ (ls : List (List ℕ)). ls ++ rest) e ∙ append_assoc (node_lines other) more rest in
-    let none : [] ≡ more ++ rest = (node_cancel preamble node other [] (more ++ rest) extent fits fits_other same).1 in
-    some (nil_from_length rest (omega (arith, ap length none, length-append more rest)))
+part_no_node : (preamble : Preamble) (later : List Node) (count : ℕ) (winner : Colour) (part rest : List (List ℕ))
+    → IsExtent preamble.size.rows preamble.size.cols → IsNumber count → All (NodeFits preamble) later
+    → part ++ rest ≡ flat_map node_lines later ++ end_line count winner ∷ []
+    → ((next : Node) (others : List Node) → later ≡ next ∷ others → length part < length (node_lines next))
+    → (other : Node) (more : List (List ℕ)) → NodeFits preamble other → part ≡ node_lines other ++ more → ⊥
+part_no_node preamble [] count winner part rest extent small each parts lacks other more fits e =
+    let same : (node_lines other ++ more) ++ rest ≡ end_line count winner ∷ [] =
+    ap (λ (ls : List (List ℕ)). ls ++ rest) (sym e) ∙ parts in
+    let first : first_line other ≡ end_line count winner = cc in
+    first_not_end preamble other count winner extent fits small first
+part_no_node preamble (next ∷ others) count winner part rest extent small each parts lacks other more fits e =
+    let end : List (List ℕ) = end_line count winner ∷ [] in
+    let same : node_lines other ++ (more ++ rest) ≡ node_lines next ++ (flat_map node_lines others ++ end) =
+    sym (append_assoc (node_lines other) more rest) ∙ ap (λ (ls : List (List ℕ)). ls ++ rest) (sym e) ∙ parts
+    ∙ append_assoc (node_lines next) (flat_map node_lines others) end in
+    let nodes : other ≡ next = (node_cancel preamble other next (more ++ rest) (flat_map node_lines others ++ end) extent fits
+    (All-head (NodeFits preamble) next others each) same).0 in
+    absurd (omega (
+      arith,
+      lacks next others refl,
+      ap length e,
+      length-append (node_lines other) more,
+      ap (λ (n : Node). length (node_lines n)) nodes,
+    ))
 
 ended_form : (lines : List (List ℕ)) (nodes : List Node) → EndedIn lines nodes → 2 ≤ length lines → Ended lines nodes
-ended_form lines nodes (Before_size none short) long = absurd (omega arith)
-ended_form lines nodes (Among_nodes preamble is_size each few same) long = record {
-  preamble = preamble;
-  is_size = is_size;
-  each = each;
-  tail = [];
-  same = same ∙ sym (append-nil (front_lines preamble ++ flat_map node_lines nodes));
-  no_node = λ node rest fits e. cc;
-}
-ended_form lines nodes (Inside_node preamble is_size each few node fits part rest whole some same) long = record {
-  preamble = preamble;
-  is_size = is_size;
-  each = each;
-  tail = part;
-  same = same;
-  no_node = part_no_node preamble node part rest is_size fits whole some;
-}
-ended_form lines nodes (After_end preamble winner whole few) long = record {
-  preamble = preamble;
-  is_size = whole.is_size;
-  each = whole.each;
-  tail = end_line (length nodes) winner ∷ [];
-  same = whole.same;
-  no_node = λ node rest fits e.
-      let first : end_line (length nodes) winner ≡ head_line (head_of node) = cc in
-      head_not_end preamble (head_of node) (length nodes) winner whole.is_size fits.head whole.count (sym first);
-}
-
-long_lines : (lines : List (List ℕ)) (nodes : List Node) → EndedIn lines nodes → 1 ≤ length nodes → 2 ≤ length lines
-long_lines lines nodes (Before_size none short) some = absurd (omega (arith, ap length none))
-long_lines lines nodes (Among_nodes preamble is_size each few same) some = omega (arith, ap length same)
-long_lines lines nodes (Inside_node preamble is_size each few node fits part rest whole other same) some = omega (arith, ap length same)
-long_lines lines nodes (After_end preamble winner whole few) some = omega (arith, ap length whole.same)
+ended_form lines nodes ended long =
+    let parts = ended_parts lines nodes ended long in
+    record {
+      preamble = ended.preamble;
+      is_size = ended.text.is_size;
+      each = all_front ended.preamble nodes ended.later ended.text.each;
+      tail = parts.part;
+      same = parts.same;
+      no_node = part_no_node ended.preamble ended.later (length (nodes ++ ended.later)) ended.winner parts.part ended.rest
+          ended.text.is_size ended.text.count (all_back ended.preamble nodes ended.later ended.text.each) parts.left
+          (part_lacks lines nodes ended parts.part parts.same);
+    }
 
 -- of two fronts of a list the longer one goes on
 record Longer (short long : List Node) : Type 0 where
@@ -100,10 +98,11 @@ longer (first ∷ short) (other ∷ long) x y e less =
     let on : Longer short long = longer short long x y rests (omega arith) in
     record { next = on.next; more = on.more; same = one_longer first other short long on.next on.more firsts on.same }
 
-fits_middle : (preamble : Preamble) (front : List Node) (node : Node) (more : List Node) → EachNodeFits preamble (front ++ node ∷ more)
+fits_middle : (preamble : Preamble) (front : List Node) (node : Node) (more : List Node) → All (NodeFits preamble) (front ++ node ∷ more)
     → NodeFits preamble node
-fits_middle preamble [] node more each = each.0
-fits_middle preamble (first ∷ front) node more each = fits_middle preamble front node more each.1
+fits_middle preamble [] node more each = All-head (NodeFits preamble) node more each
+fits_middle preamble (first ∷ front) node more each =
+    fits_middle preamble front node more (All-tail (NodeFits preamble) first (front ++ node ∷ more) each)
 
 -- in lines that go on, further nodes ended, or none
 not_shorter : (lines more : List (List ℕ)) (a b : List Node) (form_a : Ended lines a) (form_b : Ended (lines ++ more) b) → Longer b a → ⊥
@@ -126,8 +125,8 @@ not_shorter lines more a b form_a form_b longer =
     ∙ ap (λ (ls : List (List ℕ)). flat_b ++ ls)
     (append_assoc (node_lines longer.next) (flat_map node_lines longer.more) (form_a.tail ++ more)) in
     let fits : NodeFits form_b.preamble longer.next =
-    fits_middle form_b.preamble b longer.next longer.more (subst (λ (ns : List Node). EachNodeFits form_b.preamble ns) longer.same
-    (subst (λ (p : Preamble). EachNodeFits p a) preambles form_a.each)) in
+    fits_middle form_b.preamble b longer.next longer.more (subst (λ (ns : List Node). All (NodeFits form_b.preamble) ns) longer.same
+    (subst (λ (p : Preamble). All (NodeFits p) a) preambles form_a.each)) in
     form_b.no_node longer.next later fits
     (append_cancel_left flat_b form_b.tail (node_lines longer.next ++ later) (sym tails ∙ split))
 
@@ -148,7 +147,7 @@ front_nodes lines more a b ended_a ended_b begins =
     (λ (not_less : length b ≤ length a).
     ⊎_elim
     (λ (less : length b < length a).
-    let long : 2 ≤ length lines = long_lines lines a ended_a (omega arith) in
+    let long : 2 ≤ length lines = long_lines lines a ended_a (λ none. absurd (omega (arith, ap length none))) in
     absurd (not_shorter lines more a b (ended_form lines a ended_a long)
     (ended_form (lines ++ more) b ended_b (omega (arith, long, length-append lines more)))
     (longer b a on_b.more on_a.more (sym on_b.same ∙ on_a.same) less)))
@@ -171,28 +170,31 @@ front_nodes lines more a b ended_a ended_b begins =
 
 -- a line at fault comes after no wrong node
 text_not_node_from : {Meets : Demand} → AsksRight Meets → {input : List ℕ} {line : ℕ} (k : ℕ) (text : IsNoText Meets input line)
-    (node : IsNoNode Meets input k) (more : List (List ℕ)) → text.fault.before ≡ node.lines ++ more → ⊥
+    (node : IsNoNode Meets input k) (more : List (List ℕ)) → text.fault.before ≡ node_end node ++ more → ⊥
 text_not_node_from asks k text node more is =
-    let on : GoOn (node.earlier ++ node.node ∷ []) text.nodes =
-    front_nodes node.lines more (node.earlier ++ node.node ∷ []) text.nodes node.ended
-    (subst (λ (ls : List (List ℕ)). EndedIn ls text.nodes) is text.ended) (subst (Begins AreTreeLines) is text.fault.right) in
-    node.wrong (right_among node.earlier node.node text.nodes on (asks text.fault.before text.nodes text.meets (length node.earlier)))
+    let on : GoOn (node.earlier ++ node.node ∷ []) text.faultless.nodes =
+    front_nodes (node_end node) more (node.earlier ++ node.node ∷ []) text.faultless.nodes node.ended
+    (subst (λ (ls : List (List ℕ)). EndedIn ls text.faultless.nodes) is text.faultless.ended)
+    (subst (Begins AreTreeLines) is text.fault.right) in
+    node.wrong (right_among node.earlier node.node text.faultless.nodes on
+    (asks text.fault.before text.faultless.nodes text.faultless.meets (length node.earlier)))
 
 text_not_node_by : {Meets : Demand} → AsksRight Meets → (input : List ℕ) (line k : ℕ) (text : IsNoText Meets input line)
-    (node : IsNoNode Meets input k) → Agree text.fault.before node.lines text.fault.rest node.rest → ⊥
+    (node : IsNoNode Meets input k) → Agree text.fault.before (node_end node) text.fault.rest node.rest → ⊥
 text_not_node_by asks input line k text node (First_goes_on more is left) = text_not_node_from asks k text node more is
 text_not_node_by asks input line k text node (Second_goes_on more is left) =
-    let none : more ≡ [] = no_more AreTreeLines AllLack-tree_lines input line text.fault node.lines more node.rest is left node.right in
+    let none : more ≡ [] = no_more AreTreeLines AllLack-tree_lines input line text.fault (node_end node) more node.rest is left
+    (node_begins node) in
     text_not_node_from asks k text node []
     (sym (append-nil text.fault.before) ∙ ap (λ (ls : List (List ℕ)). text.fault.before ++ ls) (sym none) ∙ sym is
-    ∙ sym (append-nil node.lines))
+    ∙ sym (append-nil (node_end node)))
 
 pub text_not_node : {Meets : Demand} → AsksRight Meets → (input : List ℕ) (line k : ℕ) → IsNoText Meets input line
     → IsNoNode Meets input k → ⊥
 text_not_node asks input line k text node =
     text_not_node_by asks input line k text node
-    (agree text.fault.before node.lines text.fault.rest node.rest (AllLack-begun text.fault.before text.fault.right)
-    (AllLack-begun node.lines node.right) (sym text.fault.parts ∙ node.parts))
+    (agree text.fault.before (node_end node) text.fault.rest node.rest (AllLack-begun text.fault.before text.fault.right)
+    (AllLack-begun (node_end node) (node_begins node)) (sym text.fault.parts ∙ node.parts))
 
 -- the first wrong node is one
 one_least : (nodes : List Node) (k j : ℕ) → IsLeastWrong nodes k → IsLeastWrong nodes j → k ≡ j
@@ -205,16 +207,16 @@ one_least nodes k j first second =
 
 least_of : {Meets : Demand} → AsksRight Meets → {input : List ℕ} {k : ℕ} (node : IsNoNode Meets input k)
     → IsLeastWrong (node.earlier ++ node.node ∷ []) (length node.earlier)
-least_of asks node = least_wrong-last node.earlier node.node (asks node.front node.earlier node.meets) node.wrong
+least_of asks node = least_wrong-last node.earlier node.node (asks node.lines node.earlier node.meets) node.wrong
 
 one_node_from : {Meets : Demand} → AsksRight Meets → (input : List ℕ) (k j : ℕ) (first : IsNoNode Meets input k)
-    (second : IsNoNode Meets input j) (more : List (List ℕ)) → second.lines ≡ first.lines ++ more → k ≡ j
+    (second : IsNoNode Meets input j) (more : List (List ℕ)) → node_end second ≡ node_end first ++ more → k ≡ j
 one_node_from asks input k j first second more is =
     let nodes : List Node = first.earlier ++ first.node ∷ [] in
     let all : List Node = second.earlier ++ second.node ∷ [] in
     let on : GoOn nodes all =
-    front_nodes first.lines more nodes all first.ended (subst (λ (ls : List (List ℕ)). EndedIn ls all) is second.ended)
-    (subst (Begins AreTreeLines) is second.right) in
+    front_nodes (node_end first) more nodes all first.ended (subst (λ (ls : List (List ℕ)). EndedIn ls all) is second.ended)
+    (subst (Begins AreTreeLines) is (node_begins second)) in
     let same : length first.earlier ≡ length second.earlier =
     one_least all (length first.earlier) (length second.earlier)
     (subst (λ (ns : List Node). IsLeastWrong ns (length first.earlier)) (sym on.same)
@@ -222,7 +224,7 @@ one_node_from asks input k j first second more is =
     first.count ∙ same ∙ sym second.count
 
 one_node_by : {Meets : Demand} → AsksRight Meets → (input : List ℕ) (k j : ℕ) (first : IsNoNode Meets input k)
-    (second : IsNoNode Meets input j) → Agree first.lines second.lines first.rest second.rest → k ≡ j
+    (second : IsNoNode Meets input j) → Agree (node_end first) (node_end second) first.rest second.rest → k ≡ j
 one_node_by asks input k j first second (Second_goes_on more is left) = one_node_from asks input k j first second more is
 one_node_by asks input k j first second (First_goes_on more is left) = sym (one_node_from asks input j k second first more is)
 
@@ -230,5 +232,6 @@ pub one_node : {Meets : Demand} → AsksRight Meets → (input : List ℕ) (k j 
     → k ≡ j
 one_node asks input k j first second =
     one_node_by asks input k j first second
-    (agree first.lines second.lines first.rest second.rest (AllLack-begun first.lines first.right) (AllLack-begun second.lines second.right)
+    (agree (node_end first) (node_end second) first.rest second.rest (AllLack-begun (node_end first) (node_begins first))
+    (AllLack-begun (node_end second) (node_begins second))
     (sym first.parts ∙ second.parts))

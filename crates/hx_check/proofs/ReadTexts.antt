@@ -15,9 +15,11 @@ use Rattle.hx_reader.proofs.Completions.{Begins-stands}
 use Rattle.hx_check.specs.declared.faults.Fault.{Fault}
 use Rattle.hx_check.specs.declared.faults.Fault.TheVariants.{NoText, NoNode, ReadFault, OutOfMemory, TooLong}
 use Rattle.hx_check.specs.declared.judges.Judge.{Judge}
-use Rattle.hx_check.specs.Judging.{After_end, AreThese}
+use Rattle.hx_check.specs.Judging.{AreThese}
 use Rattle.hx_check.specs.Judgements.{IsFaultDue}
 use Rattle.hx_check.specs.Standings.{JudgedUpTo, HasReadAll}
+use Rattle.hx_check.proofs.EndedNodes.{ended_whole}
+use Rattle.hx_check.proofs.ManyNodes.{many_of}
 use Rattle.hx_check.proofs.Standings.{ended_in, not_whole}
 use Rattle.hx_check.proofs.Readings.{GoOn, ended_first}
 use Rattle.hx_check.proofs.DueAnswers.{says_of}
@@ -62,13 +64,13 @@ module _ {text input : List ℕ} {all : List Node} (tree : IsTreeText text all) 
   pub no_fault_next : AreRight all → length all ≤ most_nodes → ¬ HasReadAll judge → (after : Option (List ℕ)) (rose : Type 0)
       (fault : Fault) → IsFaultDue (AreThese lines nodes) (Some input) after rose fault → (fault ≡ ReadFault) ⊎ (fault ≡ OutOfMemory)
   no_fault_next right few unended after rose (NoText line) due =
-      absurd (omega (arith, line_left unended, ap length (sym due.meets.0), ap length (fault_behind tree rest parts line due).0))
+      absurd (omega (arith, line_left unended, ap length (sym due.faultless.meets.0), ap length (fault_behind tree rest parts line due).0))
   no_fault_next right few unended after rose (NoNode node) due = absurd (no_wrong_node tree rest parts node right due)
   no_fault_next right few unended after rose ReadFault due = inl refl
   no_fault_next right few unended after rose OutOfMemory due = inr refl
   no_fault_next right few unended after rose TooLong (inl long) =
       absurd (omega (arith, line_left unended, ap length (sym long.faultless.meets.0), ap length (long_behind tree rest parts long).0))
-  no_fault_next right few unended after rose TooLong (inr many) = absurd (not_too_many tree rest parts few many)
+  no_fault_next right few unended after rose TooLong (inr many) = absurd (not_too_many tree rest parts few (many_of many))
 
   -- with the last line the nodes are those of the tree
   pub whole_tree : length all ≤ most_nodes → HasReadAll judge → (nodes ≡ all) × (lines ≡ tree.lines)
@@ -80,6 +82,6 @@ module _ {text input : List ℕ} {all : List Node} (tree : IsTreeText text all) 
       none_further read [] tree.lines on.more ([], subst AreTreeLines (sym (append-nil tree.lines)) (are_lines tree)) on.is in
       let same : lines ≡ tree.lines = sym (on.is ∙ ap (λ (ls : List (List ℕ)). lines ++ ls) none ∙ append-nil lines) in
       let back : GoOn all nodes =
-      ended_first tree.lines [] all nodes ended.0 are.0 (After_end tree.preamble tree.winner tree.are few)
+      ended_first tree.lines [] all nodes ended.0 are.0 (ended_whole tree.preamble all tree.winner tree.lines tree.are few)
       (subst (AreTreeLinesOf ended.0 nodes are.0) (same ∙ sym (append-nil tree.lines)) are.1) in
       (same_both nodes all nodes_so_far back, same)

@@ -3,27 +3,40 @@
 use Rattle.std.proofs.Common.{◌≡◌, ℕ, ◌≤◌, List, [], ◌∷◌, ◌++◌, length, refl, sym, ap, ◌∙◌, subst, arith}
 use Rattle.std.proofs.lemmas.List.{append-nil}
 use Rattle.std.specs.Prelude.{flat_map}
+use Rattle.hx_board.specs.declared.colours.Colour.TheVariants.{Black}
 use Rattle.hx_tree.specs.declared.nodes.Node.{Node}
+use Rattle.hx_text.specs.declared.versions.Version.TheVariants.{One}
+use Rattle.hx_text.specs.declared.versions.Preamble.{Preamble}
+use Rattle.hx_text.specs.PositionTexts.{size_line}
 use Rattle.hx_reader.specs.declared.places.Place.{Place}
 use Rattle.hx_reader.specs.declared.places.Place.TheVariants.{Title, Size, Between, Inside, After, Failed}
 use Rattle.hx_text.specs.TreeTexts.{AreTreeLines, AreTreeLinesOf, front_lines, node_lines, end_line}
 use Rattle.hx_reader.specs.Places.{Stands, IsAfter}
 use Rattle.hx_text.specs.Lengths.{most_nodes}
-use Rattle.hx_check.specs.Judging.{EndedIn, Before_size, Among_nodes, Inside_node, After_end}
+use Rattle.hx_check.specs.Judging.{EndedIn}
 use Rattle.hx_text.proofs.Alignment.{aligned}
-use Rattle.hx_reader.proofs.BegunNodes.{EndsInNode, inside_begins_node, in_node_not_whole}
+use Rattle.hx_reader.proofs.Completions.{whole_text, plain, one}
+use Rattle.hx_check.proofs.EndedNodes.{none_ended, ended_between, ended_inside, ended_whole}
+use Rattle.hx_reader.proofs.BegunNodes.{inside_begins_node, in_node_not_whole}
 
 pub ended_in : (place : Place) (nodes : List Node) (lines : List (List ℕ)) → Stands place nodes lines → length nodes ≤ most_nodes
     → EndedIn lines nodes
-ended_in Title nodes lines stands few = Before_size stands.0 (omega (arith, ap length stands.1))
-ended_in (Size version) nodes lines stands few = Before_size stands.0 (omega (arith, ap length stands.1))
-ended_in (Between so_far) nodes lines stands few = Among_nodes so_far.preamble stands.is_size stands.each few stands.same
+ended_in Title nodes lines stands few =
+    let rest : List (List ℕ) = whole_text (one One) [] (plain (one One)) in
+    subst (EndedIn lines) (sym stands.0)
+    (none_ended One lines rest (ap (λ (ls : List (List ℕ)). ls ++ rest) stands.1) (omega (arith, ap length stands.1)))
+ended_in (Size version) nodes lines stands few =
+    let preamble : Preamble = one version in
+    let rest : List (List ℕ) = size_line preamble.size ∷ (flat_map node_lines (plain preamble ∷ []) ++ end_line 1 Black ∷ []) in
+    subst (EndedIn lines) (sym stands.0)
+    (none_ended version lines rest (ap (λ (ls : List (List ℕ)). ls ++ rest) stands.1) (omega (arith, ap length stands.1)))
+ended_in (Between so_far) nodes lines stands few =
+    ended_between so_far.preamble nodes lines stands.is_size stands.each few stands.same
 ended_in (Inside begun) nodes lines stands few =
-    let ends : EndsInNode begun.so_far.preamble nodes lines = inside_begins_node begun nodes lines stands in
     let so = stands.begun_so in
-    Inside_node begun.so_far.preamble so.stands.is_size so.stands.each (omega (arith, so.room, so.stands.count)) ends.node ends.fits
-    ends.part ends.rest ends.parts ends.lacks ends.same
-ended_in (After preamble) nodes lines stands few = After_end preamble stands.0 stands.1 few
+    ended_inside begun.so_far.preamble nodes lines so.stands.is_size so.stands.each (omega (arith, so.room, so.stands.count))
+    (inside_begins_node begun nodes lines stands)
+ended_in (After preamble) nodes lines stands few = ended_whole preamble nodes stands.0 lines stands.1 few
 ended_in (Failed fault version) nodes lines stands few = absurd stands
 
 pub few_nodes : (place : Place) (nodes : List Node) (lines : List (List ℕ)) → ¬ IsAfter place → Stands place nodes lines

@@ -14,13 +14,10 @@ use Rattle.hx_check.specs.declared.faults.Fault.{Fault}
 use Rattle.hx_check.specs.declared.faults.Fault.TheVariants.{NoText, NoNode, ReadFault, OutOfMemory, TooLong}
 use Rattle.hx_check.specs.Judging.{Demand, NodesAreRight, IsYes, IsNoText, IsNoNode, IsLongLine, IsTooManyNodes, ReadsNoFault}
 
--- the line that names a winner
-abbrev pub yes_line : Colour → List ℕ
-yes_line winner = codes "yes " ++ (colour_word winner ++ 10 ∷ [])
-
 -- the winner of the root, and the root's position and mover
 abbrev pub yes_text : Heading → List ℕ
-yes_text root = yes_line root.winner ++ position_text root.position root.to_move
+yes_text root =
+    (codes "yes " ++ (colour_word root.winner ++ 10 ∷ [])) ++ position_text root.position root.to_move
 
 -- the line that names a line at fault
 abbrev pub no_text_line : ℕ → List ℕ
@@ -29,6 +26,10 @@ no_text_line line = counted_text (codes "no text ") line
 -- the line that names a node that is not right
 abbrev pub no_node_line : ℕ → List ℕ
 no_node_line node = counted_text (codes "no node ") node
+
+-- the line that names a winner
+abbrev pub yes_line : Colour → List ℕ
+yes_line winner = codes "yes " ++ (colour_word winner ++ 10 ∷ [])
 
 -- what is written for each fault
 abbrev pub fault_text : Fault → List ℕ

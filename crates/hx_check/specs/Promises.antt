@@ -1,5 +1,5 @@
 -- What a run is good for: who is named wins, and each input gets its judgement.
-use Rattle.std.specs.Prelude.{◌≡◌, ◌⊎◌, ℕ, ◌≤◌, List, length, Option, IfSome}
+use Rattle.std.specs.Prelude.{◌≡◌, ◌⊎◌, ℕ, ◌≤◌, List, length, codes, Option, IfSome}
 use Rattle.hx_io.specs.Sources.{Reading, SomeReadFailed}
 use Rattle.hx_io.specs.Sinks.{Writing, SomeWriteFailed, append}
 use Rattle.hx_tree.specs.declared.nodes.Node.{Node}
@@ -7,9 +7,10 @@ use Rattle.hx_tree.specs.Trees.{IsValidTree, IsRoot}
 use Rattle.hx_text.specs.TreeTexts.{IsTreeText}
 use Rattle.hx_text.specs.Lengths.{most_nodes}
 use Rattle.hx_proof.specs.Winners.{OnlyWinner}
+use Rattle.hx_answers.specs.Texts.{counted_text}
 use Rattle.hx_answers.specs.Endings.{IsUnlessStopped, AnswersUnlessStopped, IsReadToEnd}
 use Rattle.hx_check.specs.Judging.{NodesAreRight, IsNoText, IsNoNode, ReadsNoFault}
-use Rattle.hx_check.specs.Judgements.{IsLong, yes_text, no_text_line, no_node_line}
+use Rattle.hx_check.specs.Judgements.{IsLong, yes_text}
 
 -- The input is the text of a valid tree, the output names the root's winner and its position, and that player wins and
 -- the other does not.
@@ -41,9 +42,9 @@ pub record Answers (input : List ℕ) (before now : Option (List ℕ)) (status :
   pub wrong : status ≡ 1 → IsNoProof input
   -- the line or the node that is named is the first that is at fault
   pub no_text : (line : ℕ) → IsNoText NodesAreRight input line
-      → AnswersUnlessStopped (no_text_line line) 1 before now status
+      → AnswersUnlessStopped (counted_text (codes "no text ") line) 1 before now status
   pub no_node : (node : ℕ) → IsNoNode NodesAreRight input node
-      → AnswersUnlessStopped (no_node_line node) 1 before now status
+      → AnswersUnlessStopped (counted_text (codes "no node ") node) 1 before now status
   pub long : IsLong NodesAreRight input → IsUnlessStopped status 8
   pub too_long : status ≡ 8 → IsLong NodesAreRight input
 

@@ -15,6 +15,8 @@ use Rattle.hx_text.proofs.TreeLacks.{AllLack-begun}
 use Rattle.hx_check.specs.Judging.{EndedIn, IsNoText, IsNoNode}
 use Rattle.hx_check.specs.Judgements.{IsLong}
 use Rattle.hx_check.proofs.Demands.{AsksRight}
+use Rattle.hx_check.proofs.EndedNodes.{begins_of}
+use Rattle.hx_check.proofs.ManyNodes.{many_of}
 use Rattle.hx_check.proofs.Readings.{GoOn, right_among}
 use Rattle.hx_check.proofs.OneAnswer.{front_nodes}
 use Rattle.hx_check.proofs.BeginningTexts.{within, nodes_within}
@@ -31,18 +33,16 @@ pub record EndsNode (input : List ℕ) (earlier : List Node) (node : Node) : Typ
   pub last : List ℕ
   pub rest : List ℕ
   pub parts : input ≡ text_of (front ++ last ∷ []) ++ rest
-  pub begins : Begins AreTreeLines (front ++ last ∷ [])
   pub ended : EndedIn (front ++ last ∷ []) (earlier ++ node ∷ [])
   pub meets : ArePlayable front earlier
 
 pub wrong_ends : {input : List ℕ} {k : ℕ} (is : IsNoNode ArePlayable input k) → EndsNode input is.earlier is.node
 wrong_ends {input} is = record {
-  front = is.front;
+  front = is.lines;
   last = is.last;
   rest = is.rest;
-  parts = subst (λ (ls : List (List ℕ)). input ≡ text_of ls ++ is.rest) is.are is.parts;
-  begins = subst (Begins AreTreeLines) is.are is.right;
-  ended = subst (λ (ls : List (List ℕ)). EndedIn ls (is.earlier ++ is.node ∷ [])) is.are is.ended;
+  parts = is.parts;
+  ended = is.ended;
   meets = is.meets;
 }
 
@@ -52,7 +52,6 @@ no_plain_ends is = record {
   last = is.last;
   rest = is.rest;
   parts = is.parts;
-  begins = is.begins;
   ended = is.ended;
   meets = is.meets;
 }
@@ -78,6 +77,9 @@ fine_among earlier node all right plain on = record {
 abbrev pub large_lines : {input : List ℕ} → IsTooLarge input → List (List ℕ)
 large_lines large = large.lines ++ large.last ∷ []
 
+pub large_begins : {input : List ℕ} (large : IsTooLarge input) → Begins AreTreeLines (large_lines large)
+large_begins large = begins_of (large_lines large) large.nodes large.ended
+
 -- lines that are small do not begin with those
 pub not_large : {input : List ℕ} (large : IsTooLarge input) (lines more : List (List ℕ)) → length (text_of lines) ≤ MOST_BYTES
     → lines ≡ large_lines large ++ more → ⊥
@@ -98,23 +100,27 @@ module _ {input : List ℕ} {earlier : List Node} {node : Node} (ends : EndsNode
   abbrev nodes : List Node
   nodes = earlier ++ node ∷ []
 
+  begins : Begins AreTreeLines lines
+  begins = begins_of lines nodes ends.ended
+
   pub fine_in_text : (text rest : List ℕ) (all : List Node) → IsPlayable text all → input ≡ text ++ rest → IsFine earlier node
   fine_in_text text rest all is parts =
       fine_among earlier node all is.valid.right is.plain
-      (nodes_within is.is_text rest lines ends.rest nodes ends.ended (within is.is_text rest parts lines ends.rest ends.begins ends.parts))
+      (nodes_within is.is_text rest lines ends.rest nodes ends.ended (within is.is_text rest parts lines ends.rest begins ends.parts))
 
   pub fine_before_line : (line : ℕ) → IsNoText ArePlayable input line → IsFine earlier node
   fine_before_line line text =
-      fine_among earlier node text.nodes text.meets.right text.meets.plain
-      (first_before_line lines ends.rest nodes ends.begins ends.parts ends.ended text)
+      fine_among earlier node text.faultless.nodes text.faultless.meets.right text.faultless.meets.plain
+      (first_before_line lines ends.rest nodes begins ends.parts ends.ended text)
 
   pub fine_before_long : IsLong ArePlayable input → IsFine earlier node
   fine_before_long (inl long) =
       fine_among earlier node long.faultless.nodes long.faultless.meets.right long.faultless.meets.plain
-      (first_before_long lines ends.rest nodes ends.begins ends.parts ends.ended long)
+      (first_before_long lines ends.rest nodes begins ends.parts ends.ended long)
   fine_before_long (inr many) =
-      fine_among earlier node many.nodes many.meets.right many.meets.plain
-      (first_of_many lines ends.rest nodes ends.begins ends.parts ends.ended many)
+      let all = many_of many in
+      fine_among earlier node all.nodes all.meets.right all.meets.plain
+      (first_of_many lines ends.rest nodes begins ends.parts ends.ended all)
 
   -- the line that makes a text too large is not before the last line of the node
   large_at : (large : IsTooLarge input) (more : List (List ℕ)) → lines ≡ large_lines large ++ more → large_lines large ≡ lines ++ []
@@ -134,7 +140,7 @@ module _ {input : List ℕ} {earlier : List Node} {node : Node} (ends : EndsNode
   large_from large more is =
       fine_among earlier node large.nodes large.right large.plain
       (front_nodes lines more nodes large.nodes ends.ended (subst (λ (ls : List (List ℕ)). EndedIn ls large.nodes) is large.ended)
-      (subst (Begins AreTreeLines) is large.begins))
+      (subst (Begins AreTreeLines) is (large_begins large)))
 
   large_by : (large : IsTooLarge input) → Agree lines (large_lines large) ends.rest large.rest → IsFine earlier node
   large_by large (Second_goes_on more is left) = large_from large more is
@@ -143,8 +149,8 @@ module _ {input : List ℕ} {earlier : List Node} {node : Node} (ends : EndsNode
   pub fine_before_large : IsTooLarge input → IsFine earlier node
   fine_before_large large =
       large_by large
-      (agree lines (large_lines large) ends.rest large.rest (AllLack-begun lines ends.begins)
-      (AllLack-begun (large_lines large) large.begins) (sym ends.parts ∙ large.parts))
+      (agree lines (large_lines large) ends.rest large.rest (AllLack-begun lines begins)
+      (AllLack-begun (large_lines large) (large_begins large)) (sym ends.parts ∙ large.parts))
 
   pub fine_before_too_long : IsLong ArePlayable input ⊎ IsTooLarge input → IsFine earlier node
   fine_before_too_long (inl long) = fine_before_long long
@@ -177,7 +183,7 @@ pub one_of_two : {input : List ℕ} {a_earlier b_earlier : List Node} {a b : Nod
     → AreOne a_earlier a b_earlier b
 one_of_two {input} {a_earlier} {b_earlier} {a} {b} ends_a ends_b =
     by (either_first (ends_a.front ++ ends_a.last ∷ []) (ends_b.front ++ ends_b.last ∷ []) ends_a.rest ends_b.rest (a_earlier ++ a ∷ [])
-    (b_earlier ++ b ∷ []) ends_a.begins ends_b.begins ends_a.parts ends_b.parts ends_a.ended ends_b.ended)
+    (b_earlier ++ b ∷ []) (begins ends_a) (begins ends_b) ends_a.parts ends_b.parts ends_a.ended ends_b.ended)
   where
     by : GoOn (a_earlier ++ a ∷ []) (b_earlier ++ b ∷ []) ⊎ GoOn (b_earlier ++ b ∷ []) (a_earlier ++ a ∷ [])
         → AreOne a_earlier a b_earlier b

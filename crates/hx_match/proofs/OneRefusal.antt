@@ -16,6 +16,7 @@ use Rattle.hx_check.specs.declared.faults.Fault.{Fault}
 use Rattle.hx_check.specs.declared.faults.Fault.TheVariants.{NoText, NoNode, ReadFault, OutOfMemory, TooLong}
 use Rattle.hx_check.specs.Judging.{IsNoText, IsNoNode}
 use Rattle.hx_check.specs.Judgements.{IsLong}
+use Rattle.hx_check.proofs.ManyNodes.{many_of}
 use Rattle.hx_check.proofs.BeginningTexts.{Within, within, none_further, are_lines, fault_behind, no_wrong_node, not_too_many, long_behind}
 use Rattle.hx_check.proofs.LongLines.{long_not_line}
 use Rattle.hx_check.proofs.OneFault.{IsOrStopped as IsFaultOrStopped, line_alone as line_fault_alone, node_alone as node_fault_alone}
@@ -25,14 +26,15 @@ use Rattle.hx_match.specs.declared.refusals.Refusal.TheVariants.{NoPlain, NoTree
 use Rattle.hx_match.specs.Refusals.{IsDue}
 use Rattle.hx_match.specs.Trees.{ArePlayable, IsNoPlain, IsPlayable, IsTooLarge}
 use Rattle.hx_match.proofs.NamedNodes.{playable_asks, wrong_ends, no_plain_ends, fine_in_text, fine_before_line}
-use Rattle.hx_match.proofs.NamedNodes.{fine_before_too_long, large_lines, not_large, AreOne, Same, First_fine, Second_fine, one_of_two}
+use Rattle.hx_match.proofs.NamedNodes.{fine_before_too_long, large_lines, large_begins, not_large}
+use Rattle.hx_match.proofs.NamedNodes.{AreOne, Same, First_fine, Second_fine, one_of_two}
 
 -- ---- the text of a tree to be played by
 
 module _ {text : List ℕ} {nodes : List Node} (is : IsPlayable text nodes) (rest : List ℕ) where
   pub text_not_line : {input : List ℕ} → input ≡ text ++ rest → (line : ℕ) → IsNoText ArePlayable input line → ⊥
   text_not_line parts line fault =
-      fault.meets.unended (subst AreTreeLines (sym (fault_behind is.is_text rest parts line fault).0) (are_lines is.is_text))
+      fault.faultless.meets.unended (subst AreTreeLines (sym (fault_behind is.is_text rest parts line fault).0) (are_lines is.is_text))
 
   pub text_not_node : {input : List ℕ} → input ≡ text ++ rest → (k : ℕ) → IsNoNode ArePlayable input k → ⊥
   text_not_node parts k wrong = no_wrong_node is.is_text rest parts k is.valid.right wrong
@@ -43,13 +45,13 @@ module _ {text : List ℕ} {nodes : List Node} (is : IsPlayable text nodes) (res
   text_not_large : {input : List ℕ} → input ≡ text ++ rest → IsTooLarge input → ⊥
   text_not_large parts large =
       let on : Within is.is_text rest (large_lines large) large.rest =
-      within is.is_text rest parts (large_lines large) large.rest large.begins large.parts in
+      within is.is_text rest parts (large_lines large) large.rest (large_begins large) large.parts in
       not_large large is.is_text.lines on.more (subst (λ (t : List ℕ). length t ≤ MOST_BYTES) is.is_text.same is.small) on.is
 
   pub text_not_too_long : {input : List ℕ} → input ≡ text ++ rest → IsLong ArePlayable input ⊎ IsTooLarge input → ⊥
   text_not_too_long parts (inl (inl long)) =
       long.faultless.meets.unended (subst AreTreeLines (sym (long_behind is.is_text rest parts long).0) (are_lines is.is_text))
-  text_not_too_long parts (inl (inr many)) = not_too_many is.is_text rest parts is.few many
+  text_not_too_long parts (inl (inr many)) = not_too_many is.is_text rest parts is.few (many_of many)
   text_not_too_long parts (inr large) = text_not_large parts large
 
 -- two such texts with which one input begins are the same
@@ -81,15 +83,15 @@ one_text {text} {other} {nodes} {others} is are rest left parts =
 
 line_not_large : {input : List ℕ} {line : ℕ} (text : IsNoText ArePlayable input line) (large : IsTooLarge input) → ⊥
 line_not_large {input} {line} text large =
-    by (agree (large_lines large) text.fault.before large.rest text.fault.rest (AllLack-begun (large_lines large) large.begins)
+    by (agree (large_lines large) text.fault.before large.rest text.fault.rest (AllLack-begun (large_lines large) (large_begins large))
     (AllLack-begun text.fault.before text.fault.right) (sym large.parts ∙ text.fault.parts))
   where
     by : Agree (large_lines large) text.fault.before large.rest text.fault.rest → ⊥
-    by (Second_goes_on more is left) = not_large large text.fault.before more text.meets.small is
+    by (Second_goes_on more is left) = not_large large text.fault.before more text.faultless.meets.small is
     by (First_goes_on more is left) =
         let none : more ≡ [] =
-        no_more AreTreeLines AllLack-tree_lines input line text.fault (large_lines large) more large.rest is left large.begins in
-        not_large large text.fault.before [] text.meets.small
+        no_more AreTreeLines AllLack-tree_lines input line text.fault (large_lines large) more large.rest is left (large_begins large) in
+        not_large large text.fault.before [] text.faultless.meets.small
         (sym (is ∙ ap (λ (ls : List (List ℕ)). text.fault.before ++ ls) none ∙ append-nil text.fault.before)
         ∙ sym (append-nil (large_lines large)))
 

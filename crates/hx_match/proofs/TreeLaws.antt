@@ -14,7 +14,6 @@ use Rattle.hx_text.proofs.Cuts.{text_of-push}
 use Rattle.hx_reader.specs.declared.places.Place.{Place}
 use Rattle.hx_reader.specs.declared.places.Place.TheVariants.{After}
 use Rattle.hx_reader.specs.Places.{Stands}
-use Rattle.hx_reader.proofs.Completions.{Begins-stands}
 use Rattle.hx_check.specs.declared.faults.Fault.{Fault}
 use Rattle.hx_check.specs.declared.faults.Fault.TheVariants.{NoText, NoNode, ReadFault, OutOfMemory, TooLong}
 use Rattle.hx_check.specs.declared.judges.Judge.{Judge}
@@ -120,7 +119,6 @@ module _ (before : Option (List ℕ)) (old : TreeSoFar) (lines : List (List ℕ)
           last = cutter.line;
           rest = cutter.held ++ rest;
           parts = parts;
-          begins = Begins-stands judge.reader.place nodes (lines ++ cutter.line ∷ []) upto.judged.read;
           earlier = old.nodes.items;
           node = node;
           ended = ended_in judge.reader.place nodes (lines ++ cutter.line ∷ []) upto.judged.read upto.judged.few;
@@ -194,7 +192,6 @@ module _ (before : Option (List ℕ)) (old : TreeSoFar) (lines : List (List ℕ)
             last = cutter.line;
             rest = cutter.held ++ rest;
             parts = parts;
-            begins = Begins-stands now.judge.reader.place now.nodes.items (lines ++ cutter.line ∷ []) upto.judged.read;
             nodes = now.nodes.items;
             ended = ended_in now.judge.reader.place now.nodes.items (lines ++ cutter.line ∷ []) upto.judged.read upto.judged.few;
             right = upto.judged.right;

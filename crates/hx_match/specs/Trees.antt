@@ -5,7 +5,7 @@ use Rattle.hx_tree.specs.declared.nodes.Node.{Node}
 use Rattle.hx_tree.specs.Rules.{IsRightNode}
 use Rattle.hx_tree.specs.Plain.{IsPlain, ArePlain}
 use Rattle.hx_tree.specs.Trees.{AreRight, IsValidTree, headings_of}
-use Rattle.hx_text.specs.Grammars.{text_of, Begins}
+use Rattle.hx_text.specs.Grammars.{text_of}
 use Rattle.hx_text.specs.TreeTexts.{AreTreeLines, IsTreeText}
 use Rattle.hx_text.specs.Lengths.{most_nodes}
 use Rattle.hx_check.specs.Judging.{EndedIn}
@@ -33,7 +33,6 @@ pub record IsNoPlain (input : List ℕ) (k : ℕ) : Type 0 where
   pub last : List ℕ
   pub rest : List ℕ
   pub parts : input ≡ text_of (lines ++ last ∷ []) ++ rest
-  pub begins : Begins AreTreeLines (lines ++ last ∷ [])
   pub earlier : List Node
   pub node : Node
   pub ended : EndedIn (lines ++ last ∷ []) (earlier ++ node ∷ [])
@@ -49,7 +48,6 @@ pub record IsTooLarge (input : List ℕ) : Type 0 where
   pub last : List ℕ
   pub rest : List ℕ
   pub parts : input ≡ text_of (lines ++ last ∷ []) ++ rest
-  pub begins : Begins AreTreeLines (lines ++ last ∷ [])
   pub nodes : List Node
   pub ended : EndedIn (lines ++ last ∷ []) nodes
   pub right : AreRight nodes

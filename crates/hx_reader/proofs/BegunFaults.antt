@@ -1,7 +1,8 @@
 -- Inside a node no line is right but that of an entry of the kind that is due: a text that begins with the lines before it
 -- goes on with a node whose first line is the same, so it has as many entries of each kind, and this line is the next of them.
 use Rattle.std.proofs.Common.{◌≡◌, ℕ, ◌<◌, List, [], ◌∷◌, ◌++◌, length, map, refl, sym, ap, ◌∙◌, subst, arith, append_assoc, Some}
-use Rattle.std.specs.Prelude.{flat_map, slice_get}
+use Rattle.std.specs.Prelude.{flat_map, slice_get, All}
+use Rattle.std.proofs.lemmas.List.Elements.{All-head}
 use Rattle.hx_board.specs.declared.colours.Colour.{Colour}
 use Rattle.hx_board.specs.Cells.{Extent, IsExtent}
 use Rattle.hx_tree.specs.declared.nodes.Rule.{Rule}
@@ -15,13 +16,14 @@ use Rattle.hx_letters.specs.Words.{IsNumber}
 use Rattle.hx_text.specs.Grammars.{Begins}
 use Rattle.hx_text.specs.Entries.{entry_line, kind_of, EntryFits, EachEntryFits, entries_of, opening_of, entries_told}
 use Rattle.hx_reader.specs.EntryReads.{IsEntryLine, kind_at}
-use Rattle.hx_text.specs.TreeTexts.{AreTreeLines, AreTreeLinesOf, EachNodeFits, HeadFits, head_of, head_line, node_lines, end_line}
+use Rattle.hx_text.specs.TreeTexts.{AreTreeLines, AreTreeLinesOf, NodeFits, HeadFits, head_of, head_line, node_lines, end_line}
 use Rattle.hx_reader.specs.Places.{entries_in, StandsInside, kind_due}
 use Rattle.hx_reader.proofs.EntryKinds.{kind_of_entry}
 use Rattle.hx_text.proofs.EntryLists.{length-entries_for, length-entries_of}
 use Rattle.hx_text.proofs.NodeInjective.{head_injective, head_not_end}
 use Rattle.hx_text.proofs.Alignment.{aligned}
 use Rattle.hx_reader.proofs.BegunSteps.{kind_due-at}
+use Rattle.hx_text.proofs.NodeParts.{node_lines-parts, head_fits, entries_fit}
 
 -- the line of the entry at a place
 record IsEntryAt (size : Extent) (all : List Entry) (place : ℕ) (line : List ℕ) : Type 0 where
@@ -65,19 +67,24 @@ next_of_nodes : (preamble : Preamble) (head : Head) (done : List Entry) (line : 
     (count : ℕ)
     (winner : Colour) → IsExtent preamble.size.rows preamble.size.cols → HeadFits preamble head → IsNumber count
     → length done < entries_told head.opening
-    → EachNodeFits preamble more
+    → All (NodeFits preamble) more
     → head_line head ∷ (map entry_line done ++ line ∷ rest) ≡ flat_map node_lines more ++ end_line count winner ∷ []
     → IsNext preamble.size head.opening (length done) line
 next_of_nodes preamble head done line rest [] count winner extent fits_head small less fits e =
     let first : head_line head ≡ end_line count winner = cc in
     absurd (head_not_end preamble head count winner extent fits_head small first)
 next_of_nodes preamble head done line rest (node ∷ more) count winner extent fits_head small less fits e =
+    let parts : head_line head ∷ (map entry_line done ++ line ∷ rest)
+    ≡ ((head_line (head_of node) ∷ map entry_line (entries_of node.rule)) ++ flat_map node_lines more) ++ end_line count winner ∷ [] =
+    e ∙ ap (λ (ls : List (List ℕ)). (ls ++ flat_map node_lines more) ++ end_line count winner ∷ []) (node_lines-parts node) in
+    let fits_node : NodeFits preamble node = All-head (NodeFits preamble) node more fits in
     let first : head_line head ≡ head_line (head_of node) = cc in
     let later : List (List ℕ) = flat_map node_lines more ++ end_line count winner ∷ [] in
     let tails : map entry_line done ++ line ∷ rest ≡ (map entry_line (entries_of node.rule) ++ flat_map node_lines more)
     ++ end_line count winner ∷ [] = cc in
-    let heads : head ≡ head_of node = head_injective preamble head (head_of node) extent fits_head fits.0.head first in
-    next_of_rule preamble.size done head.opening node.rule line rest later less (ap (λ (h : Head). h.opening) heads) fits.0.entries
+    let heads : head ≡ head_of node = head_injective preamble head (head_of node) extent fits_head (head_fits node fits_node) first in
+    next_of_rule preamble.size done head.opening node.rule line rest later less (ap (λ (h : Head). h.opening) heads)
+    (entries_fit node fits_node)
     (tails ∙ append_assoc (map entry_line (entries_of node.rule)) (flat_map node_lines more) (end_line count winner ∷ []))
 
 pub inside_wrong : (begun : Begun) (line : List ℕ) (nodes : List Node) (lines : List (List ℕ))

@@ -7,7 +7,8 @@ use Rattle.std.proofs.Common.{◌≡◌, ◌≢◌, ℕ, zero, suc, ◌-◌, ◌
 use Rattle.std.proofs.Common.{sym, ap, ◌∙◌, subst, arith, replicate, append_assoc, length-append, ⊎_elim}
 use Rattle.std.proofs.lemmas.Bool.{cases_lt}
 use Rattle.std.proofs.lemmas.List.{append-nil, map-append, length-map, length-replicate}
-use Rattle.std.specs.Prelude.{flat_map}
+use Rattle.std.specs.Prelude.{flat_map, All}
+use Rattle.std.proofs.lemmas.List.Elements.{All-head}
 use Rattle.hx_board.specs.declared.colours.Colour.{Colour}
 use Rattle.hx_board.specs.declared.vertices.Vertex.TheVariants.{First}
 use Rattle.hx_board.specs.Cells.{Extent, IsExtent}
@@ -27,17 +28,18 @@ use Rattle.hx_letters.specs.Words.{IsNumber}
 use Rattle.hx_text.specs.Entries.{entry_line, EachEntryFits, entries_for, entries_of}
 use Rattle.hx_text.specs.Entries.{steps_told, threats_told, answers_told, fills_told}
 use Rattle.hx_reader.specs.EntryReads.{rule_for}
-use Rattle.hx_text.specs.TreeTexts.{AreTreeLines, AreTreeLinesOf, NodeFits, EachNodeFits, HeadFits}
-use Rattle.hx_text.specs.TreeTexts.{head_of, head_line, node_lines, front_lines, end_line}
+use Rattle.hx_text.specs.TreeTexts.{AreTreeLines, AreTreeLinesOf, NodeFits, HeadFits}
+use Rattle.hx_text.specs.TreeTexts.{head_of, head_line, first_line, node_lines, front_lines, end_line}
 use Rattle.hx_reader.specs.Places.{entries_in, IsInOrder, StandsInside}
 use Rattle.hx_text.proofs.EntryLists.{step_entry, threat_entry, answer_entry, fill_entry, EachEntryFits-append}
 use Rattle.hx_text.proofs.EntryLists.{EachEntryFits-entries_for, length-entries_for}
 use Rattle.hx_reader.proofs.EntryKinds.{nil_of_length, entries_same, steps_more, threats_more, answers_more}
 use Rattle.hx_reader.proofs.EntryKinds.{fills_more, opening_of-rule_for, entries_of-rule_for}
-use Rattle.hx_text.proofs.NodeInjective.{head_not_end, node_cancel}
+use Rattle.hx_text.proofs.NodeInjective.{first_not_end, node_cancel}
 use Rattle.hx_text.proofs.Alignment.{aligned}
 use Rattle.hx_reader.proofs.BegunSteps.{no_threats_yet, no_answers_before_steps, no_fills_before_steps}
 use Rattle.hx_reader.proofs.BegunSteps.{no_answers_before_threats, no_fills_before_threats, no_fills_before_answers}
+use Rattle.hx_text.proofs.NodeParts.{node_lines-parts, node_fits}
 
 -- the lines are those of these nodes, and then some lines of one node, and not all of them
 pub record EndsInNode (preamble : Preamble) (nodes : List Node) (lines : List (List ℕ)) : Type 0 where
@@ -251,10 +253,11 @@ module _ (preamble : Preamble) (head : Head) (steps : List Step) (threats : List
   entries_of-node_for = entries_of-rule_for head.opening steps threats lines fills s t l f
 
   node_for-fits : EachEntryFits preamble.size (entries_for steps threats lines fills) → NodeFits preamble node_for
-  node_for-fits each = record { head = rw head_of-node_for fits; entries = rw entries_of-node_for each }
+  node_for-fits each = node_fits node_for (rw head_of-node_for fits) (rw entries_of-node_for each)
 
   node_lines-node_for : node_lines node_for ≡ head_line head ∷ map entry_line (entries_for steps threats lines fills)
-  node_lines-node_for = ap (λ (h : Head). head_line h ∷ map entry_line (entries_of node_for.rule)) head_of-node_for
+  node_lines-node_for =
+      node_lines-parts node_for ∙ ap (λ (h : Head). head_line h ∷ map entry_line (entries_of node_for.rule)) head_of-node_for
       ∙ ap (λ (es : List Entry). head_line head ∷ map entry_line es) entries_of-node_for
 
 pub inside_begins_node : (begun : Begun) (nodes : List Node) (lines : List (List ℕ)) → StandsInside begun nodes lines
@@ -313,25 +316,26 @@ inside_begins_node begun nodes lines inside =
 
 -- no front of a node's lines is that of whole nodes and a last line
 front_not_whole : (preamble : Preamble) (node : Node) (more : List Node) (count : ℕ) (winner : Colour) (part rest : List (List ℕ))
-    → IsExtent preamble.size.rows preamble.size.cols → NodeFits preamble node → EachNodeFits preamble more
+    → IsExtent preamble.size.rows preamble.size.cols → NodeFits preamble node → All (NodeFits preamble) more
     → IsNumber count → node_lines node ≡ part ++ rest
     → part ≡ flat_map node_lines more ++ end_line count winner ∷ [] → ⊥
 front_not_whole preamble node [] count winner part rest extent fits each small parts whole =
     let same : node_lines node ≡ (end_line count winner ∷ []) ++ rest = parts ∙ ap (λ (ls : List (List ℕ)). ls ++ rest) whole in
-    let first : head_line (head_of node) ≡ end_line count winner = cc in
-    head_not_end preamble (head_of node) count winner extent fits.head small first
+    let first : first_line node ≡ end_line count winner = cc in
+    first_not_end preamble node count winner extent fits small first
 front_not_whole preamble node (next ∷ more) count winner part rest extent fits each small parts whole =
     let later : List (List ℕ) = flat_map node_lines more ++ end_line count winner ∷ [] in
     let same : node_lines node ++ [] ≡ node_lines next ++ (later ++ rest) =
     append-nil (node_lines node) ∙ parts ∙ ap (λ (ls : List (List ℕ)). ls ++ rest) whole
     ∙ ap (λ (ls : List (List ℕ)). ls ++ rest) (append_assoc (node_lines next) (flat_map node_lines more) (end_line count winner ∷ []))
     ∙ append_assoc (node_lines next) later rest in
-    let none : [] ≡ later ++ rest = (node_cancel preamble node next [] (later ++ rest) extent fits each.0 same).1 in
+    let none : [] ≡ later ++ rest =
+    (node_cancel preamble node next [] (later ++ rest) extent fits (All-head (NodeFits preamble) next more each) same).1 in
     absurd (omega (arith, ap length none, length-append later rest, length-append (flat_map node_lines more) (end_line count winner ∷ [])))
 
 -- the text is not whole inside a node
 pub in_node_not_whole : (preamble : Preamble) (nodes : List Node) (lines : List (List ℕ)) → IsExtent preamble.size.rows preamble.size.cols
-    → EachNodeFits preamble nodes → EndsInNode preamble nodes lines → AreTreeLines lines → ⊥
+    → All (NodeFits preamble) nodes → EndsInNode preamble nodes lines → AreTreeLines lines → ⊥
 in_node_not_whole preamble nodes lines extent each ends are =
     let front : List (List ℕ) = front_lines preamble ++ flat_map node_lines nodes in
     let on = aligned preamble nodes front ends.part are.preamble are.nodes are.winner extent each refl

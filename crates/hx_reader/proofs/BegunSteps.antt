@@ -35,6 +35,7 @@ use Rattle.hx_reader.proofs.EntryKinds.{kind_among_threat, kind_among_answer, ki
 use Rattle.hx_reader.proofs.EntryKinds.{threats_more, answers_more, fills_more, opening_of-rule_for}
 use Rattle.hx_reader.proofs.EntryKinds.{entries_of-rule_for}
 use Rattle.hx_text.proofs.EntryLists.{EachEntryFits-append, length-entries_for}
+use Rattle.hx_text.proofs.NodeParts.{node_lines-parts, node_fits}
 
 -- ---- which kind is due
 
@@ -369,9 +370,10 @@ whole_node begun nodes lines none stands =
     ap (λ o. let h : Head = record { heading = begun.head.heading; opening = o } in h)
     (opening_of-rule_for begun.head.opening _ _ _ _ s t l f) in
     let entries : entries_of (node_of begun).rule ≡ entries_in begun = entries_of-rule_for begun.head.opening _ _ _ _ s t l f in (
-      record { head = rw head stands.head; entries = rw entries stands.each },
+      node_fits (node_of begun) (rw head stands.head) (rw entries stands.each),
       stands.same ∙ ap (λ (h : Head). stands.before ++ head_line h ∷ map entry_line (entries_in begun)) (sym head)
-          ∙ ap (λ (es : List Entry). stands.before ++ head_line (head_of (node_of begun)) ∷ map entry_line es) (sym entries),
+          ∙ ap (λ (es : List Entry). stands.before ++ head_line (head_of (node_of begun)) ∷ map entry_line es) (sym entries)
+          ∙ ap (λ (ls : List (List ℕ)). stands.before ++ ls) (sym (node_lines-parts (node_of begun))),
     )
 
 pub settled_whole : (begun : Begun) (node : Node) (next : Next) → begun.missing ≡ 0 → node ≡ node_of begun → EndsNode begun.so_far node next

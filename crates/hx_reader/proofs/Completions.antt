@@ -2,7 +2,8 @@
 -- need be, and a last line. So the lines that a reader has read begin some text.
 use Rattle.std.proofs.Common.{◌≡◌, ℕ, ◌≤◌, List, [], ◌∷◌, ◌++◌, length, refl, sym, ap, ◌∙◌, subst, arith, append_assoc, length-append}
 use Rattle.std.proofs.lemmas.List.{append-nil}
-use Rattle.std.specs.Prelude.{flat_map}
+use Rattle.std.proofs.lemmas.List.Elements.{All-nil, All-push}
+use Rattle.std.specs.Prelude.{flat_map, All}
 use Rattle.hx_board.specs.declared.colours.Colour.TheVariants.{Black}
 use Rattle.hx_board.specs.Cells.{IsExtent}
 use Rattle.hx_board.proofs.PositionLaws.{empty-is_position}
@@ -15,9 +16,9 @@ use Rattle.hx_reader.specs.declared.places.Place.{Place}
 use Rattle.hx_reader.specs.declared.places.Place.TheVariants.{Title, Size, Between, Inside, After, Failed}
 use Rattle.hx_text.specs.PositionTexts.{size_line}
 use Rattle.hx_text.specs.Grammars.{Begins}
-use Rattle.hx_text.specs.TreeTexts.{AreTreeLines, AreTreeLinesOf, EachNodeFits, NodeFits, node_lines, front_lines, tree_lines, end_line}
+use Rattle.hx_text.specs.TreeTexts.{AreTreeLines, AreTreeLinesOf, NodeFits, node_lines, front_lines, tree_lines, end_line}
 use Rattle.hx_reader.specs.Places.{Stands}
-use Rattle.hx_reader.proofs.Steps.{flat_map-push, EachNodeFits-push}
+use Rattle.hx_reader.proofs.Steps.{flat_map-push}
 use Rattle.hx_reader.proofs.BegunNodes.{EndsInNode, inside_begins_node}
 
 -- the text of these nodes and one more
@@ -25,19 +26,19 @@ abbrev pub whole_text : Preamble → List Node → Node → List (List ℕ)
 whole_text preamble nodes node = tree_lines preamble (nodes ++ node ∷ []) node.heading.winner
 
 pub whole_are_of : (preamble : Preamble) (nodes : List Node) (node : Node)
-    → IsExtent preamble.size.rows preamble.size.cols → EachNodeFits preamble nodes
+    → IsExtent preamble.size.rows preamble.size.cols → All (NodeFits preamble) nodes
     → NodeFits preamble node → length nodes ≤ 1048576
     → AreTreeLinesOf preamble (nodes ++ node ∷ []) node.heading.winner (whole_text preamble nodes node)
 whole_are_of preamble nodes node extent each fits room = record {
   is_size = extent;
-  each = EachNodeFits-push preamble nodes node each fits;
+  each = All-push (NodeFits preamble) nodes node each fits;
   root = record { root = node; last = record { front = nodes; same = refl }; same = refl };
   count = omega (arith, length-append nodes (node ∷ []));
   same = refl;
 }
 
 pub whole_are : (preamble : Preamble) (nodes : List Node) (node : Node)
-    → IsExtent preamble.size.rows preamble.size.cols → EachNodeFits preamble nodes
+    → IsExtent preamble.size.rows preamble.size.cols → All (NodeFits preamble) nodes
     → NodeFits preamble node → length nodes ≤ 1048576 → AreTreeLines (whole_text preamble nodes node)
 whole_are preamble nodes node extent each fits room =
     record {
@@ -51,7 +52,7 @@ whole_are preamble nodes node extent each fits room =
 -- the text goes on with this node and ends
 with_node : (preamble : Preamble) (nodes : List Node) (node : Node) (lines rest : List (List ℕ))
     → lines ≡ front_lines preamble ++ flat_map node_lines nodes → IsExtent preamble.size.rows preamble.size.cols
-    → EachNodeFits preamble nodes
+    → All (NodeFits preamble) nodes
     → NodeFits preamble node → length nodes ≤ 1048576
     → rest ≡ node_lines node ++ end_line (length (nodes ++ node ∷ [])) node.heading.winner ∷ [] → AreTreeLines (lines ++ rest)
 with_node preamble nodes node lines rest is extent each fits room rest_is =
@@ -66,22 +67,19 @@ with_node preamble nodes node lines rest is extent each fits room rest_is =
     subst AreTreeLines (sym same) (whole_are preamble nodes node extent each fits room)
 
 -- a node on an empty board
-abbrev plain : Preamble → Node
+abbrev pub plain : Preamble → Node
 plain preamble = record {
   heading =
       record { position = record { size = preamble.size; black = 0; white = 0 }; to_move = Black; winner = Black };
   rule = Chain;
 }
 
-plain_fits : (preamble : Preamble) → IsExtent preamble.size.rows preamble.size.cols → NodeFits preamble (plain preamble)
-plain_fits preamble extent = record {
-  head = record { heading = record { size_is = refl; board = (extent, empty-is_position preamble.size) }; opening = tt };
-  entries = tt;
-}
+pub plain_fits : (preamble : Preamble) → IsExtent preamble.size.rows preamble.size.cols → NodeFits preamble (plain preamble)
+plain_fits preamble extent = record { size_is = refl; board = (extent, empty-is_position preamble.size); rule = tt }
 
 -- the text goes on with the lines that a node lacks
 Begins-in_node : (preamble : Preamble) (nodes : List Node) (lines : List (List ℕ))
-    → IsExtent preamble.size.rows preamble.size.cols → EachNodeFits preamble nodes
+    → IsExtent preamble.size.rows preamble.size.cols → All (NodeFits preamble) nodes
     → length nodes ≤ 1048576 → EndsInNode preamble nodes lines → Begins AreTreeLines lines
 Begins-in_node preamble nodes lines extent each room ends =
     let front : List (List ℕ) = front_lines preamble ++ flat_map node_lines nodes in
@@ -97,12 +95,12 @@ Begins-in_node preamble nodes lines extent each room ends =
     )
 
 -- a text of this version on a board of one cell
-abbrev one : Version → Preamble
+abbrev pub one : Version → Preamble
 one version = record { version = version; size = record { rows = 1; cols = 1 } }
 
 one_cell : (version : Version) → AreTreeLines (whole_text (one version) [] (plain (one version)))
 one_cell version =
-    whole_are (one version) [] (plain (one version)) (omega arith, omega arith, omega arith, omega arith) tt
+    whole_are (one version) [] (plain (one version)) (omega arith, omega arith, omega arith, omega arith) (All-nil (NodeFits (one version)))
     (plain_fits (one version) (omega arith, omega arith, omega arith, omega arith)) (omega arith)
 
 pub Begins-stands : (place : Place) (nodes : List Node) (lines : List (List ℕ)) → Stands place nodes lines

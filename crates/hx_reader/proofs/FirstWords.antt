@@ -4,6 +4,7 @@
 use Rattle.std.proofs.Common.{◌≡◌, ℕ, ◌≤◌, List, [], ◌∷◌, length, map, refl}
 use Rattle.std.proofs.Common.{sym, ap, ◌∙◌, arith, Option, Some, None, Result, Ok, Err}
 use Rattle.std.specs.Prelude.{codes}
+use Rattle.std.specs.List.{All as EachItem}
 use Rattle.std.specs.Result.{IfOk, OnErr}
 use Rattle.std.specs.Fmt.{decimal}
 use Rattle.hx_board.specs.declared.vertices.Vertex.{Vertex}
@@ -20,7 +21,7 @@ use Rattle.hx_text.specs.declared.heads.Opening.TheVariants.{Chain, Links, Move,
 use Rattle.hx_text.specs.declared.versions.Version.TheVariants.{Two}
 use Rattle.hx_text.specs.declared.versions.Preamble.{Preamble}
 use Rattle.hx_letters.specs.Words.{Reads, IsNumber, words_in, cell_word, vertex_word}
-use Rattle.hx_text.specs.StepTexts.{step_words, step_line, StepFits, AreNumbers}
+use Rattle.hx_text.specs.StepTexts.{step_words, step_line, StepFits}
 use Rattle.hx_reader.specs.Ors.{BeginsOr}
 use Rattle.hx_text.specs.TreeTexts.{opening_words, OpeningFits}
 use Rattle.hx_reader.specs.EntryReads.{UnturnedFits}
@@ -87,7 +88,7 @@ cell_step_reads size words rest (Some step) first is = rw is.2 ((is.3, is.4), wo
 cell_step_reads size words rest None first none = λ value fits e. no_cell size value words rest first none fits e
 
 pub or_reads : {E : Type 0} (size : Extent) (words rest : List (List ℕ)) (found : Result (Option Step) E) → words ≡ codes "or" ∷ rest
-    → IfOk found (λ read. Finds read (λ step. (parts : List ℕ) × (step ≡ Or parts) × (length parts ≤ MOST_PARTS) × AreNumbers parts
+    → IfOk found (λ read. Finds read (λ step. (parts : List ℕ) × (step ≡ Or parts) × (length parts ≤ MOST_PARTS) × EachItem IsNumber parts
     × (rest ≡ map decimal parts)))
     → IfOk found (Reads step_words (StepFits size) words)
 or_reads size words rest (Ok (Some step)) first is = rw is.1 ((is.2, is.3), word_then first is.4)

@@ -3,8 +3,9 @@
 use Rattle.std.proofs.Common.{◌≡◌, ℕ, ◌+◌, ◌<◌, List, [], ◌∷◌, ◌++◌, length, refl, sym, ap, ◌∙◌}
 use Rattle.std.proofs.Common.{subst, arith, append_assoc, length-append, Option, Some, None}
 use Rattle.std.proofs.lemmas.List.{append-nil}
+use Rattle.std.proofs.lemmas.List.Elements.{All-head, All-push}
 use Rattle.std.proofs.lemmas.Grind.{flat_map-append}
-use Rattle.std.specs.Prelude.{flat_map}
+use Rattle.std.specs.Prelude.{flat_map, All}
 use Rattle.hx_board.specs.declared.colours.Colour.{Colour}
 use Rattle.hx_board.specs.Cells.{IsExtent}
 use Rattle.hx_tree.specs.declared.nodes.Node.{Node}
@@ -15,14 +16,15 @@ use Rattle.hx_reader.specs.declared.places.Place.{Place}
 use Rattle.hx_reader.specs.declared.places.Place.TheVariants.{After}
 use Rattle.hx_letters.specs.Words.{IsNumber}
 use Rattle.hx_text.specs.Grammars.{Begins}
-use Rattle.hx_text.specs.TreeTexts.{AreTreeLines, AreTreeLinesOf, EachNodeFits, IsRootWinner, NodeFits}
-use Rattle.hx_text.specs.TreeTexts.{head_of, head_line, node_lines, title_line, front_lines, end_line}
+use Rattle.hx_text.specs.TreeTexts.{AreTreeLines, AreTreeLinesOf, IsRootWinner, NodeFits}
+use Rattle.hx_text.specs.TreeTexts.{head_of, first_line, node_lines, title_line, front_lines, end_line}
 use Rattle.hx_text.specs.Lengths.{most_nodes}
 use Rattle.hx_reader.specs.Places.{IsLastWinner, StandsSoFar, IsNoHead, Stands}
 use Rattle.hx_letters.proofs.Ends.{push-some, push_injective}
 use Rattle.hx_text.proofs.Injective.{end_injective}
-use Rattle.hx_text.proofs.NodeInjective.{head_not_end}
+use Rattle.hx_text.proofs.NodeInjective.{first_not_end}
 use Rattle.hx_text.proofs.Alignment.{Aligned, aligned}
+use Rattle.hx_text.proofs.NodeParts.{first_line-head, head_fits}
 
 -- the title
 pub title_wrong : (nodes : List Node) (lines : List (List ℕ)) (line : List ℕ) → lines ≡ []
@@ -40,11 +42,6 @@ pub flat_map-push : (nodes : List Node) (node : Node)
 flat_map-push nodes node = flat_map-append node_lines nodes (node ∷ [])
     ∙ ap (λ (ls : List (List ℕ)). flat_map node_lines nodes ++ ls) (append-nil (node_lines node))
 
-pub EachNodeFits-push : (preamble : Preamble) (nodes : List Node) (node : Node) → EachNodeFits preamble nodes → NodeFits preamble node
-    → EachNodeFits preamble (nodes ++ node ∷ [])
-EachNodeFits-push preamble [] node each fits = (fits, tt)
-EachNodeFits-push preamble (n ∷ nodes) node each fits = (each.0, EachNodeFits-push preamble nodes node each.1 fits)
-
 -- a whole node more
 pub stands_more : (so_far : SoFar) (node : Node) (count : ℕ) (nodes : List Node) (lines : List (List ℕ))
     → StandsSoFar so_far nodes lines → so_far.count < most_nodes → count ≡ so_far.count + 1 → NodeFits so_far.preamble node
@@ -52,7 +49,7 @@ pub stands_more : (so_far : SoFar) (node : Node) (count : ℕ) (nodes : List Nod
     (lines ++ node_lines node)
 stands_more so_far node count nodes lines stands under is fits = record {
   is_size = stands.is_size;
-  each = EachNodeFits-push so_far.preamble nodes node stands.each fits;
+  each = All-push (NodeFits so_far.preamble) nodes node stands.each fits;
   winner = record { root = node; last = record { front = nodes; same = refl }; same = refl };
   count = is ∙ ap (λ (n : ℕ). n + 1) stands.count ∙ sym (length-append nodes (node ∷ []));
   room = omega (arith, is);
@@ -79,15 +76,15 @@ wrong_more : {so_far : SoFar} {line : List ℕ} (nodes all : List Node) {rest : 
     → IsNoHead so_far.preamble line
     → ((count : ℕ) (w : Colour) → IsNumber count → line ≡ end_line count w → count ≡ so_far.count → so_far.winner ≡ Some w → ⊥)
     → so_far.count ≡ length nodes → IsLastWinner nodes so_far.winner → AreTreeLinesOf preamble all winner whole → all ≡ nodes ++ more
-    → EachNodeFits so_far.preamble more → line ∷ rest ≡ flat_map node_lines more ++ end_line (length all) winner ∷ [] → ⊥
+    → All (NodeFits so_far.preamble) more → line ∷ rest ≡ flat_map node_lines more ++ end_line (length all) winner ∷ [] → ⊥
 wrong_more {so_far} {line} nodes all {rest} preamble winner whole [] no_head no_end counted last are nodes_are fits rest_is =
     let same : all ≡ nodes = nodes_are ∙ append-nil nodes in
     let first : line ≡ end_line (length all) winner = cc in
     no_end (length all) winner are.count first (ap length same ∙ sym counted)
     (winner_same nodes so_far.winner winner last (subst (λ (ns : List Node). IsRootWinner ns winner) same are.root))
 wrong_more {so_far} {line} nodes all {rest} preamble winner whole (node ∷ more) no_head no_end counted last are nodes_are fits rest_is =
-    let first : line ≡ head_line (head_of node) = cc in
-    no_head (head_of node) fits.0.head first
+    let first : line ≡ first_line node = cc in
+    no_head (head_of node) (head_fits node (All-head (NodeFits so_far.preamble) node more fits)) (first ∙ first_line-head node)
 
 wrong_after : (so_far : SoFar) (line : List ℕ) (nodes all : List Node) (rest : List (List ℕ)) {preamble : Preamble} (winner : Colour)
     {whole lines : List (List ℕ)}
@@ -119,12 +116,12 @@ winner_of_end line count n winner w small few e f = (end_injective count n winne
 
 after_wrong : (preamble : Preamble) (winner : Colour) (nodes : List Node) (line : List ℕ) (rest : List (List ℕ)) (more : List Node)
     (end : List ℕ)
-    → IsExtent preamble.size.rows preamble.size.cols → IsNumber (length nodes) → EachNodeFits preamble more
+    → IsExtent preamble.size.rows preamble.size.cols → IsNumber (length nodes) → All (NodeFits preamble) more
     → end_line (length nodes) winner ∷ line ∷ rest ≡ flat_map node_lines more ++ end ∷ [] → ⊥
 after_wrong preamble winner nodes line rest [] end extent small fits e = let later : line ∷ rest ≡ [] = cc in cc
 after_wrong preamble winner nodes line rest (node ∷ more) end extent small fits e =
-    let first : end_line (length nodes) winner ≡ head_line (head_of node) = cc in
-    head_not_end preamble (head_of node) (length nodes) winner extent fits.0.head small (sym first)
+    let first : end_line (length nodes) winner ≡ first_line node = cc in
+    first_not_end preamble node (length nodes) winner extent (All-head (NodeFits preamble) node more fits) small (sym first)
 
 -- nothing follows the last line
 pub end_wrong : (preamble : Preamble) (winner : Colour) (nodes : List Node) (lines : List (List ℕ)) (line : List ℕ)

@@ -1,6 +1,6 @@
 -- The places in a tree's text: what each says of the lines and nodes before it, and what one more line does there.
 use Rattle.std.specs.Prelude.{◌≡◌, ℕ, ◌+◌, ◌-◌, ◌<◌, ◌≤◌, nat_lt, if◌then◌else◌, List, [], ◌∷◌}
-use Rattle.std.specs.Prelude.{◌++◌, length, map, flat_map, Bool, IsTrue, vec_capacity}
+use Rattle.std.specs.Prelude.{◌++◌, length, map, flat_map, All, Bool, IsTrue, vec_capacity}
 use Rattle.std.specs.declared.option.Option.{Option}
 use Rattle.std.specs.declared.option.Option.TheVariants.{None, Some}
 use Rattle.std.specs.declared.result.Result.{Result}
@@ -34,7 +34,7 @@ use Rattle.hx_text.specs.Entries.{EachEntryFits, entries_for, entries_of, entry_
 use Rattle.hx_text.specs.Entries.{threats_told, answers_told, fills_told, entries_told}
 use Rattle.hx_reader.specs.EntryReads.{IsEntryLine}
 use Rattle.hx_reader.specs.Ors.{BeginsOr}
-use Rattle.hx_text.specs.TreeTexts.{AreTreeLines, AreTreeLinesOf, EachNodeFits, NodeFits, IsRootWinner}
+use Rattle.hx_text.specs.TreeTexts.{AreTreeLines, AreTreeLinesOf, NodeFits, IsRootWinner}
 use Rattle.hx_text.specs.TreeTexts.{HeadFits, title_line, front_lines, head_of, head_line, node_lines}
 
 -- the winner in the last node's heading, if there is a node
@@ -45,7 +45,7 @@ IsLastWinner nodes (Some winner) = IsRootWinner nodes winner
 -- the lines so far are those of these nodes
 pub record StandsSoFar (so_far : SoFar) (nodes : List Node) (lines : List (List ℕ)) : Type 0 where
   pub is_size : IsExtent so_far.preamble.size.rows so_far.preamble.size.cols
-  pub each : EachNodeFits so_far.preamble nodes
+  pub each : All (NodeFits so_far.preamble) nodes
   pub winner : IsLastWinner nodes so_far.winner
   pub count : so_far.count ≡ length nodes
   pub room : so_far.count ≤ most_nodes

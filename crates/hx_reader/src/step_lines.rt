@@ -1,12 +1,12 @@
 //! The lines of a node's steps and threats.
 
-ghost use Rattle.std.specs.Prelude.{◌≡◌, ℕ, ◌≤◌, ◌∷◌, [], map, length, codes, List, IfOk, OnErr};
+ghost use Rattle.std.specs.Prelude.{◌≡◌, ℕ, ◌≤◌, ◌∷◌, [], map, length, codes, List, All, IfOk, OnErr};
 ghost use Rattle.std.specs.Fmt.{decimal};
 ghost use Rattle.hx_board.specs.declared.vertices.Vertex.{Vertex};
 ghost use Rattle.hx_board.specs.Finds.{Finds};
 ghost use Rattle.hx_board.specs.Graph.{IsVertex};
 ghost use Rattle.hx_letters.specs.Words.{Reads, IsNumber, vertex_word};
-ghost use Rattle.hx_text.specs.StepTexts.{step_words, step_line, StepFits, threat_line, AreNumbers};
+ghost use Rattle.hx_text.specs.StepTexts.{step_words, step_line, StepFits, threat_line};
 ghost use Rattle.hx_reader.specs.Ors.{BeginsOr};
 
 use hx_board::{Memory, Size};
@@ -97,7 +97,7 @@ fn read_cell(words: &mut Words<'_>) -> Option<Step>
 /// The rest of a line `or`: at most 128 numbers, the places of its parts.
 fn read_or(alloc: Global, words: &mut Words<'_>) -> Result<Option<Step>, Memory>
     ensures reads { IfOk result (λ found. Finds found (λ step. (parts : List ℕ)
-        × (step ≡ Step.Or parts) × (length parts ≤ MOST_PARTS) × AreNumbers parts
+        × (step ≡ Step.Or parts) × (length parts ≤ MOST_PARTS) × All IsNumber parts
         × (words.old ≡ map decimal parts))) }
 {
     let mut items = SmallVec::new(alloc);

@@ -1,7 +1,9 @@
 -- Different entries have different lines: the first word of a step or of a fill step tells which kind it is, and its other words
 -- tell what it names; a threat is its place, and an answer its cell and the words of its reason.
 use Rattle.std.proofs.Common.{◌≡◌, ℕ, ◌≤◌, List, [], ◌∷◌, map, refl, sym, ap, ◌∙◌, arith}
+use Rattle.std.specs.Prelude.{All}
 use Rattle.std.specs.Fmt.{decimal}
+use Rattle.std.proofs.lemmas.List.Elements.{All-head, All-tail}
 use Rattle.hx_board.specs.Cells.{Extent, IsExtent}
 use Rattle.hx_inferior.specs.declared.fills.FillStep.{FillStep}
 use Rattle.hx_inferior.specs.declared.fills.FillStep.TheVariants.{Other, Dead, Pair}
@@ -15,26 +17,27 @@ use Rattle.hx_text.specs.declared.entries.Entry.{Entry}
 use Rattle.hx_text.specs.declared.entries.Entry.TheVariants.{Step as Step_entry, Threat as Threat_entry, Answer as Answer_entry}
 use Rattle.hx_text.specs.declared.entries.Entry.TheVariants.{Fill as Fill_entry}
 use Rattle.hx_letters.specs.Words.{cell_word, IsNumber, vertex_word}
-use Rattle.hx_text.specs.StepTexts.{step_words, step_line, threat_line, StepFits, AreNumbers}
+use Rattle.hx_text.specs.StepTexts.{step_words, step_line, threat_words, threat_line, StepFits}
 use Rattle.hx_text.specs.FillTexts.{fill_words, fill_line, FillFits}
 use Rattle.hx_text.specs.Entries.{reason_words, answer_words, answer_line, ReasonFits, AnswerFits, entry_line, kind_of, EntryFits}
 use Rattle.hx_letters.proofs.Spacing.{spaced_injective}
-use Rattle.hx_text.proofs.StepWords.{first_letter, IsLine-step_words, threat_words, words_in-threat_line}
+use Rattle.hx_text.proofs.StepWords.{first_letter, IsLine-step_words, words_in-threat_line}
 use Rattle.hx_text.proofs.AnswerLines.{IsLine-answer_words}
 use Rattle.hx_text.proofs.FillLines.{IsLine-fill_words}
 use Rattle.hx_letters.proofs.Injective.{number_injective, cell_injective, vertex_injective}
 
 -- ---- steps
 
-decimals_injective : (a b : List ℕ) → AreNumbers a → AreNumbers b → map decimal a ≡ map decimal b → a ≡ b
+decimals_injective : (a b : List ℕ) → All IsNumber a → All IsNumber b → map decimal a ≡ map decimal b → a ≡ b
 decimals_injective [] [] small_a small_b e = refl
 decimals_injective [] (b ∷ later) small_a small_b e = cc
 decimals_injective (a ∷ more) [] small_a small_b e = cc
 decimals_injective (a ∷ more) (b ∷ later) small_a small_b e =
     let firsts : decimal a ≡ decimal b = cc in
     let tails : map decimal more ≡ map decimal later = cc in
-    let first : a ≡ b = number_injective a b small_a.0 small_b.0 firsts in
-    let rest : more ≡ later = decimals_injective more later small_a.1 small_b.1 tails in
+    let first : a ≡ b = number_injective a b (All-head IsNumber a more small_a) (All-head IsNumber b later small_b) firsts in
+    let rest : more ≡ later =
+    decimals_injective more later (All-tail IsNumber a more small_a) (All-tail IsNumber b later small_b) tails in
     cc
 
 step_words_injective : (size : Extent) (a b : Step) → size.rows ≤ 11 → StepFits size a → StepFits size b → step_words a ≡ step_words b

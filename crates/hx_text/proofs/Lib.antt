@@ -6,6 +6,7 @@ pub mod FillLines
 pub mod Injective
 pub mod EntryInjective
 pub mod EntryLists
+pub mod NodeParts
 pub mod NodeInjective
 pub mod Alignment
 pub mod Cuts

@@ -26,7 +26,8 @@ use Rattle.hx_letters.specs.Words.{mask_word, colour_word, cell_word, IsNumber}
 use Rattle.hx_text.specs.StepTexts.{step_line, threat_line, StepFits}
 use Rattle.hx_text.specs.FillTexts.{fill_line, FillFits}
 use Rattle.hx_text.specs.Entries.{answer_line, AnswerFits, entry_line, EntryFits, EachEntryFits, entries_for, entries_of, opening_of}
-use Rattle.hx_text.specs.TreeTexts.{opening_words, OpeningFits, head_of, head_words, head_line, HeadFits, node_lines, NodeFits, end_line}
+use Rattle.hx_text.specs.TreeTexts.{opening_words, OpeningFits, head_of, head_words, head_line, HeadFits, first_line, node_lines, NodeFits}
+use Rattle.hx_text.specs.TreeTexts.{end_line}
 use Rattle.hx_letters.proofs.Spacing.{spaced_injective}
 use Rattle.hx_letters.proofs.Masks.{mask_injective}
 use Rattle.hx_text.proofs.LineWords.{end_words, words_in-end_line}
@@ -34,6 +35,7 @@ use Rattle.hx_text.proofs.StepWords.{first_letter}
 use Rattle.hx_text.proofs.HeadLines.{IsLine-head_words, words_in-head_line, black_small, white_small}
 use Rattle.hx_letters.proofs.Injective.{number_injective, colour_injective, cell_injective}
 use Rattle.hx_text.proofs.EntryLists.{step_entry, threat_entry, answer_entry, fill_entry, entries_for-parts}
+use Rattle.hx_text.proofs.NodeParts.{node_lines-parts, first_line-head, head_fits, entries_fit}
 use Rattle.hx_text.proofs.EntryInjective.{step_injective, threat_injective, answer_injective, fill_injective}
 
 -- ---- first lines
@@ -112,6 +114,11 @@ head_not_end preamble head count winner extent fits small e =
     sym (words_in-head_line preamble (head_line head) head extent fits refl)
     ∙ words_in-end_line (head_line head) count winner small e in
     cc
+
+pub first_not_end : (preamble : Preamble) (node : Node) (count : ℕ) (winner : Colour) → IsExtent preamble.size.rows preamble.size.cols
+    → NodeFits preamble node → IsNumber count → first_line node ≡ end_line count winner → ⊥
+first_not_end preamble node count winner extent fits small e =
+    head_not_end preamble (head_of node) count winner extent (head_fits node fits) small (sym (first_line-head node) ∙ e)
 
 -- ---- a rule is told by its opening and its entries' lines
 
@@ -230,9 +237,13 @@ pub node_cancel : (preamble : Preamble) (a b : Node) (xs ys : List (List ℕ)) �
     → NodeFits preamble a
     → NodeFits preamble b → node_lines a ++ xs ≡ node_lines b ++ ys → (a ≡ b) × (xs ≡ ys)
 node_cancel preamble a b xs ys extent fits_a fits_b e =
+    let parts : (head_line (head_of a) ∷ map entry_line (entries_of a.rule)) ++ xs
+    ≡ (head_line (head_of b) ∷ map entry_line (entries_of b.rule)) ++ ys =
+    ap (λ (ls : List (List ℕ)). ls ++ xs) (sym (node_lines-parts a)) ∙ e ∙ ap (λ (ls : List (List ℕ)). ls ++ ys) (node_lines-parts b) in
     let firsts : head_line (head_of a) ≡ head_line (head_of b) = cc in
     let tails : map entry_line (entries_of a.rule) ++ xs ≡ map entry_line (entries_of b.rule) ++ ys = cc in
-    let heads : head_of a ≡ head_of b = head_injective preamble (head_of a) (head_of b) extent fits_a.head fits_b.head firsts in
-    let rules = rule_cancel preamble.size a.rule b.rule xs ys extent fits_a.entries fits_b.entries
+    let heads : head_of a ≡ head_of b =
+    head_injective preamble (head_of a) (head_of b) extent (head_fits a fits_a) (head_fits b fits_b) firsts in
+    let rules = rule_cancel preamble.size a.rule b.rule xs ys extent (entries_fit a fits_a) (entries_fit b fits_b)
     (ap (λ (h : Head). h.opening) heads) tails in
     (node_same a b (ap (λ (h : Head). h.heading) heads) rules.0, rules.1)

@@ -3,6 +3,8 @@
 use Rattle.std.proofs.Common.{ℕ, suc, zero, ◌+◌, ◌*◌, ◌/◌, ◌<◌, ◌≤◌, List, [], ◌∷◌, ◌++◌, length, map, get_or, sym, subst, arith}
 use Rattle.std.proofs.Common.{length-append}
 use Rattle.std.specs.Prelude.{flat_map}
+use Rattle.std.specs.List.{All as EachItem}
+use Rattle.std.proofs.lemmas.List.Elements.{All-head, All-tail}
 use Rattle.std.specs.Fmt.{decimal}
 use Rattle.std.proofs.lemmas.Fmt.{length-decimal-le}
 use Rattle.hx_board.specs.declared.colours.Colour.{Colour}
@@ -29,14 +31,15 @@ use Rattle.hx_text.specs.declared.versions.Version.{Version}
 use Rattle.hx_text.specs.declared.versions.Version.TheVariants.{One, Two}
 use Rattle.hx_text.specs.declared.versions.Preamble.{Preamble}
 use Rattle.hx_letters.specs.Words.{spaced, cell_word, IsNumber, vertex_word}
-use Rattle.hx_text.specs.StepTexts.{step_words, AreNumbers, StepFits}
+use Rattle.hx_text.specs.StepTexts.{step_words, StepFits}
 use Rattle.hx_text.specs.FillTexts.{fill_words, FillFits}
 use Rattle.hx_text.specs.Entries.{reason_words, answer_words, ReasonFits, AnswerFits, entry_line, EntryFits, EachEntryFits, entries_of}
-use Rattle.hx_text.specs.TreeTexts.{AreTreeLines, EachNodeFits, NodeFits, OpeningFits, head_of, head_words, opening_words, node_lines}
+use Rattle.hx_text.specs.TreeTexts.{AreTreeLines, NodeFits, OpeningFits, head_of, head_words, opening_words, node_lines}
 use Rattle.hx_text.specs.TreeTexts.{front_lines, tree_lines, title_line, end_line}
 use Rattle.hx_text.specs.Lengths.{longest_line, AreShortLines}
 use Rattle.hx_letters.proofs.Masks.{length-hex}
 use Rattle.hx_letters.proofs.WordLengths.{length-colour_word, length-small}
+use Rattle.hx_text.proofs.NodeParts.{node_lines-parts, head_fits, entries_fit}
 
 -- the bytes of some words, with one more for each
 abbrev total : List (List ℕ) → ℕ
@@ -61,9 +64,10 @@ short_vertex size (Of cell) few on = omega (arith, short_cell size cell few on)
 short_vertex size First few on = omega arith
 short_vertex size Last few on = omega arith
 
-short_numbers : (numbers : List ℕ) → AreNumbers numbers → total (map decimal numbers) ≤ 11 * length numbers
+short_numbers : (numbers : List ℕ) → EachItem IsNumber numbers → total (map decimal numbers) ≤ 11 * length numbers
 short_numbers [] small = omega arith
-short_numbers (n ∷ numbers) small = omega (arith, short_number n small.0, short_numbers numbers small.1)
+short_numbers (n ∷ numbers) small =
+    omega (arith, short_number n (All-head IsNumber n numbers small), short_numbers numbers (All-tail IsNumber n numbers small))
 
 -- ---- the lines of a node
 
@@ -159,14 +163,18 @@ AllShort-entries size (entry ∷ entries) few each = (short_entry size entry few
 
 AllShort-node : (preamble : Preamble) (node : Node) → preamble.size.rows ≤ 11 → NodeFits preamble node → AllShort (node_lines node)
 AllShort-node preamble node few fits =
-    (short_head preamble (head_of node) few fits.head.opening, AllShort-entries preamble.size (entries_of node.rule) few fits.entries)
+    subst AllShort (sym (node_lines-parts node)) (
+      short_head preamble (head_of node) few (head_fits node fits).opening,
+      AllShort-entries preamble.size (entries_of node.rule) few (entries_fit node fits),
+    )
 
-AllShort-nodes : (preamble : Preamble) (nodes : List Node) → preamble.size.rows ≤ 11 → EachNodeFits preamble nodes
+AllShort-nodes : (preamble : Preamble) (nodes : List Node) → preamble.size.rows ≤ 11 → EachItem (NodeFits preamble) nodes
     → AllShort (flat_map node_lines nodes)
 AllShort-nodes preamble [] few each = tt
 AllShort-nodes preamble (node ∷ nodes) few each =
-    AllShort-append (node_lines node) (flat_map node_lines nodes) (AllShort-node preamble node few each.0)
-    (AllShort-nodes preamble nodes few each.1)
+    AllShort-append (node_lines node) (flat_map node_lines nodes)
+    (AllShort-node preamble node few (All-head (NodeFits preamble) node nodes each))
+    (AllShort-nodes preamble nodes few (All-tail (NodeFits preamble) node nodes each))
 
 short_title : (version : Version) → length (title_line version) ≤ longest_line
 short_title One = line_of _ _ (omega arith)

@@ -31,6 +31,7 @@ use Rattle.hx_text.specs.declared.versions.Version.TheVariants.{One, Two}
 use Rattle.hx_text.specs.declared.versions.Preamble.{Preamble}
 use Rattle.hx_text.specs.TreeTexts.{opening_words, head_of, head_line, node_lines, title_line, front_lines, end_line}
 use Rattle.hx_text.specs.Spelling.{each_line, parts_text}
+use Rattle.hx_text.proofs.NodeParts.{node_lines-parts}
 
 pub size_spelled : (old : List ℕ) (size : Extent)
     → ((((old ++ codes "size ") ++ decimal size.rows) ++ codes " ") ++ decimal size.cols) ++ codes "\n" ≡ old ++ (size_line size ++ 10 ∷ [])
@@ -251,4 +252,4 @@ unfolding text_of
 node_spelled empty text node none is =
     let lines = text_of (map entry_line (entries_of node.rule)) in
     ap (λ (t : List ℕ). t ++ lines) (is ∙ ap (λ (t : List ℕ). t ++ (head_line (head_of node) ++ 10 ∷ [])) none)
-    ∙ append_assoc (head_line (head_of node)) (10 ∷ []) lines
+    ∙ append_assoc (head_line (head_of node)) (10 ∷ []) lines ∙ ap text_of (sym (node_lines-parts node))

@@ -1,7 +1,8 @@
 -- The lines of steps and of threats. Their words are of high bytes, so each line gives back the words that it was spelled
 -- from.
 use Rattle.std.proofs.Common.{◌≡◌, ℕ, ◌≤◌, List, [], ◌∷◌, map, get_or, refl, ap, ◌∙◌, arith}
-use Rattle.std.specs.Prelude.{codes}
+use Rattle.std.specs.Prelude.{codes, All}
+use Rattle.std.proofs.lemmas.List.Elements.{All-head, All-tail}
 use Rattle.std.specs.Fmt.{decimal}
 use Rattle.hx_board.specs.declared.vertices.Vertex.{Vertex}
 use Rattle.hx_board.specs.declared.vertices.Vertex.TheVariants.{Of, First, Last}
@@ -10,7 +11,7 @@ use Rattle.hx_board.specs.Graph.{IsVertex}
 use Rattle.hx_link.specs.declared.steps.Step.{Step}
 use Rattle.hx_link.specs.declared.steps.Step.TheVariants.{Base, AndStone, AndCell, Or}
 use Rattle.hx_letters.specs.Words.{words_in, IsNumber, vertex_word}
-use Rattle.hx_text.specs.StepTexts.{step_words, step_line, threat_line, StepFits, AreNumbers}
+use Rattle.hx_text.specs.StepTexts.{step_words, step_line, threat_words, threat_line, StepFits}
 use Rattle.hx_letters.proofs.Spacing.{IsLine, words_in-spaced}
 use Rattle.hx_letters.proofs.HighBytes.{IsHigh, AllHigh, is_high, IsHigh-test, IsHigh-decimal, IsHigh-cell_word, IsLine-high}
 
@@ -26,9 +27,10 @@ IsHigh-vertex_word size (Of cell) few on = IsHigh-cell_word cell (omega (arith, 
 IsHigh-vertex_word size First few on = IsHigh-test (codes "first") refl
 IsHigh-vertex_word size Last few on = IsHigh-test (codes "last") refl
 
-AllHigh-decimals : (numbers : List ℕ) → AreNumbers numbers → AllHigh (map decimal numbers)
+AllHigh-decimals : (numbers : List ℕ) → All IsNumber numbers → AllHigh (map decimal numbers)
 AllHigh-decimals [] small = tt
-AllHigh-decimals (n ∷ numbers) small = (IsHigh-decimal n small.0, AllHigh-decimals numbers small.1)
+AllHigh-decimals (n ∷ numbers) small =
+    (IsHigh-decimal n (All-head IsNumber n numbers small), AllHigh-decimals numbers (All-tail IsNumber n numbers small))
 
 pub AllHigh-step_words : (size : Extent) (step : Step) → size.rows ≤ 11 → StepFits size step → AllHigh (step_words step)
 unfolding is_high
@@ -55,9 +57,6 @@ words_in-step_line size line step extent fits e = ap words_in e
     ∙ words_in-spaced (step_words step) (IsLine-step_words size step extent.1 fits)
 
 -- ---- threats
-
-abbrev pub threat_words : ℕ → List (List ℕ)
-threat_words place = codes "threat" ∷ decimal place ∷ []
 
 pub AllHigh-threat_words : (place : ℕ) → IsNumber place → AllHigh (threat_words place)
 unfolding is_high

@@ -1,7 +1,8 @@
 -- No line of a tree's text has an LF in it, since its words are of high bytes. So each line in which such a text begins is
 -- a line of the input.
 use Rattle.std.proofs.Common.{ℕ, ◌≤◌, List, [], ◌∷◌, ◌++◌, length, map, sym, subst, arith}
-use Rattle.std.specs.Prelude.{flat_map}
+use Rattle.std.specs.Prelude.{flat_map, All}
+use Rattle.std.proofs.lemmas.List.Elements.{All-head, All-tail}
 use Rattle.hx_board.specs.declared.colours.Colour.{Colour}
 use Rattle.hx_board.specs.Cells.{Extent, IsExtent}
 use Rattle.hx_tree.specs.declared.nodes.Node.{Node}
@@ -12,17 +13,18 @@ use Rattle.hx_text.specs.declared.versions.Preamble.{Preamble}
 use Rattle.hx_letters.specs.Words.{IsNumber}
 use Rattle.hx_letters.specs.Marks.{Lacks}
 use Rattle.hx_text.specs.Grammars.{Begins}
-use Rattle.hx_text.specs.StepTexts.{step_words}
+use Rattle.hx_text.specs.StepTexts.{step_words, threat_words}
 use Rattle.hx_text.specs.FillTexts.{fill_words}
 use Rattle.hx_text.specs.Entries.{answer_words, entry_line, EntryFits, EachEntryFits, entries_of}
-use Rattle.hx_text.specs.TreeTexts.{AreTreeLines, EachNodeFits, NodeFits, head_of, head_words, node_lines, front_lines, tree_lines}
+use Rattle.hx_text.specs.TreeTexts.{AreTreeLines, NodeFits, head_of, head_words, node_lines, front_lines, tree_lines}
 use Rattle.hx_text.specs.TreeTexts.{end_line}
 use Rattle.hx_text.proofs.Cuts.{AllLack, AllLack-append}
 use Rattle.hx_text.proofs.LineGrammars.{begun_lack}
 use Rattle.hx_letters.proofs.HighBytes.{Lacks-spaced}
 use Rattle.hx_text.proofs.LineWords.{title_words, AllHigh-title_words, size_words, AllHigh-size_words, end_words, AllHigh-end_words}
 use Rattle.hx_text.proofs.HeadLines.{AllHigh-head_words}
-use Rattle.hx_text.proofs.StepWords.{AllHigh-step_words, threat_words, AllHigh-threat_words}
+use Rattle.hx_text.proofs.NodeParts.{node_lines-parts, head_fits, entries_fit}
+use Rattle.hx_text.proofs.StepWords.{AllHigh-step_words, AllHigh-threat_words}
 use Rattle.hx_text.proofs.AnswerLines.{AllHigh-answer_words}
 use Rattle.hx_text.proofs.FillLines.{AllHigh-fill_words}
 
@@ -37,17 +39,19 @@ AllLack-entries size [] few each = tt
 AllLack-entries size (entry ∷ entries) few each = (Lacks-entry_line size entry few each.0, AllLack-entries size entries few each.1)
 
 AllLack-node : (preamble : Preamble) (node : Node) → preamble.size.rows ≤ 11 → NodeFits preamble node → AllLack (node_lines node)
-AllLack-node preamble node few fits = (
-  Lacks-spaced (head_words (head_of node)) (AllHigh-head_words preamble (head_of node) few fits.head.opening),
-  AllLack-entries preamble.size (entries_of node.rule) few fits.entries,
-)
+AllLack-node preamble node few fits =
+    subst AllLack (sym (node_lines-parts node)) (
+      Lacks-spaced (head_words (head_of node)) (AllHigh-head_words preamble (head_of node) few (head_fits node fits).opening),
+      AllLack-entries preamble.size (entries_of node.rule) few (entries_fit node fits),
+    )
 
-AllLack-nodes : (preamble : Preamble) (nodes : List Node) → preamble.size.rows ≤ 11 → EachNodeFits preamble nodes
+AllLack-nodes : (preamble : Preamble) (nodes : List Node) → preamble.size.rows ≤ 11 → All (NodeFits preamble) nodes
     → AllLack (flat_map node_lines nodes)
 AllLack-nodes preamble [] few each = tt
 AllLack-nodes preamble (node ∷ nodes) few each =
-    AllLack-append (node_lines node) (flat_map node_lines nodes) (AllLack-node preamble node few each.0)
-    (AllLack-nodes preamble nodes few each.1)
+    AllLack-append (node_lines node) (flat_map node_lines nodes)
+    (AllLack-node preamble node few (All-head (NodeFits preamble) node nodes each))
+    (AllLack-nodes preamble nodes few (All-tail (NodeFits preamble) node nodes each))
 
 AllLack-front_lines : (preamble : Preamble) → IsExtent preamble.size.rows preamble.size.cols → AllLack (front_lines preamble)
 AllLack-front_lines preamble extent = (

@@ -6,6 +6,7 @@ use Rattle.std.proofs.Common.{Some, None, inl, inr, length-append}
 use Rattle.std.specs.Prelude.{slice_get, IfSome, IsSomeAnd}
 use Rattle.std.specs.List.{All as EachItem}
 use Rattle.std.proofs.lemmas.List.{length-map}
+use Rattle.std.proofs.lemmas.List.Elements.{All-nil, All-cons}
 use Rattle.std.proofs.lemmas.Option.{slice_get_within}
 use Rattle.std.proofs.lemmas.Map.Keys.{sorted_from_strictly_increasing}
 use Rattle.std.proofs.lemmas.Map.Views.{length-le_from_below}
@@ -40,12 +41,14 @@ use Rattle.hx_board.specs.declared.cells.TheConstants.{CELLS}
 use Rattle.hx_tree.specs.declared.steps.TheConstants.{MOST_STEPS}
 use Rattle.hx_text.specs.declared.versions.Version.TheVariants.{Two}
 use Rattle.hx_text.specs.declared.versions.Preamble.{Preamble}
-use Rattle.hx_text.specs.StepTexts.{StepFits, AreNumbers}
+use Rattle.hx_letters.specs.Words.{IsNumber}
+use Rattle.hx_text.specs.StepTexts.{StepFits}
 use Rattle.hx_text.specs.Entries.{ReasonFits, AnswerFits, EachEntryFits, entries_of, opening_of}
 use Rattle.hx_text.specs.Versions.{IsTurnedNode, HasTurned}
-use Rattle.hx_text.specs.TreeTexts.{OpeningFits, NodeFits, EachNodeFits, ListsFit}
+use Rattle.hx_text.specs.TreeTexts.{OpeningFits, RuleFits, NodeFits, ListsFit}
 use Rattle.hx_text.specs.Lengths.{most_nodes}
 use Rattle.hx_text.proofs.EntryLists.{step_entry, threat_entry, answer_entry, EachEntryFits-entries_for}
+use Rattle.hx_text.proofs.NodeParts.{node_fits as fits_by_parts}
 use Rattle.hx_text.proofs.FillCounts.{few_fill_steps, fill_steps_fit}
 
 -- each cell of a list in order has its place below 121, so there are at most 121
@@ -95,14 +98,14 @@ base_fits board player a b link ok (inr ends) =
     (rw ends.1 at (end-vertex board player link.b ok.b_end), rw ends.0 at (end-vertex board player link.a ok.a_end))
 
 parts_fit : (before : List Link) (places : List ℕ) (links : List Link) → length before ≤ MOST_STEPS
-    → links_at before places ≡ map (λ (part : Link). Some part) links → AreNumbers places
-parts_fit before [] links few there = tt
+    → links_at before places ≡ map (λ (part : Link). Some part) links → EachItem IsNumber places
+parts_fit before [] links few there = All-nil IsNumber
 parts_fit before (place ∷ places) [] few there = cc
 parts_fit before (place ∷ places) (link ∷ links) few there =
     let here : slice_get before place ≡ Some link = cc in
     let later : links_at before places ≡ map (λ (part : Link). Some part) links = cc in
     let below : place < length before = slice_get_within before place link here in
-    (omega arith, parts_fit before places links few later)
+    All-cons IsNumber place places (omega arith) (parts_fit before places links few later)
 
 step_fits : (board : Board) (player : Colour) (before : List Link) (step : Step) (link : Link) → length before ≤ MOST_STEPS
     → StepGives board player before step link → StepFits board.size step
@@ -192,18 +195,18 @@ node_fits : (preamble : Preamble) (before : List Heading) (node : Option Node) �
     → (IsSomeAnd node IsTurnedNode → preamble.version ≡ Two) → IfSome node (NodeFits preamble)
 node_fits preamble before None few right same two = tt
 node_fits preamble before (Some node) few right same two =
-    record {
-      head = record {
-        heading = record { size_is = same; board = right.board };
-        opening = opening_fits preamble before node.heading node.rule same right.board few (λ child is. two (child, is)) right.rule;
-      };
-      entries = rule_fits preamble.size before node.heading node.rule same few right.rule;
-    }
+    fits_by_parts node
+    (record {
+      heading = record { size_is = same; board = right.board };
+      opening = opening_fits preamble before node.heading node.rule same right.board few (λ child is. two (child, is)) right.rule;
+    })
+    (rule_fits preamble.size before node.heading node.rule same few right.rule)
 
 each_from_places : (preamble : Preamble) (nodes : List Node) → ((k : ℕ) → IfSome (slice_get nodes k) (NodeFits preamble))
-    → EachNodeFits preamble nodes
-each_from_places preamble [] fits = tt
-each_from_places preamble (node ∷ nodes) fits = (fits 0, each_from_places preamble nodes (λ k. fits (suc k)))
+    → EachItem (NodeFits preamble) nodes
+each_from_places preamble [] fits = All-nil (NodeFits preamble)
+each_from_places preamble (node ∷ nodes) fits =
+    All-cons (NodeFits preamble) node nodes (fits 0) (each_from_places preamble nodes (λ k. fits (suc k)))
 
 few_before : (nodes : List Node) (k : ℕ) → length nodes ≤ most_nodes → length (headings_of (take k nodes)) ≤ most_nodes
 few_before [] zero few = omega arith
@@ -226,22 +229,22 @@ at_places P (node ∷ nodes) each (suc k) = at_places P nodes (λ j d less. each
 -- turned nodes fit in a text of the second version alone
 pub right_nodes_fit : (preamble : Preamble) (nodes : List Node) → AreRight nodes → length nodes ≤ most_nodes
     → EachItem (λ node. node.heading.position.size ≡ preamble.size) nodes → (HasTurned nodes → preamble.version ≡ Two)
-    → EachNodeFits preamble nodes
+    → EachItem (NodeFits preamble) nodes
 right_nodes_fit preamble nodes right few same two =
     each_from_places preamble nodes
     (λ k. node_fits preamble (headings_of (take k nodes)) (slice_get nodes k) (few_before nodes k few) (right k)
     (at_places (λ node. node.heading.position.size ≡ preamble.size) nodes same k) (λ turned. two (k, turned)))
 
 -- what fits can be written
-lists_fit : (preamble : Preamble) (rule : Rule) → OpeningFits preamble (opening_of rule) → ListsFit rule
+lists_fit : (preamble : Preamble) (rule : Rule) → RuleFits preamble rule → ListsFit rule
 lists_fit preamble Chain fits = tt
-lists_fit preamble (Links steps) fits = fits
+lists_fit preamble (Links steps) fits = fits.0
 lists_fit preamble (Move cell child) fits = tt
-lists_fit preamble (All steps threats lines) fits = fits
+lists_fit preamble (All steps threats lines) fits = (fits.0, fits.1, fits.2)
 lists_fit preamble (Fill fills child) fits = fits.0
 lists_fit preamble (Turned child) fits = tt
 
-pub each_lists_fit : (preamble : Preamble) (nodes : List Node) → EachNodeFits preamble nodes → EachItem (λ node. ListsFit node.rule) nodes
-each_lists_fit preamble [] each k d less = absurd (omega arith)
-each_lists_fit preamble (node ∷ nodes) each zero d less = lists_fit preamble node.rule each.0.head.opening
-each_lists_fit preamble (node ∷ nodes) each (suc k) d less = each_lists_fit preamble nodes each.1 k d (omega arith)
+pub each_lists_fit : (preamble : Preamble) (nodes : List Node) → EachItem (NodeFits preamble) nodes
+    → EachItem (λ node. ListsFit node.rule) nodes
+each_lists_fit preamble nodes each k d less =
+    lists_fit preamble (get_or nodes k d).rule (each k d less).rule

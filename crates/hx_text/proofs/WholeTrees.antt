@@ -1,15 +1,15 @@
 -- A text tells its nodes, and what is written piece by piece is the text of the nodes.
 use Rattle.std.proofs.Common.{◌≡◌, ℕ, List, [], ◌∷◌, ◌++◌, length, map, refl, sym, ap, ◌∙◌, subst}
 use Rattle.std.proofs.lemmas.List.{append-nil}
-use Rattle.std.specs.Prelude.{flat_map}
+use Rattle.std.specs.Prelude.{flat_map, All}
 use Rattle.hx_board.specs.declared.colours.Colour.{Colour}
 use Rattle.hx_board.specs.Cells.{IsExtent}
 use Rattle.hx_tree.specs.declared.nodes.Node.{Node}
 use Rattle.hx_text.specs.declared.versions.Preamble.{Preamble}
-use Rattle.hx_letters.specs.Words.{IsNumber}
+use Rattle.hx_letters.specs.Words.{IsNumber, spaced}
 use Rattle.hx_text.specs.Grammars.{text_of}
-use Rattle.hx_text.specs.Entries.{entry_line, entries_of}
-use Rattle.hx_text.specs.TreeTexts.{AreTreeLinesOf, IsTreeText, EachNodeFits, IsRootWinner, node_lines, front_lines, end_line, tree_lines}
+use Rattle.hx_text.specs.TreeTexts.{AreTreeLinesOf, IsTreeText, NodeFits, IsRootWinner, list_words, node_lines, front_lines}
+use Rattle.hx_text.specs.TreeTexts.{end_line, tree_lines}
 use Rattle.hx_text.specs.TreeTexts.{written_tree}
 use Rattle.hx_letters.proofs.Ends.{push-some}
 use Rattle.hx_text.proofs.Cuts.{text_injective, text_of-append}
@@ -19,7 +19,7 @@ use Rattle.hx_text.proofs.Alignment.{Aligned, aligned}
 no_more : (more : List Node) (end last : List ℕ) → end ∷ [] ≡ flat_map node_lines more ++ last ∷ [] → more ≡ []
 no_more [] end last e = refl
 no_more (node ∷ more) end last e =
-    let later : List (List ℕ) = map entry_line (entries_of node.rule) ++ flat_map node_lines more in
+    let later : List (List ℕ) = map spaced (list_words node.rule) ++ flat_map node_lines more in
     let none : later ++ last ∷ [] ≡ [] = cc in
     absurd (push-some later last none)
 
@@ -60,7 +60,7 @@ written_text preamble nodes winner =
 
 -- what is written piece by piece is the text of the nodes, with the lines before them that were written
 pub written_with : (preamble : Preamble) (nodes : List Node) (winner : Colour) → IsExtent preamble.size.rows preamble.size.cols
-    → EachNodeFits preamble nodes
+    → All (NodeFits preamble) nodes
     → IsRootWinner nodes winner → IsNumber (length nodes) → (text : IsTreeText (written_tree preamble nodes winner) nodes)
     × (text.preamble ≡ preamble)
 written_with preamble nodes winner extent each root few = (
@@ -75,13 +75,13 @@ written_with preamble nodes winner extent each root few = (
 )
 
 pub written_is_text : (preamble : Preamble) (nodes : List Node) (winner : Colour) → IsExtent preamble.size.rows preamble.size.cols
-    → EachNodeFits preamble nodes
+    → All (NodeFits preamble) nodes
     → IsRootWinner nodes winner → IsNumber (length nodes) → IsTreeText (written_tree preamble nodes winner) nodes
 written_is_text preamble nodes winner extent each root few = (written_with preamble nodes winner extent each root few).0
 
 -- and it is read as what was written
 pub read_back : (preamble : Preamble) (nodes read : List Node) (winner : Colour) → IsExtent preamble.size.rows preamble.size.cols
-    → EachNodeFits preamble nodes
+    → All (NodeFits preamble) nodes
     → IsRootWinner nodes winner → IsNumber (length nodes) → IsTreeText (written_tree preamble nodes winner) read → read ≡ nodes
 read_back preamble nodes read winner extent each root few is =
     text_tells_nodes (written_tree preamble nodes winner) read nodes is (written_is_text preamble nodes winner extent each root few)

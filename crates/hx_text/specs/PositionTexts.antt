@@ -8,23 +8,15 @@ use Rattle.hx_board.specs.Positions.{Board, IsBoard}
 use Rattle.hx_letters.specs.Words.{spaced, mask_word, colour_word}
 use Rattle.hx_text.specs.Grammars.{text_of}
 
-abbrev pub position_title : List ℕ
-position_title = spaced (codes "hexpos" ∷ codes "1" ∷ [])
-
 abbrev pub size_line : Extent → List ℕ
 size_line size = spaced (codes "size" ∷ decimal size.rows ∷ decimal size.cols ∷ [])
 
--- the line of a player's stones, which begins with the player's colour
-abbrev pub stones_line : Colour → ℕ → List ℕ
-stones_line colour stones = spaced (colour_word colour ∷ mask_word stones ∷ [])
-
-abbrev pub move_line : Colour → List ℕ
-move_line mover = spaced (codes "move" ∷ colour_word mover ∷ [])
-
+-- the title, the size, the stones of each player behind the player's colour, and the player to move
 abbrev pub position_lines : Board → Colour → List (List ℕ)
 position_lines board mover =
-    position_title ∷ size_line board.size ∷ stones_line Black board.black ∷ stones_line White board.white
-    ∷ move_line mover ∷ []
+    spaced (codes "hexpos" ∷ codes "1" ∷ []) ∷ size_line board.size
+    ∷ spaced (colour_word Black ∷ mask_word board.black ∷ []) ∷ spaced (colour_word White ∷ mask_word board.white ∷ [])
+    ∷ spaced (codes "move" ∷ colour_word mover ∷ []) ∷ []
 
 abbrev pub position_text : Board → Colour → List ℕ
 position_text board mover = text_of (position_lines board mover)
@@ -35,3 +27,15 @@ pub record ArePositionLines (lines : List (List ℕ)) : Type 0 where
   pub mover : Colour
   pub is_board : IsBoard board
   pub same : lines ≡ position_lines board mover
+
+-- ---- the lines by themselves, as a writer and a reader have them
+
+abbrev pub position_title : List ℕ
+position_title = spaced (codes "hexpos" ∷ codes "1" ∷ [])
+
+-- the line of a player's stones
+abbrev pub stones_line : Colour → ℕ → List ℕ
+stones_line colour stones = spaced (colour_word colour ∷ mask_word stones ∷ [])
+
+abbrev pub move_line : Colour → List ℕ
+move_line mover = spaced (codes "move" ∷ colour_word mover ∷ [])

@@ -1,5 +1,5 @@
 -- The lines of a node's steps and of its threats.
-use Rattle.std.specs.Prelude.{ℕ, ◌≤◌, List, [], ◌∷◌, length, map, codes}
+use Rattle.std.specs.Prelude.{ℕ, ◌≤◌, List, [], ◌∷◌, length, map, codes, All}
 use Rattle.std.specs.Fmt.{decimal}
 use Rattle.hx_board.specs.Cells.{Extent}
 use Rattle.hx_board.specs.Graph.{IsVertex}
@@ -18,13 +18,12 @@ step_words (Or parts) = codes "or" ∷ map decimal parts
 abbrev pub step_line : Step → List ℕ
 step_line step = spaced (step_words step)
 
+abbrev pub threat_words : ℕ → List (List ℕ)
+threat_words place = codes "threat" ∷ decimal place ∷ []
+
 -- the line of a threat
 abbrev pub threat_line : ℕ → List ℕ
-threat_line place = spaced (codes "threat" ∷ decimal place ∷ [])
-
-abbrev pub AreNumbers : List ℕ → Type 0
-AreNumbers [] = Unit {0}
-AreNumbers (n ∷ numbers) = IsNumber n × AreNumbers numbers
+threat_line place = spaced (threat_words place)
 
 -- a step whose vertices are on a board of this size, with no more parts than a text may have; the links that it names
 -- need not be there
@@ -32,7 +31,7 @@ abbrev pub StepFits : Extent → Step → Type 0
 StepFits size (Base a b) = IsVertex size a × IsVertex size b
 StepFits size (AndStone left right) = IsNumber left × IsNumber right
 StepFits size (AndCell left right) = IsNumber left × IsNumber right
-StepFits size (Or parts) = (length parts ≤ MOST_PARTS) × AreNumbers parts
+StepFits size (Or parts) = (length parts ≤ MOST_PARTS) × All IsNumber parts
 
 -- ---- words for the functions inside the crate alone
 

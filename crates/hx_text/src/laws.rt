@@ -1,6 +1,6 @@
 //! What texts tell. The calls do nothing; what they say stands in their contracts.
 
-ghost use Rattle.std.specs.Prelude.{◌≡◌, ℕ, List, length};
+ghost use Rattle.std.specs.Prelude.{◌≡◌, ℕ, List, length, All};
 ghost use Rattle.hx_board.specs.declared.colours.Colour.{Colour as Player};
 ghost use Rattle.hx_board.specs.Cells.{IsExtent};
 ghost use Rattle.hx_board.specs.Positions.{Board, IsBoard};
@@ -9,7 +9,7 @@ ghost use Rattle.hx_text.specs.declared.versions.Preamble.{Preamble as Before_no
 ghost use Rattle.hx_letters.specs.Words.{IsNumber};
 ghost use Rattle.hx_text.specs.Grammars.{IsFaultyLine};
 ghost use Rattle.hx_text.specs.PositionTexts.{ArePositionLines, position_text};
-ghost use Rattle.hx_text.specs.TreeTexts.{AreTreeLines, IsTreeText, EachNodeFits, IsRootWinner, written_tree};
+ghost use Rattle.hx_text.specs.TreeTexts.{AreTreeLines, IsTreeText, NodeFits, IsRootWinner, written_tree};
 ghost use Rattle.hx_text.specs.Lengths.{AreShortLines};
 
 /// A text tells its position and the player to move: two of them with the same text are the same.
@@ -28,11 +28,11 @@ pub fn text_tells_nodes()
 /// them, and whatever is read from it is what was written.
 pub fn written_is_text()
     ensures text { (preamble : Before_nodes) (nodes : List TreeNode) (winner : Player)
-        → IsExtent preamble.size.rows preamble.size.cols → EachNodeFits preamble nodes
+        → IsExtent preamble.size.rows preamble.size.cols → All (NodeFits preamble) nodes
         → IsRootWinner nodes winner → IsNumber (length nodes)
         → IsTreeText (written_tree preamble nodes winner) nodes }
     ensures read_back { (preamble : Before_nodes) (nodes read : List TreeNode) (winner : Player)
-        → IsExtent preamble.size.rows preamble.size.cols → EachNodeFits preamble nodes
+        → IsExtent preamble.size.rows preamble.size.cols → All (NodeFits preamble) nodes
         → IsRootWinner nodes winner → IsNumber (length nodes)
         → IsTreeText (written_tree preamble nodes winner) read → read ≡ nodes }
 {}
