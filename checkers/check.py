@@ -179,13 +179,12 @@ def is_dead(board, player, cell):
         neighbours & ~graph.joined_with(neighbour) == 0 for neighbour in members_of(neighbours))
 
 def is_pair(board, player, one, other):
-    """Captured pair."""
-    return (one != other and board.is_empty(one, other)
-            and is_dead(board.put(player, other), player, one) and is_dead(board.put(player, one), player, other))
+    """Captured pair. Where each is dead once the player has the other, they differ, and both are empty."""
+    return is_dead(board.put(player, other), player, one) and is_dead(board.put(player, one), player, other)
 
 def is_dominated(board, mover, cell, kind, better, *third):
     """Dominated. The kind of the line says in which of the two ways (formats: The text of a tree)."""
-    if cell == better or not board.is_empty(cell, better):
+    if not board.is_empty(better):
         return False
     after = board.put(mover, better)
     return is_dead(after, OTHER[mover], cell) if kind == "dead" else is_pair(after, mover, cell, *third)

@@ -50,10 +50,10 @@ def heading_left_out(call, place):
 
 def headings(definition, rule, call, cases, what):
     """The four conditions of a node's child, in the order of `cases`."""
-    words = [("slice_get before child", "the child is an earlier node", None), ("same_position", f"its position is {what}", 0),
-             ("same_mover", "its player to move is the one who is to move then", 1), ("same_winner", "its winner is the node's", 2)]
-    return [Condition(f"{definition}, IsHeading.{part}" if place is not None else f"{definition}: {part}", f"{rule}: {said}", case,
-                      heading_left_out(call, place)) for (part, said, place), case in zip(words, cases)]
+    words = [("there", "the child is an earlier node", None), ("position", f"its position is {what}", 0),
+             ("to_move", "its player to move is the one who is to move then", 1), ("winner", "its winner is the node's", 2)]
+    return [Condition(f"{definition}, Leads: {part}", f"{rule}: {said}", case, heading_left_out(call, place))
+            for (part, said, place), case in zip(words, cases)]
 
 
 def place_left_out(kind, at):
@@ -79,9 +79,8 @@ JOINS = "return bool(links) and links[-1].joins_sides() and"
 MOVE = "return (mover == winner and board.is_empty(cell)\n"
 ALL = "if heading.mover == heading.winner or not graph.empty or links is None:"
 CELLS = "if [cell for cell, *_ in answers] != list(members_of(to_answer)):"
-DOMINATED = "    if cell == better or not board.is_empty(cell, better):\n"
-PAIR = ("    return (one != other and board.is_empty(one, other)\n"
-        "            and is_dead(board.put(player, other), player, one) and is_dead(board.put(player, one), player, other))\n")
+DOMINATED = "    if not board.is_empty(better):\n"
+PAIR = "    return is_dead(board.put(player, other), player, one) and is_dead(board.put(player, one), player, other)\n"
 IS_ON = ("        return len(self.ends) == 2 and all(\n"
          "            has(graph.open, end) and not has(graph.empty & self.carrier, end) for end in self.ends)\n")
 LINK = "StepGives.link_ok, IsLink"
@@ -126,26 +125,23 @@ CHAINS = [
 STEPS = [
     Condition("GivesBase.joined", "the ends of a base are joined", "written/steps/base-of-cells-that-do-not-touch",
               [("if graph.are_joined(*values) else None", "if True else None")]),
-    *(Condition(f"MeetAt.{side}_there, by {kind}", f"the {side} link of a step by {kind} is an earlier one",
+    *(Condition(f"GoesOver.{side}_there, by {kind}", f"the {side} link of a step by {kind} is an earlier one",
                 f"written/steps/{kind}-names-itself-{side}", place_left_out(kind, at))
       for kind in ("stone", "cell") for at, side in enumerate(("first", "second"))),
-    Condition("MeetAt.first_full, by stone", "the first link is Full", "written/steps/stone-of-a-semi-link",
+    Condition("GoesOver.first_full, by stone", "the first link is Full", "written/steps/stone-of-a-semi-link",
               and_rule("one.is_full and other.is_full", "other.is_full", "stone")),
-    Condition("MeetAt.second_full, by stone", "and so is the second", "written/steps/stone-of-a-semi-link-second",
+    Condition("GoesOver.second_full, by stone", "and so is the second", "written/steps/stone-of-a-semi-link-second",
               and_rule("one.is_full and other.is_full", "one.is_full", "stone")),
-    Condition("MeetAt.first_full, by cell", "the first link is Full", "written/steps/cell-of-a-semi-link-first",
+    Condition("GoesOver.first_full, by cell", "the first link is Full", "written/steps/cell-of-a-semi-link-first",
               and_rule("one.is_full and other.is_full", "other.is_full", "cell")),
-    Condition("MeetAt.second_full, by cell", "and so is the second", "written/steps/cell-of-a-semi-link-second",
+    Condition("GoesOver.second_full, by cell", "and so is the second", "written/steps/cell-of-a-semi-link-second",
               and_rule("one.is_full and other.is_full", "one.is_full", "cell")),
-    Condition("MeetAt.first_ends, second_ends", "the two links have an end in common", "written/steps/links-without-a-common-end",
+    Condition("GoesOver.first_ends, second_ends", "the two links have an end in common", "written/steps/links-without-a-common-end",
               [("    (between,) = shared\n", "    if not shared:\n        return Link(True, one.ends, one.carrier | other.carrier)\n"
                                              "    (between,) = shared\n"), ("len(shared) != 1", "len(shared) > 1")]),
-    Condition("MeetAt.other_ends_differ", "and no other one", None,
-              [("    (between,) = shared\n", "    between = max(shared)\n"), ("len(shared) != 1", "len(shared) == 0")],
-              "the link between the other ends would have one vertex as both, which `IsLink.lower_first` refuses"),
-    Condition("MeetAt.apart, by stone", "their carriers share no cell", "written/steps/carriers-that-overlap",
+    Condition("GoesOver.apart, by stone", "their carriers share no cell", "written/steps/carriers-that-overlap",
               and_rule(" or one.carrier & other.carrier", "", "stone")),
-    Condition("MeetAt.apart, by cell", "their carriers share no cell", "written/steps/cell-of-carriers-that-overlap",
+    Condition("GoesOver.apart, by cell", "their carriers share no cell", "written/steps/cell-of-carriers-that-overlap",
               and_rule(" or one.carrier & other.carrier", "", "cell")),
     Condition("GivesAndStone.own", "they meet at a stone or a side of the player", "written/steps/stone-over-an-empty-cell",
               [("return Link(True, ends, carrier) if has(graph.own, between) else None", "return Link(True, ends, carrier)")]),
@@ -153,7 +149,7 @@ STEPS = [
               [("has(graph.empty & ~carrier, between)", "has(~carrier, between)")]),
     Condition("GivesAndCell.outside_first, outside_second", "which is in neither carrier", None,
               [("has(graph.empty & ~carrier, between)", "has(graph.empty, between)")],
-              "it is an end of both links, and `IsLink.a_outside` and `b_outside` refuse a link with an empty end in its carrier"),
+              "it is an end of both links, and `IsLink.outside` refuses a link with an empty end in its carrier"),
     Condition("GivesOr.there", "the parts of an Or are earlier links", "written/steps/or-of-a-step-that-is-not-there",
               [("    elif any(place >= len(links)", "    elif kind != \"or\" and any(place >= len(links)"),
                ("[links[place] for place in values]", "[links[place] for place in values if place < len(links)]")]),
@@ -171,7 +167,7 @@ STEPS = [
               [(IS_ON, IS_ON.replace("len(self.ends) == 2 and ", ""))]),
     Condition(f"{LINK}.a_end, b_end", "no end is a stone of the opponent", "written/steps/base-of-a-stone-of-the-opponent",
               [(IS_ON, IS_ON.replace("has(graph.open, end) and ", ""))]),
-    Condition(f"{LINK}.a_outside, b_outside", "no end is an empty cell of the carrier", "written/steps/empty-end-in-the-carrier",
+    Condition(f"{LINK}.outside", "no end is an empty cell of the carrier", "written/steps/empty-end-in-the-carrier",
               [(IS_ON, IS_ON.replace(" and not has(graph.empty & self.carrier, end)", ""))]),
 ]
 
@@ -181,14 +177,14 @@ LINKS = [
     Condition("GiveLinks.right", "each step gives a link, also one that nothing needs", "written/links/unused-wrong-step",
               [("        if links[-1] is None:\n            return None\n",
                 "        links[-1] = links[-1] or Link(False, frozenset((FIRST,)), 0)\n")]),
-    Condition("ShowWin.is_last", "there is a last link", "written/links/no-steps",
+    Condition("AreRightLinks.is_last", "there is a last link", "written/links/no-steps",
               [(JOINS, "return links is not None and (not links or links[-1].joins_sides()) and"),
                ("(links[-1].is_full or heading", "(not links or links[-1].is_full or heading")]),
-    Condition("ShowWin.joins, IsChainLink.first", "it ends at the first side", "written/links/last-link-joins-no-sides",
+    Condition("AreRightLinks.joins, IsChainLink.first", "it ends at the first side", "written/links/last-link-joins-no-sides",
               [(JOINS, "return bool(links) and LAST in links[-1].ends and")]),
-    Condition("ShowWin.joins, IsChainLink.last", "and at the last side", "written/links/an-earlier-link-joins-the-sides",
+    Condition("AreRightLinks.joins, IsChainLink.last", "and at the last side", "written/links/an-earlier-link-joins-the-sides",
               [(JOINS, "return bool(links) and FIRST in links[-1].ends and")]),
-    Condition("ShowWin.in_time", "it is Full, or the winner is to move", "written/links/semi-with-the-opponent-to-move",
+    Condition("AreRightLinks.in_time", "it is Full, or the winner is to move", "written/links/semi-with-the-opponent-to-move",
               [("(links[-1].is_full or heading.mover == heading.winner)", "True")]),
 ]
 
@@ -217,12 +213,12 @@ ANSWERS = [
                 "        links[-1] = links[-1] or Link(False, frozenset((FIRST,)), 0)\n")]),
     Condition("AreThreats.few", "there are at most 128 threats", "written/threats/a-hundred-and-twenty-nine",
               [("(up_to(8192), up_to(128), up_to(121))", "(up_to(8192), up_to(129), up_to(121))")]),
-    Condition("AreThreats.each, IsThreat: there", "a threat is the place of a link", "written/threats/one-more-that-is-not-there",
+    Condition("AreThreats.each: there", "a threat is the place of a link", "written/threats/one-more-that-is-not-there",
               [("            if place >= len(links) or not",
                 "            if place >= len(links):\n                continue\n            if not")]),
-    Condition("IsThreat, IsChainLink.first", "which ends at the first side", "written/threats/no-steps-are-threats",
+    Condition("AreThreats.each, IsChainLink.first", "which ends at the first side", "written/threats/no-steps-are-threats",
               [("not links[place].joins_sides():", "LAST not in links[place].ends:")]),
-    Condition("IsThreat, IsChainLink.last", "and at the last side", "written/threats/of-a-link-that-joins-no-sides",
+    Condition("AreThreats.each, IsChainLink.last", "and at the last side", "written/threats/of-a-link-that-joins-no-sides",
               [("not links[place].joins_sides():", "FIRST not in links[place].ends:")]),
     Condition("AreInOrder.each", "each move that needs an answer has a line", "written/all/no-line-for-a-cell",
               [(CELLS, "if not {cell for cell, *_ in answers} <= set(members_of(to_answer)):")]),
@@ -235,20 +231,15 @@ ANSWERS = [
               [(CELLS, "if sorted(cell for cell, *_ in answers) != list(members_of(to_answer)):")]),
     Condition("AreInOrder.in_order: once", "and no cell has two", "written/all/two-lines-for-one-cell",
               [(CELLS, "if list(dict.fromkeys(cell for cell, *_ in answers)) != list(members_of(to_answer)):")]),
-    *headings("IsRightChild", "all", "self.is_there(values[0], board.put(mover, cell), winner, winner)", [
+    *headings("IsRightLine, Child", "all", "self.is_there(values[0], board.put(mover, cell), winner, winner)", [
         "written/all/child-is-not-there", "written/all/child-of-another-cell", "written/all/child-with-the-same-mover",
         "written/all/child-of-another-winner"], "the one after the opponent's move"),
-    Condition("IsRightUnder.answered", "the better cell has a child, or is outside a threat",
+    Condition("IsRightLine, Under", "the better cell has a child, or is outside a threat",
               "written/dominated/better-cells-inside-a-threat",
               [("return has(better_cells, values[0]) and", "return")]),
     Condition("IsDominated.better_empty", "the better cell is empty", "written/dominated/stone-outside-a-threat",
-              [(DOMINATED, DOMINATED.replace("board.is_empty(cell, better)", "board.is_empty(cell)")),
+              [(DOMINATED, "    if False:\n"),
                ("with_child | graph.empty & ~to_answer", "with_child | ~to_answer")]),
-    Condition("IsDominated.worse_empty", "and so is the worse one", None,
-              [(DOMINATED, DOMINATED.replace("board.is_empty(cell, better)", "board.is_empty(better)"))],
-              "`IsToAnswer.empty` and `killed` each want it too"),
-    Condition("IsDominated.differ", "the two differ", None, [(DOMINATED, DOMINATED.replace("cell == better or ", ""))],
-              "after the move to the better cell the worse one is empty, as `killed` wants, only where it is another one"),
     Condition("IsKilled by a dead cell, IsDead.joined", "the worse cell is dead for the other player", "written/dominated/not-dead",
               [("return is_dead(after, OTHER[mover], cell) if kind", "return True if kind")]),
     Condition("IsKilled by a captured pair, IsPair", "or one of a captured pair of the mover's",
@@ -269,12 +260,7 @@ FILLS = [
               [("    return board.is_empty(cell) and all(\n", "    return all(\n")]),
     Condition("MayFill, IsDead.joined", "its open neighbours are joined with one another", "written/fill/not-dead",
               [("        neighbours & ~graph.joined_with(neighbour) == 0 for", "        True for")]),
-    Condition("IsPair.a_empty, b_empty", "both cells of a captured pair are empty", None,
-              [(PAIR, PAIR.replace(" and board.is_empty(one, other)", ""))],
-              "`a_dead` and `b_dead` want each of them empty"),
-    Condition("IsPair.differ", "they differ", None, [(PAIR, PAIR.replace("one != other and ", ""))],
-              "with a stone on the one, `a_dead` wants the other empty"),
-    Condition("IsPair.a_dead", "the first is dead once the player has the second", "written/dominated/pair-with-a-third-cell-that-is-none",
+    Condition("IsPair.a_dead", "the first cell of a captured pair is dead once the player has the second", "written/dominated/pair-with-a-third-cell-that-is-none",
               [(PAIR, PAIR.replace("is_dead(board.put(player, other), player, one) and ", ""))]),
     Condition("IsPair.b_dead", "and the second once the player has the first", "written/fill/cells-that-are-no-pair",
               [(PAIR, PAIR.replace(" and is_dead(board.put(player, one), player, other)", ""))]),

@@ -31,11 +31,8 @@ Touches size player (Of cell) (Of other) = OnBoard size cell × OnBoard size oth
 Touches size player (Of cell) First = OnBoard size cell × IsFirstLine player cell
 Touches size player (Of cell) Last = OnBoard size cell × IsLastLine size player cell
 Touches size player First (Of cell) = OnBoard size cell × IsFirstLine player cell
-Touches size player First First = ⊥
-Touches size player First Last = ⊥
 Touches size player Last (Of cell) = OnBoard size cell × IsLastLine size player cell
-Touches size player Last First = ⊥
-Touches size player Last Last = ⊥
+Touches size player _ _ = ⊥
 
 -- a stone of the player or a side of the player
 abbrev pub IsOwn : Board → Colour → Vertex → Type 0

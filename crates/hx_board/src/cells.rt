@@ -1,7 +1,8 @@
 //! The cells of a board.
 //!
 //! A cell goes by one number, its index, which is eleven times its row plus its column on a board of every size. So
-//! the same cell has the same index on two boards, and its neighbours' indexes lie fixed steps away.
+//! the same cell has the same index on two boards, and its neighbours' indexes lie fixed steps away. It may lie on a board of
+//! one size and off a smaller one: `Size::cell` makes a cell of its board.
 
 ghost use Rattle.std.specs.Prelude.{◌≡◌, ◌<◌};
 ghost use Rattle.hx_board.specs.Cells.{row_of, col_of};
@@ -11,8 +12,7 @@ use std::marker::Model;
 /// How many cells the largest board has. Each cell's index is below it.
 pub const CELLS: usize = 121;
 
-/// A cell, by its row and its column, which both count from 0 at the top left corner. Contracts see it as its
-/// index. It may lie on a board of one size and off a smaller one: `Size::cell` makes a cell of its board.
+/// A cell, by its row and its column, which both count from 0 at the top left corner. Contracts see it as its index.
 #[derive(Clone, Copy, PartialEq, Eq, Debug, Default)]
 pub struct Cell {
     index: u8,

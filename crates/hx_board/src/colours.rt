@@ -3,8 +3,7 @@
 ghost use Rattle.std.specs.Prelude.{◌≡◌};
 ghost use Rattle.hx_board.specs.Colours.{other_of};
 
-/// A player, and the colour of a stone. Black owns the top and the bottom side of the board, White the left and the
-/// right side.
+/// A player, and the colour of a stone. Black owns the top and the bottom side of the board, White the left and the right one.
 #[derive(Clone, Copy, PartialEq, Eq, Debug, Default)]
 pub enum Colour {
     #[default]

@@ -10,8 +10,7 @@ ghost use Rattle.hx_board.specs.Sets.{has, insert, remove, union, intersection, 
 use crate::cells::Cell;
 use std::marker::Model;
 
-/// A set of numbers from 0 to 127, in which a cell stands by its index. Contracts see it as the number of its
-/// binary digits.
+/// A set of numbers from 0 to 127, such as the indexes of cells. Contracts see it as the number of its binary digits.
 #[derive(Clone, Copy, PartialEq, Eq, Debug)]
 pub struct Mask {
     bits: u128,

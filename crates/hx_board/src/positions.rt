@@ -15,8 +15,7 @@ use crate::sizes::Size;
 use crate::vertices::Vertex;
 use std::marker::Model;
 
-/// A board of some size, and which of its cells hold a black or a white stone. No cell holds two. Contracts see it
-/// as its size and two sets of cells.
+/// A board of some size, and the black and the white stones on it. Contracts see it as its size and two sets of cells.
 #[derive(Clone, Copy, PartialEq, Eq, Debug)]
 pub struct Position {
     size: Size,

@@ -17,14 +17,11 @@ pub(crate) const FIRST_CODE: u8 = CELLS as u8;
 /// The code of the last side.
 pub(crate) const LAST_CODE: u8 = FIRST_CODE + 1;
 
-/// A vertex of a player's graph: a cell, or one of the player's two sides.
+/// A vertex of a player's graph: a cell, or one of the player's sides, of which the top is Black's first and the left White's.
 #[derive(Clone, Copy, PartialEq, Eq, Debug)]
 pub enum Vertex {
-    /// A cell, with a stone or without.
     Of(Cell),
-    /// The top side for Black, the left side for White.
     First,
-    /// The bottom side for Black, the right side for White.
     Last,
 }
 

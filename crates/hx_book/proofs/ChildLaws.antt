@@ -15,7 +15,7 @@ use Rattle.hx_tree.specs.declared.nodes.Line.TheVariants.{Child, Under}
 use Rattle.hx_tree.specs.declared.nodes.Node.{Node}
 use Rattle.hx_tree.specs.declared.nodes.Rule.{Rule}
 use Rattle.hx_tree.specs.declared.nodes.Rule.TheVariants.{Chain, Links, Move, All, Fill, Turned}
-use Rattle.hx_tree.specs.Headings.{IsHeading}
+use Rattle.hx_tree.specs.Headings.{Leads, heading_of}
 use Rattle.hx_tree.specs.Rules.{IsRightRule, IsRightNode}
 use Rattle.hx_tree.specs.Fills.{filled_all}
 use Rattle.hx_tree.specs.Answers.{IsRightLine}
@@ -30,11 +30,10 @@ pub record HasSize (headings : List Heading) (size : Extent) (place : ℕ) : Typ
   pub there : slice_get headings place ≡ Some heading
   pub same_size : heading.position.size ≡ size
 
-some-size : (found : Option Heading) (headings : List Heading) (place : ℕ) (board : Board) (mover winner : Colour) (size : Extent)
-    → slice_get headings place ≡ found → IsSomeAnd found (IsHeading board mover winner) → board.size ≡ size → HasSize headings size place
-some-size None headings place board mover winner size there is same = absurd is
-some-size (Some heading) headings place board mover winner size there is same =
-    record { heading = heading; there = there; same_size = ap (λ (b : Board). b.size) is.same_position ∙ same }
+some-size : (headings : List Heading) (place : ℕ) (board : Board) (mover winner : Colour) (size : Extent)
+    → Leads headings place board mover winner → board.size ≡ size → HasSize headings size place
+some-size headings place board mover winner size leads same =
+    record { heading = heading_of board mover winner; there = leads; same_size = same }
 
 turned-size : (found : Option Heading) (headings : List Heading) (place : ℕ) (heading : Heading) → slice_get headings place ≡ found
     → IsSomeAnd found (IsTurnedHeading heading) → HasSize headings heading.position.size place
@@ -44,8 +43,8 @@ turned-size (Some other) headings place heading there is = record { heading = ot
 line-size : (before : List Heading) (heading : Heading) (links : List Link) (threats : List ℕ) (lines : List Line) (line : Line) (child : ℕ)
     → IsRightLine before heading links threats lines line → NamesChild line child → HasSize before heading.position.size child
 line-size before heading links threats lines (Child cell own) child right names = rw names
-    (some-size (slice_get before own) before own
-    (put heading.position (other_of heading.winner) cell) heading.winner heading.winner heading.position.size refl right
+    (some-size before own
+    (put heading.position (other_of heading.winner) cell) heading.winner heading.winner heading.position.size right
     (size-put heading.position (other_of heading.winner) cell))
 line-size before heading links threats lines (Under cell better kill) child right names = absurd names
 
@@ -54,15 +53,15 @@ pub rule-size : (before : List Heading) (heading : Heading) (rule : Rule) (child
 rule-size before heading Chain child right names = absurd names
 rule-size before heading (Links steps) child right names = absurd names
 rule-size before heading (Move cell own) child right names = rw names
-    (some-size (slice_get before own) before own (put heading.position heading.winner cell)
-    (other_of heading.winner) heading.winner heading.position.size refl right.leads
+    (some-size before own (put heading.position heading.winner cell)
+    (other_of heading.winner) heading.winner heading.position.size right.leads
     (size-put heading.position heading.winner cell))
 rule-size before heading (All steps threats lines) child right names =
-    let each = right.answered.lines_right names.k in
+    let each = right.lines_right names.k in
     line-size before heading right.links threats lines names.line child (rw names.there at each) names.names
 rule-size before heading (Fill steps own) child right names = rw names
-    (some-size (slice_get before own) before own
-    (filled_all heading.position heading.winner steps) heading.to_move heading.winner heading.position.size refl right.leads
+    (some-size before own
+    (filled_all heading.position heading.winner steps) heading.to_move heading.winner heading.position.size right.leads
     (size-filled_all heading.position heading.winner steps))
 rule-size before heading (Turned own) child right names = rw names (turned-size (slice_get before own) before own heading refl right)
 

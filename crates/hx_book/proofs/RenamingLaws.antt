@@ -12,7 +12,7 @@ use Rattle.hx_tree.specs.declared.nodes.Node.{Node}
 use Rattle.hx_tree.specs.declared.nodes.Rule.{Rule}
 use Rattle.hx_tree.specs.declared.nodes.Rule.TheVariants.{Chain, Links, Move, All, Fill, Turned}
 use Rattle.hx_tree.specs.Rules.{IsRightRule, IsRightNode}
-use Rattle.hx_tree.specs.Answers.{IsRightLine, AreAnswered, cell_of, cells_of}
+use Rattle.hx_tree.specs.Answers.{IsRightLine, cell_of, cells_of}
 use Rattle.hx_book.specs.Trees.{NamesChild, HasLine, Names, renamed_line, renamed_rule, renamed_node}
 
 -- ---- lists of which the first were mapped
@@ -65,13 +65,10 @@ module _ (before after : List Heading) (heading : Heading) (links : List Link) (
       → IsRightLine before heading links threats lines line
       → IsRightLine after heading links threats (map (renamed_line name) lines) (renamed_line name line)
   line-renamed (Child cell child) same right = rw (same child refl) right
-  line-renamed (Under cell better kill) same right = record {
-    dominated = right.dominated;
-    answered = ⊎_elim
-        (λ has. inl (name has.0, contains-map (renamed_line name) lines (Child better has.0) has.1))
-        (λ outside. inr outside)
-        right.answered;
-  }
+  line-renamed (Under cell better kill) same right = (
+    right.0,
+    ⊎_elim (λ has. inl (name has.0, contains-map (renamed_line name) lines (Child better has.0) has.1)) (λ outside. inr outside) right.1,
+  )
 
   if-renamed : (k : ℕ) (found : Option Line) → slice_get lines k ≡ found
       → ((child : ℕ) → HasLine lines child → slice_get after (name child) ≡ slice_get before child)
@@ -81,15 +78,6 @@ module _ (before after : List Heading) (heading : Heading) (links : List Link) (
   if-renamed k (Some line) there same right =
       rw (get-map (renamed_line name) lines k line there)
       (line-renamed line (λ child has. same child (record { k = k; line = line; there = there; names = has })) right)
-
-  answered-renamed : ((child : ℕ) → HasLine lines child → slice_get after (name child) ≡ slice_get before child)
-      → AreAnswered before heading links threats lines
-      → AreAnswered after heading links threats (map (renamed_line name) lines)
-  answered-renamed same answered = record {
-    threats_right = answered.threats_right;
-    cells = rw (cells-renamed name lines) answered.cells;
-    lines_right = λ k. if-renamed k (slice_get lines k) refl same (answered.lines_right k);
-  }
 
 -- ---- rules
 
@@ -106,7 +94,9 @@ module _ (before after : List Heading) (heading : Heading) (name : ℕ → ℕ) 
     some_empty = right.some_empty;
     links = right.links;
     steps_right = right.steps_right;
-    answered = answered-renamed before after heading right.links threats name lines same right.answered;
+    threats_right = right.threats_right;
+    cells = rw (cells-renamed name lines) right.cells;
+    lines_right = λ k. if-renamed before after heading right.links threats name lines k (slice_get lines k) refl same (right.lines_right k);
   }
   rule-renamed (Fill steps child) same right = record { some = right.some; right = right.right; leads = rw (same child refl) right.leads }
   rule-renamed (Turned child) same right = rw (same child refl) right

@@ -18,6 +18,7 @@ use Rattle.hx_board.proofs.SetLaws.{by_member, same_set}
 use Rattle.hx_board.proofs.DifferenceLaws.{difference-lt}
 use Rattle.hx_inferior.specs.declared.dominations.Kill.{Kill}
 use Rattle.hx_inferior.specs.Inferior.{IsDominated}
+use Rattle.hx_inferior.proofs.PairLaws.{dominated-worse}
 use Rattle.hx_fill.specs.declared.choices.Better.{Better}
 use Rattle.hx_fill.specs.Unders.{ComesBefore, Listed, Unlisted, better_for, IsGiven, AreKilled, AreWithKiller}
 use Rattle.hx_fill.specs.Unders.{HoldDominated, HasBetter, IsNamed, IsSifted, NoneWaits, IsNext, Comes}
@@ -193,7 +194,7 @@ module _ (board : Board) (mover : Colour) (cells : ℕ) (order : List ℕ) (choi
   -- it dominates no cell that keeps no line and is no better cell
   kills_rest : (n : ℕ) → has without_now n ≡ true → has betters n ≡ false → (kill : Kill) → IsDominated board mover b n kill → ⊥
   kills_rest n h no_better kill is =
-      kills.rest n (has-remove_other (difference without_line betters) b n (λ e. is.differ (sym e))
+      kills.rest n (has-remove_other (difference without_line betters) b n (dominated-worse board mover b n kill is).1
       (has-difference_both without_line betters n (was_open n h) no_better))
       (has-empty n) (not_killed n h) kill is
 

@@ -12,6 +12,7 @@ use Rattle.hx_board.specs.Graph.{Joined, IsOpen}
 use Rattle.hx_board.proofs.StoneLaws.{size-put, stones-put, empty-put}
 use Rattle.hx_board.proofs.KeptStones.{joined_stays}
 use Rattle.hx_inferior.specs.Inferior.{IsOpenNeighbour, IsDead, IsPair}
+use Rattle.hx_inferior.proofs.PairLaws.{pair-differ}
 use Rattle.hx_fill.specs.Rounds.{HasNoStoneLess}
 
 pub grown-same : (board : Board) → HasNoStoneLess board board
@@ -56,18 +57,15 @@ module _ (start now : Board) (grown : HasNoStoneLess start now) where
   pub dead_grown : (player : Colour) (cell : ℕ) → IsEmpty now cell → IsDead start player cell → IsDead now player cell
   dead_grown player cell empty dead = record {
     empty = empty;
-    joined = λ one other differ o p.
-        joined_grown player one other (dead.joined one other differ (open_then player cell one o) (open_then player cell other p));
+    joined = λ one other o p.
+        joined_grown player one other (dead.joined one other (open_then player cell one o) (open_then player cell other p));
   }
 
 pub pair_grown : (start now : Board) → HasNoStoneLess start now → (player : Colour) (a b : ℕ) → IsEmpty now a → IsEmpty now b
     → IsPair start player a b → IsPair now player a b
 pair_grown start now grown player a b empty_a empty_b pair = record {
-  a_empty = empty_a;
-  b_empty = empty_b;
-  differ = pair.differ;
   a_dead = dead_grown (put start player b) (put now player b) (grown-both start now grown player b) player a
-      ((empty-put now player b a).1 (empty_a, pair.differ)) pair.a_dead;
+      ((empty-put now player b a).1 (empty_a, pair-differ start player a b pair)) pair.a_dead;
   b_dead = dead_grown (put start player a) (put now player a) (grown-both start now grown player a) player b
-      ((empty-put now player a b).1 (empty_b, λ e. pair.differ (sym e))) pair.b_dead;
+      ((empty-put now player a b).1 (empty_b, λ e. pair-differ start player a b pair (sym e))) pair.b_dead;
 }

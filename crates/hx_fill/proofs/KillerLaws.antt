@@ -21,6 +21,7 @@ use Rattle.hx_board.proofs.KeptStones.{joined_stays}
 use Rattle.hx_board.proofs.Joins.{joined-sym}
 use Rattle.hx_inferior.specs.declared.dominations.Kill.TheVariants.{ByDead, ByPair}
 use Rattle.hx_inferior.specs.Inferior.{IsOpenNeighbour, IsDead, IsPair, IsDominated}
+use Rattle.hx_inferior.proofs.PairLaws.{pair-a_empty, pair-b_empty, pair-differ}
 use Rattle.hx_fill.specs.declared.makers.Makers.{Makers}
 use Rattle.hx_fill.specs.Makers.{IsMaker, AreMakers}
 use Rattle.hx_fill.specs.Views.{HoldsReached}
@@ -54,7 +55,7 @@ module _ (board : Board) (mover : Colour) (better worse around : ℕ)
   pub dead_before : IsDead (put board mover better) (other_of mover) worse → IsDead board (other_of mover) worse
   dead_before dead = record {
     empty = ((empty-put board mover better worse).0 dead.empty).0;
-    joined = λ one other differ o p. joined_without one other (dead.joined one other differ (still one o) (still other p));
+    joined = λ one other o p. joined_without one other (dead.joined one other (still one o) (still other p));
   }
 
 pub killers_by_dead-neighbours : (board : Board) (mover : Colour) (worse around : ℕ)
@@ -80,9 +81,9 @@ module _ (board : Board) (player : Colour) (stone : ℕ) where
         → IsDead (put board player maker) player cell
     dead_without maker empty differ dead = record {
       empty = (empty-put board player maker cell).1 (empty, differ);
-      joined = λ one other apart_ones o p.
+      joined = λ one other o p.
           joined one other (open_before board player maker cell one o) (open_before board player maker cell other p)
-          (dead.joined one other apart_ones (later one o) (later other p));
+          (dead.joined one other (later one o) (later other p));
     }
       where
         later : (v : Vertex) → IsOpenNeighbour (put board player maker) player cell v
@@ -102,22 +103,19 @@ module _ (board : Board) (player : Colour) (stone : ℕ) where
 
   pub maker_before : (a b : ℕ) → IsPair (put board player stone) player a b → IsApart board player a stone → IsMaker board player a b
   maker_before a b pair apart =
-      let a_empty = ((empty-put board player stone a).0 pair.a_empty).0 in
+      let differ : a ≢ b = pair-differ (put board player stone) player a b pair in
+      let empty_a = ((empty-put board player stone a).0 (pair-a_empty (put board player stone) player a b pair)).0 in
       record {
-        empty = ((empty-put board player stone b).0 pair.b_empty).0;
-        differ = λ e. pair.differ (sym e);
-        dead = dead_without a apart b a_empty pair.differ pair.a_dead;
+        empty = ((empty-put board player stone b).0 (pair-b_empty (put board player stone) player a b pair)).0;
+        differ = λ e. differ (sym e);
+        dead = dead_without a apart b empty_a differ pair.a_dead;
       }
 
   pub pair_before : (a b : ℕ) → IsPair (put board player stone) player a b → IsApart board player a stone → IsApart board player b stone
       → IsPair board player a b
-  pair_before a b pair apart_a apart_b = record {
-    a_empty = ((empty-put board player stone a).0 pair.a_empty).0;
-    b_empty = ((empty-put board player stone b).0 pair.b_empty).0;
-    differ = pair.differ;
-    a_dead = (maker_before a b pair apart_a).dead;
-    b_dead = dead_without b apart_b a ((empty-put board player stone b).0 pair.b_empty).0 (λ e. pair.differ (sym e)) pair.b_dead;
-  }
+  pair_before a b pair apart_a apart_b =
+      let maker = maker_before a b pair apart_a in
+      record { a_dead = maker.dead; b_dead = dead_without b apart_b a maker.empty maker.differ pair.b_dead }
 
 -- a cell that is a pair with no maker among the empty cells is a pair with none
 pub no_pair-by_makers : (board : Board) (player : Colour) (cell among : ℕ) (makers : Makers) → AreMakers board player cell among makers
@@ -125,19 +123,20 @@ pub no_pair-by_makers : (board : Board) (player : Colour) (cell among : ℕ) (ma
     → ¬ IsPair board player cell n
 no_pair-by_makers board player cell among makers are all none n pair =
     none n ((are.cells n).1
-    (all n pair.b_empty, record { empty = pair.b_empty; differ = λ e. pair.differ (sym e); dead = pair.a_dead })) pair
+    (all n empty, record { empty = empty; differ = λ e. pair-differ board player cell n pair (sym e); dead = pair.a_dead })) pair
+  where
+    empty : IsEmpty board n
+    empty = pair-b_empty board player cell n pair
 
 -- a partner after a move is one that makes the move a better one
 pub partner-dominates : (board : Board) (mover : Colour) (better worse : ℕ) (makers : ℕ) (found : Option ℕ) → IsEmpty board better
-    → IsEmpty board worse → better ≢ worse
     → (((n : ℕ) → has makers n ≡ true → ¬ IsPair (put board mover better) mover worse n) → (n : ℕ)
     → ¬ IsPair (put board mover better) mover worse n)
     → Finds found (λ n. (has makers n ≡ true) × IsPair (put board mover better) mover worse n)
     → Finds found (λ n. IsDominated board mover better worse (ByPair n))
-partner-dominates board mover better worse makers None empty worse_empty differ all none = λ n dominated.
+partner-dominates board mover better worse makers None empty all none = λ n dominated.
     all (λ k among pair. none k (among, pair)) n dominated.killed
-partner-dominates board mover better worse makers (Some partner) empty worse_empty differ all is =
-    record { better_empty = empty; worse_empty = worse_empty; differ = differ; killed = is.1 }
+partner-dominates board mover better worse makers (Some partner) empty all is = record { better_empty = empty; killed = is.1 }
 
 module _ (board : Board) (mover : Colour) (worse : ℕ) where
   not_reached : (cell better near : ℕ) → IsEmpty board better → HoldsReached board mover cell near → has near better ≡ false

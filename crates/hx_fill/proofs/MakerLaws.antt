@@ -18,7 +18,6 @@ use Rattle.hx_board.proofs.FloodLaws.{same_vertex}
 use Rattle.hx_board.proofs.StoneLaws.{empty-put}
 use Rattle.hx_board.proofs.Joins.{joined-sym}
 use Rattle.hx_inferior.specs.Inferior.{IsOpenNeighbour, IsDead}
-use Rattle.hx_inferior.proofs.DeadLaws.{same_or_differ}
 use Rattle.hx_fill.specs.declared.makers.Makers.{Makers}
 use Rattle.hx_fill.specs.Makers.{AreMakers, AreVertices, IsAmong, JoinsEach, JoinsEachOr, IsNarrowed, AreNarrowed}
 use Rattle.hx_fill.proofs.JoinedAfter.{joined_before, joined_still, joined_over_stone}
@@ -141,13 +140,12 @@ module _ (board : Board) (player : Colour) (cell around : ℕ) (is : IsSetOf boa
   open_ones = among-open board player cell around is
 
   dead-joined : (vertex : Vertex) → IsDead board player cell → IsAmong board.size around vertex → JoinsEach board player around vertex
-  dead-joined vertex dead among w in_w =
-      ⊎_elim inl (λ differ. dead.joined vertex w differ ((open_ones vertex).0 among) ((open_ones w).0 in_w)) (same_or_differ vertex w)
+  dead-joined vertex dead among w in_w = dead.joined vertex w ((open_ones vertex).0 among) ((open_ones w).0 in_w)
 
   joined-dead : ((vertex : Vertex) → IsAmong board.size around vertex → JoinsEach board player around vertex) → IsDead board player cell
   joined-dead joins = record {
     empty = empty;
-    joined = λ one other differ o p.
+    joined = λ one other o p.
         joins one ((open_ones one).1 o) other ((open_ones other).1 p);
   }
 
@@ -162,7 +160,7 @@ module _ (board : Board) (player : Colour) (cell around : ℕ) (is : IsSetOf boa
         → IsDead (put board player other) player cell
     makes_dead differ joins = record {
       empty = (empty-put board player other cell).1 (empty, differ);
-      joined = λ one two apart o p. joined one two (among_before one o) (among_before two p);
+      joined = λ one two o p. joined one two (among_before one o) (among_before two p);
     }
       where
         joined : (one two : Vertex) → IsAmong board.size around one → IsAmong board.size around two
@@ -176,10 +174,8 @@ module _ (board : Board) (player : Colour) (cell around : ℕ) (is : IsSetOf boa
     pub made_dead : IsDead (put board player other) player cell → (vertex : Vertex) → IsAmong board.size around vertex
         → JoinsEachOr board player around other vertex
     made_dead dead vertex among w in_w =
-        ⊎_elim (λ (same : vertex ≡ w). inl (inl same))
-        (λ differ. ⊎_elim inl (λ both. inr both.0)
-        (joined_before board player other vertex w (dead.joined vertex w differ (among_after vertex among) (among_after w in_w))))
-        (same_or_differ vertex w)
+        ⊎_elim inl (λ both. inr both.0)
+        (joined_before board player other vertex w (dead.joined vertex w (among_after vertex among) (among_after w in_w)))
 
   -- after a look at each open neighbour
   pub makers-are : (among : ℕ) (all makers : Makers) → IsTrue all.is_dead

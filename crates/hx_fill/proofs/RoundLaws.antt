@@ -15,6 +15,7 @@ use Rattle.hx_board.proofs.SetLaws.{has-empty, has-remove_before, has-remove_oth
 use Rattle.hx_board.proofs.StoneLaws.{empty-put}
 use Rattle.hx_inferior.specs.declared.fills.FillStep.TheVariants.{Dead, Pair}
 use Rattle.hx_inferior.specs.Inferior.{IsDead, IsPair}
+use Rattle.hx_inferior.proofs.PairLaws.{pair-a_empty, pair-b_empty}
 use Rattle.hx_fill.specs.declared.fills.Fill.{Fill}
 use Rattle.hx_fill.specs.Fills.{IsDeadOrPair, AreDeadOrPairs, FillsTo, HasNone, NothingLeft}
 use Rattle.hx_fill.specs.Rounds.{AreAllEmpties, HasNoStoneLess, DoesStep, HasNoFill, LooksAt, Leaves, Fills, IsRound, Still, Further}
@@ -112,7 +113,7 @@ none_from : (board : Board) (player : Colour) → ((cell : ℕ) → IsEmpty boar
     → HasNone board player
 none_from board player settled = record {
   none_dead = λ cell dead. (settled cell dead.empty (has-empty cell)).not_dead dead;
-  no_pair = λ a b pair. (settled a pair.a_empty (has-empty a)).no_pair b pair.b_empty pair;
+  no_pair = λ a b pair. (settled a (pair-a_empty board player a b pair) (has-empty a)).no_pair b (pair-b_empty board player a b pair) pair;
 }
 
 -- what a round added, which may be nothing

@@ -11,7 +11,7 @@ use Rattle.hx_inferior.specs.declared.fills.FillStep.{FillStep}
 use Rattle.hx_inferior.specs.declared.fills.FillStep.TheVariants.{Other, Dead, Pair}
 use Rattle.hx_inferior.specs.Inferior.{MayFill, filled}
 use Rattle.hx_tree.specs.Fills.{LeadTo}
-use Rattle.hx_tree.proofs.FilledBoards.{second_empty}
+use Rattle.hx_inferior.proofs.PairLaws.{pair-a_empty}
 use Rattle.hx_fill.specs.declared.fills.Fill.{Fill}
 use Rattle.hx_fill.specs.Fills.{IsDeadOrPair, AreDeadOrPairs, FillsTo, single_stones, winner_steps, winner_steps_all}
 
@@ -32,7 +32,7 @@ single-lead winner who is board (Dead cell) kind may =
     let P : Colour → Type 0 = λ player. LeadTo board winner (single_stones (Dead cell)) (put board player cell) in
     subst P (sym is) (record { right = (may.empty, tt); same = refl })
 single-lead winner who is board (Pair a b) kind may =
-    let empties : IsEmpty board a × IsEmpty (put board who a) b = (may.a_empty, second_empty board who a b may) in
+    let empties : IsEmpty board a × IsEmpty (put board who a) b = (pair-a_empty board who a b may, may.b_dead.empty) in
     let P : Colour → Type 0 = λ player. IsEmpty board a × IsEmpty (put board player a) b
     → LeadTo board winner (single_stones (Pair a b)) (put (put board player a) player b) in
     subst P (sym is) (λ (both : IsEmpty board a × IsEmpty (put board (other_of winner) a) b).

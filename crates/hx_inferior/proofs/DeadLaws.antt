@@ -1,5 +1,4 @@
--- A cell is dead where it is empty and any two of its open neighbours are joined. That the two differ need not be asked, since
--- a vertex is joined with itself.
+-- A cell is dead where it is empty and any two of a set are joined that has its open neighbours.
 use Rattle.std.proofs.Common.{◌≡◌, ◌≢◌, ℕ, ap, ◌⊎◌, inl, inr, ⊎_elim}
 use Rattle.std.proofs.lemmas.Bool.Decides.{eqb_tells}
 use Rattle.hx_board.specs.declared.colours.Colour.{Colour}
@@ -30,13 +29,12 @@ module _ (board : Board) (player : Colour) (cell around : ℕ)
   pub all_joined-dead : IsEmpty board cell → AreAllJoined board player around → IsDead board player cell
   all_joined-dead empty all = record {
     empty = empty;
-    joined = λ one other differ o p.
+    joined = λ one other o p.
         let is_one : IsVertex board.size one = touches-vertex board.size player (Of cell) one o.touch in
         let is_other : IsVertex board.size other = touches-vertex board.size player (Of cell) other p.touch in
         all one other is_one is_other ((is_around.members one is_one).1 o) ((is_around.members other is_other).1 p);
   }
 
   pub dead-all_joined : IsDead board player cell → AreAllJoined board player around
-  dead-all_joined dead = λ one other is_one is_other in_one in_other. ⊎_elim inl
-      (λ differ. dead.joined one other differ ((is_around.members one is_one).0 in_one) ((is_around.members other is_other).0 in_other))
-      (same_or_differ one other)
+  dead-all_joined dead = λ one other is_one is_other in_one in_other.
+      dead.joined one other ((is_around.members one is_one).0 in_one) ((is_around.members other is_other).0 in_other)

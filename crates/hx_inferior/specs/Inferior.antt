@@ -1,5 +1,5 @@
 -- Dead cells, captured pairs, fill steps, and cells that another one is better than.
-use Rattle.std.specs.Prelude.{◌≢◌, ℕ}
+use Rattle.std.specs.Prelude.{ℕ}
 use Rattle.hx_board.specs.declared.colours.Colour.{Colour}
 use Rattle.hx_board.specs.declared.vertices.Vertex.{Vertex}
 use Rattle.hx_board.specs.declared.vertices.Vertex.TheVariants.{Of}
@@ -16,18 +16,14 @@ pub record IsOpenNeighbour (board : Board) (player : Colour) (cell : ℕ) (verte
   pub touch : Touches board.size player (Of cell) vertex
   pub is_open : IsOpen board player vertex
 
--- an empty cell of which any two different open neighbours are joined without it
+-- an empty cell of which any two open neighbours are joined without it
 pub record IsDead (board : Board) (player : Colour) (cell : ℕ) : Type 0 where
   pub empty : IsEmpty board cell
-  pub joined : (one other : Vertex) → one ≢ other
-      → IsOpenNeighbour board player cell one → IsOpenNeighbour board player cell other
+  pub joined : (one other : Vertex) → IsOpenNeighbour board player cell one → IsOpenNeighbour board player cell other
       → Joined board player one other
 
--- two different empty cells, each of which is dead once the player has the other
+-- two cells, each of which is dead once the player has the other, and so two empty ones
 pub record IsPair (board : Board) (player : Colour) (a b : ℕ) : Type 0 where
-  pub a_empty : IsEmpty board a
-  pub b_empty : IsEmpty board b
-  pub differ : a ≢ b
   pub a_dead : IsDead (put board player b) player a
   pub b_dead : IsDead (put board player a) player b
 
@@ -48,9 +44,7 @@ abbrev pub IsKilled : Board → Colour → ℕ → Kill → Type 0
 IsKilled board mover worse ByDead = IsDead board (other_of mover) worse
 IsKilled board mover worse (ByPair partner) = IsPair board mover worse partner
 
--- of two different empty cells the mover loses nothing by taking the better one
+-- of two cells the mover loses nothing by taking the better one, which is empty, as the worse one is then too
 pub record IsDominated (board : Board) (mover : Colour) (better worse : ℕ) (kill : Kill) : Type 0 where
   pub better_empty : IsEmpty board better
-  pub worse_empty : IsEmpty board worse
-  pub differ : better ≢ worse
   pub killed : IsKilled (put board mover better) mover worse kill

@@ -11,13 +11,10 @@ use crate::dead_cells::dead;
 use crate::pairs::pair;
 use hx_board::{Cell, Colour, Position};
 
-/// How a cell is killed by a move of a player.
+/// How a move of a player kills a cell: it is dead for the opponent, or a captured pair of the player with the named one.
 #[derive(Clone, Copy, PartialEq, Eq, Debug)]
 pub enum Kill {
-    /// It is dead for the opponent.
     ByDead,
-
-    /// It and this cell are a captured pair of the player.
     ByPair(Cell),
 }
 
@@ -31,14 +28,13 @@ fn is_killed(position: &Position, mover: Colour, worse: Cell, kill: &Kill) -> bo
     }
 }
 
-/// Whether the mover need not try the worse cell where it tries the better one: the two are different and empty, and after the
-/// mover takes the better one, the worse one is dead for the opponent or, with the named cell, a pair of the mover.
+/// Whether the mover need not try the worse cell where it tries the better one: the better one is empty, and after the mover
+/// takes it, the worse one is dead for the opponent or, with the named cell, a pair of the mover.
 pub fn dominates(position: &Position, mover: Colour, better: Cell, worse: Cell, kill: Kill) -> bool
     ensures { IsTrue result ↔ IsDominated position.now mover better worse kill }
 {
-    let empties = position.empties();
-    let are_empty = empties.has(better) && empties.has(worse);
-    if better == worse || !are_empty {
+    let is_empty = position.empties().has(better);
+    if !is_empty {
         return false;
     }
     let next = position.with(mover, better);

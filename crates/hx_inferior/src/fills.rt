@@ -11,16 +11,11 @@ use crate::dead_cells::dead;
 use crate::pairs::pair;
 use hx_board::{Cell, Colour, Position};
 
-/// One step, for the player who is to win.
+/// A step: the opponent's stone on any empty cell, or the stones of the player who is to win on a dead cell or a captured pair.
 #[derive(Clone, Copy, PartialEq, Eq, Debug)]
 pub enum FillStep {
-    /// The opponent's stone on any empty cell.
     Other(Cell),
-
-    /// The player's stone on a cell that is dead for the player.
     Dead(Cell),
-
-    /// The player's stones on both cells of a captured pair of the player.
     Pair(Cell, Cell),
 }
 

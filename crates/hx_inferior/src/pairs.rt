@@ -10,14 +10,17 @@ ghost use Rattle.hx_inferior.specs.Inferior.{IsPair};
 use crate::dead_cells::dead;
 use hx_board::{Cell, Colour, Position};
 
-/// Whether two cells are a pair of a player: they are different and empty, and each is dead for the player after the player
-/// takes the other.
+/// Whether two cells are a pair of a player: they are empty, and each is dead for the player after the player takes the other.
 pub fn pair(position: &Position, colour: Colour, a: Cell, b: Cell) -> bool
     ensures { IsTrue result ↔ IsPair position.now colour a b }
 {
     let empties = position.empties();
-    let are_empty = empties.has(a) && empties.has(b);
-    if a == b || !are_empty {
+    let a_empty = empties.has(a);
+    if !a_empty {
+        return false;
+    }
+    let b_empty = empties.has(b);
+    if !b_empty {
         return false;
     }
     let with_a = position.with(colour, a);

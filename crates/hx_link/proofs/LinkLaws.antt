@@ -1,17 +1,20 @@
 -- Laws of links that the crates above share: ends, the parts of an Or and their carriers, and how many links steps give.
-use Rattle.std.proofs.Common.{◌≡◌, ℕ, zero, suc, ◌+◌, true, List, [], ◌∷◌, ◌++◌, length, length-append, map, refl, sym, ap, ◌∙◌, Some}
+use Rattle.std.proofs.Common.{◌≡◌, ◌≢◌, ℕ, zero, suc, ◌+◌, true, List, [], ◌∷◌, ◌++◌, length, length-append, map, refl, sym, ap, ◌∙◌, Some}
 use Rattle.std.proofs.Common.{Option, inl, inr, arith}
-use Rattle.std.specs.Prelude.{slice_get}
+use Rattle.std.specs.Prelude.{slice_get, Contains}
+use Rattle.std.proofs.lemmas.Option.{slice_get-get_or, slice_get_within, get_or_from_slice_get}
 use Rattle.hx_board.specs.declared.colours.Colour.{Colour}
 use Rattle.hx_board.specs.declared.vertices.Vertex.{Vertex}
 use Rattle.hx_board.specs.declared.vertices.Vertex.TheVariants.{Of, First, Last}
 use Rattle.hx_board.specs.Sets.{has}
+use Rattle.hx_board.specs.VertexSets.{code_of}
 use Rattle.hx_board.specs.Positions.{Board}
 use Rattle.hx_board.specs.Graph.{IsVertex}
 use Rattle.hx_board.proofs.SetLaws.{has-union_left, has-union_right}
 use Rattle.hx_link.specs.declared.links.Link.{Link}
 use Rattle.hx_link.specs.declared.steps.Step.{Step}
-use Rattle.hx_link.specs.Steps.{IsEnd, HasEnds, IsOneOf, links_at, carriers_of, AreRightSteps}
+use Rattle.hx_link.specs.Steps.{IsEnd, IsLink, HasEnds, carriers_of, AreRightSteps}
+use Rattle.hx_link.specs.Named.{links_at, IsOneOf}
 
 -- ---- ends
 
@@ -19,6 +22,11 @@ pub end-vertex : (board : Board) (player : Colour) (v : Vertex) → IsEnd board 
 end-vertex board player (Of cell) end = end.0
 end-vertex board player First end = tt
 end-vertex board player Last end = tt
+
+-- the two ends of a link differ
+pub ends_differ : (board : Board) (player : Colour) (link : Link) (x y : Vertex) → IsLink board player link → HasEnds link x y → x ≢ y
+ends_differ board player link x y ok (inl e) same = absurd (omega (arith, ok.lower_first, ap code_of (e.0 ∙ same ∙ sym e.1)))
+ends_differ board player link x y ok (inr e) same = absurd (omega (arith, ok.lower_first, ap code_of (e.0 ∙ sym same ∙ sym e.1)))
 
 -- links of the same two vertices have the same ends
 pub ends_along : (f p : Link) (u v : Vertex) → HasEnds f u v → HasEnds p u v → HasEnds p f.a f.b
@@ -28,6 +36,12 @@ ends_along f p u v (inr a) (inl b) = inr (b.0 ∙ sym a.1, b.1 ∙ sym a.0)
 ends_along f p u v (inr a) (inr b) = inl (b.0 ∙ sym a.0, b.1 ∙ sym a.1)
 
 -- ---- parts
+
+pub one_of-contains : (links : List Link) (part : Link) → IsOneOf part links → Contains links part
+one_of-contains links part h = (h.0, slice_get_within links h.0 part h.1, get_or_from_slice_get links h.0 part part h.1)
+
+pub contains-one_of : (links : List Link) (part : Link) → Contains links part → IsOneOf part links
+contains-one_of links part h = (h.0, slice_get-get_or links h.0 part h.1 ∙ ap Some h.2)
 
 pub one_of_later : (l x : Link) (xs : List Link) → IsOneOf l xs → IsOneOf l (x ∷ xs)
 one_of_later l x xs h = (suc h.0, h.1)

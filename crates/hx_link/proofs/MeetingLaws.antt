@@ -18,8 +18,9 @@ use Rattle.hx_link.specs.declared.links.Link.{Link}
 use Rattle.hx_link.specs.declared.steps.Step.TheVariants.{AndStone, AndCell}
 use Rattle.hx_link.specs.declared.meetings.Meeting.{Meeting}
 use Rattle.hx_link.specs.declared.meetings.Met.{Met}
-use Rattle.hx_link.specs.Steps.{IsLink, HasEnds, MeetAt, GivesAndStone, GivesAndCell, StepGives}
+use Rattle.hx_link.specs.Steps.{IsLink, HasEnds, GoesOver, GivesAndStone, GivesAndCell, StepGives}
 use Rattle.hx_link.specs.Named.{MeetIn, IsMade, IsMet, IsMiddle}
+use Rattle.hx_link.proofs.LinkLaws.{ends_differ}
 
 -- two links share at most one end
 meets_once : (f s : Link) (x z y x' z' y' : Vertex) → HasEnds f x z → HasEnds s z y → x ≢ y → HasEnds f x' z' → HasEnds s z' y' → x' ≢ y'
@@ -51,27 +52,32 @@ met_eq : (f f' s s' : Link) (x x' z z' y y' : Vertex) → f ≡ f' → s ≡ s' 
 met_eq f f' s s' x x' z z' y y' a b d e g = cc
 
 module _ (before : List Link) (left right : ℕ) where
-  pub met-of : (x z y : Vertex) (f s : Link) → MeetAt before left right x z y f s
-      → IsMet before left right record { first = f; second = s; at = record { from = x; middle = z; to = y } }
-  met-of x z y f s m = record {
+  pub met-of : (z : Vertex) (link : Link) (m : GoesOver before left right z link) → m.from ≢ m.to
+      → IsMet before left right record { first = m.first; second = m.second; at = record { from = m.from; middle = z; to = m.to } }
+  met-of z link m differ = record {
     first_there = m.first_there;
     second_there = m.second_there;
     first_full = m.first_full;
     second_full = m.second_full;
-    meet = record { first_ends = m.first_ends; second_ends = m.second_ends; other_ends_differ = m.other_ends_differ };
+    meet = record { first_ends = m.first_ends; second_ends = m.second_ends; other_ends_differ = differ };
     apart = m.apart;
   }
 
-  pub meet-of : (m : Met) → IsMet before left right m → MeetAt before left right m.at.from m.at.middle m.at.to m.first m.second
-  meet-of m h = record {
+  pub meet-of : (m : Met) (link : Link) → IsMet before left right m → HasEnds link m.at.from m.at.to
+      → GoesOver before left right m.at.middle link
+  meet-of m link h ends = record {
+    first = m.first;
+    second = m.second;
+    from = m.at.from;
+    to = m.at.to;
     first_there = h.first_there;
     second_there = h.second_there;
     first_full = h.first_full;
     second_full = h.second_full;
     first_ends = h.meet.first_ends;
     second_ends = h.meet.second_ends;
-    other_ends_differ = h.meet.other_ends_differ;
     apart = h.apart;
+    ends = ends;
   }
 
   -- there is one meeting of two places at most
@@ -86,27 +92,28 @@ module _ (before : List Link) (left right : ℕ) where
       met_eq m.first n.first m.second n.second m.at.from n.at.from m.at.middle n.at.middle m.at.to n.at.to first second once.0 once.1 once.2
 
   module _ (board : Board) (player : Colour) (link : Link) where
-    pub no_stone : ((m : Met) → IsMet before left right m → ⊥) → GivesAndStone board player before left right link → ⊥
-    no_stone none g = none _ (met-of g.from g.middle g.to g.first g.second g.meet)
+    pub met-over : (z : Vertex) → IsLink board player link → (o : GoesOver before left right z link)
+        → IsMet before left right record { first = o.first; second = o.second; at = record { from = o.from; middle = z; to = o.to } }
+    met-over z ok o = met-of z link o (ends_differ board player link o.from o.to ok o.ends)
 
-    pub no_cell : ((m : Met) → IsMet before left right m → ⊥) → GivesAndCell board player before left right link → ⊥
-    no_cell none g = none _ (met-of g.from (Of g.cell) g.to g.first g.second g.meet)
+    pub no_stone : ((m : Met) → IsMet before left right m → ⊥) → GivesAndStone board player before left right link
+        → IsLink board player link → ⊥
+    no_stone none g ok = none _ (met-over g.middle ok g.over)
+
+    pub no_cell : ((m : Met) → IsMet before left right m → ⊥) → GivesAndCell board before left right link → IsLink board player link → ⊥
+    no_cell none g ok = none _ (met-over (Of g.cell) ok g.over)
 
     pub stone-from : (m : Met) (carrier : ℕ) → carrier ≡ union m.first.carrier m.second.carrier → IsMet before left right m
         → IsOwn board player m.at.middle → IsMade board player Full m.at.from m.at.to carrier link
         → GivesAndStone board player before left right link × IsLink board player link
+    unfolding meet-of
     stone-from m carrier e h own is = (
       record {
-        from = m.at.from;
         middle = m.at.middle;
-        to = m.at.to;
-        first = m.first;
-        second = m.second;
-        meet = meet-of m h;
+        over = meet-of m link h is.ends;
         own = own;
         kind = is.kind_is;
         carrier = is.carrier_is ∙ e;
-        ends = is.ends;
       },
       is.link_ok,
     )
@@ -115,44 +122,46 @@ module _ (before : List Link) (left right : ℕ) where
         → GivesAndStone board player before left right link → IsLink board player link → IsOwn board player m.at.middle
         × IsMade board player Full m.at.from m.at.to carrier link
     stone-to m carrier e h g ok =
-        let same : m ≡ record { first = g.first; second = g.second; at = record { from = g.from; middle = g.middle; to = g.to } } =
-        met-same m _ h (met-of g.from g.middle g.to g.first g.second g.meet) in (
+        let o : GoesOver before left right g.middle link = g.over in
+        let same : m ≡ record { first = o.first; second = o.second; at = record { from = o.from; middle = g.middle; to = o.to } } =
+        met-same m _ h (met-over g.middle ok o) in (
           let P : Met → Type 0 = λ w. IsOwn board player w.at.middle in subst P (sym same) g.own,
           record {
             kind_is = g.kind;
             carrier_is = g.carrier ∙ (ap (λ (w : Met). union w.first.carrier w.second.carrier) (sym same) ∙ sym e);
-            ends = let P : Met → Type 0 = λ w. HasEnds link w.at.from w.at.to in subst P (sym same) g.ends;
+            ends = let P : Met → Type 0 = λ w. HasEnds link w.at.from w.at.to in subst P (sym same) o.ends;
             link_ok = ok;
           },
         )
 
+    over_cell : (m : Met) {cell : ℕ} → IsMet before left right m → m.at.middle ≡ Of cell → HasEnds link m.at.from m.at.to
+        → GoesOver before left right (Of cell) link
+    over_cell m h is_cell ends =
+        let P : Vertex → Type 0 = λ v. GoesOver before left right v link in subst P is_cell (meet-of m link h ends)
+
     pub cell-from : (m : Met) (cell carrier : ℕ) → carrier ≡ insert (union m.first.carrier m.second.carrier) cell
         → IsMet before left right m → IsMiddle board m cell → IsMade board player Semi m.at.from m.at.to carrier link
-        → GivesAndCell board player before left right link × IsLink board player link
+        → GivesAndCell board before left right link × IsLink board player link
+    unfolding over_cell meet-of
     cell-from m cell carrier e h mid is = (
       record {
-        from = m.at.from;
         cell = cell;
-        to = m.at.to;
-        first = m.first;
-        second = m.second;
-        meet = let P : Vertex → Type 0 = λ v. MeetAt before left right m.at.from v m.at.to m.first m.second in
-            subst P mid.is_cell (meet-of m h);
+        over = over_cell m h mid.is_cell is.ends;
         empty = mid.empty;
         outside_first = mid.outside_first;
         outside_second = mid.outside_second;
         kind = is.kind_is;
         carrier = is.carrier_is ∙ e;
-        ends = is.ends;
       },
       is.link_ok,
     )
 
-    pub cell-middle : (m : Met) → IsMet before left right m → GivesAndCell board player before left right link → (cell : ℕ)
-        × IsMiddle board m cell
-    cell-middle m h g =
-        let same : m ≡ record { first = g.first; second = g.second; at = record { from = g.from; middle = Of g.cell; to = g.to } } =
-        met-same m _ h (met-of g.from (Of g.cell) g.to g.first g.second g.meet) in (
+    pub cell-middle : (m : Met) → IsMet before left right m → GivesAndCell board before left right link → IsLink board player link
+        → (cell : ℕ) × IsMiddle board m cell
+    cell-middle m h g ok =
+        let o : GoesOver before left right (Of g.cell) link = g.over in
+        let same : m ≡ record { first = o.first; second = o.second; at = record { from = o.from; middle = Of g.cell; to = o.to } } =
+        met-same m _ h (met-over (Of g.cell) ok o) in (
           g.cell,
           let P : Met → Type 0 = λ w. IsMiddle board w g.cell in
               subst P (sym same) record {
@@ -165,11 +174,12 @@ module _ (before : List Link) (left right : ℕ) where
         )
 
     pub cell-to : (m : Met) (cell carrier : ℕ) → carrier ≡ insert (union m.first.carrier m.second.carrier) cell → IsMet before left right m
-        → IsMiddle board m cell → GivesAndCell board player before left right link → IsLink board player link
+        → IsMiddle board m cell → GivesAndCell board before left right link → IsLink board player link
         → IsMade board player Semi m.at.from m.at.to carrier link
     cell-to m cell carrier e h mid g ok =
-        let same : m ≡ record { first = g.first; second = g.second; at = record { from = g.from; middle = Of g.cell; to = g.to } } =
-        met-same m _ h (met-of g.from (Of g.cell) g.to g.first g.second g.meet) in
+        let o : GoesOver before left right (Of g.cell) link = g.over in
+        let same : m ≡ record { first = o.first; second = o.second; at = record { from = o.from; middle = Of g.cell; to = o.to } } =
+        met-same m _ h (met-over (Of g.cell) ok o) in
         let here : Of g.cell ≡ Of cell = ap (λ (w : Met). w.at.middle) (sym same) ∙ mid.is_cell in
         let cells : g.cell ≡ cell = cc in
         record {
@@ -177,7 +187,7 @@ module _ (before : List Link) (left right : ℕ) where
           carrier_is = g.carrier
               ∙ (ap (λ (w : Met). insert (union w.first.carrier w.second.carrier) g.cell) (sym same)
               ∙ (ap (λ n. insert (union m.first.carrier m.second.carrier) n) cells ∙ sym e));
-          ends = let P : Met → Type 0 = λ w. HasEnds link w.at.from w.at.to in subst P (sym same) g.ends;
+          ends = let P : Met → Type 0 = λ w. HasEnds link w.at.from w.at.to in subst P (sym same) o.ends;
           link_ok = ok;
         }
 

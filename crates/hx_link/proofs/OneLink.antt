@@ -3,6 +3,7 @@
 -- Two links of the same kind, ends and carrier are one, since both have the lower end first (`same_link`). Each rule fixes
 -- the kind, the carrier and the ends: an And since two places have one meeting, an Or since places have one list of links.
 use Rattle.std.proofs.Common.{◌≡◌, ℕ, ◌<◌, List, refl, sym, ap, ◌∙◌, subst, inl, inr, arith}
+use Rattle.std.specs.Prelude.{Contains}
 use Rattle.hx_board.specs.declared.colours.Colour.{Colour}
 use Rattle.hx_board.specs.declared.vertices.Vertex.{Vertex}
 use Rattle.hx_board.specs.declared.vertices.Vertex.TheVariants.{Of}
@@ -13,9 +14,9 @@ use Rattle.hx_link.specs.declared.links.Link.{Link}
 use Rattle.hx_link.specs.declared.meetings.Met.{Met}
 use Rattle.hx_link.specs.declared.steps.Step.{Step}
 use Rattle.hx_link.specs.declared.steps.Step.TheVariants.{Base, AndStone, AndCell, Or}
-use Rattle.hx_link.specs.Steps.{IsLink, HasEnds, IsOneOf, carriers_of, GivesByRule, StepGives}
+use Rattle.hx_link.specs.Steps.{IsLink, HasEnds, GoesOver, carriers_of, GivesByRule, StepGives}
 use Rattle.hx_link.specs.Named.{IsMade, IsMet, IsMiddle}
-use Rattle.hx_link.proofs.MeetingLaws.{met-of, stone-to, cell-to}
+use Rattle.hx_link.proofs.MeetingLaws.{met-over, stone-to, cell-to}
 use Rattle.hx_link.proofs.PartLaws.{same_links, ends_back}
 
 equal_links : (k k' : Kind) (a a' b b' : Vertex) (c c' : ℕ) → k ≡ k' → a ≡ a' → b ≡ b' → c ≡ c'
@@ -45,13 +46,15 @@ module _ (board : Board) (player : Colour) (before : List Link) (l m : Link) whe
   by_rule (Base a b) g ok h ok' =
       same_link l m a b (g.kind ∙ sym h.kind) (g.carrier ∙ sym h.carrier) ok.lower_first ok'.lower_first g.ends h.ends
   by_rule (AndStone left right) g ok h ok' =
-      let met : Met = record { first = g.first; second = g.second; at = record { from = g.from; middle = g.middle; to = g.to } } in
-      let is : IsMet before left right met = met-of before left right g.from g.middle g.to g.first g.second g.meet in
+      let o : GoesOver before left right g.middle l = g.over in
+      let met : Met = record { first = o.first; second = o.second; at = record { from = o.from; middle = g.middle; to = o.to } } in
+      let is : IsMet before left right met = met-over before left right board player l g.middle ok o in
       same_made _ _ _ _ (stone-to before left right board player l met _ refl is g ok).1
       (stone-to before left right board player m met _ refl is h ok').1
   by_rule (AndCell left right) g ok h ok' =
-      let met : Met = record { first = g.first; second = g.second; at = record { from = g.from; middle = Of g.cell; to = g.to } } in
-      let is : IsMet before left right met = met-of before left right g.from (Of g.cell) g.to g.first g.second g.meet in
+      let o : GoesOver before left right (Of g.cell) l = g.over in
+      let met : Met = record { first = o.first; second = o.second; at = record { from = o.from; middle = Of g.cell; to = o.to } } in
+      let is : IsMet before left right met = met-over before left right board player l (Of g.cell) ok o in
       let mid : IsMiddle board met g.cell =
       record { is_cell = refl; empty = g.empty; outside_first = g.outside_first; outside_second = g.outside_second } in
       same_made _ _ _ _ (cell-to before left right board player l met g.cell _ refl is mid g ok)
@@ -59,7 +62,7 @@ module _ (board : Board) (player : Colour) (before : List Link) (l m : Link) whe
   by_rule (Or parts) g ok h ok' =
       let links : g.links ≡ h.links = same_links g.links h.links (sym g.there ∙ h.there) in
       let w = g.none_in_all 0 in
-      let P : List Link → Type 0 = λ ls. IsOneOf w.0 ls in
+      let P : List Link → Type 0 = λ ls. Contains ls w.0 in
       same_link l m w.0.a w.0.b (g.kind ∙ sym h.kind) (g.carrier ∙ (ap carriers_of links ∙ sym h.carrier)) ok.lower_first ok'.lower_first
       (ends_back w.0 l (g.same_ends w.0 w.1.0)) (ends_back w.0 m (h.same_ends w.0 (subst P links w.1.0)))
 

@@ -21,9 +21,9 @@ use Rattle.hx_link.specs.declared.links.Kind.TheVariants.{Full}
 use Rattle.hx_link.specs.declared.links.Link.{Link}
 use Rattle.hx_link.specs.declared.parts.TheConstants.{MOST_PARTS}
 use Rattle.hx_link.specs.declared.steps.Step.TheVariants.{Or}
-use Rattle.hx_link.specs.Steps.{IsLink, HasEnds, IsOneOf, links_at, carriers_of, GivesOr, StepGives}
-use Rattle.hx_link.proofs.LinkLaws.{ends_along, one_of_later, same_front}
-use Rattle.hx_link.specs.Named.{IsMade, IsSemiAt, ArePartsFrom, PartsSoFar}
+use Rattle.hx_link.specs.Steps.{IsLink, HasEnds, carriers_of, GivesOr, StepGives}
+use Rattle.hx_link.proofs.LinkLaws.{ends_along, one_of-contains, contains-one_of, one_of_later, same_front}
+use Rattle.hx_link.specs.Named.{links_at, IsMade, IsOneOf, IsSemiAt, ArePartsFrom, PartsSoFar}
 
 -- what is in a list with one link more
 one_of_push : (xs : List Link) (x l : Link) → IsOneOf l (xs ++ x ∷ []) → IsOneOf l xs ⊎ (l ≡ x)
@@ -124,7 +124,8 @@ module _ (before : List Link) (places : List ℕ) (link : Link) (g : GivesOr bef
   pub first-ends : (place : ℕ) (first : Link) → slice_get places 0 ≡ Some place → slice_get before place ≡ Some first
       → HasEnds first link.a link.b
   first-ends place first h there = let w = part_at before places g.links g.there 0 place h in
-      let P : Link → Type 0 = λ l. HasEnds l link.a link.b in subst P (same_Some w.0 first (sym w.1.1 ∙ there)) (g.same_ends w.0 w.1.0)
+      let P : Link → Type 0 = λ l. HasEnds l link.a link.b in subst P (same_Some w.0 first (sym w.1.1 ∙ there))
+      (g.same_ends w.0 (one_of-contains g.links w.0 w.1.0))
 
   pub or-parts : (place : ℕ) (first : Link) → slice_get places 0 ≡ Some place → slice_get before place ≡ Some first
       → ArePartsFrom before places first.a first.b
@@ -133,8 +134,9 @@ module _ (before : List Link) (places : List ℕ) (link : Link) (g : GivesOr bef
     record {
       part = w.0;
       there = w.1.1;
-      semi = g.semi w.0 w.1.0;
-      ends = ends_along first w.0 link.a link.b (first-ends place first h there) (g.same_ends w.0 w.1.0);
+      semi = g.semi w.0 (one_of-contains g.links w.0 w.1.0);
+      ends = ends_along first w.0 link.a link.b (first-ends place first h there)
+          (g.same_ends w.0 (one_of-contains g.links w.0 w.1.0));
       carrier_is = refl;
     },
   )
@@ -150,7 +152,8 @@ module _ (before : List Link) (places : List ℕ) (link : Link) (g : GivesOr bef
     pub or-none_in_all : in_all ≡ 0
     or-none_in_all = same_set in_all 0 (λ n. let w = g.none_in_all n in
         false_from_ne_true (has in_all n)
-        (λ h. false≢true (sym w.1.1 ∙ p.in_each n h w.0 (let P : List Link → Type 0 = λ ls. IsOneOf w.0 ls in subst P same w.1.0)))
+        (λ h. false≢true (sym w.1.1 ∙ p.in_each n h w.0 (let P : List Link → Type 0 = λ ls. IsOneOf w.0 ls in
+        subst P same (contains-one_of g.links w.0 w.1.0))))
         ∙ sym (has-empty n))
 
     pub or-carrier : link.carrier ≡ in_some
@@ -182,9 +185,10 @@ module _ (before : List Link) (places : List ℕ) (place : ℕ) (first : Link) (
         there = p.there;
         several = several;
         few = few;
-        semi = p.semi;
-        same_ends = λ part w. ends_along link part first.a first.b is.ends (p.same_ends part w);
-        none_in_all = λ cell. lacking none cell (has first.carrier cell) refl;
+        semi = λ part w. p.semi part (contains-one_of p.links part w);
+        same_ends = λ part w. ends_along link part first.a first.b is.ends (p.same_ends part (contains-one_of p.links part w));
+        none_in_all = λ cell. let w = lacking none cell (has first.carrier cell) refl in
+            (w.0, (one_of-contains p.links w.0 w.1.0, w.1.1));
         kind = is.kind_is;
         carrier = is.carrier_is ∙ same_set in_some (carriers_of p.links) p.carriers;
       },

@@ -1,6 +1,7 @@
 -- How the links that a step names meet, and what is known of them while they are read. These words are for the
--- functions inside the crate alone.
+-- functions inside the crate and for proofs alone.
 use Rattle.std.specs.Prelude.{◌≡◌, ◌≢◌, ℕ, List, map, slice_get, true, false}
+use Rattle.std.specs.declared.option.Option.{Option}
 use Rattle.std.specs.declared.option.Option.TheVariants.{Some}
 use Rattle.hx_board.specs.declared.colours.Colour.{Colour}
 use Rattle.hx_board.specs.declared.vertices.Vertex.{Vertex}
@@ -12,7 +13,7 @@ use Rattle.hx_link.specs.declared.links.Kind.TheVariants.{Full, Semi}
 use Rattle.hx_link.specs.declared.links.Link.{Link}
 use Rattle.hx_link.specs.declared.meetings.Meeting.{Meeting}
 use Rattle.hx_link.specs.declared.meetings.Met.{Met}
-use Rattle.hx_link.specs.Steps.{IsLink, HasEnds, IsOneOf, links_at, carriers_of}
+use Rattle.hx_link.specs.Steps.{IsLink, HasEnds, carriers_of}
 
 -- the link of this kind, these ends and this carrier, the lower end first
 pub record IsMade (board : Board) (player : Colour)
@@ -48,6 +49,14 @@ pub record IsMiddle (board : Board) (met : Met) (cell : ℕ) : Type 0 where
   pub empty : IsEmpty board cell
   pub outside_first : has met.first.carrier cell ≡ false
   pub outside_second : has met.second.carrier cell ≡ false
+
+-- what stands at these places
+abbrev pub links_at : List Link → List ℕ → List (Option Link)
+links_at before places = map (λ (place : ℕ). slice_get before place) places
+
+-- the link is at a place of the list
+abbrev pub IsOneOf : Link → List Link → Type 0
+IsOneOf link links = (k : ℕ) × (slice_get links k ≡ Some link)
 
 -- a Semi link of these ends and this carrier is at the place
 pub record IsSemiAt (before : List Link) (place : ℕ) (a b : Vertex) (carrier : ℕ) : Type 0 where

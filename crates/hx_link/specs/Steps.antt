@@ -1,6 +1,5 @@
 -- The link that a step gives. Links are named by their places in the list of those before the step.
-use Rattle.std.specs.Prelude.{◌≡◌, ◌≢◌, ℕ, ◌<◌, ◌≤◌, false, List, [], ◌∷◌, map, length, slice_get, ◌++◌, ◌⊎◌}
-use Rattle.std.specs.declared.option.Option.{Option}
+use Rattle.std.specs.Prelude.{◌≡◌, ℕ, ◌<◌, ◌≤◌, false, List, [], ◌∷◌, map, length, slice_get, Contains, ◌++◌, ◌⊎◌}
 use Rattle.std.specs.declared.option.Option.TheVariants.{Some}
 use Rattle.hx_board.specs.declared.colours.Colour.{Colour}
 use Rattle.hx_board.specs.declared.vertices.Vertex.{Vertex}
@@ -16,26 +15,19 @@ use Rattle.hx_link.specs.declared.parts.TheConstants.{MOST_PARTS}
 use Rattle.hx_link.specs.declared.steps.Step.{Step}
 use Rattle.hx_link.specs.declared.steps.Step.TheVariants.{Base, AndStone, AndCell, Or}
 
--- a vertex that may be an end: a cell of the board that is no stone of the opponent, or a side
+-- a vertex that may be an end: a side, or a cell of the board that is no stone of the opponent
 abbrev pub IsEnd : Board → Colour → Vertex → Type 0
 IsEnd board player (Of cell) = OnBoard board.size cell × IsOpen board player (Of cell)
 IsEnd board player First = Unit {0}
 IsEnd board player Last = Unit {0}
 
--- a vertex that is no empty cell of the carrier
-abbrev pub IsOutside : Board → ℕ → Vertex → Type 0
-IsOutside board carrier (Of cell) = IsEmpty board cell → has carrier cell ≡ false
-IsOutside board carrier First = Unit {0}
-IsOutside board carrier Last = Unit {0}
-
--- there can be this link: its ends differ, the lower in vertex order first, and none of them is an empty cell of the
--- carrier
+-- there can be this link: it has two ends, the lower in vertex order first, and none is an empty cell of the carrier
 pub record IsLink (board : Board) (player : Colour) (link : Link) : Type 0 where
   pub lower_first : code_of link.a < code_of link.b
   pub a_end : IsEnd board player link.a
   pub b_end : IsEnd board player link.b
-  pub a_outside : IsOutside board link.carrier link.a
-  pub b_outside : IsOutside board link.carrier link.b
+  pub outside : (cell : ℕ) → IsEmpty board cell → (link.a ≡ Of cell) ⊎ (link.b ≡ Of cell)
+      → has link.carrier cell ≡ false
 
 -- the link's ends are these, in either order
 abbrev pub HasEnds : Link → Vertex → Vertex → Type 0
@@ -46,16 +38,20 @@ pub record IsChainLink (link : Link) : Type 0 where
   pub first : link.a ≡ First
   pub last : link.b ≡ Last
 
--- two earlier Full links that share exactly one end, the middle, and whose carriers share no cell
-pub record MeetAt (before : List Link) (left right : ℕ) (from middle to : Vertex) (first second : Link) : Type 0 where
+-- the link joins the other ends of two earlier Full links that end in the middle and share no cell
+pub record GoesOver (before : List Link) (left right : ℕ) (middle : Vertex) (link : Link) : Type 0 where
+  pub first : Link
+  pub second : Link
+  pub from : Vertex
+  pub to : Vertex
   pub first_there : slice_get before left ≡ Some first
   pub second_there : slice_get before right ≡ Some second
   pub first_full : first.kind ≡ Full
   pub second_full : second.kind ≡ Full
   pub first_ends : HasEnds first from middle
   pub second_ends : HasEnds second middle to
-  pub other_ends_differ : from ≢ to
   pub apart : ShareNone first.carrier second.carrier
+  pub ends : HasEnds link from to
 
 -- of two vertices that are joined, a Full link on no cell
 pub record GivesBase (board : Board) (player : Colour) (a b : Vertex) (link : Link) : Type 0 where
@@ -64,59 +60,40 @@ pub record GivesBase (board : Board) (player : Colour) (a b : Vertex) (link : Li
   pub carrier : link.carrier ≡ 0
   pub ends : HasEnds link a b
 
--- of two links that meet at a stone or a side of the player, a Full link between their other ends on both carriers
-pub record GivesAndStone (board : Board) (player : Colour) (before : List Link)
-    (left right : ℕ) (link : Link) : Type 0 where
-  pub from : Vertex
+-- over a stone or a side of the player, a Full link on both carriers
+pub record GivesAndStone (board : Board) (player : Colour) (before : List Link) (left right : ℕ) (link : Link)
+    : Type 0 where
   pub middle : Vertex
-  pub to : Vertex
-  pub first : Link
-  pub second : Link
-  pub meet : MeetAt before left right from middle to first second
+  pub over : GoesOver before left right middle link
   pub own : IsOwn board player middle
   pub kind : link.kind ≡ Full
-  pub carrier : link.carrier ≡ union first.carrier second.carrier
-  pub ends : HasEnds link from to
+  pub carrier : link.carrier ≡ union over.first.carrier over.second.carrier
 
--- of two links that meet at an empty cell in neither carrier, a Semi link between their other ends on both and the cell
-pub record GivesAndCell (board : Board) (player : Colour) (before : List Link)
-    (left right : ℕ) (link : Link) : Type 0 where
-  pub from : Vertex
+-- over an empty cell in neither carrier, a Semi link on both carriers and the cell
+pub record GivesAndCell (board : Board) (before : List Link) (left right : ℕ) (link : Link) : Type 0 where
   pub cell : ℕ
-  pub to : Vertex
-  pub first : Link
-  pub second : Link
-  pub meet : MeetAt before left right from (Of cell) to first second
+  pub over : GoesOver before left right (Of cell) link
   pub empty : IsEmpty board cell
-  pub outside_first : has first.carrier cell ≡ false
-  pub outside_second : has second.carrier cell ≡ false
+  pub outside_first : has over.first.carrier cell ≡ false
+  pub outside_second : has over.second.carrier cell ≡ false
   pub kind : link.kind ≡ Semi
-  pub carrier : link.carrier ≡ insert (union first.carrier second.carrier) cell
-  pub ends : HasEnds link from to
-
--- what stands at these places
-abbrev pub links_at : List Link → List ℕ → List (Option Link)
-links_at before places = map (λ (place : ℕ). slice_get before place) places
+  pub carrier : link.carrier ≡ insert (union over.first.carrier over.second.carrier) cell
 
 -- the cells that are in some of the carriers
 abbrev pub carriers_of : List Link → ℕ
 carriers_of [] = 0
 carriers_of (link ∷ links) = union link.carrier (carriers_of links)
 
--- the link is in the list
-abbrev pub IsOneOf : Link → List Link → Type 0
-IsOneOf link links = (k : ℕ) × (slice_get links k ≡ Some link)
-
 -- of 2 to `MOST_PARTS` Semi links of the same ends, of which each cell is outside some carrier, a Full link of these
 -- ends on all their carriers
 pub record GivesOr (before : List Link) (places : List ℕ) (link : Link) : Type 0 where
   pub links : List Link
-  pub there : links_at before places ≡ map (λ (part : Link). Some part) links
+  pub there : map (λ (place : ℕ). slice_get before place) places ≡ map (λ (part : Link). Some part) links
   pub several : 2 ≤ length places
   pub few : length places ≤ MOST_PARTS
-  pub semi : (part : Link) → IsOneOf part links → part.kind ≡ Semi
-  pub same_ends : (part : Link) → IsOneOf part links → HasEnds part link.a link.b
-  pub none_in_all : (cell : ℕ) → (part : Link) × (IsOneOf part links × (has part.carrier cell ≡ false))
+  pub semi : (part : Link) → Contains links part → part.kind ≡ Semi
+  pub same_ends : (part : Link) → Contains links part → HasEnds part link.a link.b
+  pub none_in_all : (cell : ℕ) → (part : Link) × (Contains links part × (has part.carrier cell ≡ false))
   pub kind : link.kind ≡ Full
   pub carrier : link.carrier ≡ carriers_of links
 
@@ -124,7 +101,7 @@ pub record GivesOr (before : List Link) (places : List ℕ) (link : Link) : Type
 abbrev pub GivesByRule : Board → Colour → List Link → Step → Link → Type 0
 GivesByRule board player before (Base a b) link = GivesBase board player a b link
 GivesByRule board player before (AndStone left right) link = GivesAndStone board player before left right link
-GivesByRule board player before (AndCell left right) link = GivesAndCell board player before left right link
+GivesByRule board player before (AndCell left right) link = GivesAndCell board before left right link
 GivesByRule board player before (Or parts) link = GivesOr before parts link
 
 -- the step gives this link after the earlier ones: by its rule, and where there can be such a link

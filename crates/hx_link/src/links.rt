@@ -13,18 +13,14 @@ ghost use Rattle.hx_link.specs.Named.{IsMade};
 
 use hx_board::{Colour, Mask, Position, Vertex, VertexSet};
 
-/// Who may move first for a link to hold.
+/// Who may move first for a link to hold: where it is Full the opponent too, and where it is Semi the player alone.
 #[derive(Clone, Copy, PartialEq, Eq, Debug)]
 pub enum Kind {
-    /// The player joins the ends even where the opponent moves first.
     Full,
-
-    /// The player joins the ends where the player moves first.
     Semi,
 }
 
-/// A claim that the player can join two vertices by moves to the cells of the carrier alone. Of the two ends `a` is the
-/// lower one in vertex order, in which the cells come in cell order, then the first side, then the last side.
+/// A claim that the player can join two vertices by moves to the cells of the carrier alone; `a` comes first in vertex order.
 #[derive(Clone, Copy, PartialEq, Eq, Debug)]
 pub struct Link {
     pub kind: Kind,

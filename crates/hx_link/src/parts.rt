@@ -15,10 +15,10 @@ use std::marker::Model;
 /// The most parts that an Or unites.
 pub const MOST_PARTS: usize = 128;
 
-/// The places of the links that an Or unites, in the order in which they are given. They stand behind one pointer, since most
-/// steps are no Or: with eight places in it each step would take three times the room.
+/// The places of the links that an Or unites, in the order in which they are given.
 #[derive(Debug, Drop)]
 pub struct Parts {
+    // Behind one pointer, since most steps are no Or: with eight places in it each step would take three times the room.
     items: Box<SmallVec<u32, 8>>,
 }
 

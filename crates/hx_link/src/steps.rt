@@ -6,20 +6,18 @@
 use crate::parts::Parts;
 use hx_board::Vertex;
 
-/// A step. It names earlier links by their places in the list before it.
+/// A step makes a link. It names earlier links by their places in the list before it.
 #[derive(PartialEq, Eq, Debug, Drop)]
 pub enum Step {
-    /// Two vertices that are joined already: a Full link that needs no cell.
+    /// A Full link of two vertices that are joined already.
     Base { a: Vertex, b: Vertex },
 
-    /// The And rule over a stone or a side of the player: of two Full links that share it, a Full link between their
-    /// other ends.
+    /// The And rule over a stone or a side of the player: a Full link of the other ends of two Full links that share it.
     AndStone { left: u32, right: u32 },
 
-    /// The And rule over an empty cell: of two Full links that share it, a Semi link between their other ends, since the
-    /// player first has to move to the cell.
+    /// The And rule over an empty cell, to which the player has to move: a Semi link of the other ends.
     AndCell { left: u32, right: u32 },
 
-    /// The Or rule: of several Semi links of the same ends, which no one cell can break together, a Full link of these ends.
+    /// The Or rule: a Full link of the ends of several Semi links, which no one cell can break together.
     Or { parts: Parts },
 }

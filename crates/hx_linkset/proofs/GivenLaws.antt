@@ -11,7 +11,8 @@ use Rattle.hx_board.proofs.SetLaws.{has-empty, has-insert_cases, has-union_cases
 use Rattle.hx_link.specs.declared.links.Link.{Link}
 use Rattle.hx_link.specs.declared.steps.Step.{Step}
 use Rattle.hx_link.specs.declared.steps.Step.TheVariants.{Base, AndStone, AndCell, Or}
-use Rattle.hx_link.specs.Steps.{IsOneOf, carriers_of, StepGives, GivesByRule}
+use Rattle.hx_link.specs.Steps.{carriers_of, StepGives, GivesByRule}
+use Rattle.hx_link.specs.Named.{IsOneOf}
 use Rattle.hx_link.proofs.LinkLaws.{place_of}
 use Rattle.hx_linkset.specs.States.{IsLive, IsLiveAt, Names, GivesFromLive}
 use Rattle.hx_linkset.proofs.LiveLaws.{parts_live}
@@ -40,16 +41,16 @@ module _ (board : Board) (player : Colour) (held : List Link) where
       → (n : ℕ) → has link.carrier n ≡ true → IsEmpty board n
   rule_empty (Base a b) link g live n h = absurd (false≢true (sym (has-empty n) ∙ (ap (λ c. has c n) (sym g.carrier) ∙ h)))
   rule_empty (AndStone left right) link g live n h = ⊎_elim
-      (named_empty left g.first (live left (inl refl)) g.meet.first_there n)
-      (named_empty right g.second (live right (inr refl)) g.meet.second_there n)
-      (has-union_cases g.first.carrier g.second.carrier n (ap (λ c. has c n) (sym g.carrier) ∙ h))
+      (named_empty left g.over.first (live left (inl refl)) g.over.first_there n)
+      (named_empty right g.over.second (live right (inr refl)) g.over.second_there n)
+      (has-union_cases g.over.first.carrier g.over.second.carrier n (ap (λ c. has c n) (sym g.carrier) ∙ h))
   rule_empty (AndCell left right) link g live n h = ⊎_elim
       (λ e. let P : ℕ → Type 0 = λ m. IsEmpty board m in subst P (sym e) g.empty)
       (λ k. ⊎_elim
-      (named_empty left g.first (live left (inl refl)) g.meet.first_there n)
-      (named_empty right g.second (live right (inr refl)) g.meet.second_there n)
-      (has-union_cases g.first.carrier g.second.carrier n k))
-      (has-insert_cases (union g.first.carrier g.second.carrier) g.cell n (ap (λ c. has c n) (sym g.carrier) ∙ h))
+      (named_empty left g.over.first (live left (inl refl)) g.over.first_there n)
+      (named_empty right g.over.second (live right (inr refl)) g.over.second_there n)
+      (has-union_cases g.over.first.carrier g.over.second.carrier n k))
+      (has-insert_cases (union g.over.first.carrier g.over.second.carrier) g.cell n (ap (λ c. has c n) (sym g.carrier) ∙ h))
   rule_empty (Or parts) link g live n h =
       let w = carriers_cases g.links n (ap (λ c. has c n) (sym g.carrier) ∙ h) in
       let p = place_of held parts g.links g.there w.1.0.0 w.0 w.1.0.1 in

@@ -14,7 +14,7 @@ use Rattle.hx_board.proofs.KeptStones.{keeps_put, own_stays, joined_stays}
 use Rattle.hx_link.specs.declared.links.Link.{Link}
 use Rattle.hx_link.specs.declared.steps.Step.{Step}
 use Rattle.hx_link.specs.declared.steps.Step.TheVariants.{Base, AndStone, AndCell, Or}
-use Rattle.hx_link.specs.Steps.{IsEnd, IsOutside, GivesByRule, StepGives}
+use Rattle.hx_link.specs.Steps.{IsEnd, GivesByRule, StepGives}
 use Rattle.hx_linkset.specs.States.{IsLive, IsUntouched}
 
 module _ (board : Board) (player colour : Colour) (cell : ℕ) where
@@ -43,11 +43,6 @@ module _ (board : Board) (player colour : Colour) (cell : ℕ) where
       let P : Vertex → Type 0 = λ w. IsEnd after player w in
       let here : IsEnd after player (Of cell) = subst P same h in
       false≢true (sym here.1 ∙ (stones-put board colour (other_of player) cell cell).1 (inl (e, refl)))
-
-  outside_kept : (carrier : ℕ) (vertex : Vertex) → IsOutside board carrier vertex → IsOutside after carrier vertex
-  outside_kept carrier (Of n) h = λ e. h ((empty-put board colour cell n).0 e).0
-  outside_kept carrier First h = tt
-  outside_kept carrier Last h = tt
 
   module _ (link : Link) where
     not_here : has link.carrier cell ≡ false → (n : ℕ) → has link.carrier n ≡ true → n ≢ cell
@@ -82,31 +77,21 @@ module _ (board : Board) (player colour : Colour) (cell : ℕ) where
         ends = g.ends;
       }
       rule-played (AndStone left right) g = record {
-        from = g.from;
         middle = g.middle;
-        to = g.to;
-        first = g.first;
-        second = g.second;
-        meet = g.meet;
+        over = g.over;
         own = own_stays player board after (keeps_put player board colour cell) g.middle g.own;
         kind = g.kind;
         carrier = g.carrier;
-        ends = g.ends;
       }
       rule-played (AndCell left right) g = record {
-        from = g.from;
         cell = g.cell;
-        to = g.to;
-        first = g.first;
-        second = g.second;
-        meet = g.meet;
+        over = g.over;
         empty = (empty-put board colour cell g.cell).1
-            (g.empty, not_here u.outside g.cell (rw g.carrier (has-insert_same (union g.first.carrier g.second.carrier) g.cell)));
+            (g.empty, not_here u.outside g.cell (rw g.carrier (has-insert_same (union g.over.first.carrier g.over.second.carrier) g.cell)));
         outside_first = g.outside_first;
         outside_second = g.outside_second;
         kind = g.kind;
         carrier = g.carrier;
-        ends = g.ends;
       }
       rule-played (Or parts) g = g
 
@@ -117,7 +102,6 @@ module _ (board : Board) (player colour : Colour) (cell : ℕ) where
           lower_first = g.link_ok.lower_first;
           a_end = end_kept link.a (λ e. (u.no_end e).0) g.link_ok.a_end;
           b_end = end_kept link.b (λ e. (u.no_end e).1) g.link_ok.b_end;
-          a_outside = outside_kept link.carrier link.a g.link_ok.a_outside;
-          b_outside = outside_kept link.carrier link.b g.link_ok.b_outside;
+          outside = λ n empty at. g.link_ok.outside n ((empty-put board colour cell n).0 empty).0 at;
         };
       }

@@ -16,8 +16,8 @@ use Rattle.hx_board.proofs.SetLaws.{has-insert_other, has-union_left, has-union_
 use Rattle.hx_link.specs.declared.links.Link.{Link}
 use Rattle.hx_link.specs.declared.steps.Step.{Step}
 use Rattle.hx_link.specs.declared.steps.Step.TheVariants.{Base, AndStone, AndCell, Or}
-use Rattle.hx_link.specs.Steps.{IsEnd, HasEnds, MeetAt, GivesByRule, StepGives}
-use Rattle.hx_link.proofs.LinkLaws.{in_carriers}
+use Rattle.hx_link.specs.Steps.{IsEnd, HasEnds, GoesOver, GivesByRule, StepGives}
+use Rattle.hx_link.proofs.LinkLaws.{one_of-contains, in_carriers}
 use Rattle.hx_link.proofs.PartLaws.{part_at}
 use Rattle.hx_linkset.specs.States.{IsLive, Names, IsLiveAt}
 
@@ -53,40 +53,49 @@ module _ (board : Board) (player : Colour) where
 
   module _ (before : List Link) (p : IsPosition board.size board.black board.white) where
     -- the two parts of an And
-    meet_parts : (left right : ℕ) (from middle to : Vertex) (first second : Link) → MeetAt before left right from middle to first second
-        → IsEnd board player from → IsEnd board player to → IsEnd board player middle
-        → ((n : ℕ) → has (union first.carrier second.carrier) n ≡ true → IsEmpty board n)
-        → IsLive board player first × IsLive board player second
-    meet_parts left right from middle to first second meet from_end to_end middle_end empty = (
-      (let ends : IsEnd board player first.a × IsEnd board player first.b =
-          ends_are first from middle meet.first_ends from_end middle_end in
-          record { empty = λ n h. empty n (has-union_left first.carrier second.carrier n h); a_end = ends.0; b_end = ends.1 }),
-      (let ends : IsEnd board player second.a × IsEnd board player second.b =
-          ends_are second middle to meet.second_ends middle_end to_end in
-          record { empty = λ n h. empty n (has-union_right first.carrier second.carrier n h); a_end = ends.0; b_end = ends.1 }),
-    )
+    over_parts : (left right : ℕ) (middle : Vertex) (link : Link) (over : GoesOver before left right middle link)
+        → IsLive board player link → IsEnd board player middle
+        → ((n : ℕ) → has (union over.first.carrier over.second.carrier) n ≡ true → IsEmpty board n)
+        → IsLive board player over.first × IsLive board player over.second
+    over_parts left right middle link over live middle_end empty =
+        let outer : IsEnd board player over.from × IsEnd board player over.to =
+        ends_of link over.from over.to over.ends live.a_end live.b_end in (
+          (let ends : IsEnd board player over.first.a × IsEnd board player over.first.b =
+              ends_are over.first over.from middle over.first_ends outer.0 middle_end in
+              record {
+                empty = λ n h. empty n (has-union_left over.first.carrier over.second.carrier n h);
+                a_end = ends.0;
+                b_end = ends.1;
+              }),
+          (let ends : IsEnd board player over.second.a × IsEnd board player over.second.b =
+              ends_are over.second middle over.to over.second_ends middle_end outer.1 in
+              record {
+                empty = λ n h. empty n (has-union_right over.first.carrier over.second.carrier n h);
+                a_end = ends.0;
+                b_end = ends.1;
+              }),
+        )
 
     parts_by_rule : (step : Step) (link : Link) → GivesByRule board player before step link → IsLive board player link → (place : ℕ)
         → Names step place → IsLiveAt board player before place
     parts_by_rule (Base a b) link g live place named = absurd named
     parts_by_rule (AndStone left right) link g live place named =
-        let ends : IsEnd board player g.from × IsEnd board player g.to = ends_of link g.from g.to g.ends live.a_end live.b_end in
-        let both : IsLive board player g.first × IsLive board player g.second =
-        meet_parts left right g.from g.middle g.to g.first g.second g.meet ends.0 ends.1 (own_is_end p g.middle g.own)
-        (λ n h. live.empty n (rw g.carrier h)) in
-        ⊎_elim (λ e. (g.first, (ap (λ n. slice_get before n) e ∙ g.meet.first_there, both.0)))
-        (λ e. (g.second, (ap (λ n. slice_get before n) e ∙ g.meet.second_there, both.1))) named
+        let o : GoesOver before left right g.middle link = g.over in
+        let both : IsLive board player o.first × IsLive board player o.second =
+        over_parts left right g.middle link o live (own_is_end p g.middle g.own) (λ n h. live.empty n (rw g.carrier h)) in
+        ⊎_elim (λ e. (o.first, (ap (λ n. slice_get before n) e ∙ o.first_there, both.0)))
+        (λ e. (o.second, (ap (λ n. slice_get before n) e ∙ o.second_there, both.1))) named
     parts_by_rule (AndCell left right) link g live place named =
-        let ends : IsEnd board player g.from × IsEnd board player g.to = ends_of link g.from g.to g.ends live.a_end live.b_end in
-        let both : IsLive board player g.first × IsLive board player g.second =
-        meet_parts left right g.from (Of g.cell) g.to g.first g.second g.meet ends.0 ends.1 (empty_is_end g.cell g.empty)
-        (λ n h. live.empty n (rw g.carrier (has-insert_other (union g.first.carrier g.second.carrier) g.cell n h))) in
-        ⊎_elim (λ e. (g.first, (ap (λ n. slice_get before n) e ∙ g.meet.first_there, both.0)))
-        (λ e. (g.second, (ap (λ n. slice_get before n) e ∙ g.meet.second_there, both.1))) named
+        let o : GoesOver before left right (Of g.cell) link = g.over in
+        let both : IsLive board player o.first × IsLive board player o.second =
+        over_parts left right (Of g.cell) link o live (empty_is_end g.cell g.empty)
+        (λ n h. live.empty n (rw g.carrier (has-insert_other (union o.first.carrier o.second.carrier) g.cell n h))) in
+        ⊎_elim (λ e. (o.first, (ap (λ n. slice_get before n) e ∙ o.first_there, both.0)))
+        (λ e. (o.second, (ap (λ n. slice_get before n) e ∙ o.second_there, both.1))) named
     parts_by_rule (Or parts) link g live place named =
         let w = part_at before parts g.links g.there named.0 place named.1 in
         let ends : IsEnd board player w.0.a × IsEnd board player w.0.b =
-        ends_are w.0 link.a link.b (g.same_ends w.0 w.1.0) live.a_end live.b_end in (
+        ends_are w.0 link.a link.b (g.same_ends w.0 (one_of-contains g.links w.0 w.1.0)) live.a_end live.b_end in (
           w.0,
           (
             w.1.1,

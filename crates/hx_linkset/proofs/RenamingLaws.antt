@@ -10,7 +10,8 @@ use Rattle.hx_board.specs.Positions.{Board}
 use Rattle.hx_link.specs.declared.links.Link.{Link}
 use Rattle.hx_link.specs.declared.steps.Step.{Step}
 use Rattle.hx_link.specs.declared.steps.Step.TheVariants.{Base, AndStone, AndCell, Or}
-use Rattle.hx_link.specs.Steps.{MeetAt, GivesByRule, StepGives, links_at}
+use Rattle.hx_link.specs.Steps.{GoesOver, GivesByRule, StepGives}
+use Rattle.hx_link.specs.Named.{links_at}
 use Rattle.hx_link.proofs.LinkLaws.{same_front}
 use Rattle.hx_linkset.specs.States.{Names}
 use Rattle.hx_linkset.specs.Derivations.{renamed}
@@ -32,49 +33,44 @@ module _ (name : ℕ → ℕ) (before after : List Link) where
   links_at-renamed [] same = refl
   links_at-renamed (p ∷ ps) same = same_front (same 0 p refl) (links_at-renamed ps (λ k place h. same (suc k) place h))
 
-  meet-renamed : (left right : ℕ) (from middle to : Vertex) (first second : Link) → slice_get after (name left) ≡ slice_get before left
+  over-renamed : (left right : ℕ) (middle : Vertex) (link : Link) → slice_get after (name left) ≡ slice_get before left
       → slice_get after (name right) ≡ slice_get before right
-      → MeetAt before left right from middle to first second → MeetAt after (name left) (name right) from middle to first second
-  meet-renamed left right from middle to first second l r m = record {
+      → GoesOver before left right middle link → GoesOver after (name left) (name right) middle link
+  over-renamed left right middle link l r m = record {
+    first = m.first;
+    second = m.second;
+    from = m.from;
+    to = m.to;
     first_there = l ∙ m.first_there;
     second_there = r ∙ m.second_there;
     first_full = m.first_full;
     second_full = m.second_full;
     first_ends = m.first_ends;
     second_ends = m.second_ends;
-    other_ends_differ = m.other_ends_differ;
     apart = m.apart;
+    ends = m.ends;
   }
 
   rule-renamed : (board : Board) (player : Colour) (step : Step) (link : Link)
       → ((place : ℕ) → Names step place → slice_get after (name place) ≡ slice_get before place)
       → GivesByRule board player before step link → GivesByRule board player after (renamed name step) link
+  unfolding over-renamed
   rule-renamed board player (Base a b) link same g = g
   rule-renamed board player (AndStone left right) link same g = record {
-    from = g.from;
     middle = g.middle;
-    to = g.to;
-    first = g.first;
-    second = g.second;
-    meet = meet-renamed left right g.from g.middle g.to g.first g.second (same left (inl refl)) (same right (inr refl)) g.meet;
+    over = over-renamed left right g.middle link (same left (inl refl)) (same right (inr refl)) g.over;
     own = g.own;
     kind = g.kind;
     carrier = g.carrier;
-    ends = g.ends;
   }
   rule-renamed board player (AndCell left right) link same g = record {
-    from = g.from;
     cell = g.cell;
-    to = g.to;
-    first = g.first;
-    second = g.second;
-    meet = meet-renamed left right g.from (Of g.cell) g.to g.first g.second (same left (inl refl)) (same right (inr refl)) g.meet;
+    over = over-renamed left right (Of g.cell) link (same left (inl refl)) (same right (inr refl)) g.over;
     empty = g.empty;
     outside_first = g.outside_first;
     outside_second = g.outside_second;
     kind = g.kind;
     carrier = g.carrier;
-    ends = g.ends;
   }
   rule-renamed board player (Or parts) link same g = record {
     links = g.links;

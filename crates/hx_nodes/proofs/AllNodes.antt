@@ -113,11 +113,9 @@ module _ (set : Standing) (right : IsRight set.player set.present) (threats : Li
       some_empty = empty;
       links = derived.links;
       steps_right = record { few = omega (arith, derived.few); right = derived.right };
-      answered = record {
-        threats_right = threats_right;
-        cells = same_kind (λ cell. has cells cell ≡ true) (IsToAnswer board derived.links places) (cells_of lines) to_answer are.in_order;
-        lines_right = λ k. line_right (slice_get lines k) (are.each k);
-      };
+      threats_right = threats_right;
+      cells = same_kind (λ cell. has cells cell ≡ true) (IsToAnswer board derived.links places) (cells_of lines) to_answer are.in_order;
+      lines_right = λ k. line_right (slice_get lines k) (are.each k);
     };
   }
     where
@@ -126,11 +124,10 @@ module _ (set : Standing) (right : IsRight set.player set.present) (threats : Li
       line_right None is = tt
       line_right (Some (Child cell child)) is = is
       line_right (Some (Under cell better kill)) is =
-          let free = must.under_lines.betters better (record { worse = cell; kill = kill; line = is }) in
-          record {
-            dominated = All-contains (IsUnderLine board (other_of set.player)) under (Under cell better kill) must.under_lines.right is;
-            answered = inl (are.by_child better free.0 free.1);
-          }
+          let free = must.under_lines.betters better (record { worse = cell; kill = kill; line = is }) in (
+            All-contains (IsUnderLine board (other_of set.player)) under (Under cell better kill) must.under_lines.right is,
+            inl (are.by_child better free.0 free.1),
+          )
 
 -- where no line names a better cell each line leads to a child
 gathered-child : (headings : List Heading) (heading : Heading) (found : Option Line) → IfSome found (IsGathered headings heading [])

@@ -1,6 +1,5 @@
 -- A node by fill steps is right, where the position that they leave was found to be won.
 use Rattle.std.proofs.Common.{◌≡◌, ◌≢◌, List, [], sym, subst}
-use Rattle.std.specs.Prelude.{slice_get, IsSomeAnd}
 use Rattle.hx_board.specs.declared.colours.Colour.{Colour}
 use Rattle.hx_board.specs.Positions.{Board, IsBoard}
 use Rattle.hx_inferior.specs.declared.fills.FillStep.{FillStep}
@@ -9,7 +8,7 @@ use Rattle.hx_tree.specs.declared.nodes.Node.{Node}
 use Rattle.hx_tree.specs.declared.nodes.Rule.TheVariants.{Fill}
 use Rattle.hx_tree.specs.Entries.{IsFirstFound}
 use Rattle.hx_tree.specs.Fills.{MayFillAll, filled_all}
-use Rattle.hx_tree.specs.Headings.{IsHeading}
+use Rattle.hx_tree.specs.Headings.{Leads}
 use Rattle.hx_tree.specs.Rules.{IsRightNode}
 use Rattle.hx_tree.specs.Trees.{headings_of}
 use Rattle.hx_nodes.proofs.FoundEntries.{found-heading}
@@ -24,7 +23,7 @@ fill_right nodes board final mover found steps valid is some right = record {
   rule = record {
     some = some;
     right = right.0;
-    leads = subst (λ (b : Board). IsSomeAnd (slice_get (headings_of nodes) found.index) (IsHeading b mover found.winner)) (sym right.1)
+    leads = subst (λ (b : Board). Leads (headings_of nodes) found.index b mover found.winner) (sym right.1)
         (found-heading nodes final mover found is);
   };
 }

@@ -6,8 +6,7 @@ use Rattle.std.proofs.lemmas.Bool.{false≢true, cases_lt}
 use Rattle.std.proofs.lemmas.List.{map-append}
 use Rattle.std.proofs.lemmas.List.Elements.{All-weaker, Contains-append_left, Contains-append_right}
 use Rattle.hx_board.specs.declared.colours.Colour.{Colour}
-use Rattle.hx_board.specs.Colours.{other_of}
-use Rattle.hx_board.specs.Positions.{Board, put}
+use Rattle.hx_board.specs.Positions.{Board}
 use Rattle.hx_board.specs.Sets.{has, remove}
 use Rattle.hx_board.specs.Cells.{Extent, OnBoard, IsLeastOn}
 use Rattle.hx_board.proofs.SetLaws.{has-remove_before, removed, removed_cases, removed_still}
@@ -15,11 +14,10 @@ use Rattle.hx_tree.specs.declared.nodes.Heading.{Heading}
 use Rattle.hx_tree.specs.declared.nodes.Node.{Node}
 use Rattle.hx_tree.specs.declared.nodes.Line.{Line}
 use Rattle.hx_tree.specs.declared.nodes.Line.TheVariants.{Child, Under}
-use Rattle.hx_tree.specs.Headings.{IsHeading}
 use Rattle.hx_tree.specs.Answers.{HasChild, cell_of, cells_of}
 use Rattle.hx_tree.specs.Entries.{Extends}
 use Rattle.hx_tree.proofs.LinesInOrder.{in_order_more}
-use Rattle.hx_tree.proofs.RightNodeGrowth.{some_and-append}
+use Rattle.hx_board.proofs.ListLaws.{get-append}
 use Rattle.hx_tree.proofs.EntryLaws.{seen-within, extends-itself}
 use Rattle.hx_nodes.specs.Lines.{IsGathered, IsLineOf, IsDone, AreGathered, AreLines}
 use Rattle.hx_nodes.specs.Missing.{IsLacking, HasLacking}
@@ -61,8 +59,7 @@ module _ (headings : List Heading) (heading : Heading) (cells : ℕ) (under : Li
   gathered-append : (more : List Heading) (line : Line) → IsGathered headings heading under line
       → IsGathered (headings ++ more) heading under line
   gathered-append more (Child cell child) right =
-      some_and-append (IsHeading
-      (put heading.position (other_of heading.winner) cell) heading.winner heading.winner) headings more child right
+      get-append headings more child _ right
   gathered-append more (Under cell better kill) right = right
 
   gathered_all-append : (more : List Heading) (lines : List Line) (line : Line)

@@ -57,12 +57,10 @@ module _ (set : Standing) (right : IsRight set.player set.present) where
         rule = record {
           links = derived.links;
           steps_right = record { few = omega (arith, derived.few); right = derived.right };
-          shown = record {
-            last = is.link;
-            is_last = rw here gives;
-            joins = live-chain kind place is;
-            in_time = in_time;
-          };
+          last = is.link;
+          is_last = rw here gives;
+          joins = live-chain kind place is;
+          in_time = in_time;
         };
       }
 

@@ -18,6 +18,7 @@ use Rattle.hx_tree.specs.declared.nodes.Rule.{Rule}
 use Rattle.hx_tree.specs.declared.steps.TheConstants.{MOST_STEPS}
 use Rattle.hx_tree.specs.Answers.{cells_of, HasChild, IsRightLine, IsRightAll}
 use Rattle.hx_tree.specs.Headings.{IsHeading}
+use Rattle.hx_tree.proofs.HeadingLaws.{leads-heading}
 use Rattle.hx_tree.specs.Rules.{steps_of}
 use Rattle.hx_tree.specs.Steps.{IsThreat, IsInEachThreat, IsOutsideThreat}
 use Rattle.hx_tree.specs.Trees.{headings_of}
@@ -53,9 +54,10 @@ module _ (nodes : List Node) (node : Node) (stand : Stand) (threats : List ℕ) 
       (other_of stand.winner) cell → StandsAt nodes after
   child_stands after cell child contained winner_is mover_is node_is stage_is links_is marks_is moved =
       let leads = of_contained (IsRightLine (headings_of (take stand.node nodes)) node.heading right.links threats lines) lines
-      (Child cell child) right.answered.lines_right contained in
-      let w = earlier_node (IsHeading (put node.heading.position (other_of node.heading.winner) cell) node.heading.winner
-      node.heading.winner) nodes stand.node child leads in
+      (Child cell child) right.lines_right contained in
+      let next : Board = put node.heading.position (other_of node.heading.winner) cell in
+      let w = earlier_node (IsHeading next node.heading.winner node.heading.winner) nodes stand.node child
+      (leads-heading next node.heading.winner node.heading.winner (headings_of (take stand.node nodes)) child leads) in
       let N : ℕ → Type 0 = λ n. slice_get nodes n ≡ Some w.0 in
       let place : IsAtNode w.0 after = record {
         same_position = w.1.1.same_position ∙ (ap (λ (b : Board). put b (other_of node.heading.winner) cell) a.is_at.same_position
@@ -85,12 +87,12 @@ module _ (nodes : List Node) (node : Node) (stand : Stand) (threats : List ℕ) 
     pub some_whole : (cell : ℕ) → IsEmpty stand.position cell → (HasChild lines cell → ⊥)
         → ((p : ℕ) → IsThreatWithout links threats cell p → ⊥) → ⊥
     some_whole cell empty no_child no_whole =
-        ⊎_elim shared outside (shared_or_outside right.links threats cell right.answered.threats_right.each)
+        ⊎_elim shared outside (shared_or_outside right.links threats cell right.threats_right.each)
       where
         shared : IsInEachThreat right.links threats cell → ⊥
         shared in_each =
             let E : Board → Type 0 = λ b. IsEmpty b cell in
-            let found = right.answered.cells.each cell (record { empty = subst E (sym a.is_at.same_position) empty; shared = in_each }) in
+            let found = right.cells.each cell (record { empty = subst E (sym a.is_at.same_position) empty; shared = in_each }) in
             no_child (child_among lines found.0 cell
             (all_plain nodes stand node a.is_in a.steps threats lines a.by_answers) found.1 found.2)
 
@@ -106,7 +108,7 @@ module _ (nodes : List Node) (node : Node) (stand : Stand) (threats : List ℕ) 
         let L : List Link → Type 0 = λ ls. IsSomeAnd (slice_get ls place) IsChainLink in
         let J : Option Link → Type 0 = λ o. IsSomeAnd o IsChainLink in
         let threat : IsSomeAnd (slice_get right.links place) IsChainLink =
-        of_contained (IsThreat right.links) threats place right.answered.threats_right.each whole.is_threat in
+        of_contained (IsThreat right.links) threats place right.threats_right.each whole.is_threat in
         let F : Rule → Type 0 = λ r. length (steps_of r) ≤ MOST_STEPS in
         let B : Board → Type 0 = λ b. HasStonesOf node.heading.winner b (put b (other_of stand.winner) cell) in
         let H : Board → Board → Type 0 = λ b c. HasStonesOf node.heading.winner b c in

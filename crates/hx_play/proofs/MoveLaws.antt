@@ -18,8 +18,9 @@ use Rattle.hx_link.specs.declared.links.Kind.TheVariants.{Full, Semi}
 use Rattle.hx_link.specs.declared.links.Link.{Link}
 use Rattle.hx_link.specs.declared.steps.Step.{Step}
 use Rattle.hx_link.specs.declared.steps.Step.TheVariants.{Base, AndStone, AndCell, Or}
-use Rattle.hx_link.specs.Steps.{HasEnds, GivesBase, GivesAndStone, GivesAndCell, GivesOr, GivesByRule, IsOneOf, AreRightSteps}
-use Rattle.hx_link.proofs.LinkLaws.{place_of, in_carriers}
+use Rattle.hx_link.specs.Steps.{HasEnds, GivesBase, GivesAndStone, GivesAndCell, GivesOr, GivesByRule, AreRightSteps}
+use Rattle.hx_link.specs.Named.{IsOneOf}
+use Rattle.hx_link.proofs.LinkLaws.{one_of-contains, contains-one_of, place_of, in_carriers}
 use Rattle.hx_link.proofs.PartLaws.{part_at}
 use Rattle.hx_play.specs.Kept.{HasStonesOf, IsMarked, IsKept, AreKept, IsChosen, IsSpared, IsDueAt, IsOver, HasMoved, touches}
 use Rattle.hx_play.proofs.KeptLaws.{stones-keep, stones-then, joined-between, joined-ends, IsWithout, IsWith, take_out, take_in, narrow}
@@ -125,15 +126,15 @@ module _ (base : Board) (player : Colour) (links : List Link) where
       let rule : GivesAndStone base player g.earlier left right g.link = g.gives.rule in
       let there : (name : ℕ) (link : Link) → slice_get g.earlier name ≡ Some link → slice_get links name ≡ Some link =
       named-there base player links place (AndStone left right) g in
-      meet_in fewer more g.link stone board left right rule.from rule.middle rule.to rule.first rule.second
+      meet_in fewer more g.link stone board left right rule.over.from rule.middle rule.over.to rule.over.first rule.over.second
       (take_out base player links marks fewer stone board place g.link kept (record { there = here; marked = marked }) without)
       adds
-      (there left rule.first rule.meet.first_there)
-      (there right rule.second rule.meet.second_there) rule.meet.first_full rule.meet.second_full
-      rule.meet.first_ends rule.meet.second_ends rule.meet.apart
-      (λ n h. ap (λ (c : ℕ). has c n) rule.carrier ∙ has-union_left rule.first.carrier rule.second.carrier n h)
-      (λ n h. ap (λ (c : ℕ). has c n) rule.carrier ∙ has-union_right rule.first.carrier rule.second.carrier n h)
-      rule.ends
+      (there left rule.over.first rule.over.first_there)
+      (there right rule.over.second rule.over.second_there) rule.over.first_full rule.over.second_full
+      rule.over.first_ends rule.over.second_ends rule.over.apart
+      (λ n h. ap (λ (c : ℕ). has c n) rule.carrier ∙ has-union_left rule.over.first.carrier rule.over.second.carrier n h)
+      (λ n h. ap (λ (c : ℕ). has c n) rule.carrier ∙ has-union_right rule.over.first.carrier rule.over.second.carrier n h)
+      rule.over.ends
       (λ later stones. own_stays player base later
       (stones-keep player base later (stones-then player base board later kept.stones stones)) rule.middle rule.own)
 
@@ -168,8 +169,10 @@ module _ (base : Board) (player : Colour) (links : List Link) where
         )
 
     some_spared : (s : Option ℕ) → s ≡ stone → (p : ℕ) × IsSpared links parts stone p
-    some_spared None e = let w = or_rule.none_in_all 0 in spared_from w.0 w.1.0 (rw (← e) refl)
-    some_spared (Some cell) e = let w = or_rule.none_in_all cell in spared_from w.0 w.1.0 (rw (← e) w.1.1)
+    some_spared None e = let w = or_rule.none_in_all 0 in
+        spared_from w.0 (contains-one_of or_rule.links w.0 w.1.0) (rw (← e) refl)
+    some_spared (Some cell) e = let w = or_rule.none_in_all cell in
+        spared_from w.0 (contains-one_of or_rule.links w.0 w.1.0) (rw (← e) w.1.1)
 
     pub none_spared : ((p : ℕ) → IsSpared links parts stone p → ⊥) → ⊥
     none_spared none = let w = some_spared stone refl in none w.0 w.1
@@ -204,10 +207,10 @@ module _ (base : Board) (player : Colour) (links : List Link) where
           record {
             link = w.0;
             there = there;
-            semi = or_rule.semi w.0 w.1.0;
+            semi = or_rule.semi w.0 (one_of-contains or_rule.links w.0 w.1.0);
             kept = narrow base player links fewer or_given.link w.0 stone board
                 (take_out base player links marks fewer stone board place or_given.link kept is_kept without)
-                (or_rule.same_ends w.0 w.1.0)
+                (or_rule.same_ends w.0 (one_of-contains or_rule.links w.0 w.1.0))
                 (λ n h. ap (λ (c : ℕ). has c n) or_rule.carrier ∙ in_carriers or_rule.links w.1.0.0 w.0 w.1.0.1 n h)
                 (let P : Link → Type 0 = λ l. touches stone l.carrier ≡ false in subst P one spared.untouched)
                 (off_others stone refl chosen.answers);
@@ -221,28 +224,29 @@ module _ (base : Board) (player : Colour) (links : List Link) where
     abbrev pub cell_given : IsGiven base player links place (AndCell left right)
     cell_given = given_at base player steps links place (AndCell left right) rights at
 
-    abbrev pub cell_rule : GivesAndCell base player cell_given.earlier left right cell_given.link
+    abbrev pub cell_rule : GivesAndCell base cell_given.earlier left right cell_given.link
     cell_rule = cell_given.gives.rule
 
     cell_here : slice_get links place ≡ Some cell_given.link
     cell_here = given-there base player links place (AndCell left right) cell_given
 
-    pub first_there : slice_get links left ≡ Some cell_rule.first
-    first_there = named-there base player links place (AndCell left right) cell_given left cell_rule.first cell_rule.meet.first_there
+    pub first_there : slice_get links left ≡ Some cell_rule.over.first
+    first_there = named-there base player links place (AndCell left right) cell_given left cell_rule.over.first cell_rule.over.first_there
 
-    pub second_there : slice_get links right ≡ Some cell_rule.second
-    second_there = named-there base player links place (AndCell left right) cell_given right cell_rule.second cell_rule.meet.second_there
+    pub second_there : slice_get links right ≡ Some cell_rule.over.second
+    second_there =
+        named-there base player links place (AndCell left right) cell_given right cell_rule.over.second cell_rule.over.second_there
 
     due_is : due.link ≡ cell_given.link
     due_is = same_some (sym due.there ∙ cell_here)
 
     inner : ℕ
-    inner = union cell_rule.first.carrier cell_rule.second.carrier
+    inner = union cell_rule.over.first.carrier cell_rule.over.second.carrier
 
-    carrier_is : due.link.carrier ≡ insert (union cell_rule.first.carrier cell_rule.second.carrier) cell_rule.cell
+    carrier_is : due.link.carrier ≡ insert (union cell_rule.over.first.carrier cell_rule.over.second.carrier) cell_rule.cell
     carrier_is = ap (λ (l : Link). l.carrier) due_is ∙ cell_rule.carrier
 
-    exact_over : IsOver base.size due.link.carrier cell_rule.first.carrier cell_rule.second.carrier cell_rule.cell
+    exact_over : IsOver base.size due.link.carrier cell_rule.over.first.carrier cell_rule.over.second.carrier cell_rule.cell
     exact_over = record {
       on_board = cell_rule.empty.on_board;
       whole_is = carrier_is;
@@ -250,13 +254,13 @@ module _ (base : Board) (player : Colour) (links : List Link) where
       not_second = cell_rule.outside_second;
     }
 
-    pub over : (whole first second : ℕ) → whole ≡ due.link.carrier → first ≡ cell_rule.first.carrier → second ≡ cell_rule.second.carrier
-        → IsOver base.size whole first second cell_rule.cell
+    pub over : (whole first second : ℕ) → whole ≡ due.link.carrier → first ≡ cell_rule.over.first.carrier
+        → second ≡ cell_rule.over.second.carrier → IsOver base.size whole first second cell_rule.cell
     over whole first second x y z = rw (x, y, z) exact_over
 
     in_whole : has due.link.carrier cell_rule.cell ≡ true
     in_whole = ap (λ (c : ℕ). has c cell_rule.cell) carrier_is ∙ has-insert_same
-        (union cell_rule.first.carrier cell_rule.second.carrier) cell_rule.cell
+        (union cell_rule.over.first.carrier cell_rule.over.second.carrier) cell_rule.cell
 
     pub cell_empty : IsEmpty board cell_rule.cell
     cell_empty = due.kept.due_left cell_rule.cell in_whole cell_rule.empty (λ e. cc e)
@@ -267,18 +271,18 @@ module _ (base : Board) (player : Colour) (links : List Link) where
 
       two_kept : Kept more None (Some cell_rule.cell) (put board player cell_rule.cell)
       two_kept =
-          meet_in marks more due.link (Some cell_rule.cell) (put board player cell_rule.cell) left right cell_rule.from
-          (Of cell_rule.cell) cell_rule.to cell_rule.first cell_rule.second
+          meet_in marks more due.link (Some cell_rule.cell) (put board player cell_rule.cell) left right cell_rule.over.from
+          (Of cell_rule.cell) cell_rule.over.to cell_rule.over.first cell_rule.over.second
           (stone_more base player links marks (Some due.link) board player cell_rule.cell due.kept)
-          adds first_there second_there cell_rule.meet.first_full cell_rule.meet.second_full cell_rule.meet.first_ends
-          cell_rule.meet.second_ends cell_rule.meet.apart
+          adds first_there second_there cell_rule.over.first_full cell_rule.over.second_full cell_rule.over.first_ends
+          cell_rule.over.second_ends cell_rule.over.apart
           (λ n h. ap (λ (c : ℕ). has c n) carrier_is ∙ has-insert_other
-          (union cell_rule.first.carrier cell_rule.second.carrier) cell_rule.cell n
-          (has-union_left cell_rule.first.carrier cell_rule.second.carrier n h))
+          (union cell_rule.over.first.carrier cell_rule.over.second.carrier) cell_rule.cell n
+          (has-union_left cell_rule.over.first.carrier cell_rule.over.second.carrier n h))
           (λ n h. ap (λ (c : ℕ). has c n) carrier_is ∙ has-insert_other
-          (union cell_rule.first.carrier cell_rule.second.carrier) cell_rule.cell n
-          (has-union_right cell_rule.first.carrier cell_rule.second.carrier n h))
-          (let P : Link → Type 0 = λ l. HasEnds l cell_rule.from cell_rule.to in subst P (sym due_is) cell_rule.ends)
+          (union cell_rule.over.first.carrier cell_rule.over.second.carrier) cell_rule.cell n
+          (has-union_right cell_rule.over.first.carrier cell_rule.over.second.carrier n h))
+          (let P : Link → Type 0 = λ l. HasEnds l cell_rule.over.from cell_rule.over.to in subst P (sym due_is) cell_rule.over.ends)
           (λ later stones. stones.own cell_rule.cell ((stones-put board player player cell_rule.cell cell_rule.cell).1 (inl (refl, refl))))
 
       off_each : (p : ℕ) (l : Link) → slice_get links p ≡ Some l → IsMarked marks p ⊎ ((p ≡ left) ⊎ (p ≡ right))
@@ -286,11 +290,11 @@ module _ (base : Board) (player : Colour) (links : List Link) where
       off_each p l there (inl marked) = due.kept.due_apart p l (record { there = there; marked = marked }) cell_rule.cell in_whole
       off_each p l there (inr (inl e)) =
           let Q : ℕ → Type 0 = λ n. slice_get links n ≡ Some l in
-          let here : cell_rule.first ≡ l = same_some (sym first_there ∙ subst Q e there) in
+          let here : cell_rule.over.first ≡ l = same_some (sym first_there ∙ subst Q e there) in
           (let P : Link → Type 0 = λ k. has k.carrier cell_rule.cell ≡ false in subst P here cell_rule.outside_first)
       off_each p l there (inr (inr e)) =
           let Q : ℕ → Type 0 = λ n. slice_get links n ≡ Some l in
-          let here : cell_rule.second ≡ l = same_some (sym second_there ∙ subst Q e there) in
+          let here : cell_rule.over.second ≡ l = same_some (sym second_there ∙ subst Q e there) in
           (let P : Link → Type 0 = λ k. has k.carrier cell_rule.cell ≡ false in subst P here cell_rule.outside_second)
 
       pub cell_out : HasMoved base player links more board (put board player cell_rule.cell) cell_rule.cell

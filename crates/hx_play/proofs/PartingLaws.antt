@@ -35,7 +35,7 @@ module _ (base : Board) (player : Colour) (steps : List Step) (links : List Link
       omega (
         arith,
         named-before base player links place
-            (AndStone left other) g left g.gives.rule.first g.gives.rule.meet.first_there,
+            (AndStone left other) g left g.gives.rule.over.first g.gives.rule.over.first_there,
         slice_get_within steps place
             (AndStone left other) at,
       )
@@ -48,7 +48,7 @@ module _ (base : Board) (player : Colour) (steps : List Step) (links : List Link
       omega (
         arith,
         named-before base player links place
-            (AndStone other right_place) g right_place g.gives.rule.second g.gives.rule.meet.second_there,
+            (AndStone other right_place) g right_place g.gives.rule.over.second g.gives.rule.over.second_there,
         slice_get_within steps place
             (AndStone other right_place) at,
       )
@@ -86,7 +86,7 @@ module _ (base : Board) (player : Colour) (steps : List Step) (links : List Link
     parted-cell left other at marked parted =
         let g : IsGiven base player links place (AndCell left other) =
         given_at base player steps links place (AndCell left other) right at in
-        let rule : GivesAndCell base player g.earlier left other g.link = g.gives.rule in
+        let rule : GivesAndCell base g.earlier left other g.link = g.gives.rule in
         absurd (cc (
           rule.kind,
           parted.kept.full place g.link
@@ -120,11 +120,11 @@ module _ (base : Board) (player : Colour) (steps : List Step) (links : List Link
         before : (p : ℕ) → place ≤ p → (p ≡ left) ⊎ (p ≡ other) → ⊥
         before p from (inl e) =
             let less_too : left < place = named-before base player links place
-            (AndStone left other) stone_given left stone_given.gives.rule.first stone_given.gives.rule.meet.first_there in
+            (AndStone left other) stone_given left stone_given.gives.rule.over.first stone_given.gives.rule.over.first_there in
             absurd (omega arith)
         before p from (inr e) =
             let less_too : other < place = named-before base player links place
-            (AndStone left other) stone_given other stone_given.gives.rule.second stone_given.gives.rule.meet.second_there in
+            (AndStone left other) stone_given other stone_given.gives.rule.over.second stone_given.gives.rule.over.second_there in
             absurd (omega arith)
 
         pub parted-stone : Parted marks stone board (place + 1)

@@ -8,6 +8,7 @@ use Rattle.hx_board.specs.Graph.{HasChain}
 use Rattle.hx_link.specs.Steps.{AreRightSteps}
 use Rattle.hx_tree.specs.declared.nodes.Node.{Node}
 use Rattle.hx_tree.specs.Headings.{IsHeading}
+use Rattle.hx_tree.proofs.HeadingLaws.{leads-heading}
 use Rattle.hx_tree.specs.Rules.{IsRightMove}
 use Rattle.hx_tree.specs.Trees.{headings_of}
 use Rattle.std.proofs.Common.{take}
@@ -68,8 +69,9 @@ pub moved_to_child : (nodes : List Node) (node : Node) (stand after : Stand) (ce
     → after.links ≡ stand.links → after.marks ≡ stand.marks → after.position ≡ put stand.position stand.winner cell
     → Moves nodes stand.winner stand.position after (Some cell)
 moved_to_child nodes node stand after cell child is_in at right winner_is mover_is node_is stage_is links_is marks_is moved =
-    let w = earlier_node (IsHeading (put node.heading.position node.heading.winner cell) (other_of node.heading.winner) node.heading.winner)
-    nodes stand.node child right.leads in
+    let next : Board = put node.heading.position node.heading.winner cell in
+    let w = earlier_node (IsHeading next (other_of node.heading.winner) node.heading.winner) nodes stand.node child
+    (leads-heading next (other_of node.heading.winner) node.heading.winner (headings_of (take stand.node nodes)) child right.leads) in
     let N : ℕ → Type 0 = λ n. slice_get nodes n ≡ Some w.0 in
     let place : IsAtNode w.0 after = record {
       same_position = w.1.1.same_position ∙ (ap (λ (b : Board). put b node.heading.winner cell) at.same_position
@@ -139,7 +141,7 @@ keeps_last node stand after steps is shown mover same right none long others lin
     (starts_at_links node stand steps is shown same right none).link
     (started node stand (length steps - 1) (starts_at_links node stand steps is shown same right none))
     (starts_at_links node stand steps is shown same right none).link_there
-    (full_in_time shown.shown.last.kind node.heading.to_move node.heading.winner mover shown.shown.in_time)
+    (full_in_time shown.last.kind node.heading.to_move node.heading.winner mover shown.in_time)
     (omega (arith, shown.steps_right.few)) in
     record {
       others = others;

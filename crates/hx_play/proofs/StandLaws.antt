@@ -158,16 +158,16 @@ starts_at_links node stand steps is shown same right none =
     (record { few = shown.steps_right.few; right = right }) in
     let long : length shown.links ≡ length steps =
     omega (arith, steps-length node.heading.position node.heading.winner [] steps shown.links shown.steps_right.right) in
-    let L : ℕ → Type 0 = λ n. slice_get shown.links (n - 1) ≡ Some shown.shown.last in
-    let Q : List Link → Type 0 = λ ls. slice_get ls (length steps - 1) ≡ Some shown.shown.last in
+    let L : ℕ → Type 0 = λ n. slice_get shown.links (n - 1) ≡ Some shown.last in
+    let Q : List Link → Type 0 = λ ls. slice_get ls (length steps - 1) ≡ Some shown.last in
     record {
       right = subst P (sym is) right;
       few = subst F (sym is) shown.steps_right.few;
       none = none;
-      link = shown.shown.last;
-      link_there = subst Q one (subst L long shown.shown.is_last);
-      joins = shown.shown.joins;
-      left = (let A : Board → Type 0 = λ b. AreLeft node.heading.position b None shown.shown.last.carrier in subst A (sym same)
+      link = shown.last;
+      link_there = subst Q one (subst L long shown.is_last);
+      joins = shown.joins;
+      left = (let A : Board → Type 0 = λ b. AreLeft node.heading.position b None shown.last.carrier in subst A (sym same)
           (λ n h empty off. empty));
       stones = (let S : Board → Type 0 = λ b. HasStonesOf node.heading.winner node.heading.position b in subst S (sym same)
           (stones-same node.heading.winner node.heading.position));

@@ -52,12 +52,12 @@ module _ (base : Board) (player : Colour) (links : List Link) (steps : List Step
   pub left-less : left < place
   left-less =
       let g = cell_given base player links steps marks more board place left right rights at due in
-      named-before base player links place (AndCell left right) g left g.gives.rule.first g.gives.rule.meet.first_there
+      named-before base player links place (AndCell left right) g left g.gives.rule.over.first g.gives.rule.over.first_there
 
   pub right-less : right < place
   right-less =
       let g = cell_given base player links steps marks more board place left right rights at due in
-      named-before base player links place (AndCell left right) g right g.gives.rule.second g.gives.rule.meet.second_there
+      named-before base player links place (AndCell left right) g right g.gives.rule.over.second g.gives.rule.over.second_there
 
   module _ (size : Extent) (whole first second : ℕ) (size_is : size ≡ board.size)
       (whole_is : (link : Link) → slice_get links place ≡ Some link → whole ≡ link.carrier)

@@ -69,11 +69,7 @@ open-before board who player m Last not = tt
 module _ (board : Board) (player : Colour) (cell : ℕ) (is : IsBoard board) (dead : IsDead board player cell) where
   open_neighbours_joined : (u v : Vertex) → IsOpenNeighbour board player cell u → IsOpenNeighbour board player cell v
       → Joined board player u v
-  open_neighbours_joined u v a b = joined (is_same_vertex u v)
-    where
-      joined : Dec (u ≡ v) → Joined board player u v
-      joined (yes same) = inl same
-      joined (no differ) = dead.joined u v differ a b
+  open_neighbours_joined u v a b = dead.joined u v a b
 
   open_neighbour : (x v : Vertex) → x ≡ Of cell → Touches board.size player x v → IsOpen board player v
       → IsOpenNeighbour board player cell v
@@ -138,9 +134,9 @@ pub dead_stays : (board : Board) (player who : Colour) (m cell : ℕ) → cell �
     → IsDead (put board who m) player cell
 dead_stays board player who m cell differ dead = record {
   empty = (empty-put board who m cell).1 (dead.empty, differ);
-  joined = λ u v apart a b.
+  joined = λ u v a b.
       joined_stays player u v board (put board who m) (keeps_put player board who m)
-      (dead.joined u v apart (open_before u a) (open_before v b));
+      (dead.joined u v (open_before u a) (open_before v b));
 }
   where
     open_before : (u : Vertex) → IsOpenNeighbour (put board who m) player cell u → IsOpenNeighbour board player cell u

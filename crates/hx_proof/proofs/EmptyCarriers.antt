@@ -12,7 +12,8 @@ use Rattle.hx_board.proofs.SetLaws.{has-empty, has-union_cases, has-insert_cases
 use Rattle.hx_link.specs.declared.links.Link.{Link}
 use Rattle.hx_link.specs.declared.steps.Step.{Step}
 use Rattle.hx_link.specs.declared.steps.Step.TheVariants.{Base, AndStone, AndCell, Or}
-use Rattle.hx_link.specs.Steps.{MeetAt, GivesByRule, IsOneOf, carriers_of, AreRightSteps}
+use Rattle.hx_link.specs.Steps.{GoesOver, GivesByRule, carriers_of, AreRightSteps}
+use Rattle.hx_link.specs.Named.{IsOneOf}
 use Rattle.hx_link.proofs.LinkLaws.{place_of}
 use Rattle.hx_proof.specs.Links.{AreEmpty}
 use Rattle.hx_proof.proofs.LinkSoundness.{one_of_appended}
@@ -42,19 +43,20 @@ module _ (board : Board) (player : Colour) where
       (carriers_are_empty links (λ part w. empty part (suc w.0, w.1)))
 
   module _ (before : List Link) (empty : HaveEmptyCarriers before) where
-    both_are_empty : (left right : ℕ) (from middle to : Vertex) (first second : Link) → MeetAt before left right from middle to first second
-        → AreEmpty board (union first.carrier second.carrier)
-    both_are_empty left right from middle to first second meet =
-        union_is_empty first.carrier second.carrier (empty first (left, meet.first_there)) (empty second (right, meet.second_there))
+    both_are_empty : (left right : ℕ) (middle : Vertex) (link : Link) (over : GoesOver before left right middle link)
+        → AreEmpty board (union over.first.carrier over.second.carrier)
+    both_are_empty left right middle link over =
+        union_is_empty over.first.carrier over.second.carrier
+        (empty over.first (left, over.first_there)) (empty over.second (right, over.second_there))
 
     step_has_empty_carrier : (step : Step) (link : Link) → GivesByRule board player before step link → AreEmpty board link.carrier
     step_has_empty_carrier (Base a b) link g = rw g.carrier none_are_empty
     step_has_empty_carrier (AndStone left right) link g =
-        rw g.carrier (both_are_empty left right g.from g.middle g.to g.first g.second g.meet)
+        rw g.carrier (both_are_empty left right g.middle link g.over)
     step_has_empty_carrier (AndCell left right) link g =
         rw g.carrier
-        (insert_is_empty (union g.first.carrier g.second.carrier) g.cell
-        (both_are_empty left right g.from (Of g.cell) g.to g.first g.second g.meet) g.empty)
+        (insert_is_empty (union g.over.first.carrier g.over.second.carrier) g.cell
+        (both_are_empty left right (Of g.cell) link g.over) g.empty)
     step_has_empty_carrier (Or places) link g =
         rw g.carrier
         (carriers_are_empty g.links

@@ -20,9 +20,10 @@ use Rattle.hx_link.specs.declared.links.Kind.TheVariants.{Full, Semi}
 use Rattle.hx_link.specs.declared.links.Link.{Link}
 use Rattle.hx_link.specs.declared.steps.Step.{Step}
 use Rattle.hx_link.specs.declared.steps.Step.TheVariants.{Base, AndStone, AndCell, Or}
-use Rattle.hx_link.specs.Steps.{HasEnds, GivesBase, GivesAndStone, GivesAndCell, GivesOr, GivesByRule, IsOneOf, carriers_of, AreRightSteps}
+use Rattle.hx_link.specs.Steps.{HasEnds, GivesBase, GivesAndStone, GivesAndCell, GivesOr, GivesByRule, GoesOver, carriers_of, AreRightSteps}
+use Rattle.hx_link.specs.Named.{IsOneOf}
 use Rattle.hx_link.specs.Steps.{IsChainLink}
-use Rattle.hx_link.proofs.LinkLaws.{place_of, in_carriers}
+use Rattle.hx_link.proofs.LinkLaws.{one_of-contains, contains-one_of, place_of, in_carriers}
 use Rattle.hx_tree.specs.declared.nodes.Heading.{Heading}
 use Rattle.hx_tree.specs.Steps.{AreRightLinks}
 use Rattle.hx_proof.specs.Local.{IsJoined, Secures, mover_for, LinkHolds}
@@ -67,18 +68,20 @@ module _ (board : Board) (player : Colour) where
 
     and_stone_holds : (left right : ℕ) (link : Link) → GivesAndStone board player before left right link → LinkHolds board player link
     and_stone_holds left right link g =
-        rw (g.kind, g.carrier) (named link (union g.first.carrier g.second.carrier) g.from g.to (other_of player) g.ends
-        (and_stone_secures player g.first.carrier g.second.carrier g.from g.to g.meet.apart g.middle board g.own
-        (full_secures left g.first g.from g.middle g.meet.first_there g.meet.first_full g.meet.first_ends)
-        (full_secures right g.second g.middle g.to g.meet.second_there g.meet.second_full g.meet.second_ends)))
+        let o : GoesOver before left right g.middle link = g.over in
+        rw (g.kind, g.carrier) (named link (union o.first.carrier o.second.carrier) o.from o.to (other_of player) o.ends
+        (and_stone_secures player o.first.carrier o.second.carrier o.from o.to o.apart g.middle board g.own
+        (full_secures left o.first o.from g.middle o.first_there o.first_full o.first_ends)
+        (full_secures right o.second g.middle o.to o.second_there o.second_full o.second_ends)))
 
-    and_cell_holds : (left right : ℕ) (link : Link) → GivesAndCell board player before left right link → LinkHolds board player link
+    and_cell_holds : (left right : ℕ) (link : Link) → GivesAndCell board before left right link → LinkHolds board player link
     and_cell_holds left right link g =
-        rw (g.kind, g.carrier) (named link (insert (union g.first.carrier g.second.carrier) g.cell) g.from g.to player g.ends
-        (and_cell_secures player g.first.carrier g.second.carrier g.from g.to g.meet.apart g.cell board g.empty g.outside_first
+        let o : GoesOver before left right (Of g.cell) link = g.over in
+        rw (g.kind, g.carrier) (named link (insert (union o.first.carrier o.second.carrier) g.cell) o.from o.to player o.ends
+        (and_cell_secures player o.first.carrier o.second.carrier o.from o.to o.apart g.cell board g.empty g.outside_first
         g.outside_second
-        (full_secures left g.first g.from (Of g.cell) g.meet.first_there g.meet.first_full g.meet.first_ends)
-        (full_secures right g.second (Of g.cell) g.to g.meet.second_there g.meet.second_full g.meet.second_ends)))
+        (full_secures left o.first o.from (Of g.cell) o.first_there o.first_full o.first_ends)
+        (full_secures right o.second (Of g.cell) o.to o.second_there o.second_full o.second_ends)))
 
     or_holds : (places : List ℕ) (link : Link) → GivesOr before places link → LinkHolds board player link
     or_holds places link g =
@@ -86,9 +89,10 @@ module _ (board : Board) (player : Colour) where
         (or_secures player (carriers_of g.links) link.a link.b (λ c. (part : Link) × (IsOneOf part g.links × (part.carrier ≡ c)))
         (λ c w n h. in_carriers g.links w.1.0.0 w.0 w.1.0.1 n (rw w.1.1 h))
         board
-        (λ c w. rw (← w.1.1) (between w.0 link.a link.b player (g.same_ends w.0 w.1.0)
-        (rw (g.semi w.0 w.1.0) at (holds w.0 (let at = place_of before places g.links g.there w.1.0.0 w.0 w.1.0.1 in (at.0, at.1.1))))))
-        (λ n. let w = g.none_in_all n in (w.0.carrier, ((w.0, (w.1.0, refl)), w.1.1))))
+        (λ c w. rw (← w.1.1) (between w.0 link.a link.b player (g.same_ends w.0 (one_of-contains g.links w.0 w.1.0))
+        (rw (g.semi w.0 (one_of-contains g.links w.0 w.1.0)) at
+        (holds w.0 (let at = place_of before places g.links g.there w.1.0.0 w.0 w.1.0.1 in (at.0, at.1.1))))))
+        (λ n. let w = g.none_in_all n in (w.0.carrier, ((w.0, (contains-one_of g.links w.0 w.1.0, refl)), w.1.1))))
 
     step_holds : (step : Step) (link : Link) → GivesByRule board player before step link → LinkHolds board player link
     step_holds (Base a b) link g = base_holds a b link g
@@ -160,7 +164,7 @@ module _ (board : Board) (player : Colour) where
 
 pub right_links_win : (heading : Heading) (steps : List Step) → AreRightLinks heading steps → HeadingWins heading
 right_links_win heading steps right =
-    chain_link_wins_in_time heading.position heading.winner right.shown.last
-    (right_steps_give_what_holds heading.position heading.winner steps right.links right.steps_right.right right.shown.last
-    (_, right.shown.is_last))
-    right.shown.joins heading.to_move right.shown.in_time
+    chain_link_wins_in_time heading.position heading.winner right.last
+    (right_steps_give_what_holds heading.position heading.winner steps right.links right.steps_right.right right.last
+    (_, right.is_last))
+    right.joins heading.to_move right.in_time

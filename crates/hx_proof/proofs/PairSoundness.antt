@@ -12,6 +12,7 @@ use Rattle.hx_board.proofs.ColourLaws.{one_or_other}
 use Rattle.hx_board.proofs.StoneLaws.{board-put, empty-put}
 use Rattle.hx_law.proofs.WinLaws.{chain-put}
 use Rattle.hx_inferior.specs.Inferior.{IsDead, IsPair}
+use Rattle.hx_inferior.proofs.PairLaws.{pair-a_empty, pair-b_empty, pair-differ}
 use Rattle.hx_proof.proofs.StoneOrder.{put-swap, put-before_two}
 use Rattle.hx_proof.proofs.DeadSoundness.{chain_without_dead, dead_stays, wins_with_others_stone_on_dead}
 
@@ -20,21 +21,10 @@ module _ (player : Colour) where
   other = other_of player
 
   pair-sym : (board : Board) (a b : ℕ) → IsPair board player a b → IsPair board player b a
-  pair-sym board a b pair =
-      record {
-        a_empty = pair.b_empty;
-        b_empty = pair.a_empty;
-        differ = λ e. pair.differ (sym e);
-        a_dead = pair.b_dead;
-        b_dead =
-            pair.a_dead;
-      }
+  pair-sym board a b pair = record { a_dead = pair.b_dead; b_dead = pair.a_dead }
 
   pair_stays : (board : Board) (who : Colour) (m a b : ℕ) → m ≢ a → m ≢ b → IsPair board player a b → IsPair (put board who m) player a b
   pair_stays board who m a b not_a not_b pair = record {
-    a_empty = (empty-put board who m a).1 (pair.a_empty, λ e. not_a (sym e));
-    b_empty = (empty-put board who m b).1 (pair.b_empty, λ e. not_b (sym e));
-    differ = pair.differ;
     a_dead = subst (λ (z : Board). IsDead z player a) (put-swap board player who b m)
         (dead_stays (put board player b) player who m a (λ e. not_a (sym e)) pair.a_dead);
     b_dead = subst (λ (z : Board). IsDead z player b) (put-swap board player who a m)
@@ -46,7 +36,8 @@ module _ (player : Colour) where
   chain_with_one : (board after : Board) (a b : ℕ) → IsBoard board → IsPair board player a b → after ≡ put (put board player a) player b
       → HasChain after player → HasChain (put board player a) player
   chain_with_one board after a b is pair same chain =
-      chain_without_dead (put board player a) player b (board-put board player a is pair.a_empty) pair.b_dead (rw same at chain)
+      chain_without_dead (put board player a) player b (board-put board player a is (pair-a_empty board player a b pair))
+      pair.b_dead (rw same at chain)
 
   -- after a stone of the opponent's elsewhere the player makes the chain
   wins_by_one : (board : Board) (m a : ℕ) → m ≢ a → IsEmpty board a → HasChain (put board player a) player
@@ -62,10 +53,11 @@ module _ (player : Colour) where
   wins_by_other_cell : (board after : Board) (a b : ℕ) → IsBoard board → IsPair board player a b → after ≡ put (put board player b) player a
       → Wins player after other → Wins player (put board other a) player
   wins_by_other_cell board after a b is pair same win =
-      By_move (put board other a) player b refl ((empty-put board other a b).1 (pair.b_empty, λ e. pair.differ (sym e)))
+      By_move (put board other a) player b refl
+      ((empty-put board other a b).1 (pair-b_empty board player a b pair, λ e. pair-differ board player a b pair (sym e)))
       (subst (λ (z : Board). Wins player z other) (put-swap board player other b a)
       (wins_with_others_stone_on_dead player (put board player b) after other a
-      (board-put board player b is pair.b_empty) pair.a_dead same win))
+      (board-put board player b is (pair-b_empty board player a b pair)) pair.a_dead same win))
 
   -- with that answer, the opponent's moves elsewhere are left
   wins_after_each : (board after : Board) (a b : ℕ) → IsBoard board → IsPair board player a b → after ≡ put (put board player a) player b
@@ -86,11 +78,12 @@ module _ (player : Colour) where
       → Wins player after mover → Wins player board mover
   wins_without_pair board after mover a b is pair same (By_chain _ _ chain) =
       let with_one : HasChain (put board player a) player = chain_with_one board after a b is pair same chain in
+      let empty : IsEmpty board a = pair-a_empty board player a b pair in
       ⊎_elim
-      (λ own. By_move board mover a own pair.a_empty (By_chain (put board player a) other with_one))
-      (λ others. By_answers board mover a others pair.a_empty
+      (λ own. By_move board mover a own empty (By_chain (put board player a) other with_one))
+      (λ others. By_answers board mover a others empty
       (wins_after_each board after a b is pair same (By_chain after other chain)
-      (λ m _ not_a _. wins_by_one board m a not_a pair.a_empty with_one)))
+      (λ m _ not_a _. wins_by_one board m a not_a empty with_one)))
       (one_or_other mover player)
   wins_without_pair board after mover a b is pair same (By_move _ _ m own empty win) =
       let not_b : IsEmpty (put board player a) m × (m ≢ b) = (empty-put (put board player a) player b m).0 (rw same at empty) in
@@ -100,7 +93,7 @@ module _ (player : Colour) where
       (pair_stays board player m a b not_a.1 not_b.1 pair)
       (ap (λ (z : Board). put z player m) same ∙ put-before_two board player player a b m) win)
   wins_without_pair board after mover a b is pair same (By_answers _ _ some others empty all) =
-      By_answers board mover a others pair.a_empty
+      By_answers board mover a others (pair-a_empty board player a b pair)
       (wins_after_each board after a b is pair same (By_answers after other some refl empty all) (λ m here not_a not_b.
       wins_without_pair (put board other m) (put after other m) player a b (board-put board other m is here)
       (pair_stays board other m a b not_a not_b pair)

@@ -1,7 +1,7 @@
 -- The winner of a right node wins, where the winners before it do, by the rule of the game tree that its own rule stands
 -- for. So the winner of each node of a valid tree wins, by induction on its place. The other player does not, since one
 -- player wins each position.
-use Rattle.std.proofs.Common.{◌≡◌, ℕ, zero, suc, ◌<◌, List, [], ◌∷◌, take, length, get_or, ⊎_elim, Option, Some, None, arith}
+use Rattle.std.proofs.Common.{◌≡◌, ℕ, zero, suc, ◌<◌, List, [], ◌∷◌, take, length, get_or, subst, ⊎_elim, Option, Some, None, arith}
 use Rattle.std.specs.Prelude.{slice_get, IfSome, IsSomeAnd}
 use Rattle.hx_board.specs.declared.colours.Colour.{Colour}
 use Rattle.hx_board.specs.Colours.{other_of}
@@ -16,14 +16,14 @@ use Rattle.hx_tree.specs.declared.nodes.Line.TheVariants.{Child, Under}
 use Rattle.hx_tree.specs.declared.nodes.Node.{Node}
 use Rattle.hx_tree.specs.declared.nodes.Rule.{Rule}
 use Rattle.hx_tree.specs.declared.nodes.Rule.TheVariants.{Chain, Links, Move, All, Fill, Turned}
-use Rattle.hx_tree.specs.Headings.{IsHeading}
+use Rattle.hx_tree.specs.Headings.{Leads}
 use Rattle.hx_tree.specs.Steps.{IsInEachThreat, IsOutsideThreat}
 use Rattle.hx_tree.specs.Answers.{cell_of, cells_of, IsRightLine, IsRightAll}
 use Rattle.hx_tree.specs.Turns.{IsTurnedHeading}
 use Rattle.hx_tree.specs.Rules.{IsRightRule, IsRightNode}
 use Rattle.hx_tree.specs.Trees.{headings_of, AreRight, IsValidTree, IsRoot}
 use Rattle.hx_board.proofs.ListLaws.{of_contained, get-push_last}
-use Rattle.hx_tree.proofs.ThreatLaws.{shared_or_outside}
+use Rattle.hx_tree.proofs.ThreatLaws.{shared_or_outside, lacks-outside}
 use Rattle.hx_turn.proofs.TurnedGames.{keeps_winner}
 use Rattle.hx_proof.specs.Winners.{HeadingWins, OnlyWinner, AllWin}
 use Rattle.hx_proof.proofs.LinkSoundness.{right_steps_give_what_holds, right_links_win}
@@ -32,10 +32,10 @@ use Rattle.hx_proof.proofs.FillSoundness.{fills_win}
 use Rattle.hx_proof.proofs.UnderSoundness.{wins_under}
 
 -- who an earlier heading says wins does win
-child_wins : (child : Option Heading) (board : Board) (mover winner : Colour) → IfSome child HeadingWins
-    → IsSomeAnd child (IsHeading board mover winner) → Wins winner board mover
-child_wins None board mover winner wins leads = absurd leads
-child_wins (Some child) board mover winner wins leads = rw (← leads.same_position, ← leads.same_mover, ← leads.same_winner) wins
+child_wins : (before : List Heading) (child : ℕ) (board : Board) (mover winner : Colour) → IfSome (slice_get before child) HeadingWins
+    → Leads before child board mover winner → Wins winner board mover
+child_wins before child board mover winner wins leads =
+    let P : Option Heading → Type 0 = λ found. IfSome found HeadingWins in subst P leads wins
 
 -- who wins the turned position wins the position
 turned_wins : (child : Option Heading) (heading : Heading) → IsBoard heading.position → IfSome child HeadingWins
@@ -60,10 +60,10 @@ module _ (before : List Heading) (heading : Heading) (steps : List Step) (threat
   wins_outside_threat cell outside =
       threat_left_whole_wins heading.position heading.winner right.links
       (right_steps_give_what_holds heading.position heading.winner steps right.links right.steps_right.right) threats
-      right.answered.threats_right.each cell outside
+      right.threats_right.each cell outside
 
   wins_by_child : (cell child : ℕ) → IsRight (Child cell child) → WinsAfter cell
-  wins_by_child cell child leads = child_wins _ _ _ _ (wins child) leads
+  wins_by_child cell child leads = child_wins before child _ _ _ (wins child) leads
 
   -- the better cell has a child, or is outside a threat, and so the winner wins after the worse one too
   line_wins : (line : Line) → IsRight line → WinsAfter (cell_of line)
@@ -71,10 +71,10 @@ module _ (before : List Heading) (heading : Heading) (steps : List Step) (threat
   line_wins (Under cell better kill) under =
       let after_better : WinsAfter better = ⊎_elim
       (λ has_child. wins_by_child better has_child.0
-      (of_contained IsRight lines (Child better has_child.0) right.answered.lines_right has_child.1))
-      (wins_outside_threat better)
-      under.answered in
-      rw (other-other heading.winner) at (wins_under heading.position is (other_of heading.winner) better cell kill under.dominated
+      (of_contained IsRight lines (Child better has_child.0) right.lines_right has_child.1))
+      (λ lacks. wins_outside_threat better (lacks-outside right.links threats better lacks))
+      under.1 in
+      rw (other-other heading.winner) at (wins_under heading.position is (other_of heading.winner) better cell kill under.0
       (rw (other-other heading.winner) after_better))
 
   answer_wins : (rest : List Line) (k cell : ℕ) → k < length (cells_of rest) → get_or (cells_of rest) k cell ≡ cell
@@ -89,10 +89,10 @@ module _ (before : List Heading) (heading : Heading) (steps : List Step) (threat
       By_answers heading.position heading.to_move right.some right.mover right.some_empty
       (λ cell empty. ⊎_elim
       (λ (shared : IsInEachThreat right.links threats cell). let found =
-      right.answered.cells.each cell (record { empty = empty; shared = shared }) in
-      answer_wins lines found.0 cell found.1 found.2 (right.answered.lines_right found.0))
+      right.cells.each cell (record { empty = empty; shared = shared }) in
+      answer_wins lines found.0 cell found.1 found.2 (right.lines_right found.0))
       (wins_outside_threat cell)
-      (shared_or_outside right.links threats cell right.answered.threats_right.each))
+      (shared_or_outside right.links threats cell right.threats_right.each))
 
 -- ---- right nodes and valid trees
 
@@ -102,10 +102,10 @@ rule_wins : (before : List Heading) (heading : Heading) (rule : Rule) → IsBoar
 rule_wins before heading Chain is wins right = By_chain heading.position heading.to_move right
 rule_wins before heading (Links steps) is wins right = right_links_win heading steps right
 rule_wins before heading (Move cell child) is wins right =
-    By_move heading.position heading.to_move cell right.mover right.empty (child_wins _ _ _ _ (wins child) right.leads)
+    By_move heading.position heading.to_move cell right.mover right.empty (child_wins before child _ _ _ (wins child) right.leads)
 rule_wins before heading (All steps threats lines) is wins right = all_wins before heading steps threats lines is wins right
 rule_wins before heading (Fill steps child) is wins right =
-    fills_win heading.position is heading.winner steps right.right heading.to_move (child_wins _ _ _ _ (wins child) right.leads)
+    fills_win heading.position is heading.winner steps right.right heading.to_move (child_wins before child _ _ _ (wins child) right.leads)
 rule_wins before heading (Turned child) is wins right = turned_wins _ heading is (wins child) right
 
 pub node_wins : (before : List Heading) (node : Node) → ((k : ℕ) → IfSome (slice_get before k) HeadingWins) → IsRightNode before node

@@ -2,7 +2,7 @@
 -- opponent has the better one, the opponent may have both, and the better one's stone is taken away. Where it is one of a pair
 -- of the opponent's, the opponent has as much after the better move as after both: if the opponent won after the worse one, then
 -- after the better one too, and both would win.
-use Rattle.std.proofs.Common.{◌≢◌, ℕ, refl, subst, ⊎_elim}
+use Rattle.std.proofs.Common.{◌≢◌, ℕ, refl, sym, subst, ⊎_elim}
 use Rattle.hx_board.specs.declared.colours.Colour.{Colour}
 use Rattle.hx_board.specs.Colours.{other_of}
 use Rattle.hx_board.specs.Positions.{Board, IsBoard, IsEmpty, put}
@@ -14,6 +14,7 @@ use Rattle.hx_law.proofs.OneWinner.{not_both_win}
 use Rattle.hx_inferior.specs.declared.dominations.Kill.{Kill}
 use Rattle.hx_inferior.specs.declared.dominations.Kill.TheVariants.{ByDead, ByPair}
 use Rattle.hx_inferior.specs.Inferior.{IsDead, IsPair, IsKilled, IsDominated}
+use Rattle.hx_inferior.proofs.PairLaws.{dominated-worse}
 use Rattle.hx_proof.proofs.StoneOrder.{put-swap}
 use Rattle.hx_proof.proofs.DeadSoundness.{wins_with_others_stone_on_dead}
 use Rattle.hx_proof.proofs.PairSoundness.{wins_without_pair}
@@ -67,4 +68,5 @@ pub wins_under : (board : Board) → IsBoard board → (mover : Colour) (better 
     → IsDominated board mover better worse kill
     → Wins (other_of mover) (put board mover better) (other_of mover) → Wins (other_of mover) (put board mover worse) (other_of mover)
 wins_under board is mover better worse kill d win =
-    wins_under_killed board mover is better worse d.better_empty d.worse_empty kill d.differ d.killed win
+    let was = dominated-worse board mover better worse kill d in
+    wins_under_killed board mover is better worse d.better_empty was.0 kill (λ e. was.1 (sym e)) d.killed win

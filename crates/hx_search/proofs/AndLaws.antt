@@ -16,7 +16,7 @@ use Rattle.hx_board.specs.VertexSets.{code_of, IsVertexAt}
 use Rattle.hx_link.specs.declared.links.Kind.TheVariants.{Full}
 use Rattle.hx_link.specs.declared.links.Link.{Link}
 use Rattle.hx_link.specs.declared.steps.Step.TheVariants.{AndStone, AndCell}
-use Rattle.hx_link.specs.Steps.{HasEnds, MeetAt, GivesAndStone, GivesAndCell}
+use Rattle.hx_link.specs.Steps.{HasEnds, GoesOver, GivesAndStone, GivesAndCell}
 use Rattle.hx_linkset.specs.States.{Standing, IsLive, IsLiveAt, Names}
 use Rattle.hx_linkset.specs.LiveOf.{IsLiveOf, IsFirstFrom}
 use Rattle.hx_board.proofs.VertexSetLaws.{some-vertex, code-small}
@@ -171,38 +171,37 @@ module _ (set : Standing) (right : ℕ) where
 
   module _ (later : Link) (there : slice_get set.present.links right ≡ Some later) where
     module _ (over_a : IsEndSettled set later.a right) (over_b : IsEndSettled set later.b right) (left : ℕ) (less : left < right) where
-      module _ (from middle to : Vertex) (first second : Link)
-          (meet : MeetAt set.present.links left right from middle to first second)
+      module _ (middle : Vertex) (link : Link) (meet : GoesOver set.present.links left right middle link)
           (at_left : IsLiveAt set.present.board set.player set.present.links left) where
-        first_is : IsLiveOf set Full middle from left
+        first_is : IsLiveOf set Full middle meet.from left
         first_is =
             let P : Link → Type 0 = λ l. IsLive set.present.board set.player l in
             record {
-              link = first;
+              link = meet.first;
               there = meet.first_there;
-              live = subst P (same_Some at_left.0 first (sym at_left.1.0 ∙ meet.first_there)) at_left.1.1;
+              live = subst P (same_Some at_left.0 meet.first (sym at_left.1.0 ∙ meet.first_there)) at_left.1.1;
               kind_is = meet.first_full;
-              ends = swapped first from middle meet.first_ends;
+              ends = swapped meet.first meet.from middle meet.first_ends;
             }
 
         at_end : (v : Vertex) → v ≡ middle → IsEndSettled set v right
             → (IsOwn set.present.board set.player middle → IsSettled set (AndStone left right))
             × ((IsOwn set.present.board set.player middle → ⊥) → IsSettled set (AndCell left right))
-        at_end v e s = let P : Vertex → Type 0 = λ v. IsEndSettled set v right in subst P e s from left less first_is
+        at_end v e s = let P : Vertex → Type 0 = λ v. IsEndSettled set v right in subst P e s meet.from left less first_is
 
         over : (IsOwn set.present.board set.player middle → IsSettled set (AndStone left right))
             × ((IsOwn set.present.board set.player middle → ⊥) → IsSettled set (AndCell left right))
         over =
-            let same : second ≡ later = same_Some second later (sym meet.second_there ∙ there) in
-            let P : Link → Type 0 = λ l. HasEnds l middle to in
+            let same : meet.second ≡ later = same_Some meet.second later (sym meet.second_there ∙ there) in
+            let P : Link → Type 0 = λ l. HasEnds l middle meet.to in
             ⊎_elim (λ e. at_end later.a e.0 over_a) (λ e. at_end later.b e.1 over_b) (subst P same meet.second_ends)
 
       pub row-full : IsPairSettled set left right
       row-full = (
         λ link h. let g : GivesAndStone set.present.board set.player set.present.links left right link = h.gives.rule in
-            (over g.from g.middle g.to g.first g.second g.meet (h.from_live left (inl refl))).0 g.own link h,
-        λ link h. let g : GivesAndCell set.present.board set.player set.present.links left right link = h.gives.rule in
-            (over g.from (Of g.cell) g.to g.first g.second g.meet (h.from_live left (inl refl))).1
+            (over g.middle link g.over (h.from_live left (inl refl))).0 g.own link h,
+        λ link h. let g : GivesAndCell set.present.board set.present.links left right link = h.gives.rule in
+            (over (Of g.cell) link g.over (h.from_live left (inl refl))).1
             (empty-not_own set.present.board set.player g.cell g.empty) link h,
       )
 

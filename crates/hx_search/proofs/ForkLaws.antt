@@ -2,7 +2,7 @@
 -- live Semi links of the two ends have (`share-more`). Where a cell is shared in the end, the ends are not forked
 -- (`not-forked`); where none is, each cell is lacking in some part, and then the Or of the parts gives a link (`fork-of`).
 use Rattle.std.proofs.Common.{◌≡◌, ◌≢◌, ℕ, zero, suc, ◌<◌, ◌≤◌, ◌+◌, true, false, List, [], ◌∷◌, ◌++◌, map, length, refl, sym, ap}
-use Rattle.std.proofs.Common.{◌∙◌, subst, Some, ⊎_elim, arith, length-append}
+use Rattle.std.proofs.Common.{◌∙◌, subst, Some, ⊎_elim, ◌⊎◌, inl, inr, arith, length-append}
 use Rattle.std.specs.Prelude.{slice_get}
 use Rattle.std.proofs.lemmas.Bool.{false≢true, cases_lt, true_from_ne_false, or_from}
 use Rattle.std.proofs.lemmas.Option.{slice_get_within, same_Some}
@@ -18,8 +18,9 @@ use Rattle.hx_link.specs.declared.links.Kind.TheVariants.{Full, Semi}
 use Rattle.hx_link.specs.declared.links.Link.{Link}
 use Rattle.hx_link.specs.declared.steps.Step.{Step}
 use Rattle.hx_link.specs.declared.steps.Step.TheVariants.{Base, AndStone, AndCell, Or}
-use Rattle.hx_link.specs.Steps.{HasEnds, IsLink, IsOutside, IsOneOf, links_at, carriers_of, GivesByRule}
-use Rattle.hx_link.proofs.LinkLaws.{ends_along, one_of_later, same_front, place_of}
+use Rattle.hx_link.specs.Steps.{HasEnds, IsLink, carriers_of, GivesByRule}
+use Rattle.hx_link.specs.Named.{links_at, IsOneOf}
+use Rattle.hx_link.proofs.LinkLaws.{ends_along, one_of-contains, contains-one_of, one_of_later, same_front, place_of}
 use Rattle.hx_link.proofs.PartLaws.{part_at}
 use Rattle.hx_linkset.specs.States.{Standing, IsRight}
 use Rattle.hx_linkset.specs.LiveOf.{IsLiveOf, IsFirstFrom}
@@ -44,7 +45,7 @@ semi_cell : (board : Board) (player : Colour) (before : List Link) (step : Step)
 semi_cell board player before (Base a b) link g semi = let e : Full ≡ Semi = sym g.kind ∙ semi in cc
 semi_cell board player before (AndStone left right) link g semi = let e : Full ≡ Semi = sym g.kind ∙ semi in cc
 semi_cell board player before (AndCell left right) link g semi =
-    (g.cell, ap (λ s. has s g.cell) g.carrier ∙ has-insert_same (union g.first.carrier g.second.carrier) g.cell)
+    (g.cell, ap (λ s. has s g.cell) g.carrier ∙ has-insert_same (union g.over.first.carrier g.over.second.carrier) g.cell)
 semi_cell board player before (Or parts) link g semi = let e : Full ≡ Semi = sym g.kind ∙ semi in cc
 
 module _ (set : Standing) (right : IsRight set.player set.present) (a b : Vertex) where
@@ -159,17 +160,12 @@ carriers_lack (l ∷ ls) cell none = has-union l.carrier (carriers_of ls) cell
     ∙ or_from (has l.carrier cell) (has (carriers_of ls) cell) (none l (0, refl))
     (carriers_lack ls cell (λ part h. none part (one_of_later part l ls h)))
 
-all_outside : (board : Board) (links : List Link) (v : Vertex) → ((part : Link) → IsOneOf part links → IsOutside board part.carrier v)
-    → IsOutside board (carriers_of links) v
-all_outside board links (Of cell) outside = λ empty. carriers_lack links cell (λ part h. outside part h empty)
-all_outside board links First outside = tt
-all_outside board links Last outside = tt
-
-outside_of : (board : Board) (player : Colour) (part : Link) (x y : Vertex) → IsLink board player part → HasEnds part x y
-    → IsOutside board part.carrier x × IsOutside board part.carrier y
-outside_of board player part x y ok h =
-    let P : Vertex → Type 0 = λ v. IsOutside board part.carrier v in
-    ⊎_elim (λ e. (subst P e.0 ok.a_outside, subst P e.1 ok.b_outside)) (λ e. (subst P e.1 ok.b_outside, subst P e.0 ok.a_outside)) h
+-- one of two ends, however they are named
+one_end : (part : Link) (x y v : Vertex) → HasEnds part x y → (x ≡ v) ⊎ (y ≡ v) → (part.a ≡ v) ⊎ (part.b ≡ v)
+one_end part x y v (inl e) (inl f) = inl (e.0 ∙ f)
+one_end part x y v (inl e) (inr f) = inr (e.1 ∙ f)
+one_end part x y v (inr e) (inl f) = inr (e.1 ∙ f)
+one_end part x y v (inr e) (inr f) = inl (e.0 ∙ f)
 
 module _ (set : Standing) (right : IsRight set.player set.present) (a b : Vertex) (parts : List ℕ) (shared : ℕ) (none : shared ≡ 0)
     (ok : AreParts set a b parts shared) where
@@ -260,12 +256,8 @@ module _ (set : Standing) (right : IsRight set.player set.present) (a b : Vertex
         lower_first = first_ok.lower_first;
         a_end = first_ok.a_end;
         b_end = first_ok.b_end;
-        a_outside = all_outside set.present.board found.0 first_is.link.a
-            (λ part h. (outside_of set.present.board set.player part first_is.link.a first_is.link.b (part_ok part h)
-            (part_ends part h)).0);
-        b_outside = all_outside set.present.board found.0 first_is.link.b
-            (λ part h. (outside_of set.present.board set.player part first_is.link.a first_is.link.b (part_ok part h)
-            (part_ends part h)).1);
+        outside = λ cell empty at. carriers_lack found.0 cell (λ part h. (part_ok part h).outside cell empty
+            (one_end part first_is.link.a first_is.link.b (Of cell) (part_ends part h) at));
       }
 
   pub fork-of : IsFork set a b parts
@@ -280,13 +272,13 @@ module _ (set : Standing) (right : IsRight set.player set.present) (a b : Vertex
           there = found.1;
           several = several;
           few = omega (arith, ok.few);
-          semi = λ part h. let w = part_is part h in ap (λ (l : Link). l.kind) w.1.1 ∙ w.1.0.kind_is;
-          same_ends = λ part h. part_ends part h;
+          semi = λ part h. let w = part_is part (contains-one_of found.0 part h) in ap (λ (l : Link). l.kind) w.1.1 ∙ w.1.0.kind_is;
+          same_ends = λ part h. part_ends part (contains-one_of found.0 part h);
           none_in_all = λ cell.
               let w = lacks cell in
               let p = part_at set.present.links parts found.0 found.1 w.0 w.1.0 w.1.1.0 in
               let same : p.0 ≡ w.1.1.1.0 = same_Some p.0 w.1.1.1.0 (sym p.1.1 ∙ w.1.1.1.1.0) in
-              (p.0, (p.1.0, ap (λ (l : Link). has l.carrier cell) same ∙ w.1.1.1.1.1));
+              (p.0, (one_of-contains found.0 p.0 p.1.0, ap (λ (l : Link). has l.carrier cell) same ∙ w.1.1.1.1.1));
           kind = refl;
           carrier = refl;
         };

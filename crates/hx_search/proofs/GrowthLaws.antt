@@ -6,12 +6,14 @@ use Rattle.std.proofs.lemmas.Option.{slice_get_within}
 use Rattle.std.specs.Prelude.{slice_get}
 use Rattle.hx_board.specs.declared.colours.Colour.{Colour}
 use Rattle.hx_board.specs.declared.vertices.Vertex.{Vertex}
+use Rattle.hx_board.specs.declared.vertices.Vertex.TheVariants.{Of}
 use Rattle.hx_board.specs.Positions.{Board}
 use Rattle.hx_link.specs.declared.links.Kind.{Kind}
 use Rattle.hx_link.specs.declared.links.Link.{Link}
 use Rattle.hx_link.specs.declared.steps.Step.{Step}
 use Rattle.hx_link.specs.declared.steps.Step.TheVariants.{Base, AndStone, AndCell, Or}
-use Rattle.hx_link.specs.Steps.{MeetAt, GivesByRule, links_at}
+use Rattle.hx_link.specs.Steps.{GoesOver, GivesByRule}
+use Rattle.hx_link.specs.Named.{links_at}
 use Rattle.hx_link.proofs.OneLink.{step-unique}
 use Rattle.hx_linkset.specs.States.{Standing, IsLive, Names, GivesFromLive, added}
 use Rattle.hx_linkset.specs.Answers.{Gives, Covers, IsNew, IsCovered, IsAtLimit}
@@ -50,17 +52,21 @@ module _ (links more : List Link)
   held : (place : ℕ) (link : Link) → place < length links → slice_get more place ≡ Some link → slice_get links place ≡ Some link
   held place link lt h = let w = get-there links place lt in w.1 ∙ (sym (kept place w.0 w.1) ∙ h)
 
-  meets_held : (left right : ℕ) (from middle to : Vertex) (first second : Link) → left < length links → right < length links
-      → MeetAt more left right from middle to first second → MeetAt links left right from middle to first second
-  meets_held left right from middle to first second l r m = record {
-    first_there = held left first l m.first_there;
-    second_there = held right second r m.second_there;
+  over_held : (left right : ℕ) (middle : Vertex) (link : Link) → left < length links → right < length links
+      → GoesOver more left right middle link → GoesOver links left right middle link
+  over_held left right middle link l r m = record {
+    first = m.first;
+    second = m.second;
+    from = m.from;
+    to = m.to;
+    first_there = held left m.first l m.first_there;
+    second_there = held right m.second r m.second_there;
     first_full = m.first_full;
     second_full = m.second_full;
     first_ends = m.first_ends;
     second_ends = m.second_ends;
-    other_ends_differ = m.other_ends_differ;
     apart = m.apart;
+    ends = m.ends;
   }
 
   parts_held : (parts : List ℕ) (found : List Link) → ((k place : ℕ) → slice_get parts k ≡ Some place → place < length links)
@@ -75,37 +81,25 @@ module _ (links more : List Link)
   module _ (board : Board) (player : Colour) (link : Link) where
     rule_held : (step : Step) → ((place : ℕ) → Names step place → place < length links) → GivesByRule board player more step link
         → GivesByRule board player links step link
+    unfolding over_held
     rule_held (Base a b) below g = g
     rule_held (AndStone left right) below g =
         record {
-          from = g.from;
           middle = g.middle;
-          to = g.to;
-          first = g.first;
-          second = g.second;
-          meet =
-              meets_held left right g.from g.middle g.to g.first g.second (below left (inl refl)) (below right (inr refl)) g.meet;
-          own =
-              g.own;
+          over = over_held left right g.middle link (below left (inl refl)) (below right (inr refl)) g.over;
+          own = g.own;
           kind = g.kind;
           carrier = g.carrier;
-          ends = g.ends;
         }
     rule_held (AndCell left right) below g =
         record {
-          from = g.from;
           cell = g.cell;
-          to = g.to;
-          first = g.first;
-          second = g.second;
-          meet =
-              meets_held left right g.from _ g.to g.first g.second (below left (inl refl)) (below right (inr refl)) g.meet;
+          over = over_held left right (Of g.cell) link (below left (inl refl)) (below right (inr refl)) g.over;
           empty = g.empty;
           outside_first = g.outside_first;
           outside_second = g.outside_second;
           kind = g.kind;
           carrier = g.carrier;
-          ends = g.ends;
         }
     rule_held (Or parts) below g =
         record {

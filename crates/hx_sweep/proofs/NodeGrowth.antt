@@ -2,8 +2,7 @@
 -- the headings keep their numbers. The nodes for a position with one empty cell less are so few that those of all its moves
 -- find room among the nodes of the position.
 use Rattle.std.proofs.Common.{◌≡◌, ℕ, zero, suc, ◌+◌, ◌-◌, ◌*◌, ◌≤◌, List, [], ◌∷◌, ◌++◌, length, refl, sym, ap, ◌∙◌, arith, append_assoc}
-use Rattle.std.proofs.Common.{length-append}
-use Rattle.std.specs.Prelude.{slice_get, IsSomeAnd}
+use Rattle.std.proofs.Common.{length-append, Some}
 use Rattle.std.proofs.lemmas.List.{append-nil}
 use Rattle.std.proofs.lemmas.List.Elements.{All-push}
 use Rattle.std.proofs.Math.Nat.{mul-le-mul_right}
@@ -15,7 +14,8 @@ use Rattle.hx_board.proofs.StoneLaws.{size-put, board-put}
 use Rattle.hx_board.proofs.EmptyCells.{empty_count-put, some_empty-count, sweep_size-suc, sweep_size-positive}
 use Rattle.hx_tree.specs.declared.nodes.Node.{Node}
 use Rattle.hx_tree.specs.declared.nodes.Rule.{Rule}
-use Rattle.hx_tree.specs.Headings.{heading_of, IsHeading}
+use Rattle.hx_tree.specs.Headings.{Leads, heading_of}
+use Rattle.hx_tree.proofs.HeadingLaws.{same_heading}
 use Rattle.hx_tree.specs.Rules.{IsRightRule}
 use Rattle.hx_tree.specs.Trees.{headings_of}
 use Rattle.hx_tree.proofs.TreeGrowth.{one_more_right}
@@ -110,12 +110,11 @@ grown_after board stone mover winner cell number before after valid empty proved
 
 pub proved_leads : (board : Board) (mover winner : Colour) (before after : List Node) (number : ℕ)
     → IsProved board mover winner before after number
-    → IsSomeAnd (slice_get (headings_of after) number) (IsHeading board mover winner)
+    → Leads (headings_of after) number board mover winner
 proved_leads board mover winner before after number proved = rw (proved.last, proved.place) (at_last proved.front)
   where
-    at_last : (front : List Node)
-        → IsSomeAnd (slice_get (headings_of (front ++ proved.root ∷ [])) (length front)) (IsHeading board mover winner)
-    at_last [] = proved.heading
+    at_last : (front : List Node) → Leads (headings_of (front ++ proved.root ∷ [])) (length front) board mover winner
+    at_last [] = ap Some (same_heading board mover winner proved.root.heading proved.heading)
     at_last (first ∷ front) = at_last front
 
 pub proved_by : (board : Board) (mover winner : Colour) (rule : Rule) (before between after : List Node) (number : ℕ) → IsBoard board

@@ -9,6 +9,7 @@ use Rattle.hx_board.proofs.EmptyCells.{empty_count-small}
 use Rattle.hx_inferior.specs.declared.fills.FillStep.{FillStep}
 use Rattle.hx_inferior.specs.declared.fills.FillStep.TheVariants.{Other, Dead, Pair}
 use Rattle.hx_inferior.specs.Inferior.{MayFill, filled}
+use Rattle.hx_inferior.proofs.PairLaws.{pair-a_empty, pair-b_empty}
 use Rattle.hx_tree.specs.Fills.{MayFillAll}
 use Rattle.hx_tree.proofs.FilledBoards.{size-filled, board-filled, empty_count-filled}
 use Rattle.hx_board.specs.declared.cells.TheConstants.{CELLS}
@@ -21,7 +22,8 @@ use Rattle.hx_text.proofs.EntryLists.{fill_entry}
 fill_fits : (board : Board) (winner : Colour) (step : FillStep) → MayFill board winner step → FillFits board.size step
 fill_fits board winner (Other cell) empty = empty.on_board
 fill_fits board winner (Dead cell) dead = dead.empty.on_board
-fill_fits board winner (Pair a b) pair = (pair.a_empty.on_board, pair.b_empty.on_board)
+fill_fits board winner (Pair a b) pair =
+    ((pair-a_empty board winner a b pair).on_board, (pair-b_empty board winner a b pair).on_board)
 
 -- ---- all steps
 

@@ -22,10 +22,12 @@ use Rattle.hx_board.proofs.ListLaws.{holds-inside}
 use Rattle.hx_inferior.specs.declared.dominations.Kill.{Kill}
 use Rattle.hx_inferior.specs.declared.dominations.Kill.TheVariants.{ByDead, ByPair}
 use Rattle.hx_inferior.specs.Inferior.{IsKilled}
+use Rattle.hx_inferior.proofs.PairLaws.{pair-b_empty}
 use Rattle.hx_link.specs.declared.links.Link.{Link}
 use Rattle.hx_link.specs.declared.steps.Step.{Step}
 use Rattle.hx_link.specs.declared.steps.Step.TheVariants.{Base, AndStone, AndCell, Or}
-use Rattle.hx_link.specs.Steps.{IsLink, HasEnds, StepGives, AreRightSteps, links_at}
+use Rattle.hx_link.specs.Steps.{IsLink, HasEnds, StepGives, AreRightSteps}
+use Rattle.hx_link.specs.Named.{links_at}
 use Rattle.hx_link.proofs.LinkLaws.{end-vertex, steps-length}
 use Rattle.hx_tree.specs.declared.nodes.Heading.{Heading}
 use Rattle.hx_tree.specs.declared.nodes.Line.{Line}
@@ -65,7 +67,8 @@ kill_fits : (board : Board) (mover : Colour) (cell better : ℕ) (kill : Kill) �
     → ReasonFits board.size (Under cell better kill)
 kill_fits board mover cell better ByDead empty killed = empty.on_board
 kill_fits board mover cell better (ByPair partner) empty killed =
-    let free : IsEmpty board partner = ((empty-put board mover better partner).0 killed.b_empty).0 in
+    let free : IsEmpty board partner =
+    ((empty-put board mover better partner).0 (pair-b_empty (put board mover better) mover cell partner killed)).0 in
     (empty.on_board, free.on_board)
 
 line_fits : (size : Extent) (before : List Heading) (heading : Heading) (links : List Link) (threats : List ℕ) (all : List Line)
@@ -74,9 +77,9 @@ line_fits : (size : Extent) (before : List Heading) (heading : Heading) (links :
     → IsRightLine before heading links threats all line
     → AnswerFits size line
 line_fits size before heading links threats all (Child cell child) same few on right =
-    let below : child < length before = holds-inside _ before child right in (on, omega arith)
+    let below : child < length before = slice_get_within before child _ right in (on, omega arith)
 line_fits size before heading links threats all (Under cell better kill) same few on right =
-    let fits = kill_fits heading.position (other_of heading.winner) cell better kill right.dominated.better_empty right.dominated.killed in
+    let fits = kill_fits heading.position (other_of heading.winner) cell better kill right.0.better_empty right.0.killed in
     (on, subst (λ (s : Extent). ReasonFits s (Under cell better kill)) same fits)
 
 lines_fit : (size : Extent) (before : List Heading) (heading : Heading) (links : List Link) (threats : List ℕ) (all lines : List Line)
@@ -111,12 +114,12 @@ step_fits : (board : Board) (player : Colour) (before : List Link) (step : Step)
     → StepGives board player before step link → StepFits board.size step
 step_fits board player before (Base a b) link few gives = base_fits board player a b link gives.link_ok gives.rule.ends
 step_fits board player before (AndStone left right) link few gives =
-    let first : left < length before = slice_get_within before left gives.rule.first gives.rule.meet.first_there in
-    let second : right < length before = slice_get_within before right gives.rule.second gives.rule.meet.second_there in
+    let first : left < length before = slice_get_within before left gives.rule.over.first gives.rule.over.first_there in
+    let second : right < length before = slice_get_within before right gives.rule.over.second gives.rule.over.second_there in
     (omega arith, omega arith)
 step_fits board player before (AndCell left right) link few gives =
-    let first : left < length before = slice_get_within before left gives.rule.first gives.rule.meet.first_there in
-    let second : right < length before = slice_get_within before right gives.rule.second gives.rule.meet.second_there in
+    let first : left < length before = slice_get_within before left gives.rule.over.first gives.rule.over.first_there in
+    let second : right < length before = slice_get_within before right gives.rule.over.second gives.rule.over.second_there in
     (omega arith, omega arith)
 step_fits board player before (Or parts) link few gives = (gives.rule.few, parts_fit before parts gives.rule.links few gives.rule.there)
 
@@ -153,16 +156,16 @@ opening_fits : (preamble : Preamble) (before : List Heading) (heading : Heading)
 opening_fits preamble before heading Chain same is few two right = tt
 opening_fits preamble before heading (Links steps) same is few two right = right.steps_right.few
 opening_fits preamble before heading (Move cell child) same is few two right =
-    let below : child < length before = holds-inside _ before child right.leads in
+    let below : child < length before = slice_get_within before child _ right.leads in
     (on_this preamble.size heading same cell right.empty, omega arith)
 opening_fits preamble before heading (All steps threats lines) same is few two right =
     let extent : IsExtent preamble.size.rows preamble.size.cols = rw same at is.0 in
     let count = few_cells preamble.size (cells_of lines) (IsToAnswer heading.position right.links threats) extent
     (λ cell is. on_this preamble.size heading same cell is.empty)
-    right.answered.cells in
-    (right.steps_right.few, right.answered.threats_right.few, omega (arith, count, length-map lines cell_of))
+    right.cells in
+    (right.steps_right.few, right.threats_right.few, omega (arith, count, length-map lines cell_of))
 opening_fits preamble before heading (Fill fills child) same is few two right =
-    let below : child < length before = holds-inside _ before child right.leads in
+    let below : child < length before = slice_get_within before child _ right.leads in
     (few_fill_steps heading.position heading.winner fills is right.right, omega arith)
 opening_fits preamble before heading (Turned child) same is few two right =
     let below : child < length before = holds-inside _ before child right in (two child refl, omega arith)
@@ -181,10 +184,10 @@ rule_fits size before heading (All steps threats lines) same few right =
     let count : length right.links ≡ length steps =
     omega (arith, steps-length heading.position heading.winner [] steps right.links right.steps_right.right) in
     EachEntryFits-entries_for size steps threats lines [] (rw same at each)
-    (threats_fit size right.links threats (omega (arith, count, right.steps_right.few)) right.answered.threats_right.each)
+    (threats_fit size right.links threats (omega (arith, count, right.steps_right.few)) right.threats_right.each)
     (lines_fit size before heading right.links threats lines lines same few
     (λ k d less. on_this size heading same (get_or (cells_of lines) k d)
-    (right.answered.cells.only k d less).empty) right.answered.lines_right) tt
+    (right.cells.only k d less).empty) right.lines_right) tt
 rule_fits size before heading (Fill fills child) same few right =
     EachEntryFits-entries_for size [] [] [] fills tt tt tt (fill_steps_fit size heading.position heading.winner fills same right.right)
 rule_fits size before heading (Turned child) same few right = tt

@@ -1,14 +1,15 @@
 -- The board after a fill step that may be done: it is a board, of the same size, and has fewer empty cells.
-use Rattle.std.proofs.Common.{◌≡◌, ℕ, ◌<◌, List, [], ◌∷◌, refl, sym, ◌∙◌, arith}
+use Rattle.std.proofs.Common.{◌≡◌, ℕ, ◌<◌, List, [], ◌∷◌, refl, ◌∙◌, arith}
 use Rattle.hx_board.specs.declared.colours.Colour.{Colour}
 use Rattle.hx_board.specs.Colours.{other_of}
-use Rattle.hx_board.specs.Positions.{Board, IsBoard, IsEmpty, put}
+use Rattle.hx_board.specs.Positions.{Board, IsBoard, put}
 use Rattle.hx_board.specs.Counts.{empty_count}
-use Rattle.hx_board.proofs.StoneLaws.{size-put, board-put, empty-put}
+use Rattle.hx_board.proofs.StoneLaws.{size-put, board-put}
 use Rattle.hx_board.proofs.EmptyCells.{empty_count-put}
 use Rattle.hx_inferior.specs.declared.fills.FillStep.{FillStep}
 use Rattle.hx_inferior.specs.declared.fills.FillStep.TheVariants.{Other, Dead, Pair}
-use Rattle.hx_inferior.specs.Inferior.{IsPair, MayFill, filled}
+use Rattle.hx_inferior.specs.Inferior.{MayFill, filled}
+use Rattle.hx_inferior.proofs.PairLaws.{pair-a_empty}
 use Rattle.hx_tree.specs.Fills.{filled_all}
 
 pub size-filled : (board : Board) (player : Colour) (step : FillStep) → (filled board player step).size ≡ board.size
@@ -20,16 +21,12 @@ pub size-filled_all : (board : Board) (player : Colour) (steps : List FillStep) 
 size-filled_all board player [] = refl
 size-filled_all board player (step ∷ steps) = size-filled_all (filled board player step) player steps ∙ size-filled board player step
 
--- the second cell of a pair is empty when the first is filled
-pub second_empty : (board : Board) (player : Colour) (a b : ℕ) → IsPair board player a b → IsEmpty (put board player a) b
-second_empty board player a b pair = (empty-put board player a b).1 (pair.b_empty, λ same. pair.differ (sym same))
-
 module _ (board : Board) (player : Colour) (is : IsBoard board) where
   pub board-filled : (step : FillStep) → MayFill board player step → IsBoard (filled board player step)
   board-filled (Other cell) empty = board-put board (other_of player) cell is empty
   board-filled (Dead cell) dead = board-put board player cell is dead.empty
   board-filled (Pair a b) pair =
-      board-put (put board player a) player b (board-put board player a is pair.a_empty) (second_empty board player a b pair)
+      board-put (put board player a) player b (board-put board player a is (pair-a_empty board player a b pair)) pair.b_dead.empty
 
   pub empty_count-filled : (step : FillStep) → MayFill board player step → empty_count (filled board player step) < empty_count board
   empty_count-filled (Other cell) empty = omega (arith, empty_count-put board (other_of player) cell is empty)
@@ -37,6 +34,6 @@ module _ (board : Board) (player : Colour) (is : IsBoard board) where
   empty_count-filled (Pair a b) pair =
       omega (
         arith,
-        empty_count-put board player a is pair.a_empty,
-        empty_count-put (put board player a) player b (board-put board player a is pair.a_empty) (second_empty board player a b pair),
+        empty_count-put board player a is (pair-a_empty board player a b pair),
+        empty_count-put (put board player a) player b (board-put board player a is (pair-a_empty board player a b pair)) pair.b_dead.empty,
       )

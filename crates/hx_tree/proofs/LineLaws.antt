@@ -19,7 +19,7 @@ use Rattle.hx_tree.specs.declared.nodes.Line.TheVariants.{Child, Under}
 use Rattle.hx_tree.specs.Steps.{AreThreats, IsOutsideThreat}
 use Rattle.hx_tree.specs.Answers.{IsToAnswer, HasChild, IsRightLine}
 use Rattle.hx_tree.specs.Named.{IsRightGiven}
-use Rattle.hx_tree.proofs.ThreatLaws.{shared_or_outside, outside-not_shared}
+use Rattle.hx_tree.proofs.ThreatLaws.{shared_or_outside, outside-not_shared, outside-lacks, lacks-outside}
 
 -- ---- the cells that have a child
 
@@ -101,14 +101,15 @@ module _ (board : Board) (links : List Link) (threats : List ℕ) (lines : List 
     given-right : (line : Line) → IsRightGiven before heading lost line ↔ IsRightLine before heading links threats lines line
     given-right (Child cell child) = ((λ right. right), (λ right. right))
     given-right (Under cell better kill) = (
-      (λ given. record {
-        dominated = given.1;
-        answered =
-            (lost-answered better (subst (λ (b : Board). IsEmpty b better) same given.1.better_empty)).0 given.0;
-      }),
+      (λ given. (
+        given.1,
+        ⊎_elim inl (λ outside. inr (outside-lacks links threats better outside))
+            ((lost-answered better (subst (λ (b : Board). IsEmpty b better) same given.1.better_empty)).0 given.0),
+      )),
       (λ right. (
-        (lost-answered better (subst (λ (b : Board). IsEmpty b better) same right.dominated.better_empty)).1 right.answered,
-        right.dominated,
+        (lost-answered better (subst (λ (b : Board). IsEmpty b better) same right.0.better_empty)).1
+            (⊎_elim inl (λ lacks. inr (lacks-outside links threats better lacks)) right.1),
+        right.0,
       )),
     )
 

@@ -14,13 +14,13 @@ use Rattle.hx_board.specs.Positions.{Board, IsBoard, IsEmpty}
 use Rattle.hx_board.specs.Counts.{empty_count}
 use Rattle.hx_board.proofs.SetLaws.{has-remove_before, removed, removed_cases, removed_still}
 use Rattle.hx_board.proofs.CellLaws.{on_board-small}
+use Rattle.hx_board.proofs.ListLaws.{get-append}
 use Rattle.hx_board.proofs.Tallies.{count_below-remove}
 use Rattle.hx_tree.specs.declared.nodes.Heading.{Heading}
 use Rattle.hx_tree.specs.declared.nodes.Line.{Line}
 use Rattle.hx_tree.specs.declared.nodes.Line.TheVariants.{Child, Under}
 use Rattle.hx_tree.specs.Answers.{AreInOrder, IsToAnswer, IsRightChild, IsRightLine, IsRightAll, cell_of, cells_of}
 use Rattle.hx_tree.proofs.CellOrder.{increasing-push, same_kind}
-use Rattle.hx_tree.proofs.RightNodeGrowth.{some_and-append}
 
 -- ---- one cell more in order
 
@@ -76,7 +76,7 @@ none_answered headings heading left is_left count = record {
 
 right_line-append : (headings more : List Heading) (heading : Heading) (line : Line) → IsRightChildLine headings heading line
     → IsRightChildLine (headings ++ more) heading line
-right_line-append headings more heading (Child cell child) right = some_and-append _ headings more child right
+right_line-append headings more heading (Child cell child) right = get-append headings more child _ right
 right_line-append headings more heading (Under cell better kill) right = absurd right
 
 right_lines-append : (headings more : List Heading) (heading : Heading) (lines : List Line) (line : Line)
@@ -160,10 +160,8 @@ right_by_lines headings heading lines some mover empty in_order right = record {
   some_empty = empty;
   links = [];
   steps_right = record { few = omega arith; right = refl };
-  answered = record {
-    threats_right = record { few = omega arith; each = λ k. tt };
-    cells = same_kind (IsEmpty heading.position) (IsToAnswer heading.position [] []) (cells_of lines)
-        (all_to_answer heading.position) in_order;
-    lines_right = λ k. child_line_right headings heading lines (slice_get lines k) (right k);
-  };
+  threats_right = record { few = omega arith; each = λ k. tt };
+  cells = same_kind (IsEmpty heading.position) (IsToAnswer heading.position [] []) (cells_of lines)
+      (all_to_answer heading.position) in_order;
+  lines_right = λ k. child_line_right headings heading lines (slice_get lines k) (right k);
 }

@@ -3,8 +3,7 @@
 use Rattle.std.proofs.Common.{◌≡◌, ℕ, zero, suc, List, [], ◌∷◌, ◌++◌, take, drop, sym, ap, ◌∙◌, subst, Option, None, Some}
 use Rattle.std.specs.Prelude.{slice_get, IfSome, IsSomeAnd}
 use Rattle.std.proofs.lemmas.List.{take-append-drop}
-use Rattle.hx_board.specs.Colours.{other_of}
-use Rattle.hx_board.specs.Positions.{put}
+use Rattle.hx_board.proofs.ListLaws.{get-append}
 use Rattle.hx_link.specs.declared.links.Link.{Link}
 use Rattle.hx_tree.specs.declared.nodes.Heading.{Heading}
 use Rattle.hx_tree.specs.declared.nodes.Line.{Line}
@@ -12,16 +11,14 @@ use Rattle.hx_tree.specs.declared.nodes.Line.TheVariants.{Child, Under}
 use Rattle.hx_tree.specs.declared.nodes.Node.{Node}
 use Rattle.hx_tree.specs.declared.nodes.Rule.{Rule}
 use Rattle.hx_tree.specs.declared.nodes.Rule.TheVariants.{Chain, Links, Move, All, Fill, Turned}
-use Rattle.hx_tree.specs.Headings.{IsHeading}
 use Rattle.hx_tree.specs.Answers.{IsRightLine}
-use Rattle.hx_tree.specs.Fills.{filled_all}
 use Rattle.hx_tree.specs.Turns.{IsTurnedHeading}
 use Rattle.hx_tree.specs.Rules.{IsRightRule, IsRightNode}
 use Rattle.hx_tree.specs.Trees.{headings_of}
 use Rattle.hx_tree.proofs.TreeGrowth.{headings_of-append}
 
 -- a fact of an earlier heading stays one
-pub some_and-append : (P : Heading → Type 0) (headings more : List Heading) (k : ℕ) → IsSomeAnd (slice_get headings k) P
+some_and-append : (P : Heading → Type 0) (headings more : List Heading) (k : ℕ) → IsSomeAnd (slice_get headings k) P
     → IsSomeAnd (slice_get (headings ++ more) k) P
 some_and-append P [] more k is = absurd is
 some_and-append P (first ∷ headings) more zero is = is
@@ -32,8 +29,7 @@ module _ (before more : List Heading) (heading : Heading) where
     line-append : (line : Line) → IsRightLine before heading links threats lines line
         → IsRightLine (before ++ more) heading links threats lines line
     line-append (Child cell child) right =
-        some_and-append (IsHeading
-        (put heading.position (other_of heading.winner) cell) heading.winner heading.winner) before more child right
+        get-append before more child _ right
     line-append (Under cell better kill) right = right
 
     found-append : (found : Option Line) → IfSome found (IsRightLine before heading links threats lines)
@@ -47,8 +43,7 @@ module _ (before more : List Heading) (heading : Heading) where
   rule-append (Move cell child) right = record {
     mover = right.mover;
     empty = right.empty;
-    leads = some_and-append
-        (IsHeading (put heading.position heading.winner cell) (other_of heading.winner) heading.winner) before more child right.leads;
+    leads = get-append before more child _ right.leads;
   }
   rule-append (All steps threats lines) right = record {
     mover = right.mover;
@@ -56,17 +51,14 @@ module _ (before more : List Heading) (heading : Heading) where
     some_empty = right.some_empty;
     links = right.links;
     steps_right = right.steps_right;
-    answered = record {
-      threats_right = right.answered.threats_right;
-      cells = right.answered.cells;
-      lines_right = λ k. found-append right.links threats lines (slice_get lines k) (right.answered.lines_right k);
-    };
+    threats_right = right.threats_right;
+    cells = right.cells;
+    lines_right = λ k. found-append right.links threats lines (slice_get lines k) (right.lines_right k);
   }
   rule-append (Fill steps child) right = record {
     some = right.some;
     right = right.right;
-    leads = some_and-append
-        (IsHeading (filled_all heading.position heading.winner steps) heading.to_move heading.winner) before more child right.leads;
+    leads = get-append before more child _ right.leads;
   }
   rule-append (Turned child) right = some_and-append (IsTurnedHeading heading) before more child right
 

@@ -4,7 +4,7 @@ use Rattle.std.proofs.Common.{◌≡◌, ℕ, zero, suc, ◌+◌, ◌<◌, ◌�
 use Rattle.std.proofs.Common.{arith, ◌↔◌, ◌⊎◌, inl, inr, ⊎_elim, Option, Some, None}
 use Rattle.std.specs.Prelude.{slice_get, IfSome, IsSomeAnd}
 use Rattle.std.proofs.lemmas.Bool.{cases_lt, cases_Bool, false≢true}
-use Rattle.std.proofs.lemmas.Option.{slice_get-get_or, slice_get_past}
+use Rattle.std.proofs.lemmas.Option.{slice_get-get_or, slice_get_past, slice_get_within, get_or_from_slice_get}
 use Rattle.hx_board.specs.Sets.{has, intersection}
 use Rattle.hx_board.specs.Positions.{Board, IsEmpty}
 use Rattle.hx_board.proofs.ListLaws.{of_contained}
@@ -71,6 +71,40 @@ outside-not_shared links threats cell outside shared =
     let Q : Option Link → Type 0 = λ o. IsSomeAnd o (λ link. has link.carrier cell ≡ true) in
     false≢true (sym outside.outside
     ∙ subst Q outside.there (of_contained (λ (place : ℕ). Q (slice_get links place)) threats outside.place shared outside.is_threat))
+
+-- ---- the same by the place among the threats
+
+abbrev Lacks : List Link → ℕ → ℕ → Type 0
+Lacks links cell place = IsSomeAnd (slice_get links place) (λ link. has link.carrier cell ≡ false)
+
+pub outside-lacks : (links : List Link) (threats : List ℕ) (cell : ℕ) → IsOutsideThreat links threats cell
+    → (k : ℕ) × IsSomeAnd (slice_get threats k) (Lacks links cell)
+outside-lacks links threats cell out =
+    let P : Option ℕ → Type 0 = λ o. IsSomeAnd o (Lacks links cell) in
+    let Q : Option Link → Type 0 = λ o. IsSomeAnd o (λ link. has link.carrier cell ≡ false) in
+    let at : slice_get threats out.is_threat.0 ≡ Some out.place =
+    slice_get-get_or threats out.is_threat.0 out.place out.is_threat.1 ∙ ap Some out.is_threat.2 in
+    (out.is_threat.0, subst P (sym at) (subst Q (sym out.there) out.outside))
+
+link-outside : (links : List Link) (threats : List ℕ) (cell k place : ℕ) → slice_get threats k ≡ Some place → (found : Option Link)
+    → slice_get links place ≡ found → IsSomeAnd found (λ link. has link.carrier cell ≡ false) → IsOutsideThreat links threats cell
+link-outside links threats cell k place at None there lacks = absurd lacks
+link-outside links threats cell k place at (Some link) there lacks = record {
+  place = place;
+  is_threat = (k, slice_get_within threats k place at, get_or_from_slice_get threats k place place at);
+  link = link;
+  there = there;
+  outside = lacks;
+}
+
+place-outside : (links : List Link) (threats : List ℕ) (cell k : ℕ) (found : Option ℕ) → slice_get threats k ≡ found
+    → IsSomeAnd found (Lacks links cell) → IsOutsideThreat links threats cell
+place-outside links threats cell k None at lacks = absurd lacks
+place-outside links threats cell k (Some place) at lacks = link-outside links threats cell k place at (slice_get links place) refl lacks
+
+pub lacks-outside : (links : List Link) (threats : List ℕ) (cell : ℕ) → (k : ℕ) × IsSomeAnd (slice_get threats k) (Lacks links cell)
+    → IsOutsideThreat links threats cell
+lacks-outside links threats cell lacks = place-outside links threats cell lacks.0 (slice_get threats lacks.0) refl lacks.1
 
 -- ---- threats one after the other
 

@@ -1,71 +1,49 @@
 -- When each move of the opponent's is answered that a node has to answer.
-use Rattle.std.specs.Prelude.{ℕ, List, map, slice_get, IsSomeAnd, IfSome, Contains, ◌≡◌, ◌⊎◌}
+use Rattle.std.specs.Prelude.{ℕ, true, false, List, map, slice_get, IsSomeAnd, IfSome, Contains, ◌≡◌, ◌⊎◌}
 use Rattle.std.specs.List.{All}
 use Rattle.std.specs.List.Sorted.{IsStrictlyIncreasing}
 use Rattle.hx_board.specs.Colours.{other_of}
+use Rattle.hx_board.specs.Sets.{has}
 use Rattle.hx_board.specs.Positions.{Board, IsEmpty, put}
-use Rattle.hx_inferior.specs.declared.dominations.Kill.{Kill}
 use Rattle.hx_inferior.specs.Inferior.{IsDominated}
 use Rattle.hx_link.specs.declared.links.Link.{Link}
 use Rattle.hx_link.specs.declared.steps.Step.{Step}
 use Rattle.hx_tree.specs.declared.nodes.Heading.{Heading}
 use Rattle.hx_tree.specs.declared.nodes.Line.{Line}
 use Rattle.hx_tree.specs.declared.nodes.Line.TheVariants.{Child, Under}
-use Rattle.hx_tree.specs.Headings.{IsHeading}
-use Rattle.hx_tree.specs.Steps.{GiveLinks, AreThreats, IsInEachThreat, IsOutsideThreat}
+use Rattle.hx_tree.specs.Headings.{Leads}
+use Rattle.hx_tree.specs.Steps.{GiveLinks, AreThreats}
 
 -- the cell that a line answers
 abbrev pub cell_of : Line → ℕ
 cell_of (Child cell child) = cell
 cell_of (Under cell better kill) = cell
 
-abbrev pub cells_of : List Line → List ℕ
-cells_of lines = map cell_of lines
-
--- the cells of which the fact holds, each once and in cell order, and nothing else
+-- the cells of which the fact holds, each once and in cell order
 pub record AreInOrder (Fact : ℕ → Type 0) (cells : List ℕ) : Type 0 where
   pub each : (cell : ℕ) → Fact cell → Contains cells cell
   pub only : All Fact cells
   pub in_order : IsStrictlyIncreasing cells
 
--- a move that breaks all threats: an empty cell in the carriers of them all, and so any empty cell where there is no
--- threat
+-- an empty cell in the carriers of all threats, and so any empty cell where there is no threat
 pub record IsToAnswer (board : Board) (links : List Link) (threats : List ℕ) (cell : ℕ) : Type 0 where
   pub empty : IsEmpty board cell
-  pub shared : IsInEachThreat links threats cell
+  pub shared : (k : ℕ) → IfSome (slice_get threats k)
+      (λ place. IsSomeAnd (slice_get links place) (λ link. has link.carrier cell ≡ true))
 
--- some line answers the cell by a child
-abbrev pub HasChild : List Line → ℕ → Type 0
-HasChild lines cell = (child : ℕ) × Contains lines (Child cell child)
-
--- an earlier heading says that the winner wins after the opponent's stone on the cell
-abbrev pub IsRightChild : List Heading → Heading → ℕ → ℕ → Type 0
-IsRightChild before heading cell child =
-    IsSomeAnd (slice_get before child)
-    (IsHeading (put heading.position (other_of heading.winner) cell) heading.winner heading.winner)
-
--- the better cell dominates the cell for the opponent, and it has a line with a child or is outside the carrier of some
--- threat
-pub record IsRightUnder (heading : Heading) (links : List Link) (threats : List ℕ) (lines : List Line)
-    (cell better : ℕ) (kill : Kill) : Type 0 where
-  pub dominated : IsDominated heading.position (other_of heading.winner) better cell kill
-  pub answered : HasChild lines better ⊎ IsOutsideThreat links threats better
-
--- a line has a right child, or names a better cell that is answered without a better one
+-- after the opponent's move to the cell the winner wins by an earlier heading; or a better cell dominates it, which has
+-- a line with a child or is outside the carrier of some threat
 abbrev pub IsRightLine : List Heading → Heading → List Link → List ℕ → List Line → Line → Type 0
-IsRightLine before heading links threats lines (Child cell child) = IsRightChild before heading cell child
+IsRightLine before heading links threats lines (Child cell child) =
+    Leads before child (put heading.position (other_of heading.winner) cell) heading.winner heading.winner
 IsRightLine before heading links threats lines (Under cell better kill) =
-    IsRightUnder heading links threats lines cell better kill
+    IsDominated heading.position (other_of heading.winner) better cell kill
+    × (((child : ℕ) × Contains lines (Child better child))
+    ⊎ ((k : ℕ) × IsSomeAnd (slice_get threats k)
+    (λ place. IsSomeAnd (slice_get links place) (λ link. has link.carrier better ≡ false))))
 
--- the threats are links of these; each cell to answer has exactly one line, in cell order, and there is no other line;
--- and each line is right
-pub record AreAnswered (before : List Heading) (heading : Heading)
-    (links : List Link) (threats : List ℕ) (lines : List Line) : Type 0 where
-  pub threats_right : AreThreats links threats
-  pub cells : AreInOrder (IsToAnswer heading.position links threats) (cells_of lines)
-  pub lines_right : (k : ℕ) → IfSome (slice_get lines k) (IsRightLine before heading links threats lines)
-
--- the opponent is to move and has a move, the steps are right, and his moves are answered by threats and lines
+-- the opponent is to move and has a move; the steps give links, with the threats among them; each cell to answer has
+-- one line, and no other cell has one; and each line is right
 pub record IsRightAll (before : List Heading) (heading : Heading)
     (steps : List Step) (threats : List ℕ) (lines : List Line) : Type 0 where
   pub mover : heading.to_move ≡ other_of heading.winner
@@ -73,4 +51,28 @@ pub record IsRightAll (before : List Heading) (heading : Heading)
   pub some_empty : IsEmpty heading.position some
   pub links : List Link
   pub steps_right : GiveLinks heading.position heading.winner steps links
-  pub answered : AreAnswered before heading links threats lines
+  pub threats_right : AreThreats links threats
+  pub cells : AreInOrder (IsToAnswer heading.position links threats) (map cell_of lines)
+  pub lines_right : (k : ℕ) → IfSome (slice_get lines k) (IsRightLine before heading links threats lines)
+
+-- ---- for functions and proofs
+
+-- what `IsRightAll` asks of the threats and the lines
+pub record AreAnswered (before : List Heading) (heading : Heading)
+    (links : List Link) (threats : List ℕ) (lines : List Line) : Type 0 where
+  pub threats_right : AreThreats links threats
+  pub cells : AreInOrder (IsToAnswer heading.position links threats) (map cell_of lines)
+  pub lines_right : (k : ℕ) → IfSome (slice_get lines k) (IsRightLine before heading links threats lines)
+
+-- the cells that the lines answer
+abbrev pub cells_of : List Line → List ℕ
+cells_of lines = map cell_of lines
+
+-- some line answers the cell by a child
+abbrev pub HasChild : List Line → ℕ → Type 0
+HasChild lines cell = (child : ℕ) × Contains lines (Child cell child)
+
+-- the winner wins after the opponent's stone on the cell by an earlier heading
+abbrev pub IsRightChild : List Heading → Heading → ℕ → ℕ → Type 0
+IsRightChild before heading cell child =
+    Leads before child (put heading.position (other_of heading.winner) cell) heading.winner heading.winner

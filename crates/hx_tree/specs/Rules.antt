@@ -1,6 +1,6 @@
 -- When a node is right. Its board is a position, which laws over lists of nodes need: a list that
 -- only a proof speaks of may have boards that are none.
-use Rattle.std.specs.Prelude.{◌≡◌, ℕ, List, [], slice_get, IsSomeAnd}
+use Rattle.std.specs.Prelude.{◌≡◌, ℕ, List, []}
 use Rattle.hx_board.specs.Colours.{other_of}
 use Rattle.hx_board.specs.Positions.{IsBoard, IsEmpty, put}
 use Rattle.hx_board.specs.Graph.{HasChain}
@@ -9,18 +9,17 @@ use Rattle.hx_tree.specs.declared.nodes.Heading.{Heading}
 use Rattle.hx_tree.specs.declared.nodes.Node.{Node}
 use Rattle.hx_tree.specs.declared.nodes.Rule.{Rule}
 use Rattle.hx_tree.specs.declared.nodes.Rule.TheVariants.{Chain, Links, Move, All, Fill, Turned}
-use Rattle.hx_tree.specs.Headings.{IsHeading}
+use Rattle.hx_tree.specs.Headings.{Leads}
 use Rattle.hx_tree.specs.Steps.{AreRightLinks}
 use Rattle.hx_tree.specs.Answers.{IsRightAll}
 use Rattle.hx_tree.specs.Fills.{IsRightFill}
 use Rattle.hx_tree.specs.Turns.{IsRightTurn}
 
--- the winner moves to an empty cell, and an earlier heading says that it wins the position after that
+-- the winner moves to an empty cell, and wins the board after that by an earlier heading
 pub record IsRightMove (before : List Heading) (heading : Heading) (cell child : ℕ) : Type 0 where
   pub mover : heading.to_move ≡ heading.winner
   pub empty : IsEmpty heading.position cell
-  pub leads : IsSomeAnd (slice_get before child)
-      (IsHeading (put heading.position heading.winner cell) (other_of heading.winner) heading.winner)
+  pub leads : Leads before child (put heading.position heading.winner cell) (other_of heading.winner) heading.winner
 
 -- the rule shows that the heading's winner wins, where the winners of the headings before it do
 abbrev pub IsRightRule : List Heading → Heading → Rule → Type 0

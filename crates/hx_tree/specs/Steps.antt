@@ -12,34 +12,39 @@ use Rattle.hx_link.specs.Steps.{AreRightSteps, IsChainLink}
 use Rattle.hx_tree.specs.declared.nodes.Heading.{Heading}
 use Rattle.hx_tree.specs.declared.steps.TheConstants.{MOST_STEPS, MOST_THREATS}
 
--- not too many steps, each of which gives a link after the links of those before it; these are the links
+-- not too many steps, which give these links one after the other
 pub record GiveLinks (board : Board) (player : Colour) (steps : List Step) (links : List Link) : Type 0 where
   pub few : length steps ≤ MOST_STEPS
   pub right : AreRightSteps board player [] steps links
 
--- the last link joins the winner's two sides, and it is Full, or the winner is to move
+-- the steps give links, and the last of these joins the winner's two sides, and is Full, or the winner is to move
+pub record AreRightLinks (heading : Heading) (steps : List Step) : Type 0 where
+  pub links : List Link
+  pub steps_right : GiveLinks heading.position heading.winner steps links
+  pub last : Link
+  pub is_last : slice_get links (length links - 1) ≡ Some last
+  pub joins : IsChainLink last
+  pub in_time : (last.kind ≡ Full) ⊎ (heading.to_move ≡ heading.winner)
+
+-- not too many threats, each the place of a link that joins the two sides
+pub record AreThreats (links : List Link) (threats : List ℕ) : Type 0 where
+  pub few : length threats ≤ MOST_THREATS
+  pub each : (k : ℕ) → IfSome (slice_get threats k) (λ place. IsSomeAnd (slice_get links place) IsChainLink)
+
+-- ---- for functions and proofs
+
+-- what `AreRightLinks` asks of the last link
 pub record ShowWin (heading : Heading) (links : List Link) : Type 0 where
   pub last : Link
   pub is_last : slice_get links (length links - 1) ≡ Some last
   pub joins : IsChainLink last
   pub in_time : (last.kind ≡ Full) ⊎ (heading.to_move ≡ heading.winner)
 
--- the steps are right, and the last of their links shows that the winner wins
-pub record AreRightLinks (heading : Heading) (steps : List Step) : Type 0 where
-  pub links : List Link
-  pub steps_right : GiveLinks heading.position heading.winner steps links
-  pub shown : ShowWin heading links
-
--- a threat is the place of a link that joins the two sides
+-- what `AreThreats` asks of each threat
 abbrev pub IsThreat : List Link → ℕ → Type 0
 IsThreat links place = IsSomeAnd (slice_get links place) IsChainLink
 
--- not too many threats
-pub record AreThreats (links : List Link) (threats : List ℕ) : Type 0 where
-  pub few : length threats ≤ MOST_THREATS
-  pub each : (k : ℕ) → IfSome (slice_get threats k) (IsThreat links)
-
--- the cell is in the carriers of all threats
+-- what `IsToAnswer` asks of a cell
 abbrev pub IsInEachThreat : List Link → List ℕ → ℕ → Type 0
 IsInEachThreat links threats cell =
     (k : ℕ) → IfSome (slice_get threats k)
@@ -53,7 +58,7 @@ pub record IsOutsideThreat (links : List Link) (threats : List ℕ) (cell : ℕ)
   pub there : slice_get links place ≡ Some link
   pub outside : has link.carrier cell ≡ false
 
--- the place of a link on this carrier that joins the two sides, for the functions inside the crate
+-- the place of a link on this carrier that joins the two sides
 pub record IsThreatOn (links : List Link) (place carrier : ℕ) : Type 0 where
   pub link : Link
   pub there : slice_get links place ≡ Some link

@@ -3,7 +3,7 @@
 ghost use Rattle.std.specs.Prelude.{◌↔◌, IsTrue, IsSomeAnd, slice_get};
 ghost use Rattle.hx_board.specs.Colours.{other_of};
 ghost use Rattle.hx_board.specs.Positions.{IsEmpty, put};
-ghost use Rattle.hx_tree.specs.Headings.{IsHeading};
+ghost use Rattle.hx_tree.specs.Headings.{Leads, IsHeading};
 
 use crate::nodes::Heading;
 use hx_board::{Cell, Colour, Position};
@@ -17,8 +17,8 @@ pub(crate) fn leads(
     child: u32,
 ) -> bool
     requires { IsEmpty heading.now.position cell }
-    ensures { IsTrue result ↔ IsSomeAnd (slice_get before.now child)
-        (IsHeading (put heading.now.position stone cell) (other_of stone) heading.now.winner) }
+    ensures { IsTrue result
+        ↔ Leads before.now child (put heading.now.position stone cell) (other_of stone) heading.now.winner }
 {
     let expected = heading.position.with(stone, cell);
     says(before, child, &expected, stone.other(), heading.winner)
@@ -32,6 +32,13 @@ pub(crate) fn says(
     mover: Colour,
     winner: Colour,
 ) -> bool
+    ensures { IsTrue result ↔ Leads before.now child position.now mover winner }
+{
+    is_at(before, child, position, mover, winner)
+}
+
+/// Whether the heading at this place has this position, mover and winner.
+fn is_at(before: &[Heading], child: u32, position: &Position, mover: Colour, winner: Colour) -> bool
     ensures { IsTrue result
         ↔ IsSomeAnd (slice_get before.now child) (IsHeading position.now mover winner) }
 {

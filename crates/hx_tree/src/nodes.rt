@@ -1,6 +1,9 @@
 //! The nodes of a strategy tree. Each says who wins a position, and by which rule. A tree is a list of nodes, in which
 //! a node names its children by their places before it. The lines that answer the opponent's moves are part of a node, and
 //! so is their list.
+//!
+//! Hayward, van Rijswijck, Arneson and Henderson call the cells that all threats share the mustplay region: only a move there
+//! has a line, and without a threat each move has one.
 
 ghost use Rattle.std.specs.Prelude.{◌≡◌};
 ghost use Rattle.std.specs.Cmp.Lexicographic.{pointwise, lists_per, lists_equiv};
@@ -22,61 +25,53 @@ pub struct Heading {
     pub winner: Colour,
 }
 
-/// Why the winner wins.
+/// Why the winner wins. A child is an earlier node of the tree, named by its place.
 #[derive(PartialEq, Eq, Debug, Drop)]
 pub enum Rule {
     /// The winner has a chain.
     Chain,
 
-    /// The steps, of which there are at most 8,192, make links of the winner's, and the last one joins the winner's two
-    /// sides: a Full link, or a Semi link where the winner is to move.
+    /// The steps make links of the winner's, and the last one joins the two sides, by itself or with the winner's move.
     Links {
         steps: Steps,
     },
 
-    /// The winner moves to a cell, and wins the position after that move by the child, an earlier node of the tree.
+    /// The winner moves to the cell, and then wins by the child.
     Move {
         cell: Cell,
         child: u32,
     },
 
-    /// The opponent is to move and has a move, and whichever cell he moves to, the winner wins after it. The threats, of
-    /// which there are at most 128, are places of links that join the winner's two sides. A move that leaves one of them
-    /// whole loses by that link. Each other move is to an empty cell in the carriers of all threats, or, where there is no
-    /// threat, to any empty cell; its line says why the winner wins after it. The lines stand in cell order.
-    ///
-    /// Hayward, van Rijswijck, Arneson and Henderson call the cells that all threats share the mustplay region.
+    /// The opponent is to move. The threats are places of links that join the winner's two sides: a move that leaves one whole
+    /// loses. Each other move has a line, which says why the winner wins after it.
     All {
         steps: Steps,
         threats: Threats,
         lines: Lines,
     },
 
-    /// The cells are filled for the winner, by one step after the other, of which there is one at least. The winner wins the
-    /// position after them, with the same player to move, by the child, an earlier node of the tree.
+    /// The steps fill cells, one after the other, and then the winner wins by the child, with the same player to move.
     Fill {
         steps: FillSteps,
         child: u32,
     },
 
-    /// The winner wins the position turned by 180 degrees, with the same player to move, by the child, an earlier node of the
-    /// tree.
+    /// The winner wins the position turned by 180 degrees by the child, with the same player to move.
     Turned {
         child: u32,
     },
 }
 
-/// Why the winner wins after a move of the opponent.
+/// Why the winner wins after the opponent's move to the cell.
 #[derive(Clone, Copy, PartialEq, Eq, Debug)]
 pub enum Line {
-    /// After the opponent's move to the cell the winner wins by the child, an earlier node of the tree.
+    /// By the child, an earlier node of the tree.
     Child {
         cell: Cell,
         child: u32,
     },
 
-    /// The cell is dominated by the better cell, which has a Child line or lies outside some threat's carrier. The kill says
-    /// how the cell is killed by the opponent's move to the better one.
+    /// The better cell dominates it, in the way of the kill, and has a Child line or leaves a threat whole.
     Under {
         cell: Cell,
         better: Cell,

@@ -1,15 +1,14 @@
 -- A node by fill steps is right, where the position that they leave is that of a known heading.
-use Rattle.std.proofs.Common.{◌≡◌, ◌≢◌, ℕ, List, [], refl, sym, subst}
-use Rattle.std.specs.Prelude.{slice_get, IsSomeAnd}
-use Rattle.std.specs.declared.option.Option.{Option}
+use Rattle.std.proofs.Common.{◌≡◌, ◌≢◌, ℕ, List, [], sym, ap, ◌∙◌}
+use Rattle.std.specs.Prelude.{slice_get}
 use Rattle.std.specs.declared.option.Option.TheVariants.{Some}
 use Rattle.hx_board.specs.declared.colours.Colour.{Colour}
 use Rattle.hx_board.specs.Positions.{Board, IsBoard}
 use Rattle.hx_inferior.specs.declared.fills.FillStep.{FillStep}
 use Rattle.hx_tree.specs.declared.nodes.Heading.{Heading}
 use Rattle.hx_tree.specs.declared.nodes.Rule.TheVariants.{Fill}
-use Rattle.hx_tree.specs.Fills.{filled_all, LeadTo}
-use Rattle.hx_tree.specs.Headings.{IsHeading}
+use Rattle.hx_tree.specs.Fills.{LeadTo}
+use Rattle.hx_tree.specs.Headings.{heading_of}
 use Rattle.hx_tree.specs.Rules.{IsRightNode}
 use Rattle.hx_nodes.proofs.MoveNodes.{node_of}
 
@@ -19,12 +18,11 @@ pub known_fill_right : (headings : List Heading) (board final : Board) (mover wi
     → LeadTo board winner steps final
     → IsRightNode headings (node_of board mover winner (Fill steps child))
 known_fill_right headings board final mover winner steps child valid there some lead =
-    let P : Option Heading → Type 0 = λ heading. IsSomeAnd heading (IsHeading (filled_all board winner steps) mover winner) in
     record {
       board = valid;
       rule = record {
         some = some;
         right = lead.right;
-        leads = subst P (sym there) (record { same_position = sym lead.same; same_mover = refl; same_winner = refl });
+        leads = there ∙ ap (λ (b : Board). Some (heading_of b mover winner)) (sym lead.same);
       };
     }

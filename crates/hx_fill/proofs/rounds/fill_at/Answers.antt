@@ -1,3 +1,7 @@
+use Rattle.std.proofs.Common.{refl, sym, ◌∙◌}
+use Rattle.std.proofs.lemmas.Bool.{false≢true}
+use Rattle.hx_inferior.proofs.PairLaws.{pair-b_empty, pair-differ}
+use Rattle.hx_fill.specs.Rounds.{Leaves}
 use Rattle.hx_fill.proofs.GrowthLaws.{empty_then, dead_grown, pair_grown}
 use Rattle.hx_fill.proofs.RoundLaws.{empties-dead, empties-pair, fills_dead, fills_pair}
 use Rattle.hx_fill.proofs.rounds.fill_at.Goals as goal
@@ -61,3 +65,22 @@ returns-in_ok-add-in-Some-clause-empties c =
     rw (c.without-in-Some-2.ensures.set, c.without-in-Some.ensures.set)
     (empties-pair c.args.filled.now.position _ c.args.colour c.args.cell c.in-Some.partner c.args.empties _ _ c.requires.empties
     c.in_ok-add-in-Some.ensures)
+
+pub returns-in-None-clause-looks : goal.returns-in-None-clause-looks
+returns-in-None-clause-looks c =
+    let makers = rw c.requires.colour at c.makers_of-makers.ensures in
+    let none = rw c.requires.colour at c.in-None.ensures in
+    Leaves refl refl (record {
+      not_dead = λ dead. false≢true (sym c.if-makers.false ∙ makers.dead.1 dead);
+      no_pair = λ other empty pair. none other (
+        (makers.cells other).1 (
+          (c.requires.empties other).1 empty,
+          record {
+            empty = pair-b_empty c.args.view.now.board c.args.colour c.args.cell other pair;
+            differ = λ e. pair-differ c.args.view.now.board c.args.colour c.args.cell other pair (sym e);
+            dead = pair.a_dead;
+          },
+        ),
+        pair,
+      );
+    })

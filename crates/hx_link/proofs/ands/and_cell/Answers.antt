@@ -4,10 +4,10 @@ use Rattle.hx_link.proofs.MeetingLaws.{no_cell, cell-made, cell-middle}
 use Rattle.hx_link.proofs.ands.and_cell.Goals as goal
 
 pub returns-in_default : goal.returns-in_default
-returns-in_default c = λ link g. no_cell _ _ _ _ _ link c.in_default.ensures g.rule
+returns-in_default c = λ link g. no_cell _ _ _ _ _ link c.in_default.ensures g.rule g.link_ok
 
 pub returns-in_default-middle_cell : goal.returns-in_default-middle_cell
-returns-in_default-middle_cell c = λ link g. let w = cell-middle _ _ _ _ _ link c.in-Some.met c.in-Some.ensures g.rule in
+returns-in_default-middle_cell c = λ link g. let w = cell-middle _ _ _ _ _ link c.in-Some.met c.in-Some.ensures g.rule g.link_ok in
     c.in_default-middle_cell.ensures w.0 w.1
 
 pub returns : goal.returns

@@ -17,9 +17,20 @@ right_all : (before : List Heading) (heading : Heading) (steps : List Step) (thr
     → GiveLinks heading.position heading.winner steps links
     → IsTrue answer ↔ AreAnswered before heading links threats lines → IsTrue answer ↔ IsRightAll before heading steps threats lines
 right_all before heading steps threats lines links answer mover some given answers = (
-  λ yes. record { mover = mover; some = some.0; some_empty = some.1; links = links; steps_right = given; answered = answers.0 yes },
+  λ yes. let answered : AreAnswered before heading links threats lines = answers.0 yes in
+      record {
+        mover = mover;
+        some = some.0;
+        some_empty = some.1;
+        links = links;
+        steps_right = given;
+        threats_right = answered.threats_right;
+        cells = answered.cells;
+        lines_right = answered.lines_right;
+      },
   λ right. let P : List Link → Type 0 = λ ls. AreAnswered before heading ls threats lines in
-      answers.1 (subst P (same_links heading.position heading.winner steps right.links links right.steps_right given) right.answered),
+      answers.1 (subst P (same_links heading.position heading.winner steps right.links links right.steps_right given)
+      (record { threats_right = right.threats_right; cells = right.cells; lines_right = right.lines_right })),
 )
 
 pub returns-in-Some-clause-right : goal.returns-in-Some-clause-right

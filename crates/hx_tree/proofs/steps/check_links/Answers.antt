@@ -11,9 +11,18 @@ right_links : (heading : Heading) (steps : List Step) (links : List Link) (answe
     → GiveLinks heading.position heading.winner steps links
     → IsTrue answer ↔ ShowWin heading links → IsTrue answer ↔ AreRightLinks heading steps
 right_links heading steps links answer given shows = (
-  λ yes. record { links = links; steps_right = given; shown = shows.0 yes },
+  λ yes. let shown : ShowWin heading links = shows.0 yes in
+      record {
+        links = links;
+        steps_right = given;
+        last = shown.last;
+        is_last = shown.is_last;
+        joins = shown.joins;
+        in_time = shown.in_time;
+      },
   λ right. shows.1 (subst (ShowWin heading)
-      (same_links heading.position heading.winner steps right.links links right.steps_right given) right.shown),
+      (same_links heading.position heading.winner steps right.links links right.steps_right given)
+      (record { last = right.last; is_last = right.is_last; joins = right.joins; in_time = right.in_time })),
 )
 
 pub returns-in-Some-clause-right : goal.returns-in-Some-clause-right

@@ -35,7 +35,7 @@ returns c =
     let makers = rw c.after-own.ensures at c.makers_of-makers.ensures in
     let partner = rw c.after-own.ensures at c.partner_of.ensures in
     partner-dominates c.args.self.now.position c.args.self.now.mover c.args.better c.args.worse c.makers_of-makers.result.cells
-    c.partner_of.result c.requires.better c.requires.worse c.requires.differ
+    c.partner_of.result c.requires.better
     (no_pair-by_makers _ _ c.args.worse c.without-among.result c.makers_of-makers.result makers
     (λ n empty. let before = (empty-put c.args.self.now.position c.args.self.now.mover c.args.better n).0 empty in
     rw c.without-among.ensures.set (has-remove_other c.empties.result c.args.better n before.1 ((c.empties.ensures n).1 before.0)))) partner
