@@ -153,8 +153,8 @@ pub(crate) fn add_useful(
     grow(set, workspace, until)
 }
 
-/// Adds the links that a call added before to a set in this state; or useful ones, until one decides the position, and keeps their
-/// steps.
+/// Adds the links that a call added before to a set in this state; or useful ones, until one decides the position, and keeps
+/// their steps.
 fn add_or_replay(
     set: &mut LinkSet,
     workspace: &mut Workspace,
@@ -197,8 +197,8 @@ pub fn reach(set: &mut LinkSet, to_move: Colour) -> Result<Reached, Memory>
     }
 }
 
-/// As `reach`, in a workspace of the caller's. What it held before makes no difference but for the time, where no two states share a
-/// number.
+/// As `reach`, in a workspace of the caller's. Where no two states of sets share a number, what it held before makes no
+/// difference but for the time.
 pub fn reach_with(
     workspace: &mut Workspace,
     set: &mut LinkSet,

@@ -1,8 +1,8 @@
 //! The steps that reaches added, for the next reach from the same state of a set.
 //!
-//! A search comes back to positions that it left, by the same moves, and then its sets stand as they stood there before. A reach
-//! adds the same links again. So its steps are kept, and the next reach from that state adds them one after the other, and looks
-//! for no others.
+//! A search comes back to positions that it left, by the same moves, and then its sets stand as they stood there before. A
+//! reach adds the same links again. So its steps are kept, and the next reach from that state adds them one after the other,
+//! and looks for no others.
 //!
 //! A state is known by its number alone. Where two states share one, steps may be added that a reach would not have found, and
 //! others left out; the set judges each step as ever, so no claim rests on a number.
@@ -40,8 +40,8 @@ enum Kept {
 #[derive(Clone, Copy)]
 struct Unkept;
 
-/// What a reach added: the number of the state that it began with, and its steps, from one place to before another. Places count
-/// all that was ever kept.
+/// What a reach added: the number of the state that it began with, and its steps, from one place to before another. Places
+/// count all that was ever kept.
 #[derive(Clone, Copy)]
 struct Record {
     number: u64,
@@ -70,8 +70,8 @@ impl Replays {
         }
     }
 
-    /// Adds the steps that a reach added to a set in the state of this number, where they are kept, until one gives no link. Whether
-    /// all were there and gave links.
+    /// Adds the steps that a reach added to a set in the state of this number, where they are kept, until one gives no link.
+    /// Whether all were there and gave links.
     pub(crate) fn replay(&self, set: &mut LinkSet, number: u64) -> Result<bool, Memory>
         ensures { IsGrown set.old set.new }
     {
@@ -88,7 +88,7 @@ impl Replays {
         Ok(true)
     }
 
-    /// Adds the step at a place. Whether it gave a link, or is part of another one.
+    /// Adds the step at a place. Whether it gave a link, or there is none.
     fn add_at(&self, set: &mut LinkSet, place: u64) -> Result<bool, Memory>
         ensures { IsGrown set.old set.new }
     {
@@ -198,7 +198,7 @@ impl Replays {
         Ok(())
     }
 
-    /// The step at a place, on a board of this size. None where there is a part of one.
+    /// The step at a place, on a board of this size. None where there is none of its own, but a part of an Or.
     fn step_at(&self, alloc: Global, size: Size, place: u64) -> Result<Option<Step>, Memory> {
         match self.at(place) {
             Some(Kept::Base { a, b }) => Ok(base_of(size, a, b)),

@@ -11,8 +11,9 @@ use hx_link::{Kind, Link};
 use hx_linkset::LinkSet;
 use std::alloc::Global;
 
-/// Room that `reach_with` works in. A caller may keep it from one call to the next, for whatever set, so that its memory is taken
-/// once. Beside its memory the steps last that calls added, and save the search for them where a set comes back to a state.
+/// Room that `reach_with` works in. A caller may keep it from one call to the next, for whatever set, so that its memory is
+/// taken once. Beside its memory the steps last that calls added, and save the search for them where a set comes back to a
+/// state.
 #[derive(Drop)]
 pub struct Workspace {
     pub(crate) ends: Ends,

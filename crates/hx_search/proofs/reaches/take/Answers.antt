@@ -32,4 +32,5 @@ returns-in-Ok-Limit-clause-grown c =
     grown-same c.args.set.now c.add_unlooked.new.self (added.same ∙ c.loop.invariant)
 
 pub returns-in-Err-add_unlooked-clause-grown : goal.returns-in-Err-add_unlooked-clause-grown
-returns-in-Err-add_unlooked-clause-grown c = grown-same c.args.set.now c.add_unlooked.new.self (c.in-Err-add_unlooked.ensures.memory ∙ c.loop.invariant)
+returns-in-Err-add_unlooked-clause-grown c =
+    grown-same c.args.set.now c.add_unlooked.new.self (c.in-Err-add_unlooked.ensures.memory ∙ c.loop.invariant)
