@@ -1,4 +1,5 @@
 pub mod LiveLaws
+mod LossLaws
 pub mod GivenLaws
 pub mod KeptLaws
 pub mod RightLaws

@@ -66,3 +66,25 @@ IsAdded old new step (New place) = IsNew old new step place
 IsAdded old new step (Covered place) = IsCovered old new step place
 IsAdded old new step Refused = IsRefused old new step
 IsAdded old new step Limit = IsAtLimit old new step
+
+-- the step's link now stands after the others, whether a live link covers it or not, and all else is as before
+pub record IsPutAt (old new : Standing) (step : Step) (place : ℕ) : Type 0 where
+  pub link : Link
+  pub gives : Gives old step link
+  pub place_is : place ≡ length old.present.links
+  pub small : place < MOST_LINKS
+  pub grown : new ≡ record old { present = added old.present link step }
+
+-- the step gives a link from live links, but `MOST_LINKS` are held already, and nothing changes
+pub record IsKeptOut (old new : Standing) (step : Step) : Type 0 where
+  pub link : Link
+  pub gives : Gives old step link
+  pub full : length old.present.links ≡ MOST_LINKS
+  pub same : new ≡ old
+
+-- what each answer of a call says that looks for no cover
+abbrev pub IsPut : Standing → Standing → Step → Added → Type 0
+IsPut old new step (New place) = IsPutAt old new step place
+IsPut old new step (Covered place) = ⊥
+IsPut old new step Refused = IsRefused old new step
+IsPut old new step Limit = IsKeptOut old new step

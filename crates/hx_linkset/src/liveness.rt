@@ -10,8 +10,9 @@
 ghost use Rattle.std.specs.Prelude.{◌≡◌, ◌↔◌, IsTrue, false};
 ghost use Rattle.hx_board.specs.declared.colours.Colour.{Colour};
 ghost use Rattle.hx_board.specs.Positions.{Board};
+ghost use Rattle.hx_link.specs.Steps.{IsEnd};
 ghost use Rattle.hx_linkset.specs.States.{IsLive};
-ghost use Rattle.hx_linkset.specs.Telling.{Tells};
+ghost use Rattle.hx_linkset.specs.Telling.{Tells, AreLosses};
 
 use hx_board::{Colour, Mask, Position, VertexSet};
 use hx_link::{Link, ends_of};
@@ -43,27 +44,60 @@ pub(crate) fn is_live(liveness: &Liveness, link: &Link) -> bool
     link.carrier.inside(liveness.empties) && liveness.ends.has(link.a) && liveness.ends.has(link.b)
 }
 
-/// Whether a link that is live before a play is live after it. Where no end was taken, the carrier alone tells.
-#[inline(always)]
-fn stays(before: &Liveness, after: &Liveness, link: &Link) -> bool
-    ensures { (old new : Board) (player : Colour)
-        → Tells before.now old player → Tells after.now new player → IsLive old player link.now
-        → IsTrue result ↔ IsLive new player link.now }
-{
-    let (_a, _b) = (link.a.code(), link.b.code());
-    link.carrier.inside(after.empties)
-        && (before.ends == after.ends || (after.ends.has(link.a) && after.ends.has(link.b)))
+/// What a play takes away from the links of a player.
+#[derive(Clone, Copy)]
+pub(crate) struct Losses {
+    /// The cells that it fills.
+    pub(crate) filled: Mask,
+
+    /// The vertices that may be ends no more, and whether there are any.
+    pub(crate) ends: VertexSet,
+    pub(crate) has_ends: bool,
 }
 
-/// Whether a link is live before a play and not after it.
+/// What a play takes away, by what is live before it and after it.
+pub(crate) fn losses_of(before: &Liveness, after: &Liveness) -> Losses
+    ensures { AreLosses result before.now after.now }
+{
+    Losses {
+        filled: before.empties.minus(after.empties),
+        ends: before.ends.minus(after.ends),
+        has_ends: before.ends != after.ends,
+    }
+}
+
+/// Whether a play takes an end of a link whose carrier is empty before it.
 #[inline(always)]
-pub(crate) fn is_dropped(before: &Liveness, after: &Liveness, link: &Link) -> bool
-    ensures dropped { (old new : Board) (player : Colour)
-        → Tells before.now old player → Tells after.now new player
+fn loses_end(before: &Liveness, losses: &Losses, link: &Link) -> bool
+    ensures lost { (after : Liveness) (new : Board) (player : Colour)
+        → AreLosses losses.now before.now after → Tells after new player
+        → IsTrue result → IsLive new player link.now → ⊥ }
+    ensures kept { (after : Liveness) (old new : Board) (player : Colour)
+        → AreLosses losses.now before.now after → Tells before.now old player
+        → Tells after new player → result ≡ false → IsLive old player link.now
+        → IsEnd new player link.now.a × IsEnd new player link.now.b }
+{
+    let (_a, _b) = (link.a.code(), link.b.code());
+    losses.has_ends
+        && link.carrier.inside(before.empties)
+        && (losses.ends.has(link.a) || losses.ends.has(link.b))
+}
+
+/// Whether a link is live before a play and not after it. Of most links a play takes nothing, so that is asked first.
+#[inline(always)]
+pub(crate) fn is_dropped(before: &Liveness, losses: &Losses, link: &Link) -> bool
+    ensures dropped { (after : Liveness) (old new : Board) (player : Colour)
+        → AreLosses losses.now before.now after → Tells before.now old player
+        → Tells after new player
         → IsTrue result → IsLive old player link.now × (IsLive new player link.now → ⊥) }
-    ensures kept { (old new : Board) (player : Colour)
-        → Tells before.now old player → Tells after.now new player
+    ensures kept { (after : Liveness) (old new : Board) (player : Colour)
+        → AreLosses losses.now before.now after → Tells before.now old player
+        → Tells after new player
         → result ≡ false → IsLive old player link.now → IsLive new player link.now }
 {
-    !stays(before, after, link) && is_live(before, link)
+    let loses_cell = link.carrier.meets(losses.filled);
+    if loses_cell {
+        return is_live(before, link);
+    }
+    loses_end(before, losses, link) && is_live(before, link)
 }

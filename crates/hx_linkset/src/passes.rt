@@ -8,7 +8,7 @@ ghost use Rattle.hx_linkset.specs.Fulls.{AreFullLists};
 use crate::chains::{Chains, FIRST_NODE};
 use crate::fulls::FullLists;
 use crate::limits::MOST_LINKS;
-use crate::liveness::{is_dropped, liveness_of};
+use crate::liveness::{is_dropped, liveness_of, losses_of};
 use hx_board::{Colour, Position};
 use hx_link::Link;
 
@@ -33,8 +33,9 @@ pub(crate) fn drop_dead(
     let _size = before.size();
     let live = liveness_of(before, player);
     let kept = liveness_of(after, player);
+    let losses = losses_of(&live, &kept);
     for (place, link) in links.iter().enumerate() {
-        let drops = is_dropped(&live, &kept, link);
+        let drops = is_dropped(&live, &losses, link);
         if !drops {
             continue;
         }

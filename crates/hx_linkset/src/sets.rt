@@ -21,7 +21,7 @@ ghost use Rattle.hx_board.specs.Positions.{IsEmpty};
 ghost use Rattle.hx_link.specs.declared.links.Kind.{Kind};
 ghost use Rattle.hx_link.specs.declared.links.Link.{Link};
 ghost use Rattle.hx_linkset.specs.States.{IsLive, IsLiveAt, IsRight, IsUntouched, added, played, CanPut, played_all, LeaveAlone};
-ghost use Rattle.hx_linkset.specs.Answers.{Gives, Covers, IsAdded};
+ghost use Rattle.hx_linkset.specs.Answers.{Gives, Covers, IsAdded, IsPut};
 ghost use Rattle.hx_linkset.specs.Held.{IsHeadBetween};
 ghost use Rattle.hx_linkset.specs.LiveOf.{IsLiveOf, IsFirstFrom, ChainLists};
 ghost use Rattle.hx_linkset.specs.LivePairs.{AreLivePairs};
@@ -37,7 +37,7 @@ use crate::limits::MOST_LINKS;
 use crate::liveness::{Liveness, is_live, liveness_of};
 use crate::pairs::{PairIter, in_order};
 use crate::passes::{cut_down, cut_fulls, drop_dead, put_back};
-use crate::plays::{Stage, before_last, can_put, logged_from, stage_of, with_all};
+use crate::plays::{Stage, before_last, can_put, logged_from, number_of, stage_of, with_all};
 use hx_board::{CELLS, Cell, Colour, Groups, Mask, Memory, Position, Vertex, VertexSet};
 use hx_link::{Kind, Link, Step, result_of};
 use std::alloc::Global;
@@ -218,6 +218,20 @@ impl LinkSet {
         }
     }
 
+    /// The step of each link, live or not, at the link's index.
+    pub fn steps(&self) -> &[Step]
+        ensures { result.now ≡ self.now.present.steps }
+    {
+        self.steps.as_slice()
+    }
+
+    /// A number of how the set came to be: of its player, of its position and how many links it holds, and of the same before
+    /// each play that stands. Sets that came about otherwise hardly ever share it.
+    pub fn number(&self) -> u64 {
+        let now = stage_of(&self.position, self.links.as_slice(), self.log.as_slice());
+        number_of(self.colour, &now, self.plays.as_slice())
+    }
+
     /// The position before the stones that were put since the last link came, or since the set was made. Where the last
     /// link came after the last stone it is the position as it stands.
     pub fn before_last_stones(&self) -> Position
@@ -341,6 +355,28 @@ impl LinkSet {
         if let Some(place) = self.covering(&link) {
             return Ok(Added::Covered(place));
         }
+        // The proof takes from here that no more are held.
+        self.keeps();
+        let count = self.count() as usize;
+        if count == MOST_LINKS {
+            return Ok(Added::Limit);
+        }
+        match self.append(link, step) {
+            Ok(index) => Ok(Added::New(index)),
+            Err(Memory) => Err(Memory),
+        }
+    }
+
+    /// Adds the link that a step gives from live links, where there is room, and looks for no cover: that is for callers who
+    /// did. It never answers Covered. After any other answer than New, want of memory included, the set is as before, and the
+    /// step is dropped.
+    pub fn add_unlooked(&mut self, step: Step) -> Result<Added, Memory>
+        ensures added { IfOk result (IsPut self.old self.new step) }
+        ensures memory { OnErr result (self.new ≡ self.old) }
+    {
+        let Some(link) = self.given(&step) else {
+            return Ok(Added::Refused);
+        };
         // The proof takes from here that no more are held.
         self.keeps();
         let count = self.count() as usize;

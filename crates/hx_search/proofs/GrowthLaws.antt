@@ -16,7 +16,7 @@ use Rattle.hx_link.specs.Steps.{GoesOver, GivesByRule}
 use Rattle.hx_link.specs.Named.{links_at}
 use Rattle.hx_link.proofs.OneLink.{step-unique}
 use Rattle.hx_linkset.specs.States.{Standing, IsLive, Names, GivesFromLive, added}
-use Rattle.hx_linkset.specs.Answers.{Gives, Covers, IsNew, IsCovered, IsAtLimit}
+use Rattle.hx_linkset.specs.Answers.{Gives, Covers, IsNew, IsPutAt, IsCovered, IsAtLimit}
 use Rattle.hx_linkset.specs.LiveOf.{IsLiveOf}
 use Rattle.hx_linkset.proofs.GivenLaws.{from_live-live}
 use Rattle.hx_board.proofs.ListLaws.{get-there, get-push_before, get-push_last}
@@ -147,8 +147,9 @@ settled-on old new step g below s link h = let w = s link (gives-before old new 
     (w.0, covers-on old new w.0 link g w.1)
 
 module _ (old new : Standing) (step : Step) where
-  pub new-grown : (place : ℕ) → IsNew old new step place → IsGrown old new
-  new-grown place n = let P : Standing → Type 0 = λ s. IsGrown old s in subst P (sym n.grown) record {
+  -- a link that was put at the end
+  pub put-grown : (place : ℕ) → IsPutAt old new step place → IsGrown old new
+  put-grown place n = let P : Standing → Type 0 = λ s. IsGrown old s in subst P (sym n.grown) record {
     same_player = refl;
     same_board = refl;
     same_past = refl;
@@ -157,9 +158,19 @@ module _ (old new : Standing) (step : Step) where
     steps_stay = λ place held h. get-push_before old.present.steps step place held h;
   }
 
-  pub new-longer : (place : ℕ) → IsNew old new step place → length new.present.links ≡ length old.present.links + 1
-  new-longer place n = let P : Standing → Type 0 = λ s. length s.present.links ≡ length old.present.links + 1 in
+  pub put-longer : (place : ℕ) → IsPutAt old new step place → length new.present.links ≡ length old.present.links + 1
+  put-longer place n = let P : Standing → Type 0 = λ s. length s.present.links ≡ length old.present.links + 1 in
       subst P (sym n.grown) (simp length-append (omega arith))
+
+  -- a new link is one
+  new-put : (place : ℕ) → IsNew old new step place → IsPutAt old new step place
+  new-put place n = record { link = n.link; gives = n.gives; place_is = n.place_is; small = n.small; grown = n.grown }
+
+  pub new-grown : (place : ℕ) → IsNew old new step place → IsGrown old new
+  new-grown place n = put-grown place (new-put place n)
+
+  pub new-longer : (place : ℕ) → IsNew old new step place → length new.present.links ≡ length old.present.links + 1
+  new-longer place n = put-longer place (new-put place n)
 
   pub new-settled : (place : ℕ) → IsNew old new step place → IsSettled new step
   new-settled place n link h =

@@ -23,6 +23,7 @@ mod ors;
 mod pairs;
 mod parts;
 mod reaches;
+mod replays;
 mod tries;
 mod useful_ands;
 mod useful_bases;

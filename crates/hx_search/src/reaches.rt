@@ -15,6 +15,7 @@ ghost use Rattle.hx_search.specs.Progress.{IsTaken};
 
 use crate::candidates::MOST_CELLS;
 use crate::decisions::{Reached, decided};
+use crate::replays::number_of;
 use crate::workspaces::Workspace;
 use hx_board::{Colour, Memory};
 use hx_link::{Kind, Link};
@@ -51,7 +52,7 @@ fn take(set: &mut LinkSet, workspace: &mut Workspace, cells: usize) -> Result<Ta
             Ok(step) => step,
             Err(Memory) => return Err(Memory),
         };
-        match set.add(step) {
+        match set.add_unlooked(step) {
             Ok(Added::New(index)) => return Ok(Taken::New(index, is_shared)),
             Ok(Added::Covered(_)) => {}
             Ok(Added::Refused) => {}
@@ -155,6 +156,29 @@ pub(crate) fn add_useful(
     grow(set, workspace, until)
 }
 
+/// Adds the links that a call added before to a set in this state; or useful ones, until one decides the position, and keeps
+/// their steps.
+fn add_or_replay(
+    set: &mut LinkSet,
+    workspace: &mut Workspace,
+    to_move: Colour,
+) -> Result<(), Memory>
+    ensures { IsGrown set.old set.new }
+{
+    let number = number_of(set, to_move);
+    let first = set.count();
+    match workspace.replays.replay(set, number) {
+        Ok(true) => return Ok(()),
+        Ok(false) => {}
+        Err(Memory) => return Err(Memory),
+    }
+    let added = add_useful(set, workspace, Until::Decided(to_move));
+    if added.is_ok() {
+        workspace.replays.keep(number, set, first);
+    }
+    added
+}
+
 /// Adds useful links until one decides the position, or none is left that this call looks for, or there is no room. Whatever
 /// the answer, want of memory included, the links that were live stay live at their indices, and position, player and plays
 /// are as before; each live link comes by a step from live links before it. The answer says whether a live link is there
@@ -176,7 +200,8 @@ pub fn reach(set: &mut LinkSet, to_move: Colour) -> Result<Reached, Memory>
     }
 }
 
-/// As `reach`, in a workspace of the caller's. What it held before makes no difference.
+/// As `reach`, in a workspace of the caller's. Where no two states of sets share a number, what it held before makes no
+/// difference but for the time.
 pub fn reach_with(
     workspace: &mut Workspace,
     set: &mut LinkSet,
@@ -192,7 +217,7 @@ pub fn reach_with(
         Reached::Decided(_) => return Ok(reached),
         Reached::Open => {}
     }
-    let added = add_useful(set, workspace, Until::Decided(to_move));
+    let added = add_or_replay(set, workspace, to_move);
     set.keeps();
     match added {
         Ok(()) => Ok(decided(set, to_move)),

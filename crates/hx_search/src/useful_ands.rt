@@ -1,10 +1,9 @@
 //! The Ands of Full links that are worth a link.
 
 use crate::candidates::{Candidates, Rule};
-use crate::covers::is_covered;
 use crate::ends::Ends;
 use hx_board::{Cell, Mask, Memory, Vertex, VertexSet};
-use hx_link::{Kind, Link};
+use hx_link::Link;
 use hx_linkset::{FullLink, LinkSet};
 
 /// The Full links with which one makes a useful And over one of its ends.
@@ -40,10 +39,9 @@ impl Partners {
     }
 }
 
-/// Adds the And of two Full links over the end that they share, which is an own vertex or this
-/// empty cell.
+/// Adds the And of two Full links over the end that they share, which is an own vertex or this empty cell. Whether a live link
+/// covers it is asked once, when it is taken out.
 fn push_and(
-    set: &LinkSet,
     candidates: &mut Candidates,
     over: Option<Cell>,
     one: &FullLink,
@@ -51,13 +49,10 @@ fn push_and(
 ) -> Result<(), Memory> {
     let (left, right) = (one.index, other.index);
     let both = one.carrier.union(other.carrier);
-    let (kind, carrier, rule) = match over {
-        Some(cell) => (Kind::Semi, both.with(cell), Rule::AndCell { left, right }),
-        None => (Kind::Full, both, Rule::AndStone { left, right }),
+    let (carrier, rule) = match over {
+        Some(cell) => (both.with(cell), Rule::AndCell { left, right }),
+        None => (both, Rule::AndStone { left, right }),
     };
-    if is_covered(set, kind, &one.to, &other.to, carrier) {
-        return Ok(());
-    }
     candidates.push(rule, &one.to, &other.to, carrier)
 }
 
@@ -86,7 +81,7 @@ fn push_ands_at(
         if link.index <= other.index {
             break;
         }
-        push_and(set, candidates, over, link, &other)?;
+        push_and(candidates, over, link, &other)?;
     }
     Ok(())
 }

@@ -3,6 +3,7 @@
 use crate::candidates::Candidates;
 use crate::covers::Caps;
 use crate::ends::Ends;
+use crate::replays::Replays;
 use crate::useful_ands::push_ands;
 use crate::useful_ors::{OrLists, push_ors};
 use hx_board::Memory;
@@ -10,14 +11,16 @@ use hx_link::{Kind, Link};
 use hx_linkset::LinkSet;
 use std::alloc::Global;
 
-/// Room that `reach_with` works in. A caller may keep it from one call to the next, for whatever
-/// set, so that its memory is taken once. Nothing else in it lasts.
+/// Room that `reach_with` works in. A caller may keep it from one call to the next, for whatever set, so that its memory is
+/// taken once. Beside its memory the steps last that calls added, and save the search for them where a set comes back to a
+/// state.
 #[derive(Drop)]
 pub struct Workspace {
     pub(crate) ends: Ends,
     pub(crate) or_lists: OrLists,
     pub(crate) candidates: Candidates,
     pub(crate) caps: Caps,
+    pub(crate) replays: Replays,
 }
 
 impl Workspace {
@@ -28,6 +31,7 @@ impl Workspace {
             or_lists: OrLists::new(alloc)?,
             candidates: Candidates::new(alloc)?,
             caps: Caps::none(),
+            replays: Replays::none(alloc),
         })
     }
 

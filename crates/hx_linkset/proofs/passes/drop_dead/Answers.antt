@@ -21,8 +21,8 @@ loop-place-preserved-then-not-drops c =
     record {
       passed = passed-kept c.args.links.now c.args.before.now c.args.after.now c.args.player c.loop-place.place c.index-links-place.result
           there _ _ _ _ c.loop-place.invariant.passed
-          (c.is_dropped-drops.ensures.kept c.args.before.now c.args.after.now c.args.player c.liveness_of-live.ensures
-          c.liveness_of-kept.ensures c.if-not-drops.true);
+          (c.is_dropped-drops.ensures.kept c.liveness_of-kept.result c.args.before.now c.args.after.now c.args.player
+          c.losses_of-losses.ensures c.liveness_of-live.ensures c.liveness_of-kept.ensures c.if-not-drops.true);
       room = c.loop-place.invariant.room;
     }
 
@@ -31,8 +31,8 @@ unlink-requires c =
     let there : slice_get c.args.links.now c.loop-place.place ≡ Some c.index-links-place.result =
     slice_get_read c.args.links.now
     (length c.args.links.now) c.loop-place.place c.index-links-place.result refl c.loop-place-test.true c.index-links-place.is in
-    let live = (c.is_dropped-drops.ensures.dropped c.args.before.now c.args.after.now c.args.player c.liveness_of-live.ensures
-    c.liveness_of-kept.ensures c.if-not-drops.false).0 in
+    let live = (c.is_dropped-drops.ensures.dropped c.liveness_of-kept.result c.args.before.now c.args.after.now c.args.player
+    c.losses_of-losses.ensures c.liveness_of-live.ensures c.liveness_of-kept.ensures c.if-not-drops.false).0 in
     passed-inside c.args.links.now c.args.before.now c.args.after.now c.args.player c.loop-place.place c.index-links-place.result there _ _
     _ _ c.loop-place.invariant.passed
     live (live-small c.args.before.now c.size-size.ensures.valid c.args.player c.index-links-place.result live)
@@ -42,8 +42,8 @@ push_reserved-requires c =
     let there : slice_get c.args.links.now c.loop-place.place ≡ Some c.index-links-place.result =
     slice_get_read c.args.links.now
     (length c.args.links.now) c.loop-place.place c.index-links-place.result refl c.loop-place-test.true c.index-links-place.is in
-    let live = (c.is_dropped-drops.ensures.dropped c.args.before.now c.args.after.now c.args.player c.liveness_of-live.ensures
-    c.liveness_of-kept.ensures c.if-not-drops.false).0 in
+    let live = (c.is_dropped-drops.ensures.dropped c.liveness_of-kept.result c.args.before.now c.args.after.now c.args.player
+    c.losses_of-losses.ensures c.liveness_of-live.ensures c.liveness_of-kept.ensures c.if-not-drops.false).0 in
     let less : length c.loop-place.log.items < length c.args.links.now =
     passed-room c.args.links.now c.args.before.now c.args.after.now c.args.player c.loop-place.place c.index-links-place.result there _ _ _
     _ c.loop-place.invariant.passed
@@ -55,8 +55,8 @@ loop-place-preserved c =
     let there : slice_get c.args.links.now c.loop-place.place ≡ Some c.index-links-place.result =
     slice_get_read c.args.links.now
     (length c.args.links.now) c.loop-place.place c.index-links-place.result refl c.loop-place-test.true c.index-links-place.is in
-    let drops = c.is_dropped-drops.ensures.dropped c.args.before.now c.args.after.now c.args.player c.liveness_of-live.ensures
-    c.liveness_of-kept.ensures c.if-not-drops.false in
+    let drops = c.is_dropped-drops.ensures.dropped c.liveness_of-kept.result c.args.before.now c.args.after.now c.args.player
+    c.losses_of-losses.ensures c.liveness_of-live.ensures c.liveness_of-kept.ensures c.if-not-drops.false in
     let passed : IsPassed _ _ _ _ (c.loop-place.place + 1) _ _ _ _ =
     passed-dropped c.args.links.now c.args.before.now c.args.after.now c.args.player c.loop-place.place c.index-links-place.result there _ _
     _ _ c.loop-place.invariant.passed
