@@ -66,7 +66,7 @@ abbrev pub settings_of : Chosen → Settings
 settings_of chosen = record {
   workers = unwrap_or chosen.workers 1;
   budget = unwrap_or chosen.budget 1000000;
-  slots = unwrap_or chosen.slots 65536;
+  slots = unwrap_or chosen.slots 131072;
 }
 
 -- the words are options, and with what was chosen before them these are the settings that they choose

@@ -38,7 +38,7 @@ pub data Choose (chosen : Settings) : Bool → List (List ℕ) → Settings → 
 
 -- the settings without options
 abbrev pub defaults : Settings
-defaults = record { workers = 1; budget = 1000000; slots = 65536 }
+defaults = record { workers = 1; budget = 1000000; slots = 131072 }
 
 -- the words are options, and these are the settings that they choose
 abbrev pub AreOptions : List (List ℕ) → Settings → Type 0

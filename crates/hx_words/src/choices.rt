@@ -107,7 +107,7 @@ impl Chosen {
         Settings {
             workers: self.workers.unwrap_or(1),
             budget: self.budget.unwrap_or(1_000_000),
-            slots: self.slots.unwrap_or(65_536),
+            slots: self.slots.unwrap_or(131_072),
         }
     }
 }
