@@ -7,7 +7,7 @@ use Rattle.std.proofs.lemmas.List.{length-map}
 use Rattle.std.specs.declared.result.Result.{Result}
 use Rattle.std.specs.declared.result.Result.TheVariants.{Ok, Err}
 use Rattle.std.proofs.lemmas.Option.{same_Some}
-use Rattle.std.specs.Prelude.{IfSome, IsTrue}
+use Rattle.std.specs.Prelude.{IfSome, IsTrue, flat_map}
 use Rattle.hx_io.specs.Causes.{next_count}
 use Rattle.hx_io.specs.Sources.{prepend}
 use Rattle.hx_lines.specs.Lines.{HasLf, longest, lines_of}
@@ -21,7 +21,7 @@ use Rattle.hx_tree.specs.Rules.{IsRightNode}
 use Rattle.hx_reader.specs.declared.places.Place.{Place}
 use Rattle.hx_letters.specs.Marks.{Lacks}
 use Rattle.hx_text.specs.Grammars.{text_of, Begins}
-use Rattle.hx_text.specs.TreeTexts.{AreTreeLines, first_line, head_line}
+use Rattle.hx_text.specs.TreeTexts.{AreTreeLines, front_lines, node_lines, head_line}
 use Rattle.hx_reader.specs.Places.{Stands, StandsSoFar, IsNextNode}
 use Rattle.hx_text.specs.Lengths.{most_nodes}
 use Rattle.hx_reader.specs.Reader.{HasRead, lines_fed}
@@ -42,7 +42,7 @@ use Rattle.hx_check.specs.Judging.{Demand, NodesAreRight, AreThese, IsNoText, Is
 use Rattle.hx_check.specs.Judgements.{IsLong, IsFaultDue, IsDue}
 use Rattle.hx_check.specs.Standings.{HasJudged, JudgedUpTo, HasReadAll, Brings, AnswersNode}
 use Rattle.hx_check.proofs.JudgedNodes.{faultless, few_fed, count_more, judged_node}
-use Rattle.hx_check.proofs.ManyNodes.{first_not_last, begins_with_node}
+use Rattle.hx_check.proofs.ManyNodes.{too_many_of}
 use Rattle.hx_check.proofs.LongLines.{lacks_of, long_first, none_not_long}
 use Rattle.hx_check.proofs.Standings.{ended_in, few_nodes, not_whole}
 
@@ -193,20 +193,21 @@ module _ (Meets : Demand) (before : Option (List ℕ)) (judge : Judge) (nodes : 
           let stands : StandsSoFar next.so_far nodes lines =
           subst (λ (p : Place). Stands p nodes lines) next.is upto.judged.read in
           let whole = node_of_head next.so_far.preamble next.head stands.is_size next.fits in
-          let is_first : new.line ≡ first_line whole.0 = next.same ∙ ap head_line (sym whole.2) ∙ sym (first_line-head whole.0) in
-          record {
-            lines = lines;
-            next = new.line;
-            rest = later;
-            parts = parts ∙ sym (text_of-push lines new.line later);
-            faultless = faultless judge nodes lines upto.judged Meets meets;
+          too_many_of (record {
+            preamble = next.so_far.preamble;
+            is_size = stands.is_size;
+            nodes = nodes;
+            each = stands.each;
+            meets = subst (λ (ls : List (List ℕ)). Meets ls nodes) stands.same meets;
             full = many.0;
-            goes_on = subst (λ (l : List ℕ). Begins AreTreeLines (lines ++ l ∷ [])) (sym is_first)
-                (begins_with_node next.so_far.preamble nodes whole.0 lines stands.is_size stands.each whole.1 (omega (arith, many.0))
-                stands.same);
-            unended = λ are. first_not_last next.so_far.preamble nodes whole.0 lines stands.is_size stands.each whole.1 stands.same
-                (subst (λ (l : List ℕ). AreTreeLines (lines ++ l ∷ [])) is_first are);
-          }
+            next = whole.0;
+            next_fits = whole.1;
+            rest = later;
+            parts = parts ∙ sym (text_of-push lines new.line later)
+                ∙ ap (λ (ls : List (List ℕ)). text_of (ls ++ new.line ∷ []) ++ later) stands.same
+                ∙ ap (λ (l : List ℕ). text_of ((front_lines next.so_far.preamble ++ flat_map node_lines nodes) ++ l ∷ []) ++ later)
+                (next.same ∙ ap head_line (sym whole.2) ∙ sym (first_line-head whole.0));
+          })
 
   -- a node that is not right
   wrong_node : (new_judge : Judge) (node : Node) (k : ℕ) → CutsLine old new left then_left true → ¬ HasReadAll new_judge

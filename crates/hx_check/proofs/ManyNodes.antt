@@ -1,6 +1,6 @@
 -- One node more than a text may have: the lines before it are those of as many nodes as a text may have, and the next line is the
 -- first one of a node.
-use Rattle.std.proofs.Common.{◌≡◌, ℕ, ◌≤◌, List, [], ◌∷◌, ◌++◌, length, map, sym, ap, ◌∙◌, subst, arith, append_assoc, length-append}
+use Rattle.std.proofs.Common.{◌≡◌, ℕ, ◌≤◌, List, [], ◌∷◌, ◌++◌, length, map, refl, sym, ap, ◌∙◌, subst, arith, append_assoc, length-append}
 use Rattle.std.proofs.lemmas.List.{append-nil, nil_from_length}
 use Rattle.std.proofs.lemmas.List.Elements.{All-head}
 use Rattle.std.specs.Prelude.{flat_map, All}
@@ -18,7 +18,7 @@ use Rattle.hx_text.proofs.Alignment.{aligned}
 use Rattle.hx_reader.proofs.Steps.{end_wrong, flat_map-push}
 use Rattle.hx_reader.proofs.Completions.{whole_text, whole_are}
 use Rattle.hx_check.specs.Judging.{Demand, EndedIn, IsTooManyNodes}
-use Rattle.hx_check.proofs.EndedNodes.{FrontParts, all_front, ended_parts, long_lines}
+use Rattle.hx_check.proofs.EndedNodes.{FrontParts, all_front, ended_parts, long_lines, ended_between}
 
 -- as many nodes as a text may have, which meet the demand, and then the first line of one more
 pub record ManyNodes (Meets : Demand) (input : List ℕ) : Type 0 where
@@ -43,7 +43,7 @@ only_first preamble node [] count winner extent fits small e =
 only_first preamble node (other ∷ more) count winner extent fits small e =
     absurd (omega (arith, ap length e, length-append (flat_map node_lines (other ∷ more)) (end_line count winner ∷ [])))
 
-pub first_not_last : (preamble : Preamble) (nodes : List Node) (next : Node) (lines : List (List ℕ))
+first_not_last : (preamble : Preamble) (nodes : List Node) (next : Node) (lines : List (List ℕ))
     → IsExtent preamble.size.rows preamble.size.cols → All (NodeFits preamble) nodes → NodeFits preamble next
     → lines ≡ front_lines preamble ++ flat_map node_lines nodes → AreTreeLines (lines ++ first_line next ∷ []) → ⊥
 first_not_last preamble nodes next lines extent each fits same are =
@@ -51,7 +51,7 @@ first_not_last preamble nodes next lines extent each fits same are =
     only_first preamble next on.on.more (length are.nodes) are.winner extent fits are.are.count on.on.rest_is
 
 -- a text goes on with the first line of a node behind other nodes
-pub begins_with_node : (preamble : Preamble) (nodes : List Node) (next : Node) (lines : List (List ℕ))
+begins_with_node : (preamble : Preamble) (nodes : List Node) (next : Node) (lines : List (List ℕ))
     → IsExtent preamble.size.rows preamble.size.cols → All (NodeFits preamble) nodes → NodeFits preamble next
     → length nodes ≤ most_nodes → lines ≡ front_lines preamble ++ flat_map node_lines nodes
     → Begins AreTreeLines (lines ++ first_line next ∷ [])
@@ -67,6 +67,26 @@ begins_with_node preamble nodes next lines extent each fits few same =
     (append_assoc (front_lines preamble) (flat_map node_lines nodes) (node_lines next)
     ∙ ap (λ (ls : List (List ℕ)). front_lines preamble ++ ls) (sym (flat_map-push nodes next))) in
     (after ++ end, subst AreTreeLines (sym lines_are) (whole_are preamble nodes next extent each fits few))
+
+-- so this says the same
+pub too_many_of : {Meets : Demand} {input : List ℕ} → ManyNodes Meets input → IsTooManyNodes Meets input
+too_many_of many =
+    let lines : List (List ℕ) = front_lines many.preamble ++ flat_map node_lines many.nodes in
+    record {
+      lines = lines;
+      next = first_line many.next;
+      rest = many.rest;
+      parts = many.parts;
+      faultless = record {
+        nodes = many.nodes;
+        ended = ended_between many.preamble many.nodes lines many.is_size many.each (omega (arith, many.full)) refl;
+        meets = many.meets;
+      };
+      full = many.full;
+      goes_on = begins_with_node many.preamble many.nodes many.next lines many.is_size many.each many.next_fits (omega (arith, many.full))
+          refl;
+      unended = first_not_last many.preamble many.nodes many.next lines many.is_size many.each many.next_fits refl;
+    }
 
 module _ {Meets : Demand} {input : List ℕ} (many : IsTooManyNodes Meets input) where
   abbrev ended : EndedIn many.lines many.faultless.nodes
