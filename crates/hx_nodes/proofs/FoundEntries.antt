@@ -7,7 +7,6 @@ use Rattle.hx_board.proofs.ColourLaws.{one_or_other}
 use Rattle.hx_board.proofs.ListLaws.{get-map}
 use Rattle.hx_tree.specs.declared.entries.Found.{Found}
 use Rattle.hx_tree.specs.declared.nodes.Node.{Node}
-use Rattle.hx_tree.specs.declared.nodes.Heading.{Heading}
 use Rattle.hx_tree.specs.Headings.{Leads}
 use Rattle.hx_tree.proofs.HeadingLaws.{same_heading}
 use Rattle.hx_tree.specs.Entries.{IsFirstFound}
