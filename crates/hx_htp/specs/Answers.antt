@@ -70,21 +70,7 @@ GeneratesMove old player (Ok (answer.Cell cell)) new =
     × (new.state ≡ with_move old.state (record { colour = player; cell = cell })) × Continues old.account new.account
 GeneratesMove old player (Err refusal.NoEmptyCell) new = IsFull (board_of old.state) × (new ≡ old)
 GeneratesMove old player (Err refusal.OutOfMemory) new = ¬ IsFull (board_of old.state) × LacksMemory old new
-GeneratesMove old player (Ok answer.Empty) new = ⊥
-GeneratesMove old player (Ok answer.Protocol) new = ⊥
-GeneratesMove old player (Ok answer.Program) new = ⊥
-GeneratesMove old player (Ok answer.Release) new = ⊥
-GeneratesMove old player (Ok (answer.Known known)) new = ⊥
-GeneratesMove old player (Ok answer.Names) new = ⊥
-GeneratesMove old player (Ok (answer.Shown board)) new = ⊥
-GeneratesMove old player (Ok (answer.Winner winner)) new = ⊥
-GeneratesMove old player (Ok (answer.UnknownBudget n)) new = ⊥
-GeneratesMove old player (Ok (answer.UnknownProofs n)) new = ⊥
-GeneratesMove old player (Err refusal.UnknownCommand) new = ⊥
-GeneratesMove old player (Err refusal.SyntaxError) new = ⊥
-GeneratesMove old player (Err refusal.UnacceptableSize) new = ⊥
-GeneratesMove old player (Err refusal.IllegalMove) new = ⊥
-GeneratesMove old player (Err refusal.CannotUndo) new = ⊥
+GeneratesMove old player _ new = ⊥
 
 -- how `solve` may be answered
 abbrev pub Solves : Moment → Colour → Given → Moment → Type 0
@@ -97,20 +83,7 @@ Solves old mover (Ok (answer.UnknownProofs n)) new =
     (n ≡ old.account.slots) × Rose old.account.proofs new.account.proofs
     × (¬ IsSmall (board_of old.state) old.account.budget) × (new.state ≡ old.state) × Continues old.account new.account
 Solves old mover (Err refusal.OutOfMemory) new = LacksMemory old new
-Solves old mover (Ok answer.Empty) new = ⊥
-Solves old mover (Ok answer.Protocol) new = ⊥
-Solves old mover (Ok answer.Program) new = ⊥
-Solves old mover (Ok answer.Release) new = ⊥
-Solves old mover (Ok (answer.Known known)) new = ⊥
-Solves old mover (Ok answer.Names) new = ⊥
-Solves old mover (Ok (answer.Cell cell)) new = ⊥
-Solves old mover (Ok (answer.Shown board)) new = ⊥
-Solves old mover (Err refusal.UnknownCommand) new = ⊥
-Solves old mover (Err refusal.SyntaxError) new = ⊥
-Solves old mover (Err refusal.UnacceptableSize) new = ⊥
-Solves old mover (Err refusal.IllegalMove) new = ⊥
-Solves old mover (Err refusal.CannotUndo) new = ⊥
-Solves old mover (Err refusal.NoEmptyCell) new = ⊥
+Solves old mover _ new = ⊥
 
 -- the player who is named, or else the mover
 abbrev pub to_move_of : State → Option Colour → Colour
