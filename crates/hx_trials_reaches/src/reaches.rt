@@ -369,6 +369,49 @@ fn the_opponent_alone_plays(rt: HostRuntime) -> Result<(), Fail> {
     Ok(())
 }
 
+/// Whether a set that comes back to a state after these stones gets the links again, by the same steps, that it got there first
+/// and that a set gets in room of its own. True where no stone can be put.
+fn are_same_again(
+    workspace: &mut Workspace,
+    set: &mut LinkSet,
+    other: &mut LinkSet,
+    stones: &[(Colour, Cell)],
+) -> Result<bool, Fail> {
+    let plays = set.plays();
+    put_stones(set, stones, true);
+    put_stones(other, stones, true);
+    if set.plays() == plays {
+        return Ok(true);
+    }
+    let first = reach_with(workspace, set, White).ok().ok_or("memory")?;
+    let alone = reach(other, White).ok().ok_or("memory")?;
+    let is_same = set.steps() == other.steps();
+    if set.plays() > plays {
+        set.undo();
+        put_stones(set, stones, true);
+    }
+    let again = reach_with(workspace, set, White).ok().ok_or("memory")?;
+    Ok(is_same && first == alone && first == again && set.steps() == other.steps())
+}
+
+#[test]
+fn the_same_links_come_again(rt: HostRuntime) -> Result<(), Fail> {
+    let alloc = rt.alloc();
+    let start = Position::empty(Size::new(6, 6).ok_or("size")?);
+    let mut draws = Draws::new(5);
+    let mut workspace = Workspace::new(alloc).ok().ok_or("memory")?;
+    let mut set = LinkSet::new(alloc, &start, Black).ok().ok_or("memory")?;
+    let mut other = LinkSet::new(alloc, &start, Black).ok().ok_or("memory")?;
+    let mut turn = White;
+    for _ in 0..10u8 {
+        let stones = draw_stones(alloc, set.position(), &mut draws, turn, true)?;
+        let is_same = are_same_again(&mut workspace, &mut set, &mut other, stones.as_slice())?;
+        assert!(rt; is_same);
+        turn = turn.other();
+    }
+    Ok(())
+}
+
 #[test]
 fn the_mover_wins_small_empty_boards(rt: HostRuntime) -> Result<(), Fail> {
     for side in 1..=5u8 {
