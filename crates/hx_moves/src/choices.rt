@@ -5,15 +5,16 @@
 //!
 //! One call reads hints and losses, `told_by`. What follows, `choice_by`, is a function of what was told, as its clause says.
 
-ghost use Rattle.std.specs.Prelude.{◌≡◌, ◌<◌, ◌≤◌, length, MatchOption};
+ghost use Rattle.std.specs.Prelude.{◌≡◌, ◌<◌, ◌≤◌, length, take, MatchOption};
 ghost use Rattle.std.specs.List.{All};
 ghost use Rattle.hx_pn.specs.Numbers.{IsNumbers};
+ghost use Rattle.hx_moves.specs.Given.{AreGiven};
 ghost use Rattle.hx_moves.specs.Keeps.{KeepsSeat};
 ghost use Rattle.hx_moves.specs.Choices.{HasMoveToStone, IsStep, IsChoice, IsChoiceBy};
 
 use crate::children::Child;
 use crate::focus::in_focus;
-use crate::given::{add_rest, told_by};
+use crate::given::{MOST_GIVEN, add_rest, told_by};
 use crate::losses::LOSS_WORDS;
 use crate::moves::Moves;
 use crate::rest::rest;
@@ -65,11 +66,40 @@ pub fn choose(
     if moves.children.is_empty() {
         return Choice::AllLose;
     }
+    let (numbers, count) = given_by(counts, hints, seat, moves);
+    choice_by(situation, moves, &numbers[..count])
+}
+
+/// The numbers of a turn with these moves.
+pub fn numbers_of(counts: &Counts, hints: &Hints, seat: &mut CountSeat, moves: &Moves) -> Numbers
+    requires seat { seat.old.made ≡ counts.now }
+    requires words { counts.now.limits.words ≡ LOSS_WORDS }
+    ensures seat { KeepsSeat seat.old seat.new }
+    ensures numbers { IsNumbers result }
+{
+    let (numbers, count) = given_by(counts, hints, seat, moves);
+    combine(&numbers[..count])
+}
+
+/// What the moves give: the first so many numbers.
+fn given_by(
+    counts: &Counts,
+    hints: &Hints,
+    seat: &mut CountSeat,
+    moves: &Moves,
+) -> ([Numbers; MOST_GIVEN], usize)
+    requires seat { seat.old.made ≡ counts.now }
+    requires words { counts.now.limits.words ≡ LOSS_WORDS }
+    ensures seat { KeepsSeat seat.old seat.new }
+    ensures given { AreGiven moves.now.children.items (take result.1 result.0) }
+    ensures numbers { All IsNumbers result.0 }
+    ensures room { result.1 ≤ MOST_GIVEN }
+{
     let focused = in_focus(moves);
     let mut numbers = told_by(counts, hints, seat, focused);
     let rest = rest(moves.children.len().saturating_sub(focused.len()));
     let count = add_rest(&mut numbers, focused.len(), rest);
-    choice_by(situation, moves, &numbers[..count])
+    (numbers, count)
 }
 
 /// What a turn does next that has moves, which give these numbers.

@@ -23,7 +23,7 @@ mod stones;
 mod unseen_moves;
 
 pub use children::Child;
-pub use choices::{Choice, Down, choose};
+pub use choices::{Choice, Down, choose, numbers_of};
 pub use focus::in_focus;
 pub use losses::{LOSS_WORDS, loss_word};
 pub use marks::{is_marked, leave_mark, leave_open, open};

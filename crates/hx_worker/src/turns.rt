@@ -17,7 +17,7 @@ use hx_book::Proofs;
 use hx_fill::Filled;
 use hx_io::Gate;
 use hx_linkset::LinkSet;
-use hx_moves::{Choice, Down, Moves, Situation, Start, choose, loss_word};
+use hx_moves::{Choice, Down, Moves, Situation, Start, choose, is_marked, loss_word, numbers_of};
 use hx_search::Workspace;
 use hx_wide::widen_fill;
 use std::mem::swap;
@@ -125,6 +125,7 @@ impl<P: Proofs, G: Gate, R: Wait> Search<'_, P, G, R, Workspace, LinkSet> {
         if let Some(outcome) = self.look_at_all(situation, &mut moves) {
             return outcome;
         }
+        self.note_way(situation, depth);
         let all = moves.children.len();
         if let Some(outcome) = self.look_at_marked(situation, &mut moves, all) {
             return outcome;
@@ -154,8 +155,34 @@ impl<P: Proofs, G: Gate, R: Wait> Search<'_, P, G, R, Workspace, LinkSet> {
             Choice::Limit(numbers) => return Some(Outcome::Open(numbers)),
             Choice::AllLose => return Some(self.all_lose(moves)),
         };
+        if self.is_idle(depth) {
+            let numbers = numbers_of(worker.counts, worker.hints, self.seat, moves);
+            return Some(Outcome::Open(numbers));
+        }
         let outcome = self.descend(&down, depth);
         self.take_in(situation, moves, &down, outcome)
+    }
+
+    /// Notes the position of a turn at this depth as one on the way down.
+    fn note_way(&mut self, situation: &Situation, depth: u32)
+        ensures keeps { Keeps P.sight self.old self.new }
+    {
+        let number = situation.filled.number(situation.to_move);
+        if let Some(place) = self.way.get_mut(depth as usize) {
+            *place = number;
+        }
+    }
+
+    /// Whether a position further up on the way is marked as proved, by another worker. Then nobody waits for what a turn at this
+    /// depth finds, and the worker goes back up to that position.
+    fn is_idle(&self, depth: u32) -> bool {
+        let above = self.way.get(depth as usize + 1..).unwrap_or(&[]);
+        for number in above {
+            if is_marked(self.worker.hints, *number) {
+                return true;
+            }
+        }
+        false
     }
 
     /// Goes down to the position after a move, whose mover is the other player, and comes back.
