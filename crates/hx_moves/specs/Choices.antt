@@ -34,6 +34,12 @@ pub record IsStep (situation : Situation) (moves : Moves) (place : ℕ) (until :
   pub moved : down.start.moved ≡ Some down.child.cell
   pub limit : down.start.limit ≡ until
 
+-- the numbers that the moves give together
+abbrev pub IsTogether : Moves → Numbers → Type 0
+IsTogether moves numbers =
+    (given : List Numbers)
+    × (AreGiven moves.children.items given × (numbers ≡ record { phi = phi_of given; delta = delta_of given }))
+
 -- a turn ends with the numbers that its moves give together, because they have come to its limit, or because the cell
 -- of a move holds a stone
 pub record IsEnd (situation : Situation) (moves : Moves) (given : List Numbers) (numbers : Numbers) : Type 0 where

@@ -10,7 +10,7 @@ ghost use Rattle.std.specs.List.{All};
 ghost use Rattle.hx_pn.specs.Numbers.{IsNumbers};
 ghost use Rattle.hx_moves.specs.Given.{AreGiven};
 ghost use Rattle.hx_moves.specs.Keeps.{KeepsSeat};
-ghost use Rattle.hx_moves.specs.Choices.{HasMoveToStone, IsStep, IsChoice, IsChoiceBy};
+ghost use Rattle.hx_moves.specs.Choices.{HasMoveToStone, IsStep, IsTogether, IsChoice, IsChoiceBy};
 
 use crate::children::Child;
 use crate::focus::in_focus;
@@ -70,12 +70,12 @@ pub fn choose(
     choice_by(situation, moves, &numbers[..count])
 }
 
-/// The numbers of a turn with these moves.
+/// The numbers that the moves give together. A turn that ends before it comes to its limit ends with these.
 pub fn numbers_of(counts: &Counts, hints: &Hints, seat: &mut CountSeat, moves: &Moves) -> Numbers
     requires seat { seat.old.made ≡ counts.now }
     requires words { counts.now.limits.words ≡ LOSS_WORDS }
     ensures seat { KeepsSeat seat.old seat.new }
-    ensures numbers { IsNumbers result }
+    ensures together { IsTogether moves.now result }
 {
     let (numbers, count) = given_by(counts, hints, seat, moves);
     combine(&numbers[..count])
@@ -94,6 +94,7 @@ fn given_by(
     ensures given { AreGiven moves.now.children.items (take result.1 result.0) }
     ensures numbers { All IsNumbers result.0 }
     ensures room { result.1 ≤ MOST_GIVEN }
+    ensures few { length (take result.1 result.0) ≤ length moves.now.children.items }
 {
     let focused = in_focus(moves);
     let mut numbers = told_by(counts, hints, seat, focused);

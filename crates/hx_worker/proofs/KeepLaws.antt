@@ -16,6 +16,7 @@ use Rattle.hx_moves.specs.Keeps.{KeepsSeat}
 use Rattle.hx_worker.specs.declared.searches.Search.{Search}
 use Rattle.hx_worker.specs.declared.sets.Before.{Before}
 use Rattle.hx_worker.specs.declared.sets.Before.TheVariants.{Played, Same, Other}
+use Rattle.hx_worker.specs.declared.ways.Way.{Way}
 use Rattle.hx_worker.specs.Keeps.{StandsAgain}
 use Rattle.hx_worker.specs.Sets.{IsPut, HasPlay, IsBack}
 use Rattle.hx_worker.specs.Searches.{Keeps, MayHold}
@@ -137,6 +138,18 @@ module _ {P G R W : Type 0} (sight : P → Sight) where
     seat = seat-itself _;
     own = stands-itself _;
     others = stands;
+  }
+
+  -- the way down is no matter of what is kept
+  pub keeps-way : (search : Search P G R W Standing) (way : Way) → Keeps sight search (record search { way = way })
+  keeps-way search way = record {
+    same_worker = refl;
+    same_proofs = refl;
+    same_seat = refl;
+    grew = grows-itself _;
+    seat = seat-itself _;
+    own = stands-itself _;
+    others = stands-itself _;
   }
 
   pub keeps-on : (first second third : Search P G R W Standing) → Keeps sight first second → Keeps sight second third

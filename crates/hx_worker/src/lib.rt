@@ -19,6 +19,7 @@ mod rounds;
 mod searches;
 mod sets;
 mod turns;
+mod ways;
 mod wide_moves;
 mod workers;
 

@@ -16,7 +16,8 @@ ghost use Rattle.hx_worker.specs.Searches.{Keeps, MayHold};
 
 use crate::ended::{Ended, found_by};
 use crate::outcomes::Outcome;
-use crate::searches::{DEPTHS, Search};
+use crate::searches::Search;
+use crate::ways::Way;
 use crate::workers::{Worker, ask};
 use hx_board::{CELLS, Colour, Position};
 use hx_book::Proofs;
@@ -148,7 +149,7 @@ pub(crate) fn search_position<'a, P: Proofs, G: Gate, R: Wait>(
         workspace,
         own,
         others,
-        way: [0u64; DEPTHS],
+        way: Way::new(),
     };
     search.rounds(&start)
 }

@@ -9,12 +9,9 @@
 
 ghost use Rattle.std.specs.Prelude.{◌≡◌};
 
+use crate::ways::Way;
 use crate::workers::Worker;
-use hx_board::CELLS;
 use hx_count::CountSeat;
-
-/// How many depths there are: a board has no more cells, so no more moves are made.
-pub(crate) const DEPTHS: usize = CELLS + 1;
 
 /// A worker with the proofs, its seat, a workspace and the sets of links that it searches with. Their types are parameters: a
 /// proof learns what is left behind a borrow in a struct only where no field of it is declared with memory of its own.
@@ -32,8 +29,8 @@ pub(crate) struct Search<'a, P, G, R, W, L> {
     /// The links of the other player.
     pub(crate) others: L,
 
-    /// The numbers of the positions on the way down, each at the place of its turn's depth.
-    pub(crate) way: [u64; DEPTHS],
+    /// The way down to the turn at hand.
+    pub(crate) way: Way,
 }
 
 // It says what is left behind the borrows.

@@ -3,6 +3,9 @@
 //! A turn asks for a unit, and looks the position up. Then it fills in, and puts the move that led to it and what was filled on
 //! both sets of links, the mover's first; links and the moves that must be tried tell where to go down. Whatever a turn meets, it
 //! takes back all that it put, and releases all that it held.
+//!
+//! A turn ends open, too, where another worker proved a position further up on its way (`ways.rt`): the turn there will look that
+//! proof up, and has no use for what is below. So a worker goes back up to that position at once.
 
 ghost use Rattle.std.specs.Prelude.{◌≡◌, IfSome};
 ghost use Rattle.hx_fill.specs.Fills.{IsFillIn};
@@ -17,7 +20,7 @@ use hx_book::Proofs;
 use hx_fill::Filled;
 use hx_io::Gate;
 use hx_linkset::LinkSet;
-use hx_moves::{Choice, Down, Moves, Situation, Start, choose, is_marked, loss_word, numbers_of};
+use hx_moves::{Choice, Down, Moves, Situation, Start, choose, loss_word, numbers_of};
 use hx_search::Workspace;
 use hx_wide::widen_fill;
 use std::mem::swap;
@@ -125,11 +128,12 @@ impl<P: Proofs, G: Gate, R: Wait> Search<'_, P, G, R, Workspace, LinkSet> {
         if let Some(outcome) = self.look_at_all(situation, &mut moves) {
             return outcome;
         }
-        self.note_way(situation, depth);
         let all = moves.children.len();
         if let Some(outcome) = self.look_at_marked(situation, &mut moves, all) {
             return outcome;
         }
+        let number = situation.filled.number(situation.to_move);
+        self.way.note(depth, number);
         // Hints may change at any time, so nothing says how many rounds there are.
         for _ in 0..u64::MAX {
             if let Some(outcome) = self.go_on(situation, &mut moves, depth) {
@@ -139,7 +143,8 @@ impl<P: Proofs, G: Gate, R: Wait> Search<'_, P, G, R, Workspace, LinkSet> {
         Outcome::Open(situation.limit)
     }
 
-    /// Looks for what others proved, and goes down to the move that the numbers choose. None where the turn goes on after that.
+    /// Looks for what others proved, and goes down to the move that the numbers choose, or ends the turn where nobody waits for it.
+    /// None where the turn goes on after that.
     #[cycle(search)]
     fn go_on(&mut self, situation: &Situation, moves: &mut Moves, depth: u32) -> Option<Outcome>
         requires { MayHold self.old depth }
@@ -155,34 +160,12 @@ impl<P: Proofs, G: Gate, R: Wait> Search<'_, P, G, R, Workspace, LinkSet> {
             Choice::Limit(numbers) => return Some(Outcome::Open(numbers)),
             Choice::AllLose => return Some(self.all_lose(moves)),
         };
-        if self.is_idle(depth) {
+        if self.way.is_marked_above(worker.hints, depth) {
             let numbers = numbers_of(worker.counts, worker.hints, self.seat, moves);
             return Some(Outcome::Open(numbers));
         }
         let outcome = self.descend(&down, depth);
         self.take_in(situation, moves, &down, outcome)
-    }
-
-    /// Notes the position of a turn at this depth as one on the way down.
-    fn note_way(&mut self, situation: &Situation, depth: u32)
-        ensures keeps { Keeps P.sight self.old self.new }
-    {
-        let number = situation.filled.number(situation.to_move);
-        if let Some(place) = self.way.get_mut(depth as usize) {
-            *place = number;
-        }
-    }
-
-    /// Whether a position further up on the way is marked as proved, by another worker. Then nobody waits for what a turn at this
-    /// depth finds, and the worker goes back up to that position.
-    fn is_idle(&self, depth: u32) -> bool {
-        let above = self.way.get(depth as usize + 1..).unwrap_or(&[]);
-        for number in above {
-            if is_marked(self.worker.hints, *number) {
-                return true;
-            }
-        }
-        false
     }
 
     /// Goes down to the position after a move, whose mover is the other player, and comes back.

@@ -1,5 +1,5 @@
 use Rattle.std.proofs.Common.{rules, ◌-◌, ◌<◌, arith}
-use Rattle.hx_worker.proofs.KeepLaws.{keeps-seat, keeps-own, keeps-others, keeps-on, put-own-keeps, put-others-keeps, has-play}
+use Rattle.hx_worker.proofs.KeepLaws.{keeps-seat, keeps-own, keeps-others, keeps-way, keeps-on, put-own-keeps, put-others-keeps, has-play}
 use Rattle.hx_worker.proofs.KeepLaws.{kept-may-hold, own-may-hold, others-may-hold, held-may-hold, release-keeps, stands-same, stands-moved}
 use Rattle.hx_worker.proofs.turns.Search+P+G+R+Workspace+LinkSet.+search.Goals as goal
 
@@ -28,7 +28,9 @@ expand-returns-in-Some-look_at_marked-clause-keeps g t c =
 
 pub expand-loop-init : goal.expand-loop-init
 expand-loop-init g t c =
-    keeps-on _ _ _ _ (keeps-on _ _ _ _ c.by_others_links.ensures.keeps c.look_at_all.ensures.keeps) c.look_at_marked.ensures.keeps
+    let looked = keeps-on _ _ _ _ (keeps-on _ _ _ _ c.by_others_links.ensures.keeps c.look_at_all.ensures.keeps)
+    c.look_at_marked.ensures.keeps in
+    keeps-on _ _ _ _ looked (keeps-way _ _ _)
 
 pub expand-returns-in_default-of-clause-keeps : goal.expand-returns-in_default-of-clause-keeps
 expand-returns-in_default-of-clause-keeps g t c = c.by_others_links.ensures.keeps
