@@ -18,6 +18,7 @@ LISTS = {
     "check": [("run", "check:answers.proof,answers.yes,answers.wrong")],
     "solve": [("run", "solve:answers.solved,answers.unknown,refusal")],
     "named_players_win": [("named_players_win", None)],
+    "replies": [("run", "htp:replies")],
     "seat_names_winners": [("seat_names_winners", None)],
     "one_winner": [("one_winner", None)],
 }
@@ -29,7 +30,8 @@ COUNTED = {
 }
 TITLES = {
     "check": "`yes`, `proof` and `wrong` of `check`", "solve": "`solved`, `unknown` and `refusal` of `solve`",
-    "named_players_win": "`named_players_win`", "seat_names_winners": "`seat_names_winners`", "one_winner": "`one_winner`",
+    "named_players_win": "`named_players_win`", "replies": "`replies` of `htp`", "seat_names_winners": "`seat_names_winners`",
+    "one_winner": "`one_winner`",
 }
 
 
@@ -101,7 +103,9 @@ class Parts:
     def table(self, name):
         entries, new = self.lists[name][0], self.new[name]
         above = len(entries) - len(new)
-        yield f"{len(entries)} definitions" + (f", of which {above} stand above:" if above else ":")
+        stand = f", of which {above} stand above" if above else ""
+        words = " + ".join(" ".join(filter(None, one)) for one in LISTS[name])
+        yield f"{len(entries)} definitions{stand}; `tools/claims {words}` prints them:"
         yield ""
         yield "| definition | crate | lines | in words |"
         yield "|---|---|---|---|"
@@ -115,12 +119,12 @@ class Parts:
         yield "|---|---|---|---|"
         for name, (entries, _) in self.lists.items():
             yield number_row(TITLES[name], entries)
-        yield number_row("these together", self.together())
+        yield number_row("these together", self.below([one for asked in LISTS.values() for one in asked]))
         for title, asked in COUNTED.items():
-            yield number_row(title, below_all(Lists(self.repository), asked)[0])
+            yield number_row(title, self.below(asked))
 
-    def together(self):
-        return [entry for entries in self.new.values() for entry in entries]
+    def below(self, asked):
+        return below_all(Lists(self.repository), asked)[0]
 
     def kit(self):
         words = sorted({word.name for _, kit in self.lists.values() for word in kit})

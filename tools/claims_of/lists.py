@@ -13,10 +13,10 @@ FIELD = re.compile(r"  (?:pub )?([^\s:]+) :")
 
 
 class Entry:
-    """A definition in a list: where it stands, the pieces of its text, and what it rests on."""
+    """A definition in a list: where it stands, the pieces of its text, what it rests on, and the imports of its file."""
 
-    def __init__(self, key, path, pieces, uses):
-        self.key, self.path, self.uses = key, path, uses
+    def __init__(self, key, path, pieces, uses, imports=()):
+        self.key, self.path, self.uses, self.imports = key, path, uses, imports
         self.pieces = [Lines(piece.first, without_imports(piece.lines)) for piece in pieces]
         self.first = pieces[0].first
 
@@ -35,9 +35,19 @@ class Entry:
         code = [line for line in self.lines() if line not in self.comments()]
         return hashlib.sha256(" ".join(" ".join(code).split()).encode()).hexdigest()[:6]
 
+    def renamed(self):
+        """What the words stand for that have another name where they are defined."""
+        code = "\n".join(line for line in self.lines() if line not in self.comments())
+        found = {}
+        for one in reversed(self.imports):
+            found.update((word + ("." if word in one.modules else ""), name) for word, name in one.renamed.items())
+        return [f"{word.rstrip('.')} is {name}" for word, name in found.items()
+                if re.search(rf"(?<![\w.]){re.escape(word)}" + ("" if word.endswith(".") else r"(?!\w)"), code)]
+
     def text(self):
         pieces = "\n".join("\n".join(piece.lines) for piece in self.pieces if piece.lines)
-        return f"-- {self.path}:{self.first}\n{pieces}\n"
+        renamed = f"-- here {', '.join(self.renamed())}\n" if self.renamed() else ""
+        return f"-- {self.path}:{self.first}\n{renamed}{pieces}\n"
 
 
 def without_imports(lines):
@@ -81,7 +91,8 @@ class Lists:
         if key in self.only:
             words, pieces = self.of_fields(file, key.name, self.only[key])
         where = f"{file.where}: {key.name}"
-        return Entry(key, file.where, pieces, [self.repository.word(word, [file.imports], where, file) for word in words])
+        uses = [self.repository.word(word, [file.imports], where, file) for word in words]
+        return Entry(key, file.where, pieces, uses, [file.imports])
 
     def of_field(self, key, field):
         """What one field of a record rests on."""
@@ -111,8 +122,9 @@ class Lists:
         item = self.repository.item(key)
         model = item.file.model_of(key.name)
         if not model:
-            return Entry(key, item.file.where, [item.lines()], self.of_fields_of_type(item))
-        return Entry(key, item.file.where, [comment_of(item), lines_of_value(model)], self.of_model(item, model, ["Value"]))
+            return Entry(key, item.file.where, [item.lines()], self.of_fields_of_type(item), [item.file.imports])
+        imports = [imports_in(model), item.file.imports]
+        return Entry(key, item.file.where, [comment_of(item), lines_of_value(model)], self.of_model(item, model, ["Value"]), imports)
 
     def of_view(self, key):
         """The type of a parameter or a result: how its values are shown, and what they keep, count too. What its fields hold is seen as
@@ -121,8 +133,9 @@ class Lists:
         model = item.file.model_of(key.name)
         uses = self.of_fields_of_type(item)
         if not model:
-            return Entry(key, item.file.where, [item.lines()], uses)
-        return Entry(key, item.file.where, [item.lines(), model.lines()], uses + self.of_model(item, model, dict(ghosts_of(model))))
+            return Entry(key, item.file.where, [item.lines()], uses, [item.file.imports])
+        uses += self.of_model(item, model, dict(ghosts_of(model)))
+        return Entry(key, item.file.where, [item.lines(), model.lines()], uses, [imports_in(model), item.file.imports])
 
     def of_model(self, item, model, names):
         ghosts, uses = dict(ghosts_of(model)), []
@@ -150,7 +163,7 @@ class Lists:
         for member in self.repository.members(item):
             if member.kind == "fn":
                 uses += self.of_function(member, list(clauses_of(member)), Around(bound, None, generics_of(item), [item.file.imports]))
-        return Entry(key, item.file.where, [item.lines()], uses)
+        return Entry(key, item.file.where, [item.lines()], uses, [item.file.imports])
 
     # ---- Words
 

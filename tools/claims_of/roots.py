@@ -69,11 +69,29 @@ def has_part(repository, one, part):
     if isinstance(one, Key):
         if one.kind == "trait":
             return part in dict(ghosts_of(repository.item(one)))
-        if one.kind == "spec":
-            definition = repository.specs(one.crate, one.module, part).definitions[one.name]
-            return definition.kind == "record" and bool(re.search(rf"^  (pub )?{re.escape(part)} :", definition.code_text(), re.M))
-        return False
+        return part in fields_of(repository, one)
     return any(clause.name == part.partition(":")[0] and clause.kind == "ensures" for clause in clauses_of(one[0]))
+
+
+def fields_of(repository, one):
+    """The fields of a record, and nothing of what is none."""
+    if one.kind != "spec":
+        return []
+    definition = repository.specs(one.crate, one.module, one.full_name()).definitions[one.name]
+    return re.findall(r"^  (?:pub )?([^\s:]+) :", definition.code_text(), re.M) if definition.kind == "record" else []
+
+
+def no_such_field(repository, lists, records, wanted):
+    """Which fields there are, and where those that are missing stand, if they stand in what one of these promises."""
+    said, instead = [], []
+    for record in records:
+        fields = fields_of(repository, record)
+        missing = [field for field in wanted if field not in fields]
+        said.append(f"no field {', '.join(f'`{field}`' for field in missing)} in {record.name}; its fields are {', '.join(fields)}")
+        for field in fields:
+            inside = [name for one in lists.of_field(record, field) if isinstance(one, Key) for name in fields_of(repository, one)]
+            instead += [f"{field}.{name}" for name in missing if name in inside]
+    return "; ".join(said or ["there is no record"]) + (f"; try {','.join(dict.fromkeys(instead))}" if instead else "")
 
 
 def told(one):
@@ -95,10 +113,12 @@ def of_function(repository, lists, item, around, part):
     clauses = [clause for clause in clauses_of(item) if not name or clause.name == name or clause.kind == "requires"]
     if all(clause.kind == "requires" for clause in clauses):
         raise Fault(f"{item.where()} has no clause")
-    uses = lists.of_function(item, clauses, what_is_around(item, around))
+    context = what_is_around(item, around)
+    uses = lists.of_function(item, clauses, context)
     module = re.search(r"/src/(.*)\.rt$", item.file.where)[1]
     key = Key("clause", item.file.where.split("/")[1], module, f"{item.name} {name}".strip())
-    entry = Entry(key, item.file.where, [signature_lines(item), *(lines_of(item, clause) for clause in clauses)], uses)
+    entry = Entry(key, item.file.where, [signature_lines(item), *(lines_of(item, clause) for clause in clauses)], uses,
+                  context.imports)
     return Asked(entry, restricted(repository, lists, uses, fields.split(","), item.where()) if fields else {})
 
 
@@ -125,14 +145,16 @@ def restricted(repository, lists, uses, fields, where):
     """The record among what a clause rests on that has all these fields. Behind a point is a field of the record that the field before it
     promises."""
     own = list(dict.fromkeys(field.partition(".")[0] for field in fields))
-    found = {one for one in uses if isinstance(one, Key) and all(has_part(repository, one, field) for field in own)}
+    records = [one for one in dict.fromkeys(uses) if isinstance(one, Key) and fields_of(repository, one)]
+    found = {one for one in records if all(field in fields_of(repository, one) for field in own)}
     if len(found) != 1:
-        raise Fault(f"{where}: {len(found)} records have the fields {', '.join(own)}")
+        wanted = no_such_field(repository, lists, records, own) if not found else f"several records have the fields {', '.join(own)}"
+        raise Fault(f"{where}: {wanted}")
     record, only = found.pop(), {}
     for field in own:
         inside = [one.partition(".")[2] for one in fields if one.startswith(f"{field}.")]
         if inside:
-            only |= restricted(repository, lists, lists.of_field(record, field), inside, f"{where}: {field}")
+            only.update(restricted(repository, lists, lists.of_field(record, field), inside, f"{where}: {field}"))
     return {record: own, **only}
 
 

@@ -22,14 +22,16 @@ class Imports:
     """What words mean by the `use` lines: the module that has them, and their name there."""
 
     def __init__(self, lines, where):
-        self.named, self.modules = {}, {}
+        self.named, self.modules, self.renamed = {}, {}, {}
         for number, line in enumerate(lines, 1):
             if not re.match(r"\s*(ghost )?use ", line):
                 continue
             if USE.match(line):
                 self.add_names(*USE.match(line).groups())
             elif USE_MODULE.match(line):
-                self.modules[USE_MODULE.match(line)[2]] = USE_MODULE.match(line)[1]
+                module, word = USE_MODULE.match(line).groups()
+                self.modules[word] = module
+                self.renamed[word] = true_name(module)
             else:
                 raise Fault(f"{where}:{number}: cannot read this `use`")
 
@@ -38,6 +40,8 @@ class Imports:
             name, _, other = part.partition(" as ")
             for word in words_of_name((other or name).strip()):
                 self.named[word] = (module, name.strip())
+                if other:
+                    self.renamed[word] = true_name(module, name.strip())
 
     def find(self, word):
         """The module and the name there of a word, whose fields are left out; or None."""
@@ -47,6 +51,12 @@ class Imports:
         if front in self.modules:
             return self.modules[front], rest.split(".")[0]
         return self.named.get(word)
+
+
+def true_name(module, name=None):
+    """A module, or a name in it, in the way in which a definition is asked for: `hx_tree::nodes::Rule::All`."""
+    parts = [part for part in module.split(".")[1:] if part not in ("specs", "declared", "TheVariants", "TheConstants")]
+    return "::".join(parts + ([name] if name and parts[-1:] != [name] else []))
 
 
 def words_of_name(name):
