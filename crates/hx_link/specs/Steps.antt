@@ -1,5 +1,6 @@
 -- The link that a step gives. Links are named by their places in the list of those before the step.
-use Rattle.std.specs.Prelude.{◌≡◌, ℕ, ◌<◌, ◌≤◌, false, List, [], ◌∷◌, map, length, slice_get, Contains, ◌++◌, ◌⊎◌}
+use Rattle.std.specs.Prelude.{◌≡◌, ℕ, ◌<◌, ◌≤◌, ◌↔◌, true, false, List, [], ◌∷◌, ◌++◌, map, length, slice_get, Contains}
+use Rattle.std.specs.Prelude.{◌⊎◌}
 use Rattle.std.specs.declared.option.Option.TheVariants.{Some}
 use Rattle.hx_board.specs.declared.colours.Colour.{Colour}
 use Rattle.hx_board.specs.declared.vertices.Vertex.{Vertex}
@@ -8,8 +9,9 @@ use Rattle.hx_board.specs.Sets.{has, insert, union, ShareNone}
 use Rattle.hx_board.specs.Cells.{OnBoard}
 use Rattle.hx_board.specs.Positions.{Board, IsEmpty}
 use Rattle.hx_board.specs.Graph.{IsOwn, IsOpen, Joined}
-use Rattle.hx_board.specs.VertexSets.{code_of}
+use Rattle.hx_board.specs.VertexSets.{code_of, IsSomeVertex}
 use Rattle.hx_link.specs.declared.links.Kind.TheVariants.{Full, Semi}
+use Rattle.hx_link.specs.declared.links.Allowed.{Allowed}
 use Rattle.hx_link.specs.declared.links.Link.{Link}
 use Rattle.hx_link.specs.declared.parts.TheConstants.{MOST_PARTS}
 use Rattle.hx_link.specs.declared.steps.Step.{Step}
@@ -28,6 +30,12 @@ pub record IsLink (board : Board) (player : Colour) (link : Link) : Type 0 where
   pub b_end : IsEnd board player link.b
   pub outside : (cell : ℕ) → IsEmpty board cell → (link.a ≡ Of cell) ⊎ (link.b ≡ Of cell)
       → has link.carrier cell ≡ false
+
+-- these are the empty cells of the board, and the vertices that may be ends of the player's links
+pub record IsAllowed (allowed : Allowed) (board : Board) (player : Colour) : Type 0 where
+  pub empties : (cell : ℕ) → (has allowed.empties cell ≡ true) ↔ IsEmpty board cell
+  pub ends : (vertex : Vertex) → IsSomeVertex vertex
+      → (has allowed.ends (code_of vertex) ≡ true) ↔ IsEnd board player vertex
 
 -- the link's ends are these, in either order
 abbrev pub HasEnds : Link → Vertex → Vertex → Type 0

@@ -3,10 +3,10 @@
 //! so that gives a Semi link.
 
 ghost use Rattle.hx_board.specs.Finds.{Finds};
-ghost use Rattle.hx_link.specs.Steps.{StepGives};
+ghost use Rattle.hx_link.specs.Steps.{StepGives, IsAllowed};
 ghost use Rattle.hx_link.specs.Named.{IsMiddle};
 
-use crate::links::{Kind, Link, made};
+use crate::links::{Allowed, Kind, Link, made};
 use crate::meetings::{Met, met_of};
 use crate::steps::Step;
 use hx_board::{Cell, Colour, Position, Vertex};
@@ -15,10 +15,12 @@ use hx_board::{Cell, Colour, Position, Vertex};
 pub(crate) fn and_stone(
     position: &Position,
     colour: Colour,
+    allowed: &Allowed,
     before: &[Link],
     left: u32,
     right: u32,
 ) -> Option<Link>
+    requires { IsAllowed allowed.now position.now colour }
     ensures { Finds result (StepGives position.now colour before.now (Step.AndStone left right)) }
 {
     let Some(met) = met_of(before, left, right) else {
@@ -32,6 +34,7 @@ pub(crate) fn and_stone(
     made(
         position,
         colour,
+        allowed,
         Kind::Full,
         &met.at.from,
         &met.at.to,
@@ -40,10 +43,12 @@ pub(crate) fn and_stone(
 }
 
 /// The empty cell that two links share as an end, where it is in neither carrier.
-fn middle_cell(position: &Position, met: &Met) -> Option<Cell>
+#[inline(always)]
+fn middle_cell(position: &Position, colour: Colour, allowed: &Allowed, met: &Met) -> Option<Cell>
+    requires { IsAllowed allowed.now position.now colour }
     ensures { Finds result (IsMiddle position.now met.now) }
 {
-    let empties = position.empties();
+    let empties = allowed.empties;
     match met.at.middle {
         Vertex::Of(cell) => {
             if empties.has(cell) && !met.first.carrier.has(cell) && !met.second.carrier.has(cell) {
@@ -60,22 +65,25 @@ fn middle_cell(position: &Position, met: &Met) -> Option<Cell>
 pub(crate) fn and_cell(
     position: &Position,
     colour: Colour,
+    allowed: &Allowed,
     before: &[Link],
     left: u32,
     right: u32,
 ) -> Option<Link>
+    requires { IsAllowed allowed.now position.now colour }
     ensures { Finds result (StepGives position.now colour before.now (Step.AndCell left right)) }
 {
     let Some(met) = met_of(before, left, right) else {
         return None;
     };
-    let Some(cell) = middle_cell(position, &met) else {
+    let Some(cell) = middle_cell(position, colour, allowed, &met) else {
         return None;
     };
     let carrier = met.first.carrier.union(met.second.carrier).with(cell);
     made(
         position,
         colour,
+        allowed,
         Kind::Semi,
         &met.at.from,
         &met.at.to,

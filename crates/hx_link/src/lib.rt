@@ -14,8 +14,8 @@ mod results;
 mod step_lists;
 mod steps;
 
-pub use links::{Kind, Link, ends_of};
+pub use links::{Allowed, Kind, Link, ends_of};
 pub use parts::{MOST_PARTS, Parts};
-pub use results::result_of;
+pub use results::{result_among, result_of};
 pub use step_lists::Steps;
 pub use steps::Step;

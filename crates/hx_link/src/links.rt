@@ -8,7 +8,7 @@ ghost use Rattle.hx_board.specs.Finds.{Finds};
 ghost use Rattle.hx_board.specs.Sets.{has};
 ghost use Rattle.hx_board.specs.VertexSets.{code_of, IsSomeVertex};
 ghost use Rattle.hx_link.specs.declared.links.Link.{Link};
-ghost use Rattle.hx_link.specs.Steps.{IsEnd, IsLink, HasEnds, IsChainLink};
+ghost use Rattle.hx_link.specs.Steps.{IsEnd, IsLink, IsAllowed, HasEnds, IsChainLink};
 ghost use Rattle.hx_link.specs.Named.{IsMade};
 
 use hx_board::{Colour, Mask, Position, Vertex, VertexSet};
@@ -61,14 +61,33 @@ fn is_outside(cells: Mask, vertex: &Vertex) -> bool
     }
 }
 
-/// Whether there can be this link on the board.
-fn is_link(position: &Position, colour: Colour, link: &Link) -> bool
+/// What a player's links may have on a position: the empty cells in their carriers, and these vertices as ends. Who asks for
+/// many links takes it once.
+#[derive(Clone, Copy)]
+pub struct Allowed {
+    pub empties: Mask,
+    pub ends: VertexSet,
+}
+
+/// What the player's links may have on this position.
+pub(crate) fn allowed_on(position: &Position, colour: Colour) -> Allowed
+    ensures { IsAllowed result position.now colour }
+{
+    Allowed {
+        empties: position.empties(),
+        ends: ends_of(position, colour),
+    }
+}
+
+/// Whether there can be this link on the board where this is allowed.
+#[inline(always)]
+fn is_link(position: &Position, colour: Colour, allowed: &Allowed, link: &Link) -> bool
+    requires { IsAllowed allowed.now position.now colour }
     ensures { IsTrue result ↔ IsLink position.now colour link.now }
 {
-    let ends = ends_of(position, colour);
-    let inner = position.empties().meet(link.carrier);
-    let a_end = ends.has(link.a);
-    let b_end = ends.has(link.b);
+    let inner = allowed.empties.meet(link.carrier);
+    let a_end = allowed.ends.has(link.a);
+    let b_end = allowed.ends.has(link.b);
     let a_outside = is_outside(inner, &link.a);
     let b_outside = is_outside(inner, &link.b);
     link.a.code() < link.b.code() && a_end && b_end && a_outside && b_outside
@@ -101,17 +120,20 @@ fn ordered(kind: Kind, x: &Vertex, y: &Vertex, carrier: Mask) -> Link
 }
 
 /// The link of this kind, these ends in either order, and this carrier, where there can be one.
+#[inline(always)]
 pub(crate) fn made(
     position: &Position,
     colour: Colour,
+    allowed: &Allowed,
     kind: Kind,
     x: &Vertex,
     y: &Vertex,
     carrier: Mask,
 ) -> Option<Link>
+    requires { IsAllowed allowed.now position.now colour }
     ensures { Finds result (IsMade position.now colour kind x.now y.now carrier) }
 {
     let link = ordered(kind, x, y, carrier);
-    let is_right = is_link(position, colour, &link);
+    let is_right = is_link(position, colour, allowed, &link);
     if is_right { Some(link) } else { None }
 }

@@ -23,6 +23,7 @@ pub(crate) struct Met {
 }
 
 /// The one end that two links share. None where they share none or both.
+#[inline(always)]
 fn meeting_of(first: &Link, second: &Link) -> Option<Meeting>
     ensures { Finds result (MeetIn first.now second.now) }
 {
@@ -58,6 +59,7 @@ fn meeting_of(first: &Link, second: &Link) -> Option<Meeting>
 }
 
 /// The earlier Full link at a place.
+#[inline(always)]
 fn full_at(before: &[Link], place: u32) -> Option<Link>
     ensures { Finds result (IsFullAt before.now place) }
 {
@@ -75,6 +77,7 @@ fn full_at(before: &[Link], place: u32) -> Option<Link>
 }
 
 /// Two earlier Full links that share exactly one end and no cell of their carriers.
+#[inline(always)]
 pub(crate) fn met_of(before: &[Link], left: u32, right: u32) -> Option<Met>
     ensures { Finds result (IsMet before.now left right) }
 {

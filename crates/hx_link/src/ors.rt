@@ -3,10 +3,10 @@
 
 ghost use Rattle.std.specs.Prelude.{◌≡◌, MatchOption, slice_get};
 ghost use Rattle.hx_board.specs.Finds.{Finds};
-ghost use Rattle.hx_link.specs.Steps.{StepGives};
+ghost use Rattle.hx_link.specs.Steps.{StepGives, IsAllowed};
 ghost use Rattle.hx_link.specs.Named.{IsSemiAt, ArePartsFrom, PartsSoFar};
 
-use crate::links::{Kind, Link, has_ends, made};
+use crate::links::{Allowed, Kind, Link, has_ends, made};
 use crate::parts::MOST_PARTS;
 use crate::steps::Step;
 use hx_board::{Colour, Mask, Position, Vertex};
@@ -70,9 +70,11 @@ fn link_at(before: &[Link], place: u32) -> Option<Link>
 pub(crate) fn or_link(
     position: &Position,
     colour: Colour,
+    allowed: &Allowed,
     before: &[Link],
     places: &[u32],
 ) -> Option<Link>
+    requires { IsAllowed allowed.now position.now colour }
     ensures { Finds result (StepGives position.now colour before.now (Step.Or places.now)) }
 {
     let count = places.len();
@@ -92,6 +94,7 @@ pub(crate) fn or_link(
     made(
         position,
         colour,
+        allowed,
         Kind::Full,
         &first.a,
         &first.b,

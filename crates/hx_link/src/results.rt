@@ -3,10 +3,10 @@
 ghost use Rattle.std.specs.Prelude.{◌≡◌, List};
 ghost use Rattle.hx_board.specs.Finds.{Finds};
 ghost use Rattle.hx_link.specs.declared.links.Link.{Link};
-ghost use Rattle.hx_link.specs.Steps.{StepGives};
+ghost use Rattle.hx_link.specs.Steps.{StepGives, IsAllowed};
 
 use crate::ands::{and_cell, and_stone};
-use crate::links::{Kind, Link, made};
+use crate::links::{Allowed, Kind, Link, allowed_on, made};
 use crate::ors::or_link;
 use crate::steps::Step;
 use hx_board::{Colour, Groups, Mask, Position, Vertex};
@@ -33,11 +33,30 @@ pub fn result_of(
     requires { groups.now ≡ record { board = position.now; player = colour } }
     ensures { Finds result (StepGives position.now colour before.now step.now) }
 {
+    let allowed = allowed_on(position, colour);
+    result_among(position, colour, groups, &allowed, before, step)
+}
+
+/// As `result_of`, for callers who know what is allowed on the position and ask for the links of many steps.
+pub fn result_among(
+    position: &Position,
+    colour: Colour,
+    groups: &Groups,
+    allowed: &Allowed,
+    before: &[Link],
+    step: &Step,
+) -> Option<Link>
+    requires groups { groups.now ≡ record { board = position.now; player = colour } }
+    requires allowed { IsAllowed allowed.now position.now colour }
+    ensures { Finds result (StepGives position.now colour before.now step.now) }
+{
     match step {
-        Step::Base { a, b } => base_link(position, colour, groups, a, b),
-        Step::AndStone { left, right } => and_stone(position, colour, before, *left, *right),
-        Step::AndCell { left, right } => and_cell(position, colour, before, *left, *right),
-        Step::Or { parts } => or_link(position, colour, before, parts.items()),
+        Step::Base { a, b } => base_link(position, colour, groups, allowed, a, b),
+        Step::AndStone { left, right } => {
+            and_stone(position, colour, allowed, before, *left, *right)
+        }
+        Step::AndCell { left, right } => and_cell(position, colour, allowed, before, *left, *right),
+        Step::Or { parts } => or_link(position, colour, allowed, before, parts.items()),
     }
 }
 
@@ -46,14 +65,16 @@ fn base_link(
     position: &Position,
     colour: Colour,
     groups: &Groups,
+    allowed: &Allowed,
     a: &Vertex,
     b: &Vertex,
 ) -> Option<Link>
-    requires { groups.now ≡ record { board = position.now; player = colour } }
+    requires groups { groups.now ≡ record { board = position.now; player = colour } }
+    requires allowed { IsAllowed allowed.now position.now colour }
     ensures { (before : List Link)
         → Finds result (StepGives position.now colour before (Step.Base a.now b.now)) }
 {
-    let Some(link) = made(position, colour, Kind::Full, a, b, Mask::empty()) else {
+    let Some(link) = made(position, colour, allowed, Kind::Full, a, b, Mask::empty()) else {
         return None;
     };
     let joined = groups.joined(*a, *b);
