@@ -1,5 +1,5 @@
 pub mod LiveLaws
-mod LossLaws
+pub mod LossLaws
 pub mod GivenLaws
 pub mod KeptLaws
 pub mod RightLaws
@@ -17,6 +17,7 @@ pub mod WalkLaws
 pub mod CoverLaws
 pub mod PairLaws
 pub mod FieldLaws
+pub mod TouchLaws
 pub mod MarkLaws
 pub mod RenamingLaws
 pub mod ClosedLaws

@@ -11,3 +11,4 @@ pub mod LiveOf
 pub mod LastStones
 pub mod Telling
 pub mod Fulls
+pub mod Touches

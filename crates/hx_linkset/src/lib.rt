@@ -15,6 +15,7 @@ mod passes;
 mod plays;
 mod renaming;
 mod sets;
+mod touches;
 
 pub use derivations::Derived;
 pub use fulls::{FullIter, FullLink};

@@ -53,16 +53,24 @@ pub(crate) struct Losses {
     /// The vertices that may be ends no more, and whether there are any.
     pub(crate) ends: VertexSet,
     pub(crate) has_ends: bool,
+
+    /// All of these.
+    pub(crate) taken: VertexSet,
 }
 
-/// What a play takes away, by what is live before it and after it.
+/// What a play takes away, by what is live before it and after it. It is taken once for a pass over all links, and not made
+/// again at each of them.
+#[inline(never)]
 pub(crate) fn losses_of(before: &Liveness, after: &Liveness) -> Losses
     ensures { AreLosses result before.now after.now }
 {
+    let filled = before.empties.minus(after.empties);
+    let ends = before.ends.minus(after.ends);
     Losses {
-        filled: before.empties.minus(after.empties),
-        ends: before.ends.minus(after.ends),
+        filled,
+        ends,
         has_ends: before.ends != after.ends,
+        taken: VertexSet::of_cells(filled).union(ends),
     }
 }
 

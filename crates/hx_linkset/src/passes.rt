@@ -8,7 +8,8 @@ ghost use Rattle.hx_linkset.specs.Fulls.{AreFullLists};
 use crate::chains::{Chains, FIRST_NODE};
 use crate::fulls::FullLists;
 use crate::limits::MOST_LINKS;
-use crate::liveness::{is_dropped, liveness_of, losses_of};
+use crate::liveness::{liveness_of, losses_of};
+use crate::touches::HeldLinks;
 use hx_board::{Colour, Position};
 use hx_link::Link;
 
@@ -16,7 +17,7 @@ use hx_link::Link;
 pub(crate) fn drop_dead(
     chains: &mut Chains,
     log: &mut Vec<u16>,
-    links: &[Link],
+    links: &HeldLinks,
     before: &Position,
     after: &Position,
     player: Colour,
@@ -34,8 +35,8 @@ pub(crate) fn drop_dead(
     let live = liveness_of(before, player);
     let kept = liveness_of(after, player);
     let losses = losses_of(&live, &kept);
-    for (place, link) in links.iter().enumerate() {
-        let drops = is_dropped(&live, &losses, link);
+    for place in 0..links.len() {
+        let drops = links.is_dropped(&live, &losses, place);
         if !drops {
             continue;
         }

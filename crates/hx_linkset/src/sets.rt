@@ -38,8 +38,9 @@ use crate::liveness::{Liveness, is_live, liveness_of};
 use crate::pairs::{PairIter, in_order};
 use crate::passes::{cut_down, cut_fulls, drop_dead, put_back};
 use crate::plays::{Stage, before_last, can_put, logged_from, number_of, stage_of, with_all};
+use crate::touches::HeldLinks;
 use hx_board::{CELLS, Cell, Colour, Groups, Mask, Memory, Position, Vertex, VertexSet};
-use hx_link::{Kind, Link, Step, result_of};
+use hx_link::{Allowed, Kind, Link, Step, result_among};
 use std::alloc::Global;
 use std::marker::Model;
 
@@ -69,7 +70,7 @@ pub struct LinkSet {
     /// The groups of the player, and what tells which links are live. Each play makes both anew.
     groups: Groups,
     liveness: Liveness,
-    pub(crate) links: Vec<Link>,
+    links: HeldLinks,
     pub(crate) steps: Vec<Step>,
 
     /// The live links of each kind and pair of ends, in rising order.
@@ -95,10 +96,10 @@ impl Model for LinkSet {
     ghost use Rattle.hx_linkset.specs.History.{FieldsKeep};
 
     ghost view = { λ s. standing s.colour
-        record { board = s.position; links = s.links.items; steps = s.steps.items } s.plays.items };
+        record { board = s.position; links = s.links; steps = s.steps.items } s.plays.items };
 
     ghost invariant = { λ s. FieldsKeep s.colour
-        record { board = s.position; links = s.links.items; steps = s.steps.items } s.plays.items
+        record { board = s.position; links = s.links; steps = s.steps.items } s.plays.items
         s.groups s.liveness s.chains s.fulls s.log.items
         (vec_capacity s.plays) (vec_capacity s.log) };
 }
@@ -131,7 +132,7 @@ impl LinkSet {
             colour,
             groups: Groups::of(position, colour),
             liveness: liveness_of(position, colour),
-            links: Vec::new(alloc),
+            links: HeldLinks::new(alloc),
             steps: Vec::new(alloc),
             chains,
             fulls,
@@ -289,7 +290,7 @@ impl LinkSet {
             derived.steps derived.places.items) }
     {
         derivation_of(
-            *self.links.allocator(),
+            self.links.allocator(),
             &self.position,
             self.colour,
             self.links.as_slice(),
@@ -340,7 +341,7 @@ impl LinkSet {
 
     /// What gives the set its memory.
     pub fn allocator(&self) -> Global {
-        *self.links.allocator()
+        self.links.allocator()
     }
 
     /// Adds the link that a step gives from live links, where no live link covers it and there is room. After any other
@@ -399,21 +400,22 @@ impl LinkSet {
         ensures memory { OnErr result (self.new ≡ self.old) }
     {
         let count = self.links.len();
-        if self.links.reserve(1).is_err() {
+        if self.steps.reserve(1).is_err() {
             return Err(Memory);
         }
-        if self.steps.reserve(1).is_err() {
+        if self.links.push(link).is_err() {
             return Err(Memory);
         }
         let head = head_for(link.kind, &link.a, &link.b);
         if self.fulls.add(count as u32, &link).is_err() {
+            self.links.truncate(count);
             return Err(Memory);
         }
         if self.chains.grow(head).is_err() {
             self.fulls.cut(&link);
+            self.links.truncate(count);
             return Err(Memory);
         }
-        self.links.push_reserved(link);
         self.steps.push_reserved(step);
         Ok(count as u32)
     }
@@ -494,7 +496,7 @@ impl LinkSet {
         drop_dead(
             &mut self.chains,
             &mut self.log,
-            self.links.as_slice(),
+            &self.links,
             &self.position,
             after,
             self.colour,
@@ -511,16 +513,22 @@ impl LinkSet {
     {
         // The proof takes from here that the position's board is one.
         let _size = self.position.size();
-        let Some(link) = result_of(
+        let allowed = Allowed {
+            empties: self.liveness.empties,
+            ends: self.liveness.ends,
+        };
+        let Some(link) = result_among(
             &self.position,
             self.colour,
             &self.groups,
+            &allowed,
             self.links.as_slice(),
             step,
         ) else {
             return None;
         };
-        let live = is_live(&self.liveness, &link);
+        // Its ends were asked for.
+        let live = link.carrier.inside(self.liveness.empties);
         if live { Some(link) } else { None }
     }
 
@@ -533,7 +541,9 @@ impl LinkSet {
         let mut node = self.chains.after(head);
         while node >= FIRST_NODE {
             let place = node - FIRST_NODE;
-            let covers = self.links[place as usize].carrier.inside(link.carrier);
+            let covers = self.links.as_slice()[place as usize]
+                .carrier
+                .inside(link.carrier);
             if covers {
                 return Some(place as u32);
             }

@@ -10,7 +10,7 @@ pub returns : goal.returns
 returns c =
     let now : Stage = record {
       position = c.self.inside.position;
-      count = length c.self.inside.links.items;
+      count = length c.self.inside.links;
       logged =
           length c.self.inside.log.items;
     } in
@@ -18,7 +18,7 @@ returns c =
     rw (
       c.before_last.ensures,
       c.stage_of-now.ensures,
-      c.as_slice.ensures.value,
+      c.as_slice.ensures,
       c.as_slice-2.ensures.value,
       c.as_slice-3.ensures.value,
     ) refl in

@@ -1,4 +1,4 @@
-use Rattle.std.proofs.Common.{◌≡◌, ◌+◌, ◌-◌, ◌<◌, length, vec_len, refl, sym, ◌∙◌, subst, arith, rules}
+use Rattle.std.proofs.Common.{◌≡◌, get_or, ◌+◌, ◌-◌, ◌<◌, length, refl, sym, ◌∙◌, subst, arith}
 use Rattle.std.proofs.lemmas.Bool.{false≢true}
 use Rattle.hx_board.specs.Sets.{IsSubset}
 use Rattle.hx_link.specs.declared.links.Link.{Link}
@@ -22,25 +22,19 @@ loop-node-init c =
     (walk-start _ _ _ held c.head_for-head.result c.head_for-head.ensures.small
     (λ (link : Link). IsSubset link.carrier c.args.link.now.carrier))
 
-pub index-requires : goal.index-requires
-index-requires c =
-    let held = (now _ _ _ _ _ _ _ _ _ _ _ _ c.self.invariant).hold in
-    let less : c.loop-node.node < 30258 + length c.self.inside.links.items =
-    walk-in_list _ _ _ held c.head_for-head.result c.head_for-head.ensures.small _ c.loop-node.node c.loop-node.invariant in
-    let long : vec_len c.self.inside.links ≡ length c.self.inside.links.items = search rules in
-    omega arith
-
 pub returns-then-covers : goal.returns-then-covers
 returns-then-covers c =
     let held = (now _ _ _ _ _ _ _ _ _ _ _ _ c.self.invariant).hold in
-    let walked : WalkedTo c.self.inside.links.items (IsLiveThere c.self.inside.position c.self.inside.colour)
+    let walked : WalkedTo c.self.inside.links (IsLiveThere c.self.inside.position c.self.inside.colour)
     (λ (link : Link). IsSubset link.carrier c.args.link.now.carrier) c.head_for-head.result c.loop-node.node = c.loop-node.invariant in
-    let at : LinkAt c.self.inside.links.items (IsLiveThere c.self.inside.position c.self.inside.colour)
+    let at : LinkAt c.self.inside.links (IsLiveThere c.self.inside.position c.self.inside.colour)
     (head_of c.args.link.now) c.loop-node.node =
     rw c.head_for-head.ensures.value at (walk-link _ _ _ held c.head_for-head.result c.head_for-head.ensures.small _ c.loop-node.node walked
     c.loop-node-test.true) in
-    let same : c.index.result.now ≡ at.link =
-    read-at _ _ _ c.loop-node.node (c.loop-node.node - 30258) at c.index.result.now refl c.index.ensures in
+    let same : get_or c.as_slice.result.now (c.loop-node.node - 30258) c.index-as_slice-place.result ≡ at.link =
+    sym c.index-as_slice-place.is
+    ∙ read-at _ _ _ c.loop-node.node (c.loop-node.node - 30258) at c.index-as_slice-place.result refl
+    (rw c.as_slice.ensures at c.index-as_slice-place.is) in
     let P : Link → Type 0 = λ link. IsSubset link.carrier c.args.link.now.carrier in
     let Q : Standing → Type 0 = λ s. Covers s (c.loop-node.node - 30258) c.args.link.now in
     subst Q c.self.view_is
@@ -51,7 +45,7 @@ returns-then-covers c =
 pub after-node-requires-in-loop-node : goal.after-node-requires-in-loop-node
 after-node-requires-in-loop-node c =
     let held = (now _ _ _ _ _ _ _ _ _ _ _ _ c.self.invariant).hold in
-    let less : c.loop-node.node < 30258 + length c.self.inside.links.items =
+    let less : c.loop-node.node < 30258 + length c.self.inside.links =
     walk-in_list _ _ _ held c.head_for-head.result c.head_for-head.ensures.small _ c.loop-node.node c.loop-node.invariant in
     omega (arith, held.next_long)
 
@@ -65,13 +59,15 @@ loop-node-smaller c =
 pub loop-node-preserved : goal.loop-node-preserved
 loop-node-preserved c =
     let held = (now _ _ _ _ _ _ _ _ _ _ _ _ c.self.invariant).hold in
-    let walked : WalkedTo c.self.inside.links.items (IsLiveThere c.self.inside.position c.self.inside.colour)
+    let walked : WalkedTo c.self.inside.links (IsLiveThere c.self.inside.position c.self.inside.colour)
     (λ (link : Link). IsSubset link.carrier c.args.link.now.carrier) c.head_for-head.result c.loop-node.node = c.loop-node.invariant in
-    let at : LinkAt c.self.inside.links.items
+    let at : LinkAt c.self.inside.links
     (IsLiveThere c.self.inside.position c.self.inside.colour) c.head_for-head.result c.loop-node.node =
     walk-link _ _ _ held c.head_for-head.result c.head_for-head.ensures.small _ c.loop-node.node walked c.loop-node-test.true in
-    let same : c.index.result.now ≡ at.link =
-    read-at _ _ _ c.loop-node.node (c.loop-node.node - 30258) at c.index.result.now refl c.index.ensures in
+    let same : get_or c.as_slice.result.now (c.loop-node.node - 30258) c.index-as_slice-place.result ≡ at.link =
+    sym c.index-as_slice-place.is
+    ∙ read-at _ _ _ c.loop-node.node (c.loop-node.node - 30258) at c.index-as_slice-place.result refl
+    (rw c.as_slice.ensures at c.index-as_slice-place.is) in
     let P : Link → Type 0 = λ link. IsSubset link.carrier c.args.link.now.carrier in
     rw c.after-node-in-loop-node.ensures
     (walk-on _ _ _ held c.head_for-head.result c.head_for-head.ensures.small _ c.loop-node.node walked c.loop-node-test.true

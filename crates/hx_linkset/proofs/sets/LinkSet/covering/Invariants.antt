@@ -6,7 +6,7 @@ use Rattle.hx_linkset.proofs.sets.LinkSet.covering.Given as goal
 
 abbrev pub invariant-loop-node : goal.invariant-loop-node
 invariant-loop-node l =
-    WalkedTo l.self-inside.links.items (IsLiveThere l.self-inside.position l.self-inside.colour)
+    WalkedTo l.self-inside.links (IsLiveThere l.self-inside.position l.self-inside.colour)
     (λ (held : Link). IsSubset held.carrier l.fn.link.carrier) l.head l.node
 
 abbrev pub decreases-loop-node : goal.decreases-loop-node

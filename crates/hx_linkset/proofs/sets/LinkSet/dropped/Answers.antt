@@ -10,7 +10,7 @@ pub logged_from-requires : goal.logged_from-requires
 logged_from-requires c =
     let now : Stage = record {
       position = c.self.inside.position;
-      count = length c.self.inside.links.items;
+      count = length c.self.inside.links;
       logged =
           length c.self.inside.log.items;
     } in
@@ -18,7 +18,7 @@ logged_from-requires c =
     rw (
       c.before_last-first.ensures,
       c.stage_of-now.ensures,
-      c.as_slice.ensures.value,
+      c.as_slice.ensures,
       c.as_slice-2.ensures.value,
       c.as_slice-3.ensures.value,
     ) refl in
@@ -33,7 +33,7 @@ pub returns : goal.returns
 returns c =
     let now : Stage = record {
       position = c.self.inside.position;
-      count = length c.self.inside.links.items;
+      count = length c.self.inside.links;
       logged =
           length c.self.inside.log.items;
     } in
@@ -41,7 +41,7 @@ returns c =
     rw (
       c.before_last-first.ensures,
       c.stage_of-now.ensures,
-      c.as_slice.ensures.value,
+      c.as_slice.ensures,
       c.as_slice-2.ensures.value,
       c.as_slice-3.ensures.value,
     ) refl in
@@ -50,6 +50,6 @@ returns c =
     let P : Standing → Type 0 = λ s. AreDropped s c.logged_from.result.now in
     let Q : List ℕ → Type 0 = λ places.
     AreDropped (standing c.self.inside.colour
-    (record { board = c.self.inside.position; links = c.self.inside.links.items; steps = c.self.inside.steps.items })
+    (record { board = c.self.inside.position; links = c.self.inside.links; steps = c.self.inside.steps.items })
     c.self.inside.plays.items) places in
     subst P c.self.view_is (subst Q (sym since_is) (first-dropped _ _ _ _ _ _ _ _ _ _ _ _ c.self.invariant))

@@ -9,11 +9,11 @@ use Rattle.hx_linkset.proofs.sets.LinkSet.full_at.Goals as goal
 pub returns : goal.returns
 returns c =
     let set : Standing = standing c.self.inside.colour
-    (record { board = c.self.inside.position; links = c.self.inside.links.items; steps = c.self.inside.steps.items })
+    (record { board = c.self.inside.position; links = c.self.inside.links; steps = c.self.inside.steps.items })
     c.self.inside.plays.items in
     let live_is : c.new.result ≡ live_at c.self.inside.liveness.empties c.self.inside.liveness.ends c.args.vertex
-    (fulls_of c.self.inside.links.items c.args.vertex) =
-    rw (c.new.ensures, c.at-list.ensures.fulls c.self.inside.links.items c.self.invariant.fulls_are) refl in
+    (fulls_of c.self.inside.links c.args.vertex) =
+    rw (c.new.ensures, c.at-list.ensures.fulls c.self.inside.links c.self.invariant.fulls_are) refl in
     let P : Standing → Type 0 = λ s. AreFullAt s c.args.vertex c.new.result in
     let Q : List FullLink → Type 0 = λ fulls. AreFullAt set c.args.vertex fulls in
     subst P c.self.view_is

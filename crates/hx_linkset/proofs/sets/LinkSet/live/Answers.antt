@@ -12,7 +12,7 @@ new-requires c =
 
 pub returns : goal.returns
 returns c =
-    let most : c.len-most.result ≡ length c.self.inside.links.items = search rules in
+    let most : c.len-most.result ≡ length c.self.inside.links = search rules in
     let P : Standing → Type 0 = λ s. AreLivePairs s c.args.a c.args.b c.new.result in
     subst P c.self.view_is (rw (c.new.ensures, most)
     (live-pairs _ (right _ _ _ _ _ _ _ _ _ _ _ _ c.self.invariant) c.args.a c.args.b _ _ c.in_order-low.ensures.order

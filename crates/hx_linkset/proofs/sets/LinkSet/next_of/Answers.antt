@@ -1,4 +1,4 @@
-use Rattle.std.proofs.Common.{◌≡◌, ℕ, ◌<◌, ◌+◌, ◌-◌, vec_len, rules, length, refl, subst, arith}
+use Rattle.std.proofs.Common.{ℕ, ◌<◌, ◌+◌, ◌-◌, refl, subst, arith}
 use Rattle.hx_linkset.specs.States.{Standing}
 use Rattle.hx_linkset.specs.LiveOf.{IsLiveOf, IsFirstFrom}
 use Rattle.hx_linkset.proofs.NextLaws.{later-none, later-some}
@@ -8,7 +8,6 @@ use Rattle.hx_linkset.proofs.sets.LinkSet.next_of.Goals as goal
 pub after-node-requires : goal.after-node-requires
 after-node-requires c =
     let held = (now _ _ _ _ _ _ _ _ _ _ _ _ c.self.invariant).hold in
-    let long : vec_len c.self.inside.links ≡ length c.self.inside.links.items = search rules in
     omega (arith, held.next_long)
 
 pub returns-then-node-lt-FIRST_NODE : goal.returns-then-node-lt-FIRST_NODE

@@ -7,10 +7,10 @@ use Rattle.hx_linkset.proofs.FieldLaws.{now, fields-room, fields-played, seen-pl
 use Rattle.hx_linkset.proofs.sets.LinkSet.play_to.Goals as goal
 
 pub drop_dead-requires-clause-hold : goal.drop_dead-requires-clause-hold
-drop_dead-requires-clause-hold c = rw c.as_slice-3.ensures.value (now _ _ _ _ _ _ _ _ _ _ _ _ c.self.invariant).hold
+drop_dead-requires-clause-hold c = (now _ _ _ _ _ _ _ _ _ _ _ _ c.self.invariant).hold
 
 pub drop_dead-requires-clause-log_ok : goal.drop_dead-requires-clause-log_ok
-drop_dead-requires-clause-log_ok c = rw c.as_slice-3.ensures.value (now _ _ _ _ _ _ _ _ _ _ _ _ c.self.invariant).log_ok
+drop_dead-requires-clause-log_ok c = (now _ _ _ _ _ _ _ _ _ _ _ _ c.self.invariant).log_ok
 
 pub push_reserved-requires : goal.push_reserved-requires
 push_reserved-requires c =
@@ -25,14 +25,14 @@ invariant_of-self c =
     let more : HasMore c.self.inside.position c.args.after.now = subst P (sym c.self.view_is) c.requires in
     let stage : Stage = record {
       position = c.self.inside.position;
-      count = length c.self.inside.links.items;
+      count = length c.self.inside.links;
       logged =
           length c.self.inside.log.items;
     } in
-    let stage_is : c.stage_of-now.result ≡ stage = rw (c.stage_of-now.ensures, c.as_slice.ensures.value, c.as_slice-2.ensures.value) refl in
-    let passed : IsPassed c.self.inside.links.items c.self.inside.position c.args.after.now c.self.inside.colour
-    (length c.self.inside.links.items) c.self.inside.chains c.drop_dead.new.chains c.self.inside.log.items c.drop_dead.new.log.items =
-    rw c.as_slice-3.ensures.value at c.drop_dead.ensures.passed in
+    let stage_is : c.stage_of-now.result ≡ stage = rw (c.stage_of-now.ensures, c.as_slice.ensures, c.as_slice-2.ensures.value) refl in
+    let passed : IsPassed c.self.inside.links c.self.inside.position c.args.after.now c.self.inside.colour
+    (length c.self.inside.links) c.self.inside.chains c.drop_dead.new.chains c.self.inside.log.items c.drop_dead.new.log.items =
+    c.drop_dead.ensures.passed in
     fields-played _ _ _ _ _ _ _ _ _ _ _ _ c.self.invariant c.args.after.now more _ _ passed _ _ _ _ _ c.of-self-inside.ensures
     c.liveness_of-self-inside.ensures
     (c.push_reserved.ensures.items
@@ -44,14 +44,14 @@ returns c =
     let more : HasMore c.self.inside.position c.args.after.now = subst P (sym c.self.view_is) c.requires in
     let stage : Stage = record {
       position = c.self.inside.position;
-      count = length c.self.inside.links.items;
+      count = length c.self.inside.links;
       logged =
           length c.self.inside.log.items;
     } in
-    let stage_is : c.stage_of-now.result ≡ stage = rw (c.stage_of-now.ensures, c.as_slice.ensures.value, c.as_slice-2.ensures.value) refl in
-    let passed : IsPassed c.self.inside.links.items c.self.inside.position c.args.after.now c.self.inside.colour
-    (length c.self.inside.links.items) c.self.inside.chains c.drop_dead.new.chains c.self.inside.log.items c.drop_dead.new.log.items =
-    rw c.as_slice-3.ensures.value at c.drop_dead.ensures.passed in
+    let stage_is : c.stage_of-now.result ≡ stage = rw (c.stage_of-now.ensures, c.as_slice.ensures, c.as_slice-2.ensures.value) refl in
+    let passed : IsPassed c.self.inside.links c.self.inside.position c.args.after.now c.self.inside.colour
+    (length c.self.inside.links) c.self.inside.chains c.drop_dead.new.chains c.self.inside.log.items c.drop_dead.new.log.items =
+    c.drop_dead.ensures.passed in
     seen-played _ _ _ _ _ _ _ _ _ _ _ _ c.self.invariant c.args.after.now more _ _ passed _ _ _ _ _ c.of-self-inside.ensures
     c.liveness_of-self-inside.ensures
     (c.push_reserved.ensures.items
