@@ -43,8 +43,9 @@ pub record Answers (settings : Settings) (plain_tree : Bool) (input : List ℕ) 
     (finish : Finish) : Type 0 where
   pub solved : finish.status ≡ 0 → SaysSolved plain_tree input before now
   pub small : IsTextWhere (λ board. IsSmall board settings.budget) input → IsUnlessStopped finish.status 0
-  -- 3 comes for no small position, and for want of a unit for none with a chain, unless the budget is 0
+  -- 3 comes for no small position
   pub unknown : finish.status ≡ 3 → IsTextWhere (λ board. ¬ IsSmall board settings.budget) input
+  -- 3 comes for want of a unit for no position with a chain, unless the budget is 0
   pub no_chain : finish.status ≡ 3 → finish.tally.budgets ≡ 1 → 0 < settings.budget → IsTextWhere HasNoChain input
   pub bad_position : finish.status ≡ 4 → IsNoPosition input
   pub position_line : (line : ℕ) → length input ≤ longest → IsFaultyLine ArePositionLines input line

@@ -64,7 +64,7 @@ ended_first lines more (node ∷ nodes) all preamble winner ended are =
     (all_front first (node ∷ nodes) ended.later ended.text.each) refl (subst (AreTreeLinesOf preamble all winner) same are) in
     record { more = on.on.more; same = on.on.nodes_are }
 
--- no more nodes ended than a text may have
+-- no more nodes ended than `check` accepts
 pub few_ended : (lines : List (List ℕ)) (nodes : List Node) → EndedIn lines nodes → length nodes ≤ most_nodes
 few_ended lines nodes ended = omega (arith, ended.few, length-append nodes ended.later)
 
@@ -135,7 +135,7 @@ more_nodes many preamble all winner rest are few =
     let some : 1 ≤ length on.on.more = no_end_yet many on.on.more rest (length all) winner are.count on.on.rest_is in
     absurd (omega (arith, few, some, many.full, ap length on.on.nodes_are, length-append many.nodes on.on.more))
 
--- more nodes than a text may have
+-- more nodes than `check` accepts
 pub too_many : {Meets : Demand} {input : List ℕ} (many : ManyNodes Meets input) (lines more : List (List ℕ)) (nodes : List Node)
     → lines ≡ many_lines many ++ more → EndedIn lines nodes → ⊥
 too_many many lines more nodes is ended =

@@ -58,7 +58,7 @@ status_of (Yes root) = 0
 status_of (No fault) = status_of_fault fault
 
 -- the input is above a limit before its first fault: a line has more bytes than a line may have, or there are more
--- nodes than a text may have
+-- nodes than `check` accepts
 abbrev pub IsLong : Demand → List ℕ → Type 0
 IsLong Meets input = IsLongLine Meets input ⊎ IsTooManyNodes Meets input
 

@@ -26,7 +26,7 @@ NodesAreRight lines nodes = AreRight nodes
 abbrev pub AreThese : List (List ℕ) → List Node → Demand
 AreThese lines nodes = λ other_lines others. (other_lines ≡ lines) × (others ≡ nodes)
 
--- The text of a tree, of no more nodes than a text may have, begins with these lines. Of its nodes these ended in the
+-- The text of a tree, of no more nodes than `check` accepts, begins with these lines. Of its nodes these ended in the
 -- lines, of which two come before all nodes, and the later ones did not.
 pub record EndedIn (lines : List (List ℕ)) (nodes : List Node) : Type 0 where
   pub preamble : Preamble

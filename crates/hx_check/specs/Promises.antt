@@ -23,7 +23,7 @@ pub record SaysYes (input : List ℕ) (taken_before taken_now : Option (List ℕ
   pub output : taken_now ≡ append taken_before (yes_text root.heading)
   pub wins : OnlyWinner root.heading
 
--- the input is the text of a valid tree of no more nodes than a text may have
+-- the input is the text of a valid tree of no more nodes than `check` accepts
 pub record IsProof (input : List ℕ) : Type 0 where
   pub nodes : List Node
   pub text : IsTreeText input nodes

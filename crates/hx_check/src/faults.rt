@@ -22,7 +22,7 @@ pub enum Fault {
     ReadFault,
     /// There was not enough memory.
     OutOfMemory,
-    /// A line has more bytes than a line may have, or there are more nodes than a text may have.
+    /// A line has more bytes than a line may have, or there are more nodes than `check` accepts.
     TooLong,
 }
 

@@ -28,7 +28,7 @@ pub(crate) fn judge<S: Source>(alloc: Global, source: &mut S) -> Judgement
             Err(fault) => return Judgement::No(fault),
         }
     }
-    // No text that has as many nodes as a text may have has so many lines.
+    // No text that has as many nodes as `check` accepts has so many lines.
     unreachable!()
 }
 

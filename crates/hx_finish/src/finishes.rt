@@ -2,7 +2,7 @@
 
 use hx_solve::Tally;
 
-/// The exit status of a run, and how often its budget and its slots were used up.
+/// The exit status of a run, and how many refusals of a unit and of a slot were counted.
 #[derive(Debug, Drop)]
 pub struct Finish {
     pub status: u8,

@@ -15,6 +15,7 @@ pub mod DroppedLaws
 pub mod HistoryLaws
 pub mod WalkLaws
 pub mod CoverLaws
+pub mod PutLaws
 pub mod PairLaws
 pub mod FieldLaws
 pub mod TouchLaws

@@ -227,7 +227,8 @@ impl LinkSet {
     }
 
     /// A number of how the set came to be: of its player, of its position and how many links it holds, and of the same before
-    /// each play that stands. Sets that came about otherwise hardly ever share it.
+    /// each play that stands. Sets that came about otherwise hardly ever share it. It is the key of a hint, so no clause says
+    /// which number it is, and no proof rests on it.
     pub fn number(&self) -> u64 {
         let now = stage_of(&self.position, self.links.as_slice(), self.log.as_slice());
         number_of(self.colour, &now, self.plays.as_slice())
@@ -356,16 +357,7 @@ impl LinkSet {
         if let Some(place) = self.covering(&link) {
             return Ok(Added::Covered(place));
         }
-        // The proof takes from here that no more are held.
-        self.keeps();
-        let count = self.count() as usize;
-        if count == MOST_LINKS {
-            return Ok(Added::Limit);
-        }
-        match self.append(link, step) {
-            Ok(index) => Ok(Added::New(index)),
-            Err(Memory) => Err(Memory),
-        }
+        self.put(link, step)
     }
 
     /// Adds the link that a step gives from live links, where there is room, and looks for no cover: that is for callers who
@@ -378,6 +370,16 @@ impl LinkSet {
         let Some(link) = self.given(&step) else {
             return Ok(Added::Refused);
         };
+        self.put(link, step)
+    }
+
+    /// Puts a link that a step gives from live links after the others, where there is room. After any other answer than New,
+    /// want of memory included, the set is as before, and the step is dropped.
+    fn put(&mut self, link: Link, step: Step) -> Result<Added, Memory>
+        requires { Gives self.old step link }
+        ensures put { IfOk result (IsPut self.old self.new step) }
+        ensures memory { OnErr result (self.new ≡ self.old) }
+    {
         // The proof takes from here that no more are held.
         self.keeps();
         let count = self.count() as usize;

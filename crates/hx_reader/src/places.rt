@@ -16,7 +16,7 @@ pub enum TreeFault {
     /// The line with this number, counted from 1, is not of the grammar in its place.
     #[error("line {line} is not of the grammar in its place")]
     Text { line: u64 },
-    /// The line begins one node more than a text may have, which is this many.
+    /// The line begins one node more than is read, which is this many.
     #[error("the text has more than {nodes} nodes")]
     TooMany { nodes: u32 },
     /// Memory for a node's lists was wanting.
@@ -83,7 +83,7 @@ pub struct Next {
 pub enum Stop {
     /// It is not of the grammar in its place.
     Wrong,
-    /// It begins one node more than a text may have.
+    /// It begins one node more than is read.
     TooMany,
     /// Memory was wanting.
     Memory,

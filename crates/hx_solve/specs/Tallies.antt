@@ -4,7 +4,7 @@ use Rattle.hx_io.specs.Causes.{next_count}
 use Rattle.hx_solve.specs.declared.unsolved.Unsolved.{Unsolved}
 use Rattle.hx_solve.specs.declared.unsolved.Unsolved.TheVariants.{Budget, Slots, Memory}
 
--- a budget and a number of slots, and how often each was used up
+-- a budget and a number of slots, and how many refusals of each were counted
 pub record Tallied : Type 0 where
   pub budget : ℕ
   pub slots : ℕ

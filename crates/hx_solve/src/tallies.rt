@@ -1,4 +1,4 @@
-//! How often a budget and a book's slots were used up.
+//! How many refusals of a unit and of a slot were counted.
 //!
 //! A refusal is made where a unit or a slot is refused, and nowhere else, and nobody can copy it. A tally takes in the refusals
 //! that it counts, so each is counted once.

@@ -1,8 +1,8 @@
--- How long a tree's text is: its lines, and how many nodes it has.
+-- How long the lines of a tree's text are, and how many nodes `check` accepts.
 use Rattle.std.specs.Prelude.{ℕ, ◌≤◌, List, length, All}
 use Rattle.hx_tree.specs.declared.checkers.TheConstants.{MOST_NODES}
 
--- the most nodes of a text
+-- the most nodes of a text that `check` accepts; the grammar allows more
 abbrev pub most_nodes : ℕ
 most_nodes = MOST_NODES
 

@@ -3,7 +3,7 @@ use Rattle.std.specs.Prelude.{Option, IfSome}
 use Rattle.hx_check.specs.Promises.{Answers}
 use Rattle.hx_app.proofs.laws.check_accepts_what_solve_writes.Goals as goal
 
--- what `solve` wrote is the text of a valid tree with no more nodes than a text may have
+-- what `solve` wrote is the text of a valid tree with no more nodes than `check` accepts
 pub returns : goal.returns
 returns c = λ plain_tree input taken taken_now solved source source_now sink sink_now status is kept.
     let AreKept : Option (List ℕ) → Type 0 = λ left. IfSome left (λ text. Answers text sink.taken sink_now.taken status) in

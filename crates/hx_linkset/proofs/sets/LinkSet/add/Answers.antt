@@ -1,23 +1,16 @@
-use Rattle.std.proofs.Common.{arith}
+use Rattle.std.proofs.lemmas.Result.{IfOk-weaker}
+use Rattle.hx_linkset.specs.Answers.{IsPut, IsAdded}
 use Rattle.hx_linkset.proofs.GivenLaws.{from_live-live}
+use Rattle.hx_linkset.proofs.PutLaws.{put-added}
 use Rattle.hx_linkset.proofs.sets.LinkSet.add.Goals as goal
 
 pub covering-requires : goal.covering-requires
 covering-requires c = from_live-live _ _ _ c.args.step c.in-Some.link c.in-Some.ensures
 
-pub append-requires-clause-gives : goal.append-requires-clause-gives
-append-requires-clause-gives c = c.in-Some.ensures
+pub put-requires : goal.put-requires
+put-requires c = c.in-Some.ensures
 
-pub returns-in-Ok-clause-added : goal.returns-in-Ok-clause-added
-returns-in-Ok-clause-added c =
-    let few = c.keeps.ensures.few in
-    let other = c.if-count-eq-MOST_LINKS.false in
-    let count = c.count-count.ensures in
-    record {
-      link = c.in-Some.link;
-      gives = c.in-Some.ensures;
-      uncovered = c.in_default-covering.ensures;
-      place_is = c.in-Ok.ensures.appended.0;
-      small = omega (arith, few, other, count, c.in-Ok.ensures.appended.0);
-      grown = c.in-Ok.ensures.appended.1;
-    }
+pub returns-clause-added : goal.returns-clause-added
+returns-clause-added c =
+    IfOk-weaker c.put.result (IsPut _ _ c.args.step) (IsAdded _ _ c.args.step)
+    (put-added _ _ c.args.step c.in-Some.link c.in-Some.ensures c.in_default-covering.ensures) c.put.ensures.put
