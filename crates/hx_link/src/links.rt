@@ -52,7 +52,7 @@ pub fn ends_of(position: &Position, colour: Colour) -> VertexSet
 
 /// Whether a vertex is no cell of a set.
 #[inline(always)]
-fn is_outside(cells: Mask, vertex: &Vertex) -> bool
+pub fn is_outside(cells: Mask, vertex: &Vertex) -> bool
     ensures { IsTrue result ↔ ((cell : ℕ) → vertex.now ≡ Vertex.Of cell → has cells cell ≡ false) }
 {
     match vertex {

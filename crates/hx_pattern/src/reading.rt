@@ -3,8 +3,6 @@
 
 ghost use Rattle.std.specs.Prelude.{◌≡◌, ◌↔◌, IsTrue, false, ℕ, [], ◌∷◌, ◌++◌, IfOk, IfErr, Ok};
 ghost use Rattle.hx_board.specs.declared.colours.Colour.TheVariants.{Black};
-ghost use Rattle.hx_board.specs.declared.vertices.Vertex.{Vertex as End};
-ghost use Rattle.hx_board.specs.Sets.{has};
 ghost use Rattle.hx_board.specs.Cells.{IsExtent};
 ghost use Rattle.hx_board.specs.Positions.{IsBoard, IsPosition};
 ghost use Rattle.hx_letters.specs.Words.{Reads};
@@ -18,7 +16,7 @@ use crate::lines::{Ends, is_title, read_carrier, read_ends, read_kind, read_owne
 use crate::templates::Template;
 use hx_board::{Colour, Mask, Position, Size, Vertex};
 use hx_letters::cut;
-use hx_link::{Kind, ends_of};
+use hx_link::{Kind, ends_of, is_outside};
 use hx_reader::{TextFault, black_stones, read_size, with_white_stones};
 
 /// Reads the text of a template, which takes no memory. A line that is missing or is not ended by LF is wrong at its own number, and
@@ -217,16 +215,6 @@ fn is_carrier(claim: &Template, carrier: Mask) -> bool
     let a_outside = is_outside(carrier, &claim.a);
     let b_outside = is_outside(carrier, &claim.b);
     inside && a_outside && b_outside
-}
-
-/// Whether a vertex is no cell of a set.
-fn is_outside(cells: Mask, vertex: &Vertex) -> bool
-    ensures { IsTrue result ↔ ((cell : ℕ) → vertex.now ≡ End.Of cell → has cells cell ≡ false) }
-{
-    match vertex {
-        Vertex::Of(cell) => !cells.has(*cell),
-        Vertex::First | Vertex::Last => true,
-    }
 }
 
 /// Nothing follows the last line.
