@@ -67,8 +67,9 @@ pub struct LinkSet {
     position: Position,
     colour: Colour,
 
-    /// The groups of the player, and what tells which links are live. Each play makes both anew.
-    groups: Groups,
+    /// The groups of the player, and what tells which links are live. Each play makes both anew. The groups are a large table, and
+    /// stand behind a pointer, so that to move a set takes little.
+    groups: Box<Groups>,
     liveness: Liveness,
     links: HeldLinks,
     pub(crate) steps: Vec<Step>,
@@ -100,7 +101,7 @@ impl Model for LinkSet {
 
     ghost invariant = { λ s. FieldsKeep s.colour
         record { board = s.position; links = s.links; steps = s.steps.items } s.plays.items
-        s.groups s.liveness s.chains s.fulls s.log.items
+        s.groups.value s.liveness s.chains s.fulls s.log.items
         (vec_capacity s.plays) (vec_capacity s.log) };
 }
 
@@ -125,12 +126,15 @@ impl LinkSet {
         let Ok(fulls) = FullLists::new(alloc) else {
             return Err(Memory);
         };
+        let Ok(groups) = Box::new(alloc, Groups::of(position, colour)) else {
+            return Err(Memory);
+        };
         // The proof takes from here that the position's board is one.
         let _size = position.size();
         Ok(LinkSet {
             position: *position,
             colour,
-            groups: Groups::of(position, colour),
+            groups,
             liveness: liveness_of(position, colour),
             links: HeldLinks::new(alloc),
             steps: Vec::new(alloc),
@@ -480,7 +484,7 @@ impl LinkSet {
             self.links.truncate(play.count);
             self.steps.truncate(play.count);
             self.position = play.position;
-            self.groups = Groups::of(&self.position, self.colour);
+            *self.groups = Groups::of(&self.position, self.colour);
             self.liveness = liveness_of(&self.position, self.colour);
         }
     }
@@ -505,7 +509,7 @@ impl LinkSet {
         );
         self.plays.push_reserved(now);
         self.position = *after;
-        self.groups = Groups::of(after, self.colour);
+        *self.groups = Groups::of(after, self.colour);
         self.liveness = liveness_of(after, self.colour);
     }
 

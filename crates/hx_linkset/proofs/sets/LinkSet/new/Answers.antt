@@ -1,7 +1,9 @@
+use Rattle.std.proofs.Common.{◌∙◌}
 use Rattle.hx_linkset.proofs.FieldLaws.{fields-none}
 use Rattle.hx_linkset.proofs.sets.LinkSet.new.Goals as goal
 
 pub invariant_of-result : goal.invariant_of-result
 invariant_of-result c = fields-none c.args.colour c.args.position.now _ _ _ _ _ _ _ _ _ _
-    c.new-3.ensures c.new-4.ensures.items c.in-Ok.ensures.items c.in-Ok-with_capacity.ensures.items c.of.ensures c.liveness_of.ensures
+    c.new-4.ensures c.new-5.ensures.items c.in-Ok.ensures.items c.in-Ok-with_capacity.ensures.items
+    (c.in-Ok-new-3.ensures.ok ∙ c.of.ensures) c.liveness_of.ensures
     c.size-size.ensures.valid c.in-Ok-new.ensures c.in-Ok-new-2.ensures c.in-Ok.ensures.capacity c.in-Ok-with_capacity.ensures.capacity
