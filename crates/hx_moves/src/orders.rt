@@ -14,6 +14,7 @@ ghost use Rattle.hx_moves.specs.Orders.{HasNoCell, AreCellsOf, AreEmptyCells};
 
 use crate::replies::MOST;
 use hx_board::{CELLS, Cell, Memory, Size, Vertex, VertexSet};
+use hx_link::Kind;
 use hx_linkset::LinkSet;
 use std::alloc::Global;
 
@@ -44,18 +45,46 @@ fn first(cells: VertexSet) -> Option<Cell>
     }
 }
 
-/// What a vertex is joined with, or has a Full link to.
-fn near(set: &LinkSet, vertex: &Vertex) -> VertexSet
+/// Whether a live Full link joins a vertex with a cell.
+fn has_full(set: &LinkSet, vertex: &Vertex, cell: Cell) -> bool {
+    match set.first_of(Kind::Full, *vertex, Vertex::Of(cell)) {
+        Some(_) => true,
+        None => false,
+    }
+}
+
+/// What a vertex is joined with, or has a Full link to among some cells.
+fn near(set: &LinkSet, vertex: &Vertex, cells: VertexSet) -> VertexSet
     requires { IsVertex set.now.present.board.size vertex.now }
 {
     let mut near = set.groups().joined_with(*vertex);
-    for full in set.full_at(*vertex) {
-        near = near.with(full.to);
+    let mut left = cells.minus(near);
+    for _ in 0..CELLS {
+        let Some(cell) = first(left) else {
+            break;
+        };
+        left = left.without(Vertex::Of(cell));
+        if has_full(set, vertex, cell) {
+            near = near.with(Vertex::Of(cell));
+        }
     }
     near
 }
 
-/// What each empty cell is joined with, or has a Full link to.
+/// Notes of some cells that a cell is near to them.
+fn note(nears: &mut Nears, cell: Cell, cells: VertexSet) {
+    let mut left = cells;
+    for _ in 0..CELLS {
+        let Some(other) = first(left) else {
+            break;
+        };
+        left = left.without(Vertex::Of(other));
+        let index = other.index() as usize;
+        nears[index] = nears[index].with(Vertex::Of(cell));
+    }
+}
+
+/// What each empty cell is joined with, or has a Full link to. Each pair of cells is asked about once.
 fn nears(set: &LinkSet) -> Nears {
     let size = set.position().size();
     let mut nears = [VertexSet::empty(); CELLS];
@@ -65,7 +94,11 @@ fn nears(set: &LinkSet) -> Nears {
             break;
         };
         left = left.without(cell);
-        nears[cell.index() as usize] = near(set, &Vertex::Of(cell));
+        let later = VertexSet::of_cells(left);
+        let near = near(set, &Vertex::Of(cell), later);
+        let index = cell.index() as usize;
+        nears[index] = nears[index].union(near);
+        note(&mut nears, cell, near.meet(later));
     }
     nears
 }
@@ -92,7 +125,7 @@ fn add_distances(set: &LinkSet, nears: &Nears, side: Vertex, sums: &mut [u32; CE
     requires { IsVertex set.now.present.board.size side }
 {
     let mut left = VertexSet::of_cells(set.position().empties());
-    let mut reached = near(set, &side).meet(left);
+    let mut reached = near(set, &side, left).meet(left);
     for distance in 1..FAR {
         if reached.is_empty() {
             break;
@@ -126,14 +159,18 @@ fn sums(own: &LinkSet, others: &LinkSet) -> [u32; CELLS] {
     sums
 }
 
-/// When a cell is tried, by the sums: the one with the least number first.
-fn place_of(size: Size, cell: Cell, sums: &[u32; CELLS], earlier: &[u32; CELLS]) -> u32 {
-    let index = cell.index() as usize;
-    sums[index]
-        .wrapping_mul(1000)
-        .wrapping_add(MOST)
-        .wrapping_add(from_centre(size, cell))
-        .wrapping_sub(earlier[index])
+/// When each of these cells is tried, by the sums: the one with the least number first.
+fn places(size: Size, cells: &[Cell], sums: &[u32; CELLS], earlier: &[u32; CELLS]) -> [u32; CELLS] {
+    let mut places = [0u32; CELLS];
+    for cell in cells {
+        let index = cell.index() as usize;
+        places[index] = sums[index]
+            .wrapping_mul(1000)
+            .wrapping_add(MOST)
+            .wrapping_add(from_centre(size, *cell))
+            .wrapping_sub(earlier[index]);
+    }
+    places
 }
 
 /// The cells of a set, in cell order.
@@ -165,8 +202,9 @@ pub(crate) fn in_order(
     let size = position.size();
     let sums = sums(own, others);
     let mut found = list(own.allocator(), cells)?;
+    let places = places(size, found.as_slice(), &sums, earlier);
     found
-        .sort_by_key(|cell: &Cell| place_of(size, *cell, &sums, earlier))
+        .sort_by_key(|cell: &Cell| places[cell.index() as usize])
         .map_err(|_| Memory)?;
     Ok(found)
 }
