@@ -1,11 +1,14 @@
 -- What a mark more changes: the marked places are those of before and the new one. So after a mark on each child of some lines
 -- the marked ones are those of before and these.
 use Rattle.std.proofs.Common.{◌≡◌, ℕ, ◌+◌, ◌<◌, List, [], ◌∷◌, ◌++◌, length, take, get_or, refl, sym, ◌∙◌, subst, inl, inr, Bool, ◌⊎◌}
-use Rattle.std.proofs.Common.{⊎_elim, arith}
+use Rattle.std.proofs.Common.{⊎_elim, Some, arith}
 use Rattle.std.proofs.lemmas.Option.{slice_get_read, slice_get_within}
 use Rattle.hx_board.proofs.ListLaws.{get-push, get-push_before, get-push_last, take-read}
 use Rattle.hx_tree.specs.declared.nodes.Line.{Line}
-use Rattle.hx_book.specs.Trees.{NamesChild, HasLine}
+use Rattle.hx_tree.specs.declared.nodes.Rule.{Rule}
+use Rattle.hx_tree.specs.declared.nodes.Rule.TheVariants.{Chain, Links, Move, All, Fill, Turned}
+use Rattle.hx_entry.specs.Children.{child_of, lines_of}
+use Rattle.hx_book.specs.Trees.{NamesChild, HasLine, Names}
 use Rattle.hx_book.specs.Renaming.{MarksMore}
 
 mark-then : (A B : ℕ → Type 0) (old middle new : List Bool) → MarksMore A old middle → MarksMore B middle new
@@ -57,3 +60,21 @@ module _ (lines : List Line) (i : ℕ) (line : Line) (inside : i < length lines)
       (lines-push (take i lines) line) (lines-cases (take i lines) line)
       (mark-then (HasLine (take i lines)) (NamesChild line) old middle new m n) in
       subst (λ (ls : List Line). MarksMore (HasLine ls) old new) (sym up_to) more
+
+-- ---- a rule names its one child, or the children of its lines
+
+pub child-named : (rule : Rule) (child : ℕ) → Some child ≡ child_of rule → Names rule child
+child-named Chain child is = absurd (cc)
+child-named (Links steps) child is = absurd (cc)
+child-named (Move cell named) child is = cc
+child-named (All steps threats lines) child is = absurd (cc)
+child-named (Fill steps named) child is = cc
+child-named (Turned named) child is = cc
+
+pub lines-named : (rule : Rule) (place : ℕ) → HasLine (lines_of rule) place → Names rule place
+lines-named Chain place has = absurd (no_line place has)
+lines-named (Links steps) place has = absurd (no_line place has)
+lines-named (Move cell named) place has = absurd (no_line place has)
+lines-named (All steps threats lines) place has = has
+lines-named (Fill steps named) place has = absurd (no_line place has)
+lines-named (Turned named) place has = absurd (no_line place has)

@@ -6,8 +6,8 @@
 //! for what `into_tree` takes.
 //!
 //! A full book with as many slots as buckets has the longest chains: a hit visits 1.5 entries and a miss 1, as numbers as
-//! good as random give them. An entry takes 160 bytes besides the lists of its rule: 144 for the node, and in each of the
-//! two sets of chains 4 for its link and 4 for a bucket; with twice as many buckets 168.
+//! good as random give them. An entry takes 112 bytes besides the lists of its rule: 96 for the node in little room, and in
+//! each of the two sets of chains 4 for its link and 4 for a bucket; with twice as many buckets 120.
 
 ghost use Rattle.std.specs.Prelude.{◌≡◌, ◌≢◌, ◌<◌, ◌≤◌, ◌↔◌, IsTrue, false, [], length, IfOk};
 ghost use Rattle.hx_tree.specs.Rules.{IsRightNode};
@@ -25,6 +25,7 @@ use crate::refusals::NoSlot;
 use crate::trees::tree_of;
 use crate::wider::{Wider, is_wider};
 use hx_board::{Colour, Memory, Position};
+use hx_entry::Entry;
 use hx_tree::{Found, Heading, Node};
 use std::alloc::Global;
 use std::marker::Model;
@@ -39,7 +40,7 @@ pub const MOST_BUCKETS: u32 = 2097152;
 /// the book lasts.
 #[derive(Drop)]
 pub struct Book {
-    nodes: Vec<Node>,
+    nodes: Vec<Entry>,
 
     /// The entries, chained by their position and mover.
     by_position: Chains,
@@ -125,7 +126,7 @@ impl Book {
         let mut link = self.by_position.newest(number);
         while link != 0 {
             let index = link - 1;
-            let heading = &self.nodes[index as usize].heading;
+            let heading = self.nodes[index as usize].heading();
             if is_of(heading, position, to_move) {
                 let winner = heading.winner;
                 return Some(Found { index, winner });
@@ -144,7 +145,7 @@ impl Book {
         let mut link = self.by_stones.newest(number);
         while link != 0 {
             let index = link - 1;
-            let heading = &self.nodes[index as usize].heading;
+            let heading = self.nodes[index as usize].heading();
             if is_wider(heading, position, to_move, winner) {
                 let position = heading.position;
                 let found = Found { index, winner };
@@ -157,19 +158,19 @@ impl Book {
 
     /// Puts in a node that is right after those that are held. Its index, or that of the entry which its position and mover
     /// have already: then nothing changes. The node comes back exactly where there is no such entry and each slot is taken.
-    pub fn put(&mut self, node: Node) -> Result<u32, NoSlot>
-        requires { IsRightNode (headings_of self.old.nodes) node }
+    pub fn put(&mut self, entry: Entry) -> Result<u32, NoSlot>
+        requires { IsRightNode (headings_of self.old.nodes) entry }
         ensures slots { self.new.slots ≡ self.old.slots }
-        ensures nodes { Puts self.old.slots self.old.nodes node result self.new.nodes }
+        ensures nodes { Puts self.old.slots self.old.nodes entry result self.new.nodes }
     {
-        if let Some(found) = self.find(&node.heading.position, node.heading.to_move) {
+        let heading = *entry.heading();
+        if let Some(found) = self.find(&heading.position, heading.to_move) {
             return Ok(found.index);
         }
         let held = self.nodes.len() as u32;
         if held == self.slots {
-            return Err(NoSlot::new(held, node));
+            return Err(NoSlot::new(held, entry));
         }
-        let heading = node.heading;
         let place = bucket(
             self.by_position.buckets(),
             &heading.position,
@@ -183,7 +184,7 @@ impl Book {
             heading.winner,
         );
         self.by_stones.add(stones);
-        self.nodes.push_reserved(node);
+        self.nodes.push_reserved(entry);
         Ok(held)
     }
 

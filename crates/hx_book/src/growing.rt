@@ -16,7 +16,8 @@ use crate::books::Book;
 use crate::refusals::NoSlot;
 use crate::wider::Wider;
 use hx_board::{Colour, Position};
-use hx_tree::{Found, Node};
+use hx_entry::Entry;
+use hx_tree::Found;
 use std::sync::Wait;
 
 /// Where proofs are looked for and stored. Others may store theirs in the same place: each call sees a list of nodes that
@@ -52,11 +53,11 @@ pub trait Proofs {
 
     /// Stores a node that is right after those that were seen, and plain where the list is. The index of the entry of its position
     /// and mover, of the nodes that are now seen. The node comes back exactly where there is no such entry and each slot is taken.
-    fn store<R: Wait>(&mut self, rt: &R, node: Node) -> Result<u32, NoSlot>
-        requires right { IsRightNode (headings_of (sight self.old).list) node }
-        requires plain { is_plain ≡ true → IsPlain node }
+    fn store<R: Wait>(&mut self, rt: &R, entry: Entry) -> Result<u32, NoSlot>
+        requires right { IsRightNode (headings_of (sight self.old).list) entry }
+        requires plain { is_plain ≡ true → IsPlain entry }
         ensures grew { Grows (sight self.old) (sight self.new) }
-        ensures stored { PutsLater (sight self.new).slots (sight self.old).list node result
+        ensures stored { PutsLater (sight self.new).slots (sight self.old).list entry result
             (sight self.new).list };
 }
 
@@ -85,7 +86,7 @@ impl Proofs for Book {
         self.find_wider(position, to_move, winner)
     }
 
-    fn store<R: Wait>(&mut self, _rt: &R, node: Node) -> Result<u32, NoSlot> {
-        self.put(node)
+    fn store<R: Wait>(&mut self, _rt: &R, entry: Entry) -> Result<u32, NoSlot> {
+        self.put(entry)
     }
 }

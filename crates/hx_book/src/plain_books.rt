@@ -13,6 +13,7 @@ use crate::growing::Proofs;
 use crate::refusals::NoSlot;
 use crate::wider::Wider;
 use hx_board::{Colour, Memory, Position};
+use hx_entry::Entry;
 use hx_tree::{Found, Node};
 use std::alloc::Global;
 use std::marker::Model;
@@ -97,7 +98,7 @@ impl Proofs for PlainBook {
         Some(Wider { found, position })
     }
 
-    fn store<R: Wait>(&mut self, _rt: &R, node: Node) -> Result<u32, NoSlot> {
-        self.book.put(node)
+    fn store<R: Wait>(&mut self, _rt: &R, entry: Entry) -> Result<u32, NoSlot> {
+        self.book.put(entry)
     }
 }

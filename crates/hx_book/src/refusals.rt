@@ -2,16 +2,16 @@
 
 ghost use Rattle.std.specs.Prelude.{◌≡◌};
 
-use hx_tree::Node;
+use hx_entry::Entry;
 use std::marker::Model;
 use thiserror::Error;
 
-/// The answer of a book whose slots are all taken, with the node that found no room.
+/// The answer of a book whose slots are all taken, with the entry that found no room.
 #[derive(Debug, Drop, Error)]
 #[error("each of the {held} slots is taken")]
 pub struct NoSlot {
     held: u32,
-    node: Node,
+    entry: Entry,
 }
 
 impl Model for NoSlot {
@@ -19,15 +19,15 @@ impl Model for NoSlot {
 
     ghost Value = { Refusal };
 
-    ghost view = { λ r. record { held = r.held; node = r.node } };
+    ghost view = { λ r. record { held = r.held; node = r.entry } };
 }
 
 impl NoSlot {
-    /// The refusal of a node by a book that holds so many.
-    pub(crate) fn new(held: u32, node: Node) -> NoSlot
-        ensures { result ≡ record { held = held; node = node } }
+    /// The refusal of an entry by a book that holds so many.
+    pub(crate) fn new(held: u32, entry: Entry) -> NoSlot
+        ensures { result ≡ record { held = held; node = entry } }
     {
-        NoSlot { held, node }
+        NoSlot { held, entry }
     }
 
     /// How many nodes the book held.
@@ -37,10 +37,10 @@ impl NoSlot {
         self.held
     }
 
-    /// The node that was refused.
-    pub fn into_node(self) -> Node
+    /// The entry that was refused.
+    pub fn into_entry(self) -> Entry
         ensures { result ≡ self.node }
     {
-        self.node
+        self.entry
     }
 }

@@ -9,6 +9,7 @@ ghost use Rattle.hx_book.specs.Trees.{NamesChild, HasLine, Names, IsTreeOf, rena
 ghost use Rattle.hx_book.specs.Renaming.{AreUnmarked, MarksMore, AreMarkedFrom, IsKept};
 
 use hx_board::Memory;
+use hx_entry::Entry;
 use hx_tree::{Line, Lines, Node, Rule};
 use std::alloc::Global;
 
@@ -58,23 +59,19 @@ fn mark_lines(marks: &mut Vec<bool>, lines: &[Line])
     }
 }
 
-/// Marks the children of a rule.
-fn mark_children(marks: &mut Vec<bool>, rule: &Rule)
-    requires { (place : ℕ) → Names rule.now place → place < length marks.old.items }
-    ensures { MarksMore (Names rule.now) marks.old.items marks.new.items }
+/// Marks the children of an entry.
+fn mark_children(marks: &mut Vec<bool>, entry: &Entry)
+    requires { (place : ℕ) → Names entry.now.rule place → place < length marks.old.items }
+    ensures { MarksMore (Names entry.now.rule) marks.old.items marks.new.items }
 {
-    match rule {
-        Rule::Chain => {}
-        Rule::Links { .. } => {}
-        Rule::Move { child, .. } => mark(marks, *child),
-        Rule::All { lines, .. } => mark_lines(marks, lines.items()),
-        Rule::Fill { child, .. } => mark(marks, *child),
-        Rule::Turned { child } => mark(marks, *child),
+    match entry.child() {
+        Some(child) => mark(marks, child),
+        None => mark_lines(marks, entry.lines()),
     }
 }
 
 /// The marks of the nodes that a root needs.
-fn needed_for(alloc: Global, nodes: &[Node], root: u32) -> Result<Vec<bool>, Memory>
+fn needed_for(alloc: Global, nodes: &[Entry], root: u32) -> Result<Vec<bool>, Memory>
     requires right { AreRight nodes.now }
     requires inside { root < length nodes.now }
     ensures { IfOk result (λ marks. AreMarkedFrom nodes.now root 0 marks.items) }
@@ -87,7 +84,7 @@ fn needed_for(alloc: Global, nodes: &[Node], root: u32) -> Result<Vec<bool>, Mem
     while bound > 0 {
         bound -= 1;
         if marks[bound] {
-            mark_children(&mut marks, &nodes[bound].rule);
+            mark_children(&mut marks, &nodes[bound]);
         }
     }
     Ok(marks)
@@ -157,12 +154,12 @@ pub fn renamed(node: Node, names: &[u32]) -> Node
 }
 
 /// Keeps the node of a place under the next new number, if it is needed, and else drops it.
-fn keep_needed(kept: &mut Kept, place: usize, node: Node, is_needed: bool) -> Result<(), Memory>
+fn keep_needed(kept: &mut Kept, place: usize, entry: Entry, is_needed: bool) -> Result<(), Memory>
     requires inside { place < length kept.old.names.items }
-    requires children { (child : ℕ) → Names node.rule child → child < length kept.old.names.items }
+    requires children { (child : ℕ) → Names entry.rule child → child < length kept.old.names.items }
     requires few { length kept.old.nodes.items < 4294967296 }
     ensures needed { is_needed ≡ true → OnOk result (IsKept kept.old.nodes.items
-        kept.old.names.items place node kept.new.nodes.items kept.new.names.items) }
+        kept.old.names.items place entry kept.new.nodes.items kept.new.names.items) }
     ensures dropped { is_needed ≡ false → OnOk result
         ((kept.new.nodes.items ≡ kept.old.nodes.items)
         × (kept.new.names.items ≡ kept.old.names.items)) }
@@ -171,6 +168,7 @@ fn keep_needed(kept: &mut Kept, place: usize, node: Node, is_needed: bool) -> Re
         return Ok(());
     }
     let number = kept.nodes.len() as u32;
+    let node = entry.into_node()?;
     let node = renamed(node, kept.names.as_slice());
     if kept.nodes.push(node).is_err() {
         return Err(Memory);
@@ -180,7 +178,7 @@ fn keep_needed(kept: &mut Kept, place: usize, node: Node, is_needed: bool) -> Re
 }
 
 /// The marked nodes with the new numbers of their children.
-fn kept_of(alloc: Global, nodes: Vec<Node>, root: u32, marks: &[bool]) -> Result<Vec<Node>, Memory>
+fn kept_of(alloc: Global, nodes: Vec<Entry>, root: u32, marks: &[bool]) -> Result<Vec<Node>, Memory>
     requires right { AreRight nodes.items }
     requires few { length nodes.items < 4294967296 }
     requires inside { root < length nodes.items }
@@ -196,8 +194,8 @@ fn kept_of(alloc: Global, nodes: Vec<Node>, root: u32, marks: &[bool]) -> Result
     };
     let mut place = 0;
     let mut rest = nodes.into_iter();
-    while let Some(node) = rest.next() {
-        if keep_needed(&mut kept, place, node, marks[place]).is_err() {
+    while let Some(entry) = rest.next() {
+        if keep_needed(&mut kept, place, entry, marks[place]).is_err() {
             return Err(Memory);
         }
         place += 1;
@@ -206,7 +204,7 @@ fn kept_of(alloc: Global, nodes: Vec<Node>, root: u32, marks: &[bool]) -> Result
 }
 
 /// The tree of the node at a place, of nodes that are right.
-pub(crate) fn tree_of(alloc: Global, nodes: Vec<Node>, root: u32) -> Result<Vec<Node>, Memory>
+pub(crate) fn tree_of(alloc: Global, nodes: Vec<Entry>, root: u32) -> Result<Vec<Node>, Memory>
     requires right { AreRight nodes.items }
     requires few { length nodes.items < 4294967296 }
     requires inside { root < length nodes.items }

@@ -8,6 +8,7 @@ ghost use Rattle.hx_book.specs.Sights.{Grows};
 ghost use Rattle.hx_nodes.specs.Stored.{TellsStored, HandsBack, IsAnswered, HadMemory};
 
 use hx_book::{NoSlot, Proofs};
+use hx_entry::Entry;
 use hx_tree::Node;
 use std::sync::Wait;
 
@@ -39,7 +40,10 @@ pub fn store<P: Proofs, R: Wait>(rt: &R, proofs: &mut P, node: Node) -> Stored
     ensures answered { IsAnswered result }
     ensures memory { HadMemory result }
 {
-    match proofs.store(rt, node) {
+    let Ok(entry) = Entry::new(node) else {
+        return Stored::Memory;
+    };
+    match proofs.store(rt, entry) {
         Ok(_) => Stored::Done,
         Err(refusal) => Stored::Refused(refusal),
     }

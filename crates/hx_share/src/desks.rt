@@ -6,7 +6,8 @@ use crate::readers::BookSeat;
 use crate::shared::Shared;
 use hx_board::{Colour, Position};
 use hx_book::{NoSlot, Proofs, Wider};
-use hx_tree::{Found, Node};
+use hx_entry::Entry;
+use hx_tree::Found;
 use std::sync::Wait;
 
 /// A shared book, and a seat made by it.
@@ -47,7 +48,7 @@ impl<'a> Proofs for Desk<'a> {
             .look_wider(rt, &mut self.seat, position, to_move, winner)
     }
 
-    fn store<R: Wait>(&mut self, rt: &R, node: Node) -> Result<u32, NoSlot> {
-        self.shared.store(rt, &mut self.seat, node)
+    fn store<R: Wait>(&mut self, rt: &R, entry: Entry) -> Result<u32, NoSlot> {
+        self.shared.store(rt, &mut self.seat, entry)
     }
 }

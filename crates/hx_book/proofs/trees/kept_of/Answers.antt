@@ -6,8 +6,8 @@ use Rattle.std.specs.Vec.Iter.{into_iter_items}
 use Rattle.hx_book.proofs.KeptLaws.{kept-none, kept-next, kept-all, child-kept, rest-node, rest-more, rest-end, on-ok}
 use Rattle.hx_book.proofs.trees.kept_of.Goals as goal
 
-pub loop-node-init : goal.loop-node-init
-loop-node-init c = record {
+pub loop-entry-init : goal.loop-entry-init
+loop-entry-init c = record {
   rest = λ k. let same : 0 + k ≡ k = omega arith in
       rw c.into_iter-rest.ensures.rest (ap (λ (p : ℕ). slice_get c.args.nodes.items p) same);
   kept = rw c.new.ensures.items
@@ -17,38 +17,38 @@ loop-node-init c = record {
 
 pub bounds-marks-place : goal.bounds-marks-place
 bounds-marks-place c =
-    let there : slice_get c.args.nodes.items c.loop-node.place ≡ Some c.in-Some.node =
-    rest-node c.args.nodes.items c.loop-node.place (into_iter_items c.loop-node.rest) c.in-Some.node
-    (into_iter_items c.next.new.self) c.loop-node.invariant.rest c.in-Some.ensures.items in
-    omega (arith, slice_get_within c.args.nodes.items c.loop-node.place c.in-Some.node there, c.requires.marked.long)
+    let there : slice_get c.args.nodes.items c.loop-entry.place ≡ Some c.in-Some.entry =
+    rest-node c.args.nodes.items c.loop-entry.place (into_iter_items c.loop-entry.rest) c.in-Some.entry
+    (into_iter_items c.next.new.self) c.loop-entry.invariant.rest c.in-Some.ensures.items in
+    omega (arith, slice_get_within c.args.nodes.items c.loop-entry.place c.in-Some.entry there, c.requires.marked.long)
 
 pub keep_needed-requires-clause-inside : goal.keep_needed-requires-clause-inside
 keep_needed-requires-clause-inside c =
-    let there : slice_get c.args.nodes.items c.loop-node.place ≡ Some c.in-Some.node =
-    rest-node c.args.nodes.items c.loop-node.place (into_iter_items c.loop-node.rest) c.in-Some.node
-    (into_iter_items c.next.new.self) c.loop-node.invariant.rest c.in-Some.ensures.items in
-    omega (arith, slice_get_within c.args.nodes.items c.loop-node.place c.in-Some.node there, c.loop-node.invariant.kept.named)
+    let there : slice_get c.args.nodes.items c.loop-entry.place ≡ Some c.in-Some.entry =
+    rest-node c.args.nodes.items c.loop-entry.place (into_iter_items c.loop-entry.rest) c.in-Some.entry
+    (into_iter_items c.next.new.self) c.loop-entry.invariant.rest c.in-Some.ensures.items in
+    omega (arith, slice_get_within c.args.nodes.items c.loop-entry.place c.in-Some.entry there, c.loop-entry.invariant.kept.named)
 
 pub keep_needed-requires-clause-children : goal.keep_needed-requires-clause-children
 keep_needed-requires-clause-children c =
-    let there : slice_get c.args.nodes.items c.loop-node.place ≡ Some c.in-Some.node =
-    rest-node c.args.nodes.items c.loop-node.place (into_iter_items c.loop-node.rest) c.in-Some.node
-    (into_iter_items c.next.new.self) c.loop-node.invariant.rest c.in-Some.ensures.items in
-    child-kept c.args.nodes.items c.requires.right c.args.root c.args.marks.now c.requires.marked c.loop-node.place
-    c.loop-node.kept.nodes.items c.loop-node.kept.names.items c.loop-node.invariant.kept c.in-Some.node there
+    let there : slice_get c.args.nodes.items c.loop-entry.place ≡ Some c.in-Some.entry =
+    rest-node c.args.nodes.items c.loop-entry.place (into_iter_items c.loop-entry.rest) c.in-Some.entry
+    (into_iter_items c.next.new.self) c.loop-entry.invariant.rest c.in-Some.ensures.items in
+    child-kept c.args.nodes.items c.requires.right c.args.root c.args.marks.now c.requires.marked c.loop-entry.place
+    c.loop-entry.kept.nodes.items c.loop-entry.kept.names.items c.loop-entry.invariant.kept c.in-Some.entry there
 
-pub loop-node-preserved : goal.loop-node-preserved
-loop-node-preserved c =
-    let there : slice_get c.args.nodes.items c.loop-node.place ≡ Some c.in-Some.node =
-    rest-node c.args.nodes.items c.loop-node.place (into_iter_items c.loop-node.rest) c.in-Some.node
-    (into_iter_items c.next.new.self) c.loop-node.invariant.rest c.in-Some.ensures.items in
+pub loop-entry-preserved : goal.loop-entry-preserved
+loop-entry-preserved c =
+    let there : slice_get c.args.nodes.items c.loop-entry.place ≡ Some c.in-Some.entry =
+    rest-node c.args.nodes.items c.loop-entry.place (into_iter_items c.loop-entry.rest) c.in-Some.entry
+    (into_iter_items c.next.new.self) c.loop-entry.invariant.rest c.in-Some.ensures.items in
     let no_error : is_err c.keep_needed.result ≡ false = sym c.is_err.ensures.value ∙ c.if-is_err.false in
     record {
-      rest = rest-more c.args.nodes.items c.loop-node.place (into_iter_items c.loop-node.rest) c.in-Some.node
-          (into_iter_items c.next.new.self) c.loop-node.invariant.rest c.in-Some.ensures.items;
-      kept = kept-next c.args.nodes.items c.requires.right c.args.root c.args.marks.now c.requires.marked c.loop-node.place
-          c.loop-node.kept.nodes.items c.loop-node.kept.names.items c.loop-node.invariant.kept
-          c.in-Some.node there (slice_index_or c.args.marks.now c.loop-node.place false) refl c.keep_needed.new.kept.nodes.items
+      rest = rest-more c.args.nodes.items c.loop-entry.place (into_iter_items c.loop-entry.rest) c.in-Some.entry
+          (into_iter_items c.next.new.self) c.loop-entry.invariant.rest c.in-Some.ensures.items;
+      kept = kept-next c.args.nodes.items c.requires.right c.args.root c.args.marks.now c.requires.marked c.loop-entry.place
+          c.loop-entry.kept.nodes.items c.loop-entry.kept.names.items c.loop-entry.invariant.kept
+          c.in-Some.entry there (slice_index_or c.args.marks.now c.loop-entry.place false) refl c.keep_needed.new.kept.nodes.items
           c.keep_needed.new.kept.names.items
           (λ is. on-ok c.keep_needed.result _ no_error (c.keep_needed.ensures.needed is))
           (λ is. on-ok c.keep_needed.result _ no_error (c.keep_needed.ensures.dropped is));
@@ -56,9 +56,9 @@ loop-node-preserved c =
 
 pub returns : goal.returns
 returns c =
-    let past : length c.args.nodes.items ≤ c.loop-node.place =
-    rest-end c.args.nodes.items c.loop-node.place (into_iter_items c.loop-node.rest) c.loop-node.invariant.rest
-    (nil_from_length (into_iter_items c.loop-node.rest) (omega (arith, c.in_default-next.ensures.cases.0, c.loop-node.rest.rest.ok))) in
-    kept-all c.args.nodes.items c.requires.right c.args.root c.args.marks.now c.requires.marked c.loop-node.place
-    c.loop-node.kept.nodes.items c.loop-node.kept.names.items c.loop-node.invariant.kept
+    let past : length c.args.nodes.items ≤ c.loop-entry.place =
+    rest-end c.args.nodes.items c.loop-entry.place (into_iter_items c.loop-entry.rest) c.loop-entry.invariant.rest
+    (nil_from_length (into_iter_items c.loop-entry.rest) (omega (arith, c.in_default-next.ensures.cases.0, c.loop-entry.rest.rest.ok))) in
+    kept-all c.args.nodes.items c.requires.right c.args.root c.args.marks.now c.requires.marked c.loop-entry.place
+    c.loop-entry.kept.nodes.items c.loop-entry.kept.names.items c.loop-entry.invariant.kept
     past c.requires.inside

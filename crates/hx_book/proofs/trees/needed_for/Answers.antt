@@ -3,9 +3,7 @@ use Rattle.std.proofs.lemmas.Option.{slice_get_read}
 use Rattle.std.specs.Prelude.{slice_get}
 use Rattle.std.proofs.lemmas.Bool.{false≢true}
 use Rattle.hx_board.proofs.ListLaws.{read-or}
-use Rattle.hx_tree.specs.declared.nodes.Node.{Node}
-use Rattle.hx_book.specs.Trees.{Names}
-use Rattle.hx_book.specs.Renaming.{IsMarked, MarksMore, AreMarkedFrom}
+use Rattle.hx_book.specs.Renaming.{IsMarked, AreMarkedFrom}
 use Rattle.hx_book.proofs.NeedLaws.{marked-begun, marked-skip, marked-more}
 use Rattle.hx_book.proofs.trees.needed_for.Goals as goal
 
@@ -28,12 +26,9 @@ loop-bound-preserved-then-index c =
     read-or c.loop-bound.marks.items (c.loop-bound.bound - 1) c.index.result.now false inside_marks c.index.ensures ∙ c.if-index.true in
     let there : slice_get c.args.nodes.now (c.loop-bound.bound - 1) ≡ Some c.index-nodes-bound.result =
     slice_get_read c.args.nodes.now _ (c.loop-bound.bound - 1) c.index-nodes-bound.result refl inside c.index-nodes-bound.is in
-    let more : MarksMore (Names c.index-nodes-bound.result.rule) c.loop-bound.marks.items c.mark_children.new.marks.items =
-    subst (λ (n : Node). MarksMore (Names n.rule) c.loop-bound.marks.items c.mark_children.new.marks.items)
-    (sym c.index-nodes-bound.is) c.mark_children.ensures in
     record {
       marked = marked-more c.args.nodes.now c.requires.right c.args.root
-          (c.loop-bound.bound - 1) c.loop-bound.marks.items was c.index-nodes-bound.result there here c.mark_children.new.marks.items more;
+          (c.loop-bound.bound - 1) c.loop-bound.marks.items was c.index-nodes-bound.result there here c.mark_children.new.marks.items c.mark_children.ensures;
       within = omega (arith, c.loop-bound.invariant.within);
     }
 

@@ -18,8 +18,8 @@ loop-link-init c =
 
 pub returns-then-is_of : goal.returns-then-is_of
 returns-then-is_of c =
-    let is = c.is_of.ensures.0 c.if-is_of.true in
-    rw (← c.self.view_is)
+    let is = rw c.heading-heading.ensures at (c.is_of.ensures.0 c.if-is_of.true) in
+    rw (← c.self.view_is, c.heading-heading.ensures)
     (entry-first c.self.inside.nodes.items c.args.position.now c.args.to_move _ c.index.result.now
     (reached-there (position_key (length c.self.inside.by_position.heads)) c.self.inside.nodes.items c.bucket-number.result
     (IsOf c.args.position.now c.args.to_move) c.loop-link.link c.loop-link-test.true c.loop-link.invariant c.index.result.now
@@ -34,5 +34,6 @@ loop-link-preserved c =
     c.self.invariant.position_chains (IsOf c.args.position.now c.args.to_move) c.bucket-number.result
     (entry-bucket _ c.args.position.now c.args.to_move _ number) c.loop-link.link c.loop-link-test.true c.loop-link.invariant
     c.index.result.now c.index.ensures
-    (λ is. false≢true (sym c.if-is_of.false ∙ c.is_of.ensures.1 (is.same_position, is.same_mover))) c.older-link.result
+    (λ is. false≢true (sym c.if-is_of.false ∙ c.is_of.ensures.1
+    (rw c.heading-heading.ensures (is.same_position, is.same_mover)))) c.older-link.result
     c.older-link.ensures

@@ -18,11 +18,11 @@ loop-link-init c =
 
 pub returns-then-is_wider : goal.returns-then-is_wider
 returns-then-is_wider c =
-    rw (← c.self.view_is)
+    rw (← c.self.view_is, c.heading-heading.ensures)
     (wider-found c.self.inside.nodes.items c.args.position.now c.args.to_move c.args.winner _ c.index.result.now
     (reached-there (stones_key (length c.self.inside.by_stones.heads)) c.self.inside.nodes.items c.stones_bucket-number.result
     (HasWider c.args.position.now c.args.to_move c.args.winner) c.loop-link.link c.loop-link-test.true c.loop-link.invariant
-    c.index.result.now c.index.ensures) (c.is_wider.ensures.0 c.if-is_wider.true))
+    c.index.result.now c.index.ensures) (rw c.heading-heading.ensures at (c.is_wider.ensures.0 c.if-is_wider.true)))
 
 pub loop-link-preserved : goal.loop-link-preserved
 loop-link-preserved c =
@@ -34,4 +34,4 @@ loop-link-preserved c =
     (wider-bucket _ c.args.position.now c.args.to_move c.args.winner _ number) c.loop-link.link c.loop-link-test.true
     c.loop-link.invariant
     c.index.result.now c.index.ensures
-    (λ is. false≢true (sym c.if-is_wider.false ∙ c.is_wider.ensures.1 is)) c.older-link.result c.older-link.ensures
+    (λ is. false≢true (sym c.if-is_wider.false ∙ c.is_wider.ensures.1 (rw c.heading-heading.ensures is))) c.older-link.result c.older-link.ensures

@@ -1,0 +1,3 @@
+pub mod KeptSteps
+pub mod KeptRules
+pub mod Children

@@ -1,0 +1,71 @@
+//! Entries of a book.
+
+ghost use Rattle.std.specs.Prelude.{◌≡◌, IfOk, IsOk};
+ghost use Rattle.hx_entry.specs.Children.{child_of, lines_of, HasNoLinks};
+
+use crate::rules::{KeptRule, kept_rule};
+use hx_board::Memory;
+use hx_tree::{Heading, Line, Node};
+use std::marker::Model;
+
+/// A node, in little room.
+#[derive(Debug, Drop)]
+pub struct Entry {
+    heading: Heading,
+    rule: KeptRule,
+}
+
+/// What docs/performance.md tells of.
+const _: () = prove!(size_of::<Entry>() == 96);
+
+impl Model for Entry {
+    ghost use Rattle.hx_tree.specs.declared.nodes.Node.{Node};
+
+    ghost Value = { Node };
+
+    ghost use Rattle.hx_entry.specs.KeptRules.{rule_of};
+
+    ghost view = { λ e. record { heading = e.heading; rule = rule_of e.rule } };
+}
+
+impl Entry {
+    /// The entry of a node. It takes no memory for a node that has no links.
+    pub fn new(node: Node) -> Result<Entry, Memory>
+        ensures node { IfOk result (λ entry. entry ≡ node) }
+        ensures memory { HasNoLinks node.rule → IsOk result }
+    {
+        let Node { heading, rule } = node;
+        let rule = kept_rule(rule)?;
+        Ok(Entry { heading, rule })
+    }
+
+    /// What the node says.
+    pub fn heading(&self) -> &Heading
+        ensures { result.now ≡ self.now.heading }
+    {
+        &self.heading
+    }
+
+    /// The one child that the node's rule leads to. None where it leads to none, or answers moves.
+    pub fn child(&self) -> Option<u32>
+        ensures { result ≡ child_of self.now.rule }
+    {
+        self.rule.child()
+    }
+
+    /// The lines of a node that answers moves. No line of another node.
+    pub fn lines(&self) -> &[Line]
+        ensures { result.now ≡ lines_of self.now.rule }
+    {
+        self.rule.lines()
+    }
+
+    /// The node.
+    pub fn into_node(self) -> Result<Node, Memory>
+        ensures { IfOk result (λ node. node ≡ self) }
+    {
+        let Entry { heading, rule } = self;
+        let rule = rule.into_rule()?;
+        Ok(Node { heading, rule })
+    }
+}

@@ -1,0 +1,8 @@
+//! A node as a book keeps it, in little room.
+#![tactic(auto)]
+
+mod entries;
+mod rules;
+mod steps;
+
+pub use entries::Entry;
