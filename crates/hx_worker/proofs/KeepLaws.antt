@@ -81,88 +81,76 @@ release-keeps before held turned after word made_held own_held turn made_after o
 }
 
 module _ {P G R W : Type 0} (sight : P → Sight) where
-  pub keeps-itself : (search : Search P G R W Standing) → Keeps sight search search
-  keeps-itself search = record {
-    same_worker = refl;
-    same_proofs = refl;
-    same_seat = refl;
-    grew = grows-itself _;
-    seat = seat-itself _;
-    own = stands-itself _;
-    others = stands-itself _;
-  }
-
-  pub keeps-grown : (search : Search P G R W Standing) (now : P) → Grows (sight search.proofs.now) (sight now)
-      → Keeps sight search (record search { proofs = record search.proofs { now = now } })
-  keeps-grown search now grown = record {
+  -- where only what a search may change was changed, and in a way that is kept
+  keeps-parts : (search : Search P G R W Standing) (now : P) (seat : Seat) (own others : Standing) (way : Way)
+      → Grows (sight search.proofs.now) (sight now) → KeepsSeat search.seat.now seat → StandsAgain search.own own
+      → StandsAgain search.others others → Keeps sight search (record search {
+        proofs = record search.proofs { now = now };
+        seat = record search.seat { now = seat };
+        own = own;
+        others = others;
+        way = way;
+      })
+  keeps-parts search now seat own others way grown kept own_stands others_stand = record {
     same_worker = refl;
     same_proofs = refl;
     same_seat = refl;
     grew = grown;
-    seat = seat-itself _;
-    own = stands-itself _;
-    others = stands-itself _;
+    seat = kept;
+    own = own_stands;
+    others = others_stand;
   }
+
+  pub keeps-grown : (search : Search P G R W Standing) (now : P) → Grows (sight search.proofs.now) (sight now)
+      → Keeps sight search (record search { proofs = record search.proofs { now = now } })
+  keeps-grown search now grown =
+      keeps-parts search now search.seat.now search.own search.others search.way grown (seat-itself _) (stands-itself _) (stands-itself _)
 
   pub keeps-seat : (search : Search P G R W Standing) (now : Seat) → KeepsSeat search.seat.now now
       → Keeps sight search (record search { seat = record search.seat { now = now } })
-  keeps-seat search now kept = record {
-    same_worker = refl;
-    same_proofs = refl;
-    same_seat = refl;
-    grew = grows-itself _;
-    seat = kept;
-    own = stands-itself _;
-    others = stands-itself _;
-  }
+  keeps-seat search now kept =
+      keeps-parts search search.proofs.now now search.own search.others search.way
+      (grows-itself _) kept (stands-itself _) (stands-itself _)
 
   pub keeps-own : (search : Search P G R W Standing) (set : Standing) → StandsAgain search.own set
       → Keeps sight search (record search { own = set })
-  keeps-own search set stands = record {
-    same_worker = refl;
-    same_proofs = refl;
-    same_seat = refl;
-    grew = grows-itself _;
-    seat = seat-itself _;
-    own = stands;
-    others = stands-itself _;
-  }
+  keeps-own search set stands =
+      keeps-parts search search.proofs.now search.seat.now set search.others search.way
+      (grows-itself _) (seat-itself _) stands (stands-itself _)
 
   pub keeps-others : (search : Search P G R W Standing) (set : Standing) → StandsAgain search.others set
       → Keeps sight search (record search { others = set })
-  keeps-others search set stands = record {
-    same_worker = refl;
-    same_proofs = refl;
-    same_seat = refl;
-    grew = grows-itself _;
-    seat = seat-itself _;
-    own = stands-itself _;
-    others = stands;
-  }
+  keeps-others search set stands =
+      keeps-parts search search.proofs.now search.seat.now search.own set search.way
+      (grows-itself _) (seat-itself _) (stands-itself _) stands
 
   -- the way down is no matter of what is kept
   pub keeps-way : (search : Search P G R W Standing) (way : Way) → Keeps sight search (record search { way = way })
-  keeps-way search way = record {
-    same_worker = refl;
-    same_proofs = refl;
-    same_seat = refl;
-    grew = grows-itself _;
-    seat = seat-itself _;
-    own = stands-itself _;
-    others = stands-itself _;
-  }
+  keeps-way search way =
+      keeps-parts search search.proofs.now search.seat.now search.own search.others way
+      (grows-itself _) (seat-itself _) (stands-itself _) (stands-itself _)
 
-  pub keeps-on : (first second third : Search P G R W Standing) → Keeps sight first second → Keeps sight second third
-      → Keeps sight first third
-  keeps-on first second third one two = record {
+  pub keeps-itself : (search : Search P G R W Standing) → Keeps sight search search
+  keeps-itself search = keeps-way search search.way
+
+  -- each set may be exchanged between the two for one that stands again behind the second
+  keeps-exchanged : (first second third : Search P G R W Standing) (own others own_last others_last : Standing) → Keeps sight first second
+      → Keeps sight (record second { own = own; others = others }) third → StandsAgain second.own own_last
+      → StandsAgain second.others others_last → Keeps sight first (record third { own = own_last; others = others_last })
+  keeps-exchanged first second third own others own_last others_last one two own_stands others_stand = record {
     same_worker = two.same_worker ∙ one.same_worker;
     same_proofs = two.same_proofs ∙ one.same_proofs;
     same_seat = two.same_seat ∙ one.same_seat;
     grew = grows-on _ _ _ one.grew two.grew;
     seat = seat-on _ _ _ one.seat two.seat;
-    own = stands-on _ _ _ one.own two.own;
-    others = stands-on _ _ _ one.others two.others;
+    own = stands-on _ _ _ one.own own_stands;
+    others = stands-on _ _ _ one.others others_stand;
   }
+
+  pub keeps-on : (first second third : Search P G R W Standing) → Keeps sight first second → Keeps sight second third
+      → Keeps sight first third
+  keeps-on first second third one two =
+      keeps-exchanged first second third second.own second.others third.own third.others one two two.own two.others
 
 -- a set on which a turn put its stones, and took them back
 pub put-back : (before : Before) (old put played last : Standing) → IsPut before old put → StandsAgain put played
@@ -205,29 +193,17 @@ module _ {P G R W : Type 0} (sight : P → Sight) where
   pub put-own-keeps : (first second third : Search P G R W Standing) (before : Before) (put last : Standing) → Keeps sight first second
       → IsPut before second.own put → Keeps sight (record second { own = put }) third → IsBack before third.own last
       → Keeps sight first (record third { own = last })
-  put-own-keeps first second third before put last one is two back = record {
-    same_worker = two.same_worker ∙ one.same_worker;
-    same_proofs = two.same_proofs ∙ one.same_proofs;
-    same_seat = two.same_seat ∙ one.same_seat;
-    grew = grows-on _ _ _ one.grew two.grew;
-    seat = seat-on _ _ _ one.seat two.seat;
-    own = stands-on _ _ _ one.own (put-back before _ _ _ _ is two.own back);
-    others = stands-on _ _ _ one.others two.others;
-  }
+  put-own-keeps first second third before put last one is two back =
+      keeps-exchanged sight first second third put second.others last third.others one two
+      (put-back before _ _ _ _ is two.own back) two.others
 
   -- the same of the other player's set
   pub put-others-keeps : (first second third : Search P G R W Standing) (before : Before) (put last : Standing) → Keeps sight first second
       → IsPut before second.others put → Keeps sight (record second { others = put }) third → IsBack before third.others last
       → Keeps sight first (record third { others = last })
-  put-others-keeps first second third before put last one is two back = record {
-    same_worker = two.same_worker ∙ one.same_worker;
-    same_proofs = two.same_proofs ∙ one.same_proofs;
-    same_seat = two.same_seat ∙ one.same_seat;
-    grew = grows-on _ _ _ one.grew two.grew;
-    seat = seat-on _ _ _ one.seat two.seat;
-    own = stands-on _ _ _ one.own two.own;
-    others = stands-on _ _ _ one.others (put-back before _ _ _ _ is two.others back);
-  }
+  put-others-keeps first second third before put last one is two back =
+      keeps-exchanged sight first second third second.own put third.own last one two
+      two.own (put-back before _ _ _ _ is two.others back)
 
 module _ {P G R W : Type 0} where
   -- what a search may hold is no matter of its sets

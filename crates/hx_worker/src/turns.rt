@@ -155,15 +155,17 @@ impl<P: Proofs, G: Gate, R: Wait> Search<'_, P, G, R, Workspace, LinkSet> {
             return Some(outcome);
         }
         let worker = self.worker;
+        // Where all moves lose the proof is at hand, so it is stored even if nobody waits for it.
+        let is_open = !moves.children.is_empty();
+        if is_open && self.way.is_marked_above(worker.hints, depth) {
+            let numbers = numbers_of(worker.counts, worker.hints, self.seat, moves);
+            return Some(Outcome::Open(numbers));
+        }
         let down = match choose(worker.counts, worker.hints, self.seat, situation, moves) {
             Choice::Down(down) => down,
             Choice::Limit(numbers) => return Some(Outcome::Open(numbers)),
             Choice::AllLose => return Some(self.all_lose(moves)),
         };
-        if self.way.is_marked_above(worker.hints, depth) {
-            let numbers = numbers_of(worker.counts, worker.hints, self.seat, moves);
-            return Some(Outcome::Open(numbers));
-        }
         let outcome = self.descend(&down, depth);
         self.take_in(situation, moves, &down, outcome)
     }
