@@ -5,6 +5,7 @@ ghost use Rattle.hx_tree.specs.Plain.{IsPlain};
 ghost use Rattle.hx_tree.specs.Rules.{IsRightNode};
 ghost use Rattle.hx_tree.specs.Trees.{headings_of};
 ghost use Rattle.hx_book.specs.Sights.{Grows};
+ghost use Rattle.hx_entry.specs.Children.{HasNoLinks};
 ghost use Rattle.hx_nodes.specs.Stored.{TellsStored, HandsBack, IsAnswered, HadMemory};
 
 use hx_book::{NoSlot, Proofs};
@@ -29,7 +30,7 @@ pub enum Stored {
 }
 
 /// Stores a right node, which is plain where the list is. Done where the list of proofs has an entry of its position and mover then,
-/// be it this node or an earlier one; Refused, with the node, where no slot is left.
+/// be it this node or an earlier one; Refused, with the node, where no slot is left. Memory is wanted for a node with links alone.
 pub fn store<P: Proofs, R: Wait>(rt: &R, proofs: &mut P, node: Node) -> Stored
     requires right { IsRightNode (headings_of (P.sight proofs.old).list) node }
     requires plain { P.is_plain ≡ true → IsPlain node }
@@ -38,7 +39,7 @@ pub fn store<P: Proofs, R: Wait>(rt: &R, proofs: &mut P, node: Node) -> Stored
         node.heading.position node.heading.to_move result }
     ensures handed_back { HandsBack node result }
     ensures answered { IsAnswered result }
-    ensures memory { HadMemory result }
+    ensures memory { HasNoLinks node.rule → HadMemory result }
 {
     let Ok(entry) = Entry::new(node) else {
         return Stored::Memory;
