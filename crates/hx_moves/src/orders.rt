@@ -13,16 +13,13 @@ ghost use Rattle.hx_board.specs.VertexSets.{code_of};
 ghost use Rattle.hx_moves.specs.Orders.{HasNoCell, AreCellsOf, AreEmptyCells};
 
 use crate::replies::MOST;
-use hx_board::{CELLS, Cell, Memory, Size, Vertex, VertexSet};
+use hx_board::{CELLS, Cell, Mask, Memory, Size, Vertex, VertexSet};
 use hx_link::Kind;
 use hx_linkset::LinkSet;
 use std::alloc::Global;
 
 /// The distance of a cell from which no way leads to the side.
 const FAR: u32 = 20;
-
-/// What each empty cell is one step from.
-type Nears = [VertexSet; CELLS];
 
 /// The cell that a vertex is.
 fn cell_of(vertex: &Vertex) -> Option<Cell>
@@ -53,59 +50,72 @@ fn has_full(set: &LinkSet, vertex: &Vertex, cell: Cell) -> bool {
     }
 }
 
-/// What a vertex is joined with, or has a Full link to among some cells.
-fn near(set: &LinkSet, vertex: &Vertex, cells: VertexSet) -> VertexSet
-    requires { IsVertex set.now.present.board.size vertex.now }
-{
-    let mut near = set.groups().joined_with(*vertex);
-    let mut left = cells.minus(near);
-    for _ in 0..CELLS {
-        let Some(cell) = first(left) else {
-            break;
-        };
-        left = left.without(Vertex::Of(cell));
-        if has_full(set, vertex, cell) {
-            near = near.with(Vertex::Of(cell));
-        }
-    }
-    near
-}
-
-/// Notes of some cells that a cell is near to them.
-fn note(nears: &mut Nears, cell: Cell, cells: VertexSet) {
+/// Whether a live Full link joins a cell with one of some cells.
+fn has_full_to_any(set: &LinkSet, cell: Cell, cells: VertexSet) -> bool {
     let mut left = cells;
     for _ in 0..CELLS {
         let Some(other) = first(left) else {
-            break;
+            return false;
         };
         left = left.without(Vertex::Of(other));
-        let index = other.index() as usize;
-        nears[index] = nears[index].with(Vertex::Of(cell));
+        if has_full(set, &Vertex::Of(other), cell) {
+            return true;
+        }
     }
+    false
 }
 
-/// What each empty cell is joined with, or has a Full link to. Each pair of cells is asked about once.
-fn nears(set: &LinkSet) -> Nears {
+/// What some cells are joined with.
+fn joined_with_any(set: &LinkSet, cells: Mask) -> VertexSet {
     let size = set.position().size();
-    let mut nears = [VertexSet::empty(); CELLS];
-    let mut left = set.position().empties();
+    let mut joined = VertexSet::empty();
+    let mut left = cells;
     for _ in 0..CELLS {
         let Some(cell) = left.least(size) else {
             break;
         };
         left = left.without(cell);
-        let later = VertexSet::of_cells(left);
-        let near = near(set, &Vertex::Of(cell), later);
-        let index = cell.index() as usize;
-        nears[index] = nears[index].union(near);
-        note(&mut nears, cell, near.meet(later));
+        joined = joined.union(set.groups().joined_with(Vertex::Of(cell)));
     }
-    nears
+    joined
 }
 
-/// Adds a distance to the sums of some cells. Answers what these are one step from.
-fn add(cells: VertexSet, distance: u32, nears: &Nears, sums: &mut [u32; CELLS]) -> VertexSet {
-    let mut near = VertexSet::empty();
+/// Those of some cells that a side is joined with or has a Full link to.
+fn next_to(set: &LinkSet, side: Vertex, cells: VertexSet) -> VertexSet
+    requires { IsVertex set.now.present.board.size side }
+{
+    let mut found = set.groups().joined_with(side).meet(cells);
+    let mut left = cells.minus(found);
+    for _ in 0..CELLS {
+        let Some(cell) = first(left) else {
+            break;
+        };
+        left = left.without(Vertex::Of(cell));
+        if has_full(set, &side, cell) {
+            found = found.with(Vertex::Of(cell));
+        }
+    }
+    found
+}
+
+/// Those of some cells that are one step from cells that were reached. Each is asked about until one step is found.
+fn one_step_from(set: &LinkSet, reached: VertexSet, cells: VertexSet) -> VertexSet {
+    let mut found = joined_with_any(set, reached.cells()).meet(cells);
+    let mut left = cells.minus(found);
+    for _ in 0..CELLS {
+        let Some(cell) = first(left) else {
+            break;
+        };
+        left = left.without(Vertex::Of(cell));
+        if has_full_to_any(set, cell, reached) {
+            found = found.with(Vertex::Of(cell));
+        }
+    }
+    found
+}
+
+/// Adds a distance to the sums of some cells.
+fn add(cells: VertexSet, distance: u32, sums: &mut [u32; CELLS]) {
     let mut left = cells;
     for _ in 0..CELLS {
         let Some(cell) = first(left) else {
@@ -114,26 +124,25 @@ fn add(cells: VertexSet, distance: u32, nears: &Nears, sums: &mut [u32; CELLS]) 
         left = left.without(Vertex::Of(cell));
         let index = cell.index() as usize;
         sums[index] = sums[index].wrapping_add(distance);
-        near = near.union(nears[index]);
     }
-    near
 }
 
-/// Adds the distances of all empty cells from a side. What is near a cell has the cell near it too, so the cells at the next distance
-/// are those that cells at the last one are near to.
-fn add_distances(set: &LinkSet, nears: &Nears, side: Vertex, sums: &mut [u32; CELLS])
+/// Adds the distances of all empty cells from a side. A step leads both ways, so the cells at the next distance are those of the
+/// rest that are one step from cells at the last one.
+fn add_distances(set: &LinkSet, side: Vertex, sums: &mut [u32; CELLS])
     requires { IsVertex set.now.present.board.size side }
 {
     let mut left = VertexSet::of_cells(set.position().empties());
-    let mut reached = near(set, &side, left).meet(left);
+    let mut reached = next_to(set, side, left);
     for distance in 1..FAR {
         if reached.is_empty() {
             break;
         }
         left = left.minus(reached);
-        reached = add(reached, distance, nears, sums).meet(left);
+        add(reached, distance, sums);
+        reached = one_step_from(set, reached, left);
     }
-    let _beyond = add(left, FAR, nears, sums);
+    add(left, FAR, sums);
 }
 
 /// Twice the distance from the centre, by rows, columns and diagonals.
@@ -152,9 +161,8 @@ fn from_centre(size: Size, cell: Cell) -> u32 {
 fn sums(own: &LinkSet, others: &LinkSet) -> [u32; CELLS] {
     let mut sums = [0u32; CELLS];
     for set in [own, others] {
-        let nears = nears(set);
-        add_distances(set, &nears, Vertex::First, &mut sums);
-        add_distances(set, &nears, Vertex::Last, &mut sums);
+        add_distances(set, Vertex::First, &mut sums);
+        add_distances(set, Vertex::Last, &mut sums);
     }
     sums
 }
