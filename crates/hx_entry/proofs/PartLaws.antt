@@ -1,6 +1,7 @@
 -- Parts that are added later do not change what an Or before them is.
 use Rattle.std.proofs.Common.{◌≡◌, ◌+◌, ◌<◌, ◌≤◌, ◌++◌, ◌-◌, ℕ, List, [], ◌∷◌, length, get_or, take, drop, suc, refl, ap, ◌∙◌, arith}
-use Rattle.std.proofs.lemmas.List.{drop-append-le, take-append-le, length-drop, length-map, take_all, take_more, drop_at, map-append, get_or-map}
+use Rattle.std.proofs.lemmas.List.{drop-append-le, take-append-le, length-drop, length-map, take_all, take_more, drop_at, map-append}
+use Rattle.std.proofs.lemmas.List.{get_or-map}
 use Rattle.std.proofs.lemmas.List.Elements.{All-push}
 use Rattle.hx_link.specs.declared.steps.Step.{Step}
 use Rattle.hx_link.specs.declared.steps.Step.TheVariants.{Or}

@@ -3,7 +3,8 @@ use Rattle.hx_tree.specs.declared.nodes.Rule.{Rule}
 use Rattle.hx_tree.specs.declared.nodes.Rule.TheVariants.{Chain, Links, Move, All, Fill, Turned}
 use Rattle.hx_entry.specs.declared.rules.KeptRule.{KeptRule}
 use Rattle.hx_entry.specs.declared.rules.KeptRule.TheVariants.{Chain as KeptChain, Links as KeptLinks, Move as KeptMove}
-use Rattle.hx_entry.specs.declared.rules.KeptRule.TheVariants.{All as KeptAll, Fill as KeptFill, Turned as KeptTurned, Whole}
+use Rattle.hx_entry.specs.declared.rules.KeptRule.TheVariants.{All as KeptAll, Fill as KeptFill, Turned as KeptTurned}
+use Rattle.hx_entry.specs.declared.rules.KeptRule.TheVariants.{Whole}
 
 abbrev pub rule_of : KeptRule → Rule
 rule_of KeptChain = Chain

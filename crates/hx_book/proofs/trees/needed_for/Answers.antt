@@ -28,7 +28,8 @@ loop-bound-preserved-then-index c =
     slice_get_read c.args.nodes.now _ (c.loop-bound.bound - 1) c.index-nodes-bound.result refl inside c.index-nodes-bound.is in
     record {
       marked = marked-more c.args.nodes.now c.requires.right c.args.root
-          (c.loop-bound.bound - 1) c.loop-bound.marks.items was c.index-nodes-bound.result there here c.mark_children.new.marks.items c.mark_children.ensures;
+          (c.loop-bound.bound - 1) c.loop-bound.marks.items was c.index-nodes-bound.result there here
+          c.mark_children.new.marks.items c.mark_children.ensures;
       within = omega (arith, c.loop-bound.invariant.within);
     }
 

@@ -34,4 +34,5 @@ loop-link-preserved c =
     (wider-bucket _ c.args.position.now c.args.to_move c.args.winner _ number) c.loop-link.link c.loop-link-test.true
     c.loop-link.invariant
     c.index.result.now c.index.ensures
-    (λ is. false≢true (sym c.if-is_wider.false ∙ c.is_wider.ensures.1 (rw c.heading-heading.ensures is))) c.older-link.result c.older-link.ensures
+    (λ is. false≢true (sym c.if-is_wider.false ∙ c.is_wider.ensures.1 (rw c.heading-heading.ensures is)))
+    c.older-link.result c.older-link.ensures
