@@ -1,6 +1,6 @@
 //! A book of plain nodes at one node: the tree of what it was given has that node alone.
 
-use crate::made_nodes::by_chain;
+use crate::made_nodes::{by_chain, entry_by_chain};
 use hx_board::Colour::{Black, White};
 use hx_board::{Size, chain};
 use hx_book::{PlainBook, Proofs};
@@ -15,7 +15,7 @@ fn a_plain_book_of_one_node(rt: HostRuntime) -> Result<(), Fail> {
     assert!(rt; chain(&won, Black));
     let mut book = PlainBook::with_slots(rt.alloc(), 1).or(Err("memory"))?;
     let index = book
-        .store(&rt, by_chain(won, White, Black))
+        .store(&rt, entry_by_chain(won, White, Black))
         .or(Err("slot"))?;
     let tree = book.into_tree(index).or(Err("memory"))?;
     assert_eq!(rt; index, 0);

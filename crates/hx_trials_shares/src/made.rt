@@ -9,6 +9,7 @@ ghost use Rattle.hx_book.specs.Puts.{PutsLater};
 use hx_board::Colour::{Black, White};
 use hx_board::{Position, chain};
 use hx_book::{Book, NoSlot};
+use hx_entry::Entry;
 use hx_share::{BookSeat, Shared};
 use hx_tree::{Heading, Node, Rule};
 use std::alloc::Global;
@@ -63,8 +64,8 @@ pub(crate) fn close_two(
     close(shared, seats, 2)
 }
 
-/// Black wins the position by its chain, with White to move.
-fn by_chain(position: Position) -> Node
+/// The entry that Black wins the position by its chain, with White to move.
+fn by_chain(position: Position) -> Entry
     ensures { result ≡ record {
       rule = Chain;
       heading = record { position = position; to_move = White; winner = Black };
@@ -76,7 +77,10 @@ fn by_chain(position: Position) -> Node
         winner: Black,
     };
     let rule = Rule::Chain;
-    Node { heading, rule }
+    match Entry::new(Node { heading, rule }) {
+        Ok(entry) => entry,
+        Err(_) => unreachable!(),
+    }
 }
 
 /// Stores a position with Black's chain.
