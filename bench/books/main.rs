@@ -12,6 +12,7 @@ mod clock;
 use crate::clock::since;
 use hx_board::{Colour, Mask, Position, Size, chain};
 use hx_book::{Book, Found, look_either};
+use hx_entry::Entry;
 use hx_tree::{Heading, Node, Rule};
 use hx_turn::turned;
 use std::alloc::{AllocError, Global};
@@ -53,7 +54,7 @@ impl Asked {
         }
     }
 
-    fn node(&self) -> Node
+    fn entry(&self) -> Entry
         ensures { result ≡ record {
           heading = record {
             position = self.now.position;
@@ -69,7 +70,10 @@ impl Asked {
             winner: Colour::Black,
         };
         let rule = Rule::Chain;
-        Node { heading, rule }
+        match Entry::new(Node { heading, rule }) {
+            Ok(entry) => entry,
+            Err(_) => unreachable!(),
+        }
     }
 }
 
@@ -233,7 +237,7 @@ fn look_at_all(list: &[Asked]) -> u64 {
 fn put(book: &mut Book, one: &Asked) -> u64 {
     let _size = one.position.size();
     if chain(&one.position, Colour::Black) {
-        if let Ok(index) = book.put(one.node()) {
+        if let Ok(index) = book.put(one.entry()) {
             return u64::from(index);
         }
     }
@@ -276,7 +280,7 @@ fn insert_all(
 ) -> Result<u64, AllocError> {
     let mut sum = 0u64;
     for one in list {
-        let node = one.node();
+        let node = one.entry();
         let key = one.key();
         if map.get(&key).is_none() {
             let index = u32::try_from(nodes.len()).or(Err(AllocError))?;

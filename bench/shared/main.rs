@@ -11,6 +11,7 @@ mod clock;
 use crate::clock::since;
 use hx_board::{Colour, Mask, Position, Size, chain};
 use hx_book::Book;
+use hx_entry::Entry;
 use hx_share::{BookSeat, Shared};
 use hx_tree::{Heading, Node, Rule};
 use std::alloc::{AllocError, Global};
@@ -35,7 +36,7 @@ struct Asked {
 }
 
 impl Asked {
-    fn node(&self) -> Node
+    fn entry(&self) -> Entry
         ensures { result ≡ record {
           heading = record {
             position = self.now.position;
@@ -51,7 +52,10 @@ impl Asked {
             winner: Colour::Black,
         };
         let rule = Rule::Chain;
-        Node { heading, rule }
+        match Entry::new(Node { heading, rule }) {
+            Ok(entry) => entry,
+            Err(_) => unreachable!(),
+        }
     }
 }
 
@@ -120,7 +124,7 @@ fn store_one<R: Wait>(rt: &R, shared: &Shared, seat: &mut BookSeat, one: &Asked)
 {
     let _size = one.position.size();
     if chain(&one.position, Colour::Black) {
-        if let Ok(index) = shared.store(rt, seat, one.node()) {
+        if let Ok(index) = shared.store(rt, seat, one.entry()) {
             return u64::from(index);
         }
     }
@@ -207,7 +211,7 @@ fn look_all<R: Threads + Wait + Sync>(
 fn put_one(book: &mut Book, one: &Asked) -> u64 {
     let _size = one.position.size();
     if chain(&one.position, Colour::Black) {
-        if let Ok(index) = book.put(one.node()) {
+        if let Ok(index) = book.put(one.entry()) {
             return u64::from(index);
         }
     }

@@ -3,28 +3,35 @@
 
 use hx_board::{Colour, Position};
 use hx_book::{Book, NoSlot, Proofs, Wider};
-use hx_inferior::FillStep;
-use hx_tree::{Found, Node, Rule};
+use hx_entry::Entry;
+use hx_tree::{Found, Heading};
 use std::sync::Wait;
 
 /// A book, and how many of its nodes lead to one that serves.
 #[derive(Drop)]
 pub(crate) struct Counting {
     pub(crate) book: Book,
+
+    /// What the nodes say, in their order.
+    pub(crate) headings: Vec<Heading>,
     pub(crate) leading: u32,
 }
 
-/// Whether a node only puts stones of the opponent's.
-fn is_leading(node: &Node) -> bool {
-    let Rule::Fill { steps, .. } = &node.rule else {
+/// Whether a node leads to one with the same mover and the same stones of the winner, and more of the opponent's.
+fn is_leading(before: &[Heading], entry: &Entry) -> bool {
+    let Some(child) = entry.child() else {
         return false;
     };
-    for step in steps.items() {
-        if !matches!(step, FillStep::Other(_)) {
-            return false;
-        }
-    }
-    true
+    let Some(there) = before.get(child as usize) else {
+        return false;
+    };
+    let here = entry.heading();
+    let stones = here.position.stones(here.winner.other());
+    let more = there.position.stones(here.winner.other());
+    here.to_move == there.to_move
+        && here.position.stones(here.winner) == there.position.stones(here.winner)
+        && stones.inside(more)
+        && stones != more
 }
 
 impl Proofs for Counting {
@@ -52,12 +59,16 @@ impl Proofs for Counting {
         self.book.look_wider(rt, position, to_move, winner)
     }
 
-    fn store<R: Wait>(&mut self, rt: &R, node: Node) -> Result<u32, NoSlot> {
-        let is_leading = is_leading(&node);
+    fn store<R: Wait>(&mut self, rt: &R, entry: Entry) -> Result<u32, NoSlot> {
+        let heading = *entry.heading();
+        let is_leading = is_leading(self.headings.as_slice(), &entry);
         let before = self.book.held();
-        let stored = self.book.store(rt, node);
-        if is_leading && self.book.held() > before {
-            self.leading = self.leading.wrapping_add(1);
+        let stored = self.book.store(rt, entry);
+        if self.book.held() > before {
+            let _ = self.headings.push(heading);
+            if is_leading {
+                self.leading = self.leading.wrapping_add(1);
+            }
         }
         stored
     }

@@ -228,6 +228,7 @@ pub(crate) fn run<R: Wait + Clock>(rt: &R, alloc: Global, task: &Task) -> Result
     let hints = Hints::with_words(alloc, HINTS)?;
     let book = Counting {
         book: Book::with_slots(alloc, SLOTS)?,
+        headings: Vec::new(alloc),
         leading: 0,
     };
     let empty = Position::empty(size);
