@@ -1,6 +1,6 @@
 -- What a run of `solve` says with each status: each answer fits its cause alone, since an input that one answer is true of is
 -- not an input that another is true of.
-use Rattle.std.proofs.Common.{◌≡◌, ◌↔◌, ◌⊎◌, ℕ, ◌<◌, ◌≤◌, Bool, inl, inr, List, length, refl, sym, ap, ◌∙◌, subst, arith}
+use Rattle.std.proofs.Common.{◌≡◌, ◌↔◌, ◌⊎◌, ℕ, ◌<◌, ◌≤◌, Bool, inl, inr, ⊎_elim, List, length, refl, sym, ap, ◌∙◌, subst, arith}
 use Rattle.std.specs.Prelude.{Option, None, Some, IfSome, codes}
 use Rattle.hx_io.specs.Sources.{Reading, SomeReadFailed}
 use Rattle.hx_io.specs.Sinks.{Writing, SomeWriteFailed, append}
@@ -23,9 +23,10 @@ use Rattle.hx_answers.specs.Texts.{counted_text, unknown_budget_line, unknown_pr
 use Rattle.hx_answers.specs.Endings.{IsWritten, Whole, Cut, IsUnlessStopped, AnswersUnlessStopped, IsReadToEnd}
 use Rattle.hx_check.proofs.KeptPromises.{of_any}
 use Rattle.hx_app.specs.declared.answers.Answer.{Answer}
-use Rattle.hx_app.specs.declared.answers.Answer.TheVariants.{Solved, UnknownBudget, UnknownProofs, BadPosition, ReadFault, OutOfMemory}
-use Rattle.hx_app.specs.declared.answers.Answer.TheVariants.{TooLong}
+use Rattle.hx_app.specs.declared.answers.Answer.TheVariants.{Solved, LeftOpen, BadPosition, ReadFault, TooLong}
 use Rattle.hx_finish.specs.declared.finishes.Finish.{Finish}
+use Rattle.hx_finish.specs.declared.wanting.Wanting.TheVariants.{UnknownBudget, UnknownProofs, OutOfMemory}
+use Rattle.hx_finish.proofs.WantingEnds.{wanting_status-3_or_7, wanting_status-not}
 use Rattle.hx_app.specs.declared.solutions.Solution.{Solution}
 use Rattle.hx_app.specs.Positions.{IsPositionText, IsTextWhere, IsNoPosition}
 use Rattle.hx_app.specs.Answers.{IsSolved, IsDue, preamble_of, answer_text, solution_text, status_of}
@@ -64,21 +65,19 @@ module _ (settings : Settings) (plain_tree : Bool) (input : List ℕ) (rose : Ty
   solved_of : (answer : Answer) (before now : Option (List ℕ)) → status_of answer ≡ 0 → IsDue settings plain_tree (Some input) rose answer
       → now ≡ append before (answer_text answer) → SaysSolved plain_tree input before now
   solved_of (Solved solution) before now zero due written = says_solved plain_tree input solution before now due.1 written
-  solved_of (UnknownBudget budget) before now zero due written = absurd (omega arith)
-  solved_of (UnknownProofs slots) before now zero due written = absurd (omega arith)
+  solved_of (LeftOpen wanting) before now zero due written = absurd (wanting_status-not wanting 0 (λ e. omega (arith, e)) (λ e. omega (arith, e)) zero)
   solved_of (BadPosition line) before now zero due written = absurd (omega arith)
   solved_of ReadFault before now zero due written = absurd (omega arith)
-  solved_of OutOfMemory before now zero due written = absurd (omega arith)
   solved_of TooLong before now zero due written = absurd (omega arith)
 
   small_of : (answer : Answer) → IsTextWhere (λ board. IsSmall board settings.budget) input
       → IsDue settings plain_tree (Some input) rose answer → IsUnlessStopped (status_of answer) 0
   small_of (Solved solution) small due = inl refl
-  small_of (UnknownBudget budget) small due = absurd (small_not_open settings.budget input small due.1.1.not_small)
-  small_of (UnknownProofs slots) small due = absurd (small_not_open settings.budget input small due.1.1)
+  small_of (LeftOpen (UnknownBudget budget)) small due = absurd (small_not_open settings.budget input small due.1.1.not_small)
+  small_of (LeftOpen (UnknownProofs slots)) small due = absurd (small_not_open settings.budget input small due.1.1)
+  small_of (LeftOpen OutOfMemory) small due = inr (inr (inr refl))
   small_of (BadPosition line) small due = absurd (not_bad input small.board small.mover line small.text due.1)
   small_of ReadFault small due = inr (inl refl)
-  small_of OutOfMemory small due = inr (inr (inr refl))
   small_of TooLong small due = absurd (omega (arith, due, position_text_short small.text))
 
   position_line_of : (answer : Answer) (line : ℕ) (before now : Option (List ℕ)) → now ≡ append before (answer_text answer)
@@ -87,64 +86,60 @@ module _ (settings : Settings) (plain_tree : Bool) (input : List ℕ) (rose : Ty
       → AnswersUnlessStopped (counted_text (codes "bad position ") line) 4 before now (status_of answer)
   position_line_of (Solved solution) line before now written short bad due =
       let is : IsSolved plain_tree input solution = due.1 in absurd (not_bad input is.board is.mover line is.text bad)
-  position_line_of (UnknownBudget budget) line before now written short bad due =
+  position_line_of (LeftOpen (UnknownBudget budget)) line before now written short bad due =
       let is = due.1.1.not_small in absurd (not_bad input is.board is.mover line is.text bad)
-  position_line_of (UnknownProofs slots) line before now written short bad due =
+  position_line_of (LeftOpen (UnknownProofs slots)) line before now written short bad due =
       let is = due.1.1 in absurd (not_bad input is.board is.mover line is.text bad)
+  position_line_of (LeftOpen OutOfMemory) line before now written short bad due = inr (inr (inr refl))
   position_line_of (BadPosition other) line before now written short bad due =
       let at : ℕ → Option (List ℕ) = λ n. append before (counted_text (codes "bad position ") n) in
       inl (refl, written ∙ ap at (one_position_fault input other line due.1 bad))
   position_line_of ReadFault line before now written short bad due = inr (inl refl)
-  position_line_of OutOfMemory line before now written short bad due = inr (inr (inr refl))
   position_line_of TooLong line before now written short bad due = absurd (omega arith)
 
   long_of : (answer : Answer) → longest < length input → IsDue settings plain_tree (Some input) rose answer
       → IsUnlessStopped (status_of answer) 8
   long_of (Solved solution) long due = absurd (omega (arith, long, due.0))
-  long_of (UnknownBudget budget) long due = absurd (omega (arith, long, due.1.0))
-  long_of (UnknownProofs slots) long due = absurd (omega (arith, long, due.1.0))
+  long_of (LeftOpen (UnknownBudget budget)) long due = absurd (omega (arith, long, due.1.0))
+  long_of (LeftOpen (UnknownProofs slots)) long due = absurd (omega (arith, long, due.1.0))
+  long_of (LeftOpen OutOfMemory) long due = inr (inr (inr refl))
   long_of (BadPosition line) long due = absurd (omega (arith, long, due.0))
   long_of ReadFault long due = inr (inl refl)
-  long_of OutOfMemory long due = inr (inr (inr refl))
   long_of TooLong long due = inl refl
 
   unknown_of : (answer : Answer) → status_of answer ≡ 3 → IsDue settings plain_tree (Some input) rose answer
       → IsTextWhere (λ board. ¬ IsSmall board settings.budget) input
   unknown_of (Solved solution) three due = absurd (omega arith)
-  unknown_of (UnknownBudget budget) three due = due.1.1.not_small
-  unknown_of (UnknownProofs slots) three due = due.1.1
+  unknown_of (LeftOpen (UnknownBudget budget)) three due = due.1.1.not_small
+  unknown_of (LeftOpen (UnknownProofs slots)) three due = due.1.1
+  unknown_of (LeftOpen OutOfMemory) three due = absurd (omega arith)
   unknown_of (BadPosition line) three due = absurd (omega arith)
   unknown_of ReadFault three due = absurd (omega arith)
-  unknown_of OutOfMemory three due = absurd (omega arith)
   unknown_of TooLong three due = absurd (omega arith)
 
   no_chain_of : (answer : Answer) (tally : Tallied) → status_of answer ≡ 3 → tally ≡ tally_of settings answer → tally.budgets ≡ 1
       → 0 < settings.budget → IsDue settings plain_tree (Some input) rose answer → IsTextWhere HasNoChain input
   no_chain_of (Solved solution) tally three counted one some due = absurd (omega arith)
-  no_chain_of (UnknownBudget budget) tally three counted one some due = due.1.1.no_chain some
-  no_chain_of (UnknownProofs slots) tally three counted one some due =
+  no_chain_of (LeftOpen (UnknownBudget budget)) tally three counted one some due = due.1.1.no_chain some
+  no_chain_of (LeftOpen (UnknownProofs slots)) tally three counted one some due =
       absurd (omega (arith, one, ap (λ (t : Tallied). t.budgets) counted))
+  no_chain_of (LeftOpen OutOfMemory) tally three counted one some due = absurd (omega arith)
   no_chain_of (BadPosition line) tally three counted one some due = absurd (omega arith)
   no_chain_of ReadFault tally three counted one some due = absurd (omega arith)
-  no_chain_of OutOfMemory tally three counted one some due = absurd (omega arith)
   no_chain_of TooLong tally three counted one some due = absurd (omega arith)
 
   bad_of : (answer : Answer) → status_of answer ≡ 4 → IsDue settings plain_tree (Some input) rose answer → IsNoPosition input
   bad_of (Solved solution) four due = absurd (omega arith)
-  bad_of (UnknownBudget budget) four due = absurd (omega arith)
-  bad_of (UnknownProofs slots) four due = absurd (omega arith)
+  bad_of (LeftOpen wanting) four due = absurd (wanting_status-not wanting 4 (λ e. omega (arith, e)) (λ e. omega (arith, e)) four)
   bad_of (BadPosition line) four due = λ board mover text. not_bad input board mover line text due.1
   bad_of ReadFault four due = absurd (omega arith)
-  bad_of OutOfMemory four due = absurd (omega arith)
   bad_of TooLong four due = absurd (omega arith)
 
   too_long_of : (answer : Answer) → status_of answer ≡ 8 → IsDue settings plain_tree (Some input) rose answer → longest < length input
   too_long_of (Solved solution) eight due = absurd (omega arith)
-  too_long_of (UnknownBudget budget) eight due = absurd (omega arith)
-  too_long_of (UnknownProofs slots) eight due = absurd (omega arith)
+  too_long_of (LeftOpen wanting) eight due = absurd (wanting_status-not wanting 8 (λ e. omega (arith, e)) (λ e. omega (arith, e)) eight)
   too_long_of (BadPosition line) eight due = absurd (omega arith)
   too_long_of ReadFault eight due = absurd (omega arith)
-  too_long_of OutOfMemory eight due = absurd (omega arith)
   too_long_of TooLong eight due = due
 
 -- ---- what a status says, whatever the input
@@ -154,31 +149,29 @@ module _ (settings : Settings) (plain_tree : Bool) (rose : Type 0) where
       → IsDue settings plain_tree left rose answer → now ≡ append before (answer_text answer) → tally ≡ tally_of settings answer
       → SaysUnknown settings before now tally
   refusal_of left (Solved solution) tally before now three due written counted = absurd (omega arith)
-  refusal_of left (UnknownBudget budget) tally before now three due written counted =
+  refusal_of left (LeftOpen (UnknownBudget budget)) tally before now three due written counted =
       inl (written ∙ ap (λ (n : ℕ). append before (unknown_budget_line n)) due.0, rw counted refl)
-  refusal_of left (UnknownProofs slots) tally before now three due written counted =
+  refusal_of left (LeftOpen (UnknownProofs slots)) tally before now three due written counted =
       inr (written ∙ ap (λ (n : ℕ). append before (unknown_proofs_line n)) due.0, rw counted refl)
+  refusal_of left (LeftOpen OutOfMemory) tally before now three due written counted = absurd (omega arith)
   refusal_of left (BadPosition line) tally before now three due written counted = absurd (omega arith)
   refusal_of left ReadFault tally before now three due written counted = absurd (omega arith)
-  refusal_of left OutOfMemory tally before now three due written counted = absurd (omega arith)
   refusal_of left TooLong tally before now three due written counted = absurd (omega arith)
 
   read_fault_of : (before : Option (List ℕ)) (answer : Answer) → status_of answer ≡ 5 → IsDue settings plain_tree before rose answer → rose
   read_fault_of before (Solved solution) five due = absurd (omega arith)
-  read_fault_of before (UnknownBudget budget) five due = absurd (omega arith)
-  read_fault_of before (UnknownProofs slots) five due = absurd (omega arith)
+  read_fault_of before (LeftOpen wanting) five due = absurd (wanting_status-not wanting 5 (λ e. omega (arith, e)) (λ e. omega (arith, e)) five)
   read_fault_of before (BadPosition line) five due = absurd (omega arith)
   read_fault_of before ReadFault five due = due
-  read_fault_of before OutOfMemory five due = absurd (omega arith)
   read_fault_of before TooLong five due = absurd (omega arith)
 
 status_of_solve : (answer : Answer) → (status_of answer ≡ 0) ⊎ ((3 ≤ status_of answer) × (status_of answer ≤ 8))
 status_of_solve (Solved solution) = inl refl
-status_of_solve (UnknownBudget budget) = inr (omega arith, omega arith)
-status_of_solve (UnknownProofs slots) = inr (omega arith, omega arith)
+status_of_solve (LeftOpen wanting) =
+    inr (⊎_elim (λ three. (omega (arith, three), omega (arith, three))) (λ seven. (omega (arith, seven), omega (arith, seven)))
+    (wanting_status-3_or_7 wanting))
 status_of_solve (BadPosition line) = inr (omega arith, omega arith)
 status_of_solve ReadFault = inr (omega arith, omega arith)
-status_of_solve OutOfMemory = inr (omega arith, omega arith)
 status_of_solve TooLong = inr (omega arith, omega arith)
 
 -- each clause of an input that the source tells
@@ -190,11 +183,9 @@ of_input settings plain_tree (Some input) rose answer Says due says = says input
 
 status_not_6 : (answer : Answer) → status_of answer ≡ 6 → ⊥
 status_not_6 (Solved solution) six = omega arith
-status_not_6 (UnknownBudget budget) six = omega arith
-status_not_6 (UnknownProofs slots) six = omega arith
+status_not_6 (LeftOpen wanting) six = wanting_status-not wanting 6 (λ e. omega (arith, e)) (λ e. omega (arith, e)) six
 status_not_6 (BadPosition line) six = omega arith
 status_not_6 ReadFault six = omega arith
-status_not_6 OutOfMemory six = omega arith
 status_not_6 TooLong six = omega arith
 
 module _ (settings : Settings) (plain_tree : Bool) (source source_now : Reading) (sink sink_now : Writing) (answer : Answer)

@@ -19,17 +19,15 @@ use Rattle.hx_text.specs.PositionTexts.{ArePositionLines}
 use Rattle.hx_text.specs.TreeTexts.{NodeFits, ListsFit, node_lines, written_tree}
 use Rattle.hx_text.specs.Lengths.{most_nodes}
 use Rattle.hx_settings.specs.declared.settings.Settings.{Settings}
-use Rattle.hx_solve.specs.declared.unsolved.Unsolved.{Unsolved}
-use Rattle.hx_solve.specs.declared.unsolved.Unsolved.TheVariants.{Budget, Slots, Memory}
 use Rattle.hx_solve.specs.Solutions.{IsSolution}
-use Rattle.hx_solve.specs.Tallies.{Tallied, tallied}
-use Rattle.hx_answers.specs.Texts.{counted_text, read_fault_line, out_of_memory_line, too_long_line}
-use Rattle.hx_answers.specs.Texts.{unknown_budget_line, unknown_proofs_line}
+use Rattle.hx_solve.specs.Tallies.{Tallied}
+use Rattle.hx_answers.specs.Texts.{counted_text, read_fault_line, too_long_line}
 use Rattle.hx_answers.specs.Endings.{IsWritten, IsReadToEnd}
 use Rattle.hx_app.specs.declared.answers.Answer.{Answer}
-use Rattle.hx_app.specs.declared.answers.Answer.TheVariants.{Solved, UnknownBudget, UnknownProofs, BadPosition}
-use Rattle.hx_app.specs.declared.answers.Answer.TheVariants.{ReadFault, OutOfMemory, TooLong}
+use Rattle.hx_app.specs.declared.answers.Answer.TheVariants.{Solved, LeftOpen, BadPosition, ReadFault, TooLong}
 use Rattle.hx_finish.specs.declared.finishes.Finish.{Finish}
+use Rattle.hx_finish.specs.declared.wanting.Wanting.TheVariants.{UnknownBudget, UnknownProofs, OutOfMemory}
+use Rattle.hx_finish.specs.Wants.{wanting_text, wanting_status, wanting_tally, no_refusal}
 use Rattle.hx_app.specs.declared.solutions.Solution.{Solution}
 use Rattle.hx_app.specs.Positions.{IsPositionText, IsTextWhere}
 
@@ -44,32 +42,26 @@ solution_text solution = written_tree (preamble_of solution) solution.nodes.item
 -- what is written for each answer
 abbrev pub answer_text : Answer → List ℕ
 answer_text (Solved solution) = solution_text solution
-answer_text (UnknownBudget budget) = unknown_budget_line budget
-answer_text (UnknownProofs slots) = unknown_proofs_line slots
+answer_text (LeftOpen wanting) = wanting_text wanting
 answer_text (BadPosition line) = counted_text (codes "bad position ") line
 answer_text ReadFault = read_fault_line
-answer_text OutOfMemory = out_of_memory_line
 answer_text TooLong = too_long_line
 
 -- the exit status that tells each answer, where it was written whole
 abbrev pub status_of : Answer → ℕ
 status_of (Solved solution) = 0
-status_of (UnknownBudget budget) = 3
-status_of (UnknownProofs slots) = 3
+status_of (LeftOpen wanting) = wanting_status wanting
 status_of (BadPosition line) = 4
 status_of ReadFault = 5
-status_of OutOfMemory = 7
 status_of TooLong = 8
 
 -- the refusals that stand behind each answer: of a unit, of a slot, or none
 abbrev pub tally_of : Settings → Answer → Tallied
-tally_of settings (Solved solution) = tallied settings.budget settings.slots 0 0
-tally_of settings (UnknownBudget budget) = tallied settings.budget settings.slots 1 0
-tally_of settings (UnknownProofs slots) = tallied settings.budget settings.slots 0 1
-tally_of settings (BadPosition line) = tallied settings.budget settings.slots 0 0
-tally_of settings ReadFault = tallied settings.budget settings.slots 0 0
-tally_of settings OutOfMemory = tallied settings.budget settings.slots 0 0
-tally_of settings TooLong = tallied settings.budget settings.slots 0 0
+tally_of settings (Solved solution) = no_refusal settings
+tally_of settings (LeftOpen wanting) = wanting_tally settings wanting
+tally_of settings (BadPosition line) = no_refusal settings
+tally_of settings ReadFault = no_refusal settings
+tally_of settings TooLong = no_refusal settings
 
 -- the second version, exactly where some node is turned
 abbrev pub IsVersionOf : Version → List Node → Type 0
@@ -102,14 +94,14 @@ WithinLimit left says = IfSome left (λ input. (length input ≤ longest) × say
 abbrev pub IsDue : Settings → Bool → Option (List ℕ) → Type 0 → Answer → Type 0
 IsDue settings plain_tree before rose (Solved solution) =
     WithinLimit before (λ input. IsSolved plain_tree input solution)
-IsDue settings plain_tree before rose (UnknownBudget budget) =
+IsDue settings plain_tree before rose (LeftOpen (UnknownBudget budget)) =
     (budget ≡ settings.budget) × WithinLimit before (IsLeftOpen settings.budget)
-IsDue settings plain_tree before rose (UnknownProofs slots) =
+IsDue settings plain_tree before rose (LeftOpen (UnknownProofs slots)) =
     (slots ≡ settings.slots) × WithinLimit before (IsTextWhere (λ board. ¬ IsSmall board settings.budget))
+IsDue settings plain_tree before rose (LeftOpen OutOfMemory) = Unit {0}
 IsDue settings plain_tree before rose (BadPosition line) =
     WithinLimit before (λ input. IsFaultyLine ArePositionLines input line)
 IsDue settings plain_tree before rose ReadFault = rose
-IsDue settings plain_tree before rose OutOfMemory = Unit {0}
 IsDue settings plain_tree before rose TooLong = IfSome before (λ input. longest < length input)
 
 -- A run of `solve`: some answer is due, for a tree the input was read to its end, the answer was written, and the tally
@@ -131,28 +123,20 @@ nodes_text nodes = flat_map (λ node. text_of (node_lines node)) nodes
 -- what each answer says of the input
 abbrev pub IsFound : Settings → Bool → List ℕ → Answer → Type 0
 IsFound settings plain_tree input (Solved solution) = IsSolved plain_tree input solution
-IsFound settings plain_tree input (UnknownBudget budget) =
+IsFound settings plain_tree input (LeftOpen (UnknownBudget budget)) =
     (budget ≡ settings.budget) × IsLeftOpen settings.budget input
-IsFound settings plain_tree input (UnknownProofs slots) =
+IsFound settings plain_tree input (LeftOpen (UnknownProofs slots)) =
     (slots ≡ settings.slots) × IsTextWhere (λ board. ¬ IsSmall board settings.budget) input
+IsFound settings plain_tree input (LeftOpen OutOfMemory) = Unit {0}
 IsFound settings plain_tree input (BadPosition line) = IsFaultyLine ArePositionLines input line
 IsFound settings plain_tree input ReadFault = ⊥
-IsFound settings plain_tree input OutOfMemory = Unit {0}
 IsFound settings plain_tree input TooLong = ⊥
 
 -- the tree of a solution is within the limits of a text
 abbrev pub CanBeWritten : Answer → Type 0
 CanBeWritten (Solved solution) =
     (length solution.nodes.items ≤ most_nodes) × All (λ node. ListsFit node.rule) solution.nodes.items
-CanBeWritten (UnknownBudget budget) = Unit {0}
-CanBeWritten (UnknownProofs slots) = Unit {0}
+CanBeWritten (LeftOpen wanting) = Unit {0}
 CanBeWritten (BadPosition line) = Unit {0}
 CanBeWritten ReadFault = Unit {0}
-CanBeWritten OutOfMemory = Unit {0}
 CanBeWritten TooLong = Unit {0}
-
--- the answer to a refusal of a unit or of a slot, or to want of memory
-abbrev pub SaysWhy : Settings → Unsolved → Answer → Type 0
-SaysWhy settings (Budget taken) answer = answer ≡ UnknownBudget settings.budget
-SaysWhy settings (Slots refusal) answer = answer ≡ UnknownProofs settings.slots
-SaysWhy settings Memory answer = answer ≡ OutOfMemory

@@ -9,11 +9,11 @@ ghost use Rattle.hx_tree.specs.declared.nodes.Node.{Node as TreeNode};
 ghost use Rattle.hx_tree.specs.Plain.{ArePlain};
 ghost use Rattle.hx_tree.specs.Trees.{IsValidTree, IsRoot};
 ghost use Rattle.hx_settings.specs.Settings.{AreSettings};
-ghost use Rattle.hx_solve.specs.Tallies.{tallied};
+ghost use Rattle.hx_finish.specs.Wants.{no_refusal};
 ghost use Rattle.hx_solve.specs.Causes.{HasCause, LacksMemory, LacksUnit};
 ghost use Rattle.hx_solve.specs.Solutions.{IsSolution};
 ghost use Rattle.hx_answers.specs.Endings.{IsReadToEnd, IsWritten};
-ghost use Rattle.hx_app.specs.Answers.{CanBeWritten, IsDue, IsFound, IsSolveRun, IsVersionOf, answer_text, status_of, tally_of, SaysWhy};
+ghost use Rattle.hx_app.specs.Answers.{CanBeWritten, IsDue, IsFound, IsSolveRun, IsVersionOf, answer_text, status_of, tally_of};
 ghost use Rattle.hx_app.specs.Promises.{KeepsPromises};
 
 use crate::answers::{Answer, write_answer};
@@ -21,7 +21,7 @@ use crate::roots::root_winner;
 use crate::solutions::Solution;
 use hx_answers::{Unread, WRITE_FAULT, read_all};
 use hx_board::{Colour, Position};
-use hx_finish::Finish;
+use hx_finish::{Finish, LeftOpen, Wanting, left_open};
 use hx_io::{Failed, Gate, Sink, Source};
 use hx_lines::LONGEST;
 use hx_reader::read_position;
@@ -96,14 +96,17 @@ fn settle<S: Source, G: Gate + Sync, R: Threads + Wait + Sync>(
         Ok(bytes) => found(rt, alloc, settings, plain_tree, &bytes, gate),
         Err(Unread::Failed) => without_refusal(settings, Answer::ReadFault),
         Err(Unread::TooLong) => without_refusal(settings, Answer::TooLong),
-        Err(Unread::OutOfMemory) => without_refusal(settings, Answer::OutOfMemory),
+        Err(Unread::OutOfMemory) => without_refusal(
+            settings,
+            Answer::LeftOpen(Wanting::OutOfMemory),
+        ),
     }
 }
 
 /// An answer that no refusal stands behind.
 fn without_refusal(settings: Settings, answer: Answer) -> Finding
     ensures answer { result.answer ≡ answer }
-    ensures tally { result.tally ≡ tallied settings.budget settings.slots 0 0 }
+    ensures tally { result.tally ≡ no_refusal settings }
 {
     Finding {
         answer,
@@ -133,7 +136,13 @@ fn found<G: Gate + Sync, R: Threads + Wait + Sync>(
     };
     match search(rt, alloc, &position, to_move, settings, plain_tree, gate) {
         Ok(nodes) => without_refusal(settings, Answer::Solved(solution_of(&position, nodes))),
-        Err(why) => left_open(settings, why),
+        Err(why) => {
+            let LeftOpen { wanting, tally } = left_open(settings, why);
+            Finding {
+                answer: Answer::LeftOpen(wanting),
+                tally,
+            }
+        }
     }
 }
 
@@ -185,29 +194,4 @@ fn solution_of(position: &Position, nodes: Vec<Node>) -> Solution
         winner: root_winner(&nodes),
         nodes,
     }
-}
-
-/// What is to be said where a search ended without a tree. The refusal is counted.
-fn left_open(settings: Settings, why: Unsolved) -> Finding
-    requires { HasCause settings why }
-    ensures answer { SaysWhy settings why result.answer }
-    ensures counted { result.tally ≡ tally_of settings result.answer }
-{
-    let mut tally = Tally::new(settings.budget, settings.slots);
-    let answer = match why {
-        Unsolved::Budget(refusal) => {
-            tally.add(Unsolved::Budget(refusal));
-            Answer::UnknownBudget {
-                budget: settings.budget,
-            }
-        }
-        Unsolved::Slots(refusal) => {
-            tally.add(Unsolved::Slots(refusal));
-            Answer::UnknownProofs {
-                slots: settings.slots,
-            }
-        }
-        Unsolved::Memory => Answer::OutOfMemory,
-    };
-    Finding { answer, tally }
 }

@@ -1,1 +1,2 @@
 pub mod WantingEnds
+pub mod SearchEnds

@@ -19,5 +19,5 @@ returns-in-Ok-search-clause-writable g c =
 pub returns-in-Err-search-clause-found : goal.returns-in-Err-search-clause-found
 returns-in-Err-search-clause-found g c =
     left_open_found c.args.settings c.args.plain_tree c.args.input.now c.in-Ok.found.0 c.in-Ok.found.1 c.in-Err-search.why
-    c.left_open.result.answer (record { is_board = c.in-Ok.ensures.read.0; same = c.in-Ok.ensures.read.1 }) c.in-Err-search.ensures.small
-    c.in-Err-search.ensures.no_chain c.left_open.ensures.answer
+    _ (record { is_board = c.in-Ok.ensures.read.0; same = c.in-Ok.ensures.read.1 }) c.in-Err-search.ensures.small
+    c.in-Err-search.ensures.no_chain c.left_open-wanting.ensures.tells

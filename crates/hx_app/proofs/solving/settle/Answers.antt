@@ -1,6 +1,7 @@
 use Rattle.std.proofs.Common.{◌≡◌, ◌∙◌, ap, sym, arith}
 use Rattle.hx_app.specs.declared.answers.Answer.{Answer}
-use Rattle.hx_app.specs.declared.answers.Answer.TheVariants.{ReadFault, OutOfMemory, TooLong}
+use Rattle.hx_app.specs.declared.answers.Answer.TheVariants.{LeftOpen, ReadFault, TooLong}
+use Rattle.hx_finish.specs.declared.wanting.Wanting.TheVariants.{OutOfMemory}
 use Rattle.hx_app.specs.Answers.{status_of}
 use Rattle.hx_app.proofs.solving.settle.Goals as goal
 
@@ -21,4 +22,4 @@ returns-in-Err-TooLong-clause-read_to_end g c =
 
 pub returns-in-Err-OutOfMemory-clause-read_to_end : goal.returns-in-Err-OutOfMemory-clause-read_to_end
 returns-in-Err-OutOfMemory-clause-read_to_end g c =
-    other_status _ OutOfMemory _ c.without_refusal-in-Err-OutOfMemory.ensures.answer (λ e. omega (arith, e))
+    other_status _ (LeftOpen OutOfMemory) _ c.without_refusal-in-Err-OutOfMemory.ensures.answer (λ e. omega (arith, e))
