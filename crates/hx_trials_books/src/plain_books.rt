@@ -14,9 +14,9 @@ fn a_plain_book_of_one_node(rt: HostRuntime) -> Result<(), Fail> {
     let won = numbered(size, 1).ok_or("position")?;
     assert!(rt; chain(&won, Black));
     let mut book = PlainBook::with_slots(rt.alloc(), 1).or(Err("memory"))?;
-    let index = book
-        .store(&rt, entry_by_chain(won, White, Black))
-        .or(Err("slot"))?;
+    let Ok(index) = book.store(&rt, entry_by_chain(won, White, Black)) else {
+        return Err("slot".into());
+    };
     let tree = book.into_tree(index).or(Err("memory"))?;
     assert_eq!(rt; index, 0);
     assert_eq!(rt; tree.len(), 1);

@@ -38,6 +38,13 @@ loop-next-preserved-else-rank-4 c =
     foremost-kept c.args.ends.items c.loop-next.ends.items c.pop-in-loop-next.new.self.items c.loop-next.best c.in-Some-pop.next
     c.in-Some-pop.ensures.items c.loop-next.invariant less
 
+pub loop-next-preserved-else-rank-5 : goal.loop-next-preserved-else-rank-5
+loop-next-preserved-else-rank-5 c =
+    let less : rank c.loop-next.best ≤ rank c.in-Some-pop.next =
+    omega (arith, c.rank.ensures, c.rank-in-Some-pop.ensures, c.if-rank.false) in
+    foremost-kept c.args.ends.items c.loop-next.ends.items c.pop-in-loop-next.new.self.items c.loop-next.best c.in-Some-pop.next
+    c.in-Some-pop.ensures.items c.loop-next.invariant less
+
 pub loop-next-preserved : goal.loop-next-preserved
 loop-next-preserved c =
     let less : rank c.loop-next.best ≤ rank c.in-Some-pop.next =
