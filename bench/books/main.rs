@@ -272,23 +272,23 @@ fn find_all_wider(book: &Book, list: &[Asked]) -> u64 {
     sum
 }
 
-/// Adds a node to the list for each of them that the map does not have yet.
+/// Adds an entry to the list for each of them that the map does not have yet.
 fn insert_all(
     map: &mut HashMap<Key, Found>,
-    nodes: &mut Vec<Node>,
+    entries: &mut Vec<Entry>,
     list: &[Asked],
 ) -> Result<u64, AllocError> {
     let mut sum = 0u64;
     for one in list {
-        let node = one.entry();
+        let entry = one.entry();
         let key = one.key();
         if map.get(&key).is_none() {
-            let index = u32::try_from(nodes.len()).or(Err(AllocError))?;
-            let winner = node.heading.winner;
+            let index = u32::try_from(entries.len()).or(Err(AllocError))?;
+            let winner = entry.heading().winner;
             if map.insert(key, Found { index, winner }).is_err() {
                 return Err(AllocError);
             }
-            nodes.push(node)?;
+            entries.push(entry)?;
             sum = sum.wrapping_add(u64::from(index));
         }
     }
@@ -409,9 +409,9 @@ fn book_round(
 
 fn map_round(rt: &HostRuntime, least: &mut Least, lists: &Lists) -> io::Result<()> {
     let mut map = HashMap::with_capacity(rt.alloc(), lists.puts.len())?;
-    let mut nodes = Vec::with_capacity(rt.alloc(), lists.puts.len())?;
+    let mut entries = Vec::with_capacity(rt.alloc(), lists.puts.len())?;
     let start = Instant::now(rt)?;
-    let mut sum = insert_all(&mut map, &mut nodes, &lists.puts)?;
+    let mut sum = insert_all(&mut map, &mut entries, &lists.puts)?;
     least.map_put = least.map_put.min(since(rt, start)?);
     let start = Instant::now(rt)?;
     sum = sum.wrapping_add(get_all(&map, &lists.hit_keys));
@@ -544,8 +544,8 @@ fn main(rt: HostRuntime) -> io::Result<()> {
         return Ok(());
     };
     println!(rt;
-        "a node has {} bytes, a key and its answer {}",
-        size_of::<Node>(),
+        "an entry has {} bytes, a key and its answer {}",
+        size_of::<Entry>(),
         size_of::<(Key, Found)>()
     )?;
     for count in [1048576u32, 65536] {
