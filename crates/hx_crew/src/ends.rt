@@ -20,18 +20,13 @@ fn rank(ended: &Ended) -> u32
 }
 
 /// The end that counts. It is one of these, and none of them comes before it.
-pub(crate) fn foremost(mut ends: Vec<Ended>) -> Ended
+pub(crate) fn foremost(ends: Vec<Ended>) -> Ended
     requires { 0 < vec_len ends }
     ensures one { Contains ends.items result }
     ensures first { All (λ end. rank result ≤ rank end) ends.items }
 {
-    let Some(mut best) = ends.pop() else {
+    let Some(best) = ends.into_iter().min_by_key(rank) else {
         unreachable!()
     };
-    while let Some(next) = ends.pop() {
-        if rank(&next) < rank(&best) {
-            best = next;
-        }
-    }
     best
 }

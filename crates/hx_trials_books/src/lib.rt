@@ -11,6 +11,8 @@ mod books;
 #[cfg(test)]
 mod counts;
 #[cfg(test)]
+mod entries;
+#[cfg(test)]
 mod made_nodes;
 #[cfg(test)]
 mod numbers;
