@@ -213,6 +213,6 @@ fn or_of(alloc: Global, parts: &[u16]) -> Result<Step, Memory>
             return Err(Memory);
         }
     }
-    let parts = Parts::new(alloc, items)?;
+    let parts = Parts::new(items);
     Ok(Step::Or { parts })
 }

@@ -23,7 +23,7 @@ fn renamed_parts(alloc: Global, names: &[u16], parts: &[u32]) -> Result<Parts, M
             return Err(Memory);
         }
     }
-    Parts::new(alloc, items)
+    Ok(Parts::new(items))
 }
 
 /// The step with each link that it names under its new name.

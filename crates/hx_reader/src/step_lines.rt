@@ -103,7 +103,7 @@ fn read_or(alloc: Global, words: &mut Words<'_>) -> Result<Option<Step>, Memory>
     let mut items = SmallVec::new(alloc);
     for _ in 0..MOST_PARTS {
         if words.end().is_some() {
-            return Ok(Some(or_of(alloc, items)?));
+            return Ok(Some(or_of(items)));
         }
         let Some(place) = words.number() else {
             return Ok(None);
@@ -111,17 +111,17 @@ fn read_or(alloc: Global, words: &mut Words<'_>) -> Result<Option<Step>, Memory>
         items.push(place).map_err(|_| Memory)?;
     }
     match words.end() {
-        Some(()) => Ok(Some(or_of(alloc, items)?)),
+        Some(()) => Ok(Some(or_of(items))),
         None => Ok(None),
     }
 }
 
 /// The Or of these parts.
-fn or_of(alloc: Global, items: SmallVec<u32, 8>) -> Result<Step, Memory>
-    ensures { IfOk result (λ step. step ≡ Step.Or items.items) }
+fn or_of(items: SmallVec<u32, 8>) -> Step
+    ensures { result ≡ Step.Or items.items }
 {
-    let parts = Parts::new(alloc, items)?;
-    Ok(Step::Or { parts })
+    let parts = Parts::new(items);
+    Step::Or { parts }
 }
 
 /// The line of a threat: `threat NUMBER`.

@@ -163,7 +163,7 @@ impl Candidates {
                 let end = (from as usize).saturating_add(count as usize);
                 let parts = self.parts.get(from as usize..end).unwrap_or(&[]);
                 let items = SmallVec::from_slice(alloc, parts).map_err(|_| Memory)?;
-                let parts = Parts::new(alloc, items)?;
+                let parts = Parts::new(items);
                 Ok(Step::Or { parts })
             }
         }

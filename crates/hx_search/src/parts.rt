@@ -31,7 +31,7 @@ pub(crate) fn parts_of(set: &LinkSet, a: &Vertex, b: &Vertex) -> Result<Option<P
     loop {
         let done = shared.is_empty();
         if done {
-            return Ok(Some(Parts::new(set.allocator(), parts)?));
+            return Ok(Some(Parts::new(parts)));
         }
         let Some(next) = set.next_of(last) else {
             return Ok(None);

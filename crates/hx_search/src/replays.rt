@@ -224,7 +224,7 @@ impl Replays {
                 items.push(u32::from(link)).map_err(|_| Memory)?;
             }
         }
-        let parts = Parts::new(alloc, items)?;
+        let parts = Parts::new(items);
         Ok(Step::Or { parts })
     }
 }

@@ -34,7 +34,7 @@ enum Plan {
 /// A step of each kind.
 fn steps_of(rt: &impl Abort, alloc: Global, cell: Cell, place: u32) -> Steps {
     let places = SmallVec::from_slice(alloc, &[place, 2]).expect(rt, "memory");
-    let parts = Parts::new(alloc, places).expect(rt, "memory");
+    let parts = Parts::new(places);
     let a = Vertex::Of(cell);
     let b = Vertex::First;
     let (left, right) = (place, 0);

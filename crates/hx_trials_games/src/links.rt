@@ -10,7 +10,7 @@ use std::test::Fail;
 
 /// The list of these places.
 fn parts_of(alloc: Global, places: &[u32]) -> Result<Parts, AllocError> {
-    Parts::new(alloc, SmallVec::from_slice(alloc, places)?).map_err(|_| AllocError)
+    Ok(Parts::new(SmallVec::from_slice(alloc, places)?))
 }
 
 /// The Or of the links at these places.

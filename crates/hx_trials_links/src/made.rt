@@ -42,7 +42,7 @@ pub(crate) fn step_of(alloc: Global, plan: Plan) -> Result<Step, AllocError> {
         Plan::Cell(left, right) => Ok(Step::AndCell { left, right }),
         Plan::Or(left, right) => {
             let places = SmallVec::from_slice(alloc, &[left, right])?;
-            let parts = Parts::new(alloc, places).map_err(|_| AllocError)?;
+            let parts = Parts::new(places);
             Ok(Step::Or { parts })
         }
     }

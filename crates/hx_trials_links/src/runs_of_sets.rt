@@ -142,7 +142,7 @@ fn drawn_step(alloc: Global, draws: &mut Draws, size: Size, count: u32) -> Resul
         1 => Ok(Step::AndCell { left, right }),
         2 => {
             let places = SmallVec::from_slice(alloc, &[left, right])?;
-            let parts = Parts::new(alloc, places).map_err(|_| "memory")?;
+            let parts = Parts::new(places);
             Ok(Step::Or { parts })
         }
         _ => Ok(Step::Base {
