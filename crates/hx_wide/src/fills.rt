@@ -50,7 +50,7 @@ fn all_cells(steps: &[FillStep]) -> Mask {
 }
 
 /// Stores the winner's own steps where the opponent has all cells that an entry that serves a position after them does not need.
-pub(crate) fn fill_wide<P: Proofs, R: Wait>(
+fn fill_wide<P: Proofs, R: Wait>(
     rt: &R,
     alloc: Global,
     proofs: &mut P,

@@ -64,8 +64,11 @@ impl<P: Proofs, G: Gate, R: Wait> Search<'_, P, G, R, Workspace, LinkSet> {
         ensures keeps { Keeps P.sight self.old self.new }
         ensures outcome { IfSome result (Tells P.sight self.new) }
     {
+        let rt = self.worker.rt;
         match reach_with(&mut self.workspace, &mut self.own, situation.to_move) {
-            Ok(Reached::Decided(index)) => self.by_own_link(situation, index),
+            Ok(Reached::Decided(index)) => {
+                outcome_of(widen_links(rt, self.proofs, &self.own, situation.to_move, index))
+            }
             Ok(Reached::Open) => None,
             Err(Memory) => Some(Outcome::Memory),
         }

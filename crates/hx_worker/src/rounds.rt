@@ -29,7 +29,7 @@ use hx_nodes::Stored;
 use hx_pn::{INF, Numbers};
 use hx_search::Workspace;
 use hx_turn::Orientations;
-use hx_wide::{look_wider_either, store_root};
+use hx_wide::{look_wider_either, store_wider};
 use std::sync::Wait;
 
 /// No limit.
@@ -54,7 +54,7 @@ impl<P: Proofs, G: Gate, R: Wait> Search<'_, P, G, R, Workspace, LinkSet> {
             return None;
         };
         let alloc = self.worker.alloc;
-        match store_root(
+        match store_wider(
             rt,
             alloc,
             self.proofs,

@@ -214,7 +214,6 @@ impl<P: Proofs, G: Gate, R: Wait> Search<'_, P, G, R, Workspace, LinkSet> {
             Outcome::Proved => {
                 let position = start.here.position();
                 let worker = self.worker;
-                self.name_move(start, filled);
                 let stored = widen_fill(
                     worker.rt,
                     worker.alloc,
