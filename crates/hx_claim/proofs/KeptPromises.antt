@@ -4,7 +4,7 @@ use Rattle.std.proofs.Common.{◌≡◌, ℕ, ◌<◌, ◌≤◌, inl, inr, List
 use Rattle.std.specs.Prelude.{Option, None, Some, IfSome}
 use Rattle.hx_io.specs.Sources.{Reading, SomeReadFailed}
 use Rattle.hx_io.specs.Sinks.{Writing, SomeWriteFailed, append}
-use Rattle.hx_template.specs.declared.games.TheConstants.{MOST_CELLS}
+use Rattle.hx_template.specs.Limits.{most_cells}
 use Rattle.hx_answers.specs.Endings.{IsWritten, Whole, Cut, IsReadToEnd, IsUnlessStopped, AnswersUnlessStopped}
 use Rattle.hx_claim.specs.declared.answers.Answer.{Answer}
 use Rattle.hx_claim.specs.declared.answers.Answer.TheVariants.{Yes, No, UnknownCarrier, BadTemplate}
@@ -41,13 +41,13 @@ module _ (after : Option (List ℕ)) (rose : Type 0) where
   no_of (Some input) TooLong one due = absurd (omega arith)
 
   unknown_of : (before : Option (List ℕ)) (answer : Answer) → status_of answer ≡ 3 → IsDue before after rose answer
-      → IfSome before (IsTextOfSome (λ template. MOST_CELLS < cells_of template))
+      → IfSome before (IsTextOfSome (λ template. most_cells < cells_of template))
   unknown_of None answer three due = tt
   unknown_of (Some input) Yes three due = absurd (omega arith)
   unknown_of (Some input) No three due = absurd (omega arith)
   unknown_of (Some input) (UnknownCarrier cells) three due =
       let is : IsDecided input (UnknownCarrier cells) = due.found.1 in
-      (is.template, is.text, subst (λ (n : ℕ). MOST_CELLS < n) is.decides.0 is.decides.1)
+      (is.template, is.text, subst (λ (n : ℕ). most_cells < n) is.decides.0 is.decides.1)
   unknown_of (Some input) (BadTemplate line) three due = absurd (omega arith)
   unknown_of (Some input) ReadFault three due = absurd (omega arith)
   unknown_of (Some input) OutOfMemory three due = absurd (omega arith)

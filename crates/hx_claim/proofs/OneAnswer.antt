@@ -2,7 +2,7 @@
 -- have one faulty line at the most. These three are laws of hx_pattern, and stand here as what is given.
 use Rattle.std.proofs.Common.{◌≡◌, ◌⊎◌, ℕ, ◌<◌, ◌≤◌, inl, inr, List, length, refl, sym, ap, ◌∙◌, subst, arith}
 use Rattle.std.specs.Prelude.{Option, Some}
-use Rattle.hx_template.specs.declared.games.TheConstants.{MOST_CELLS}
+use Rattle.hx_template.specs.Limits.{most_cells}
 use Rattle.hx_text.specs.Grammars.{IsFaultyLine}
 use Rattle.hx_pattern.specs.declared.templates.Template.{Template}
 use Rattle.hx_pattern.specs.Templates.{IsTemplate, AreTemplateLines, template_text}
@@ -42,7 +42,7 @@ module _ (input : List ℕ) where
           subst (λ (t : Template). Decides t answer)
           (tells is.template template is.text.is_template text.is_template (sym is.text.same ∙ text.same)) is.decides
 
-      pub yes_alone : cells_of template ≤ MOST_CELLS → Holds template → (other : Answer) → IsDue (Some input) after rose other
+      pub yes_alone : cells_of template ≤ most_cells → Holds template → (other : Answer) → IsDue (Some input) after rose other
           → IsOrStopped Yes other
       yes_alone few holds Yes due = inl refl
       yes_alone few holds No due = absurd ((decides No due.found.1).1 holds)
@@ -53,7 +53,7 @@ module _ (input : List ℕ) where
       yes_alone few holds OutOfMemory due = inr (inr refl)
       yes_alone few holds TooLong due = absurd (omega (arith, due, short))
 
-      pub no_alone : cells_of template ≤ MOST_CELLS → ¬ Holds template → (other : Answer) → IsDue (Some input) after rose other
+      pub no_alone : cells_of template ≤ most_cells → ¬ Holds template → (other : Answer) → IsDue (Some input) after rose other
           → IsOrStopped No other
       no_alone few fails Yes due = absurd (fails (decides Yes due.found.1).1)
       no_alone few fails No due = inl refl
@@ -64,7 +64,7 @@ module _ (input : List ℕ) where
       no_alone few fails OutOfMemory due = inr (inr refl)
       no_alone few fails TooLong due = absurd (omega (arith, due, short))
 
-      pub many_alone : MOST_CELLS < cells_of template → (other : Answer) → IsDue (Some input) after rose other
+      pub many_alone : most_cells < cells_of template → (other : Answer) → IsDue (Some input) after rose other
           → IsOrStopped (UnknownCarrier (cells_of template)) other
       many_alone many Yes due = let few = decides Yes due.found.1 in absurd (omega (arith, few.0, many))
       many_alone many No due = let few = decides No due.found.1 in absurd (omega (arith, few.0, many))

@@ -4,7 +4,7 @@ use Rattle.hx_io.specs.Sources.{Reading, SomeReadFailed}
 use Rattle.hx_io.specs.Sinks.{Writing}
 use Rattle.hx_board.specs.Sets.{count_below}
 use Rattle.hx_proof.specs.Local.{Secures, mover_for}
-use Rattle.hx_template.specs.declared.games.TheConstants.{MOST_CELLS}
+use Rattle.hx_template.specs.Limits.{most_cells}
 use Rattle.hx_text.specs.Grammars.{IsFaultyLine}
 use Rattle.hx_pattern.specs.declared.templates.Template.{Template}
 use Rattle.hx_pattern.specs.Templates.{IsTemplate, template_text, AreTemplateLines}
@@ -31,9 +31,9 @@ Holds template =
 
 -- what each answer says of a template
 abbrev pub Decides : Template → Answer → Type 0
-Decides template Yes = (cells_of template ≤ MOST_CELLS) × Holds template
-Decides template No = (cells_of template ≤ MOST_CELLS) × (¬ Holds template)
-Decides template (UnknownCarrier cells) = (cells ≡ cells_of template) × (MOST_CELLS < cells)
+Decides template Yes = (cells_of template ≤ most_cells) × Holds template
+Decides template No = (cells_of template ≤ most_cells) × (¬ Holds template)
+Decides template (UnknownCarrier cells) = (cells ≡ cells_of template) × (most_cells < cells)
 Decides template (BadTemplate line) = ⊥
 Decides template ReadFault = ⊥
 Decides template OutOfMemory = Unit {0}

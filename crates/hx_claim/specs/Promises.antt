@@ -2,7 +2,7 @@
 use Rattle.std.specs.Prelude.{◌≡◌, ℕ, ◌<◌, ◌≤◌, List, length, Option, IfSome}
 use Rattle.hx_io.specs.Sources.{Reading, SomeReadFailed}
 use Rattle.hx_io.specs.Sinks.{Writing, SomeWriteFailed}
-use Rattle.hx_template.specs.declared.games.TheConstants.{MOST_CELLS}
+use Rattle.hx_template.specs.Limits.{most_cells}
 use Rattle.hx_text.specs.Grammars.{IsFaultyLine}
 use Rattle.hx_pattern.specs.declared.templates.Template.{Template}
 use Rattle.hx_pattern.specs.Templates.{AreTemplateLines}
@@ -28,12 +28,12 @@ IsNoTemplate input = (template : Template) → IsTextOf input template → ⊥
 -- exit status. What is said of an input is said of sources that tell what they have left.
 pub record KeepsPromises (source source_now : Reading) (sink sink_now : Writing) (status : ℕ) : Type 0 where
   -- a template whose carrier has no more cells than are tried is told whether it holds
-  pub holds : OfTemplates source.left (λ template. cells_of template ≤ MOST_CELLS → Holds template
+  pub holds : OfTemplates source.left (λ template. cells_of template ≤ most_cells → Holds template
       → AnswersUnlessStopped yes_line 0 sink.taken sink_now.taken status)
-  pub fails : OfTemplates source.left (λ template. cells_of template ≤ MOST_CELLS → ¬ Holds template
+  pub fails : OfTemplates source.left (λ template. cells_of template ≤ most_cells → ¬ Holds template
       → AnswersUnlessStopped no_line 1 sink.taken sink_now.taken status)
   -- one whose carrier has more is told how many
-  pub many : OfTemplates source.left (λ template. MOST_CELLS < cells_of template
+  pub many : OfTemplates source.left (λ template. most_cells < cells_of template
       → AnswersUnlessStopped (unknown_carrier_line (cells_of template)) 3 sink.taken sink_now.taken status)
   -- what is the text of no template is told so, and the line that is named is the first that is wrong
   pub no_template : IfSome source.left (λ input. length input ≤ most_bytes → IsNoTemplate input → IsUnlessStopped status 4)
@@ -45,7 +45,7 @@ pub record KeepsPromises (source source_now : Reading) (sink sink_now : Writing)
   -- each status tells what is so
   pub yes : status ≡ 0 → IfSome source.left (IsTextOfSome Holds)
   pub no : status ≡ 1 → IfSome source.left (IsTextOfSome (λ template. ¬ Holds template))
-  pub unknown : status ≡ 3 → IfSome source.left (IsTextOfSome (λ template. MOST_CELLS < cells_of template))
+  pub unknown : status ≡ 3 → IfSome source.left (IsTextOfSome (λ template. most_cells < cells_of template))
   pub bad_template : status ≡ 4 → IfSome source.left IsNoTemplate
   pub too_long : status ≡ 8 → IfSome source.left (λ input. most_bytes < length input)
   -- where it holds or fails the input was read to its end

@@ -21,8 +21,7 @@ use Rattle.hx_check.proofs.Readings.{GoOn, right_among}
 use Rattle.hx_check.proofs.OneAnswer.{front_nodes}
 use Rattle.hx_check.proofs.BeginningTexts.{within, nodes_within}
 use Rattle.hx_check.proofs.FirstNodes.{front_of, first_before_line, first_before_long, first_of_many, either_first}
-use Rattle.hx_match.specs.declared.trees.TheConstants.{MOST_BYTES}
-use Rattle.hx_match.specs.Trees.{ArePlayable, IsNoPlain, IsPlayable, IsTooLarge}
+use Rattle.hx_match.specs.Trees.{ArePlayable, IsNoPlain, IsPlayable, IsTooLarge, most_bytes}
 
 pub playable_asks : AsksRight ArePlayable
 playable_asks lines nodes meets = meets.right
@@ -81,7 +80,7 @@ pub large_begins : {input : List ℕ} (large : IsTooLarge input) → Begins AreT
 large_begins large = begins_of (large_lines large) large.nodes large.ended
 
 -- lines that are small do not begin with those
-pub not_large : {input : List ℕ} (large : IsTooLarge input) (lines more : List (List ℕ)) → length (text_of lines) ≤ MOST_BYTES
+pub not_large : {input : List ℕ} (large : IsTooLarge input) (lines more : List (List ℕ)) → length (text_of lines) ≤ most_bytes
     → lines ≡ large_lines large ++ more → ⊥
 not_large large lines more small is =
     omega (

@@ -20,11 +20,10 @@ use Rattle.hx_check.proofs.ManyNodes.{many_of}
 use Rattle.hx_check.proofs.BeginningTexts.{Within, within, none_further, are_lines, fault_behind, no_wrong_node, not_too_many, long_behind}
 use Rattle.hx_check.proofs.LongLines.{long_not_line}
 use Rattle.hx_check.proofs.OneFault.{IsOrStopped as IsFaultOrStopped, line_alone as line_fault_alone, node_alone as node_fault_alone}
-use Rattle.hx_match.specs.declared.trees.TheConstants.{MOST_BYTES}
 use Rattle.hx_match.specs.declared.refusals.Refusal.{Refusal}
 use Rattle.hx_match.specs.declared.refusals.Refusal.TheVariants.{NoPlain, NoTree}
 use Rattle.hx_match.specs.Refusals.{IsDue}
-use Rattle.hx_match.specs.Trees.{ArePlayable, IsNoPlain, IsPlayable, IsTooLarge}
+use Rattle.hx_match.specs.Trees.{ArePlayable, IsNoPlain, IsPlayable, IsTooLarge, most_bytes}
 use Rattle.hx_match.proofs.NamedNodes.{playable_asks, wrong_ends, no_plain_ends, fine_in_text, fine_before_line}
 use Rattle.hx_match.proofs.NamedNodes.{fine_before_too_long, large_lines, large_begins, not_large}
 use Rattle.hx_match.proofs.NamedNodes.{AreOne, Same, First_fine, Second_fine, one_of_two}
@@ -46,7 +45,7 @@ module _ {text : List ℕ} {nodes : List Node} (is : IsPlayable text nodes) (res
   text_not_large parts large =
       let on : Within is.is_text rest (large_lines large) large.rest =
       within is.is_text rest parts (large_lines large) large.rest (large_begins large) large.parts in
-      not_large large is.is_text.lines on.more (subst (λ (t : List ℕ). length t ≤ MOST_BYTES) is.is_text.same is.small) on.is
+      not_large large is.is_text.lines on.more (subst (λ (t : List ℕ). length t ≤ most_bytes) is.is_text.same is.small) on.is
 
   pub text_not_too_long : {input : List ℕ} → input ≡ text ++ rest → IsLong ArePlayable input ⊎ IsTooLarge input → ⊥
   text_not_too_long parts (inl (inl long)) =

@@ -29,11 +29,10 @@ use Rattle.hx_check.proofs.Readings.{right_among}
 use Rattle.hx_check.proofs.Standings.{ended_in, not_whole}
 use Rattle.hx_match.specs.declared.refusals.Refusal.{Refusal}
 use Rattle.hx_match.specs.declared.refusals.Refusal.TheVariants.{NoPlain, NoTree}
-use Rattle.hx_match.specs.declared.trees.TheConstants.{MOST_BYTES}
 use Rattle.hx_match.specs.declared.trees.TreeSoFar.{TreeSoFar}
 use Rattle.hx_match.specs.Refusals.{IsDue, IsTreeFaultDue}
 use Rattle.hx_match.specs.Standings.{HasNodes, HasTaken, IsGoing, KeepsBrought, Takes}
-use Rattle.hx_match.specs.Trees.{ArePlayable, HasReadTree, IsNoPlain, IsTooLarge}
+use Rattle.hx_match.specs.Trees.{ArePlayable, HasReadTree, IsNoPlain, IsTooLarge, most_bytes}
 
 -- ---- the lines so far
 
@@ -62,7 +61,7 @@ nothing_taken before so_far judged unended none zero = record {
 pub going_after : (before : Option (List ℕ)) (nodes : List TreeNode) (lines : List (List ℕ)) (judge : Judge) (cutter : Cutter)
     (left : Option (List ℕ)) (rose : Type 0) (mid now : TreeSoFar) (brought : Brought)
     → Brings before nodes lines judge cutter left rose (Ok brought) → KeepsBrought mid brought now (Ok false) → mid.judge ≡ judge
-    → now.bytes ≤ MOST_BYTES → IsGoing now
+    → now.bytes ≤ most_bytes → IsGoing now
 going_after before nodes lines judge cutter left rose mid now Line brings keeps same small =
     let is : now.judge ≡ judge = keeps.1.judge ∙ same in
     record {
@@ -91,7 +90,7 @@ module _ (before : Option (List ℕ)) (old : TreeSoFar) (lines : List (List ℕ)
   meets = record {
     right = taken.upto.judged.right;
     plain = taken.plain;
-    small = subst (λ (n : ℕ). n ≤ MOST_BYTES) taken.bytes taken.small;
+    small = subst (λ (n : ℕ). n ≤ most_bytes) taken.bytes taken.small;
     unended = not_whole old.judge.reader.place old.nodes.items lines taken.unended taken.upto.judged.read;
   }
 
@@ -182,7 +181,7 @@ module _ (before : Option (List ℕ)) (old : TreeSoFar) (lines : List (List ℕ)
       plain_now = subst ArePlain (sym items_now) (kept_plain mid now brought ended keeps)
 
       -- with the line the text is too large
-      pub too_large : MOST_BYTES < now.bytes → IfSome before (λ input. IsLong ArePlayable input ⊎ IsTooLarge input)
+      pub too_large : most_bytes < now.bytes → IfSome before (λ input. IsLong ArePlayable input ⊎ IsTooLarge input)
       too_large large =
           let upto = upto_now in
           says_of before (text_of (lines ++ cutter.line ∷ [])) cutter.held then_left
@@ -198,17 +197,17 @@ module _ (before : Option (List ℕ)) (old : TreeSoFar) (lines : List (List ℕ)
             plain = plain_now;
             small = meets.small;
             unended = meets.unended;
-            large = subst (λ (n : ℕ). MOST_BYTES < n) bytes_now large;
+            large = subst (λ (n : ℕ). most_bytes < n) bytes_now large;
           }))
 
       -- more lines are to come
-      pub taken_more : now.bytes ≤ MOST_BYTES → ¬ HasReadAll now.judge
+      pub taken_more : now.bytes ≤ most_bytes → ¬ HasReadAll now.judge
           → HasTaken before now (lines ++ cutter.line ∷ []) cutter.held then_left
       taken_more small unended =
           record { upto = upto_now; plain = plain_now; bytes = bytes_now; small = small; unended = unended }
 
       -- it was the last line
-      pub whole_tree : now.bytes ≤ MOST_BYTES → HasReadAll now.judge → HasReadTree before now.nodes.items cutter.held then_left
+      pub whole_tree : now.bytes ≤ most_bytes → HasReadAll now.judge → HasReadTree before now.nodes.items cutter.held then_left
       whole_tree small all =
           let upto = upto_now in
           let are : Stands (After all.0) now.nodes.items (lines ++ cutter.line ∷ []) =
@@ -227,7 +226,7 @@ module _ (before : Option (List ℕ)) (old : TreeSoFar) (lines : List (List ℕ)
               valid = valid_tree now.nodes.items some upto.judged.right;
               plain = plain_now;
               few = upto.judged.few;
-              small = subst (λ (n : ℕ). n ≤ MOST_BYTES) bytes_now small;
+              small = subst (λ (n : ℕ). n ≤ most_bytes) bytes_now small;
             };
             parts = upto.parts;
           }
@@ -248,13 +247,13 @@ module _ (before : Option (List ℕ)) (old : TreeSoFar) (lines : List (List ℕ)
       judge_now : now.judge ≡ judge
       judge_now = (kept_nodes mid now brought ended keeps).judge ∙ same_judge
 
-      takes_by : (e : Bool) → ended ≡ e → now.bytes ≤ MOST_BYTES → Takes before lines now cutter then_left rose (Ok e)
+      takes_by : (e : Bool) → ended ≡ e → now.bytes ≤ most_bytes → Takes before lines now cutter then_left rose (Ok e)
       takes_by true is small = whole_tree small (subst HasReadAll (sym judge_now)
           (ends_all brought brings (subst (λ (e : Bool). KeepsBrought mid brought now (Ok e)) is keeps)))
       takes_by false is small = taken_more small (subst (λ (j : Judge). ¬ HasReadAll j) (sym judge_now)
           (unended_by brought brings (subst (λ (e : Bool). KeepsBrought mid brought now (Ok e)) is keeps)))
 
-      pub takes : now.bytes ≤ MOST_BYTES → Takes before lines now cutter then_left rose (Ok ended)
+      pub takes : now.bytes ≤ most_bytes → Takes before lines now cutter then_left rose (Ok ended)
       takes small = takes_by ended refl small
 
 -- a refusal that is due is due when more reads have failed

@@ -16,16 +16,15 @@ use Rattle.hx_check.specs.Standings.{HasJudgedSome, HasReadAll, JudgedUpTo}
 use Rattle.hx_play.specs.Games.{Game, game_of}
 use Rattle.hx_match.specs.declared.refusals.Refusal.{Refusal}
 use Rattle.hx_match.specs.declared.refusals.Refusal.TheVariants.{NoPlain, NoTree}
-use Rattle.hx_match.specs.declared.trees.TheConstants.{MOST_BYTES}
 use Rattle.hx_match.specs.declared.trees.TreeSoFar.{TreeSoFar}
 use Rattle.hx_match.specs.Refusals.{IsDue}
-use Rattle.hx_match.specs.Trees.{HasReadTree, IsPlayable}
+use Rattle.hx_match.specs.Trees.{HasReadTree, IsPlayable, most_bytes}
 
 -- more lines of the text are to come
 pub record IsGoing (so_far : TreeSoFar) : Type 0 where
   pub judged : HasJudgedSome so_far.judge
   pub unended : ¬ HasReadAll so_far.judge
-  pub small : so_far.bytes ≤ MOST_BYTES
+  pub small : so_far.bytes ≤ most_bytes
 
 -- these lines were judged and their nodes kept, which are plain; behind the lines some bytes are held, and then the
 -- source has the others
@@ -34,7 +33,7 @@ pub record HasTaken (before : Option (List ℕ)) (so_far : TreeSoFar) (lines : L
   pub upto : JudgedUpTo before so_far.judge so_far.nodes.items lines held left
   pub plain : ArePlain so_far.nodes.items
   pub bytes : so_far.bytes ≡ length (text_of lines)
-  pub small : so_far.bytes ≤ MOST_BYTES
+  pub small : so_far.bytes ≤ most_bytes
   pub unended : ¬ HasReadAll so_far.judge
 
 -- what one more line does, behind these lines

@@ -9,7 +9,10 @@ use Rattle.hx_text.specs.Grammars.{text_of}
 use Rattle.hx_text.specs.TreeTexts.{AreTreeLines, IsTreeText}
 use Rattle.hx_text.specs.Lengths.{most_nodes}
 use Rattle.hx_check.specs.Judging.{EndedIn}
-use Rattle.hx_match.specs.declared.trees.TheConstants.{MOST_BYTES}
+
+-- the most bytes of the text of a tree that is played by
+abbrev pub most_bytes : ℕ
+most_bytes = 16777216
 
 -- The bytes are the text of a valid tree of plain nodes, and no more than the text of a tree to be played by may have.
 pub record IsPlayable (text : List ℕ) (nodes : List Node) : Type 0 where
@@ -17,14 +20,14 @@ pub record IsPlayable (text : List ℕ) (nodes : List Node) : Type 0 where
   pub valid : IsValidTree nodes
   pub plain : ArePlain nodes
   pub few : length nodes ≤ most_nodes
-  pub small : length text ≤ MOST_BYTES
+  pub small : length text ≤ most_bytes
 
 -- What is asked of the lines and nodes before a fault: the nodes are right and plain, the lines have no more bytes than
 -- a text may have, and they are no whole text.
 pub record ArePlayable (lines : List (List ℕ)) (nodes : List Node) : Type 0 where
   pub right : AreRight nodes
   pub plain : ArePlain nodes
-  pub small : length (text_of lines) ≤ MOST_BYTES
+  pub small : length (text_of lines) ≤ most_bytes
   pub unended : ¬ AreTreeLines lines
 
 -- This node, counted from 0, is right and not plain, and nothing before its last line is at fault.
@@ -52,9 +55,9 @@ pub record IsTooLarge (input : List ℕ) : Type 0 where
   pub ended : EndedIn (lines ++ last ∷ []) nodes
   pub right : AreRight nodes
   pub plain : ArePlain nodes
-  pub small : length (text_of lines) ≤ MOST_BYTES
+  pub small : length (text_of lines) ≤ most_bytes
   pub unended : ¬ AreTreeLines lines
-  pub large : MOST_BYTES < length (text_of (lines ++ last ∷ []))
+  pub large : most_bytes < length (text_of (lines ++ last ∷ []))
 
 -- The text of a tree that is played by came first; behind it some bytes are held, and then the source has the others.
 pub record HasReadTree (before : Option (List ℕ)) (nodes : List Node) (held : List ℕ) (left : Option (List ℕ))

@@ -9,3 +9,7 @@ pub record AreSettings (settings : Settings) : Type 0 where
   pub few_workers : settings.workers ≤ MOST_WORKERS
   pub budget : settings.budget ≤ MOST_UNITS
   pub slots : settings.slots ≤ MOST_PROOFS
+
+-- the bounds of a search for which nobody chose a number
+abbrev pub defaults : Settings
+defaults = record { workers = 1; budget = 1000000; slots = 65536 }

@@ -1,5 +1,8 @@
 //! The bounds of a search. They stand below the search, so that the words of the command line choose them without it.
 
+ghost use Rattle.std.specs.Prelude.{◌≡◌};
+ghost use Rattle.hx_settings.specs.Settings.{defaults};
+
 /// The most workers that search at once.
 pub const MOST_WORKERS: u32 = 64;
 
@@ -8,6 +11,15 @@ pub const MOST_UNITS: u64 = 1_099_511_627_776;
 
 /// The most proofs that their book may have room for.
 pub const MOST_PROOFS: u32 = 1_048_576;
+
+/// How many workers search at once where nobody chose a number.
+const DEFAULT_WORKERS: u32 = 1;
+
+/// How many units they may spend where nobody chose a number.
+const DEFAULT_UNITS: u64 = 1_000_000;
+
+/// How many proofs their book has room for where nobody chose a number.
+const DEFAULT_PROOFS: u32 = 65_536;
 
 /// How many workers search, and what they may use together.
 #[derive(Clone, Copy, Debug, PartialEq, Eq)]
@@ -20,4 +32,17 @@ pub struct Settings {
 
     /// How many proofs their book has room for, at most 1,048,576.
     pub slots: u32,
+}
+
+impl Default for Settings {
+    ghost is_default = { λ settings. settings ≡ defaults };
+
+    /// The bounds of a search for which nobody chose a number.
+    fn default() -> Settings {
+        Settings {
+            workers: DEFAULT_WORKERS,
+            budget: DEFAULT_UNITS,
+            slots: DEFAULT_PROOFS,
+        }
+    }
 }

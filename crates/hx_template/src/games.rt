@@ -7,7 +7,7 @@
 ghost use Rattle.std.specs.Prelude.{◌≡◌, ℕ, ◌+◌, ◌^◌, ◌<◌, ◌≤◌, ◌↔◌, IsTrue, true, slice_index};
 ghost use Rattle.hx_board.specs.Cells.{OnBoard};
 ghost use Rattle.hx_board.specs.Sets.{has, count_below};
-ghost use Rattle.hx_template.specs.declared.games.TheConstants.{MOST_CELLS};
+ghost use Rattle.hx_template.specs.Limits.{most_cells};
 
 use hx_board::{CELLS, Cell, Colour, Groups, Mask, Position, Vertex};
 
@@ -38,7 +38,7 @@ pub(crate) struct LocalGame {
     fillings: usize,
     ghost grouped: { groups ≡ record { board = start; player = player } },
     ghost inside: { (n : ℕ) → has carrier n ≡ true → n < 121 },
-    ghost few: { count_below 128 carrier ≤ MOST_CELLS },
+    ghost few: { count_below 128 carrier ≤ most_cells },
     ghost powers: { (n : ℕ) → n < 121 → slice_index weights n ≡ 3 ^ count_below n carrier },
     ghost all: { fillings ≡ 3 ^ count_below 121 carrier },
 }
@@ -53,7 +53,7 @@ impl LocalGame {
         carrier: Mask,
     ) -> LocalGame
         requires inside { (n : ℕ) → has carrier n ≡ true → OnBoard position.now.size n }
-        requires few { count_below 128 carrier ≤ MOST_CELLS }
+        requires few { count_below 128 carrier ≤ most_cells }
         ensures start { result.start ≡ position.now }
         ensures player { result.player ≡ player }
         ensures a { result.a ≡ a }
@@ -106,7 +106,7 @@ impl LocalGame {
 /// What the digit of the next cell counts, where that of this one counts so much: as many as there are fillings of the cells
 /// before it.
 fn next_weight(carrier: Mask, index: usize, weight: usize) -> usize
-    requires few { count_below 128 carrier ≤ MOST_CELLS }
+    requires few { count_below 128 carrier ≤ most_cells }
     requires small { index < 121 }
     requires weight { weight ≡ 3 ^ count_below index carrier }
     ensures { result ≡ 3 ^ count_below (index + 1) carrier }

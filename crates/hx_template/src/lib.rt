@@ -8,9 +8,11 @@
 #![tactic(auto)]
 
 mod games;
+mod laws;
 mod locals;
 mod reaches;
 mod searches;
 
 pub use games::MOST_CELLS;
+pub use laws::most_cells_are_twelve;
 pub use locals::local;

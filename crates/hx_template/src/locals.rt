@@ -9,8 +9,9 @@ ghost use Rattle.hx_board.specs.Graph.{IsVertex};
 ghost use Rattle.hx_board.specs.Positions.{IsEmpty};
 ghost use Rattle.hx_board.specs.Sets.{has, count_below};
 ghost use Rattle.hx_proof.specs.Local.{Secures};
+ghost use Rattle.hx_template.specs.Limits.{most_cells};
 
-use crate::games::{LocalGame, MOST_CELLS};
+use crate::games::LocalGame;
 use crate::searches::secures;
 use hx_board::{Colour, Mask, Memory, Position, Vertex};
 use std::alloc::Global;
@@ -36,7 +37,7 @@ pub fn local(
     carrier: Mask,
     to_move: Colour,
 ) -> Result<bool, Memory>
-    requires few { count_below 128 carrier ≤ MOST_CELLS }
+    requires few { count_below 128 carrier ≤ most_cells }
     requires empty { (cell : ℕ) → has carrier cell ≡ true → IsEmpty position.now cell }
     // The ends of a link differ, are no stones of the opponent's, and are outside the carrier where they are empty cells. The
     // answer is exact without that, so a caller has less to show; a text may ask for more.

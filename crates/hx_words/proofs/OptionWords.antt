@@ -6,13 +6,13 @@ use Rattle.std.specs.List.{Contains}
 use Rattle.std.proofs.lemmas.List.Elements.{Contains-append_left, Contains-append_right, Contains-push}
 use Rattle.std.proofs.lemmas.Map.Made.{Contains-tail}
 use Rattle.hx_settings.specs.declared.settings.Settings.{Settings}
-use Rattle.hx_settings.specs.Settings.{AreSettings}
+use Rattle.hx_settings.specs.Settings.{AreSettings, defaults}
 use Rattle.hx_board.specs.Finds.{Finds}
 use Rattle.hx_words.specs.declared.settings.Setting.{Setting}
 use Rattle.hx_words.specs.declared.settings.Setting.TheVariants.{Workers, Budget, Proofs}
 use Rattle.hx_words.specs.declared.options.Choice.{Choice}
 use Rattle.hx_words.specs.declared.choices.Chosen.{Chosen}
-use Rattle.hx_words.specs.Options.{IsOption, Sets, Choose, End, Flag, Next, defaults, AreOptions}
+use Rattle.hx_words.specs.Options.{IsOption, Sets, Choose, End, Flag, Next, AreOptions}
 use Rattle.hx_words.specs.Settings.{name_of, least_of, most_of}
 use Rattle.hx_words.specs.Choices.{Spelled, Apart, Joined, nothing, number_for, with_number, Adds, Lead, Done, Then, settings_of}
 use Rattle.hx_words.specs.Choices.{AreChoicesAfter, AreChoices, AreSearchChoices, AreSearchOptions, plain_tree_flag}

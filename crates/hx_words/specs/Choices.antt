@@ -2,12 +2,13 @@
 -- crate alone. That they say the same as those of Options is proved.
 use Rattle.std.specs.Prelude.{◌≡◌, ℕ, ◌≤◌, List, [], ◌∷◌, ◌++◌, codes, unwrap_or, Option, None, Some, Bool, true, false}
 use Rattle.hx_settings.specs.declared.settings.Settings.{Settings}
+use Rattle.hx_settings.specs.Settings.{defaults}
 use Rattle.hx_words.specs.declared.settings.Setting.{Setting}
 use Rattle.hx_words.specs.declared.settings.Setting.TheVariants.{Workers, Budget, Proofs}
 use Rattle.hx_words.specs.declared.options.Choice.{Choice}
 use Rattle.hx_words.specs.declared.choices.Chosen.{Chosen}
 use Rattle.hx_words.specs.Settings.{name_of, least_of, most_of}
-use Rattle.hx_words.specs.Options.{IsValue, Choose, defaults}
+use Rattle.hx_words.specs.Options.{IsValue, Choose}
 
 -- the word is the name of the setting, an equals sign, and a value which is the number
 pub record IsJoined (choice : Choice) (word : List ℕ) : Type 0 where
@@ -64,9 +65,9 @@ pub record LeadsAway (words : List (List ℕ)) (before : Chosen) (rest : List (L
 -- each setting is the number that was chosen for it, or else its default
 abbrev pub settings_of : Chosen → Settings
 settings_of chosen = record {
-  workers = unwrap_or chosen.workers 1;
-  budget = unwrap_or chosen.budget 1000000;
-  slots = unwrap_or chosen.slots 131072;
+  workers = unwrap_or chosen.workers defaults.workers;
+  budget = unwrap_or chosen.budget defaults.budget;
+  slots = unwrap_or chosen.slots defaults.slots;
 }
 
 -- the words are options, and with what was chosen before them these are the settings that they choose

@@ -2,10 +2,10 @@
 use Rattle.std.specs.Prelude.{◌≡◌, ℕ, List, [], ◌∷◌, codes, Bool, true}
 use Rattle.hx_board.specs.Cells.{Extent}
 use Rattle.hx_settings.specs.declared.settings.Settings.{Settings}
-use Rattle.hx_settings.specs.Settings.{AreSettings}
+use Rattle.hx_settings.specs.Settings.{AreSettings, defaults}
 use Rattle.hx_words.specs.declared.commands.Command.{Command}
 use Rattle.hx_words.specs.declared.commands.Command.TheVariants.{Check, Solve, Htp, Demo, Play, Template, Survey}
-use Rattle.hx_words.specs.Options.{Choose, defaults, AreOptions}
+use Rattle.hx_words.specs.Options.{Choose, AreOptions}
 use Rattle.hx_words.specs.Seeds.{SeedAndOptions}
 use Rattle.hx_words.specs.Sizes.{SizeAndOptions}
 

@@ -1,9 +1,9 @@
 -- The options of a search.
-use Rattle.std.specs.Prelude.{◌≡◌, ◌⊎◌, ℕ, ◌≤◌, List, [], ◌∷◌, ◌++◌, length, codes, Bool, true, false}
+use Rattle.std.specs.Prelude.{◌≡◌, ◌⊎◌, ℕ, ◌^◌, ◌≤◌, List, [], ◌∷◌, ◌++◌, length, codes, Bool, true, false}
 use Rattle.std.specs.List.{Contains}
 use Rattle.std.specs.Str.Parse.{IsNumeral, digits_value}
 use Rattle.hx_settings.specs.declared.settings.Settings.{Settings}
-use Rattle.hx_settings.specs.declared.settings.TheConstants.{MOST_WORKERS, MOST_UNITS, MOST_PROOFS}
+use Rattle.hx_settings.specs.Settings.{defaults}
 
 -- one decimal digit or more, at most 13, which are this number
 pub record IsValue (value : List ℕ) (number : ℕ) : Type 0 where
@@ -21,9 +21,9 @@ pub record IsOption (name : List ℕ) (number : ℕ) (words rest : List (List �
 -- the option of this name and this number, which is within its limits, sets one of the settings
 abbrev pub Sets : List ℕ → ℕ → Settings → Settings → Type 0
 Sets name number before now =
-    ((name ≡ codes "--workers") × (1 ≤ number) × (number ≤ MOST_WORKERS) × (now ≡ record before { workers = number }))
-    ⊎ (((name ≡ codes "--budget") × (number ≤ MOST_UNITS) × (now ≡ record before { budget = number }))
-    ⊎ ((name ≡ codes "--proofs") × (number ≤ MOST_PROOFS) × (now ≡ record before { slots = number })))
+    ((name ≡ codes "--workers") × (1 ≤ number) × (number ≤ 64) × (now ≡ record before { workers = number }))
+    ⊎ (((name ≡ codes "--budget") × (number ≤ 2 ^ 40) × (now ≡ record before { budget = number }))
+    ⊎ ((name ≡ codes "--proofs") × (number ≤ 1048576) × (now ≡ record before { slots = number })))
 
 -- The words are options, one after the other, that lead from the settings before them to the chosen ones. None has a
 -- name that was taken already. Where the tree is to be plain, they have the flag once among them.
@@ -35,10 +35,6 @@ pub data Choose (chosen : Settings) : Bool → List (List ℕ) → Settings → 
       (name : List ℕ) (number : ℕ) (next : Settings) (rest : List (List ℕ))
       → IsOption name number words rest → ¬ Contains taken name → Sets name number before next
       → Choose chosen plain_tree (name ∷ taken) next rest → Choose chosen plain_tree taken before words
-
--- the settings without options
-abbrev pub defaults : Settings
-defaults = record { workers = 1; budget = 1000000; slots = 131072 }
 
 -- the words are options, and these are the settings that they choose
 abbrev pub AreOptions : List (List ℕ) → Settings → Type 0

@@ -1,6 +1,5 @@
 -- The settings that an option may choose. These are words for the functions inside the crate alone.
-use Rattle.std.specs.Prelude.{ℕ, List, codes}
-use Rattle.hx_settings.specs.declared.settings.TheConstants.{MOST_WORKERS, MOST_UNITS, MOST_PROOFS}
+use Rattle.std.specs.Prelude.{ℕ, ◌^◌, List, codes}
 use Rattle.hx_words.specs.declared.settings.Setting.{Setting}
 use Rattle.hx_words.specs.declared.settings.Setting.TheVariants.{Workers, Budget, Proofs}
 
@@ -17,6 +16,6 @@ least_of Proofs = 0
 
 -- the largest number that may be chosen
 abbrev pub most_of : Setting → ℕ
-most_of Workers = MOST_WORKERS
-most_of Budget = MOST_UNITS
-most_of Proofs = MOST_PROOFS
+most_of Workers = 64
+most_of Budget = 2 ^ 40
+most_of Proofs = 1048576

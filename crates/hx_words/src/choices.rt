@@ -104,10 +104,11 @@ impl Chosen {
     pub(crate) fn settings(self) -> Settings
         ensures { result ≡ settings_of self }
     {
+        let defaults = Settings::default();
         Settings {
-            workers: self.workers.unwrap_or(1),
-            budget: self.budget.unwrap_or(1_000_000),
-            slots: self.slots.unwrap_or(131_072),
+            workers: self.workers.unwrap_or(defaults.workers),
+            budget: self.budget.unwrap_or(defaults.budget),
+            slots: self.slots.unwrap_or(defaults.slots),
         }
     }
 }
