@@ -24,7 +24,7 @@ use Rattle.hx_reader.specs.declared.places.Place.TheVariants.{Between, Inside}
 use Rattle.hx_text.specs.Entries.{entry_line, kind_of, EntryFits, EachEntryFits, entries_of, steps_told}
 use Rattle.hx_text.specs.Entries.{threats_told, answers_told, fills_told, entries_told}
 use Rattle.hx_reader.specs.EntryReads.{IsEntryLine, kind_at, rule_for}
-use Rattle.hx_reader.specs.Ors.{BeginsOr}
+use Rattle.hx_reader.specs.Ors.{BeginsLongOr}
 use Rattle.hx_text.specs.TreeTexts.{HeadFits, NodeFits, head_of, head_line, node_lines}
 use Rattle.hx_text.specs.Lengths.{most_nodes}
 use Rattle.hx_reader.specs.Places.{StandsSoFar, entries_in, IsInOrder, HasRoomForAll, StandsBegun, StandsInside}
@@ -342,7 +342,7 @@ went_on old new entry line more fits due is now = (
 )
 
 -- where a step is due, a line that begins as that of an Or takes memory
-pub or_takes_memory : (begun : Begun) (line : List ℕ) → kind_due begun ≡ Step_kind → BeginsOr line
+pub or_takes_memory : (begun : Begun) (line : List ℕ) → kind_due begun ≡ Step_kind → BeginsLongOr line
     → TakesMemory (Inside begun) line
 or_takes_memory begun line due is = ForParts begun refl due is
 

@@ -1,7 +1,7 @@
 -- The first word of a line tells what its other words are: those of a step, or those of a rule's opening. Where the other words
 -- are none of that kind, the line's words are those of no step and of no opening, since the first words of each kind begin with
 -- different letters.
-use Rattle.std.proofs.Common.{◌≡◌, ℕ, ◌≤◌, List, [], ◌∷◌, length, map, refl}
+use Rattle.std.proofs.Common.{◌≡◌, ℕ, ◌<◌, ◌≤◌, List, [], ◌∷◌, length, map, refl}
 use Rattle.std.proofs.Common.{sym, ap, ◌∙◌, arith, Option, Some, None, Result, Ok, Err}
 use Rattle.std.specs.Prelude.{codes}
 use Rattle.std.specs.List.{All as EachItem}
@@ -22,7 +22,7 @@ use Rattle.hx_text.specs.declared.versions.Version.TheVariants.{Two}
 use Rattle.hx_text.specs.declared.versions.Preamble.{Preamble}
 use Rattle.hx_letters.specs.Words.{Reads, IsNumber, words_in, cell_word, vertex_word}
 use Rattle.hx_text.specs.StepTexts.{step_words, step_line, StepFits}
-use Rattle.hx_reader.specs.Ors.{BeginsOr}
+use Rattle.hx_reader.specs.Ors.{BeginsLongOr}
 use Rattle.hx_text.specs.TreeTexts.{opening_words, OpeningFits}
 use Rattle.hx_reader.specs.EntryReads.{UnturnedFits}
 use Rattle.hx_letters.proofs.Cursors.{rest_same, word_then}
@@ -103,9 +103,9 @@ or_reads size words rest (Ok None) first none = λ value fits e. no_or value fit
 
 -- where the parts are read after the first word
 pub or_memory : {T E : Type 0} (words rest : List (List ℕ)) (found : Result T E) → words ≡ codes "or" ∷ rest
-    → OnErr found ((parts : List (List ℕ)) × (words ≡ codes "or" ∷ parts))
-or_memory words rest (Ok done) first = tt
-or_memory words rest (Err error) first = (rest, first)
+    → OnErr found (8 < length rest) → OnErr found ((parts : List (List ℕ)) × (words ≡ codes "or" ∷ parts) × (8 < length parts))
+or_memory words rest (Ok done) first many = tt
+or_memory words rest (Err error) first many = (rest, first, many)
 
 -- the words begin with none of the four
 pub no_step : {words : List (List ℕ)} → ((rest : List (List ℕ)) → words ≡ codes "base" ∷ rest → ⊥)
@@ -127,9 +127,9 @@ step_reads size line words (Err error) extent same reads = tt
 
 -- the words of an Or are those of its line
 pub or_of_line : {T E : Type 0} (line : List ℕ) (words : List (List ℕ)) (found : Result T E) → words ≡ words_in line
-    → OnErr found ((parts : List (List ℕ)) × (words ≡ codes "or" ∷ parts)) → OnErr found (BeginsOr line)
+    → OnErr found ((parts : List (List ℕ)) × (words ≡ codes "or" ∷ parts) × (8 < length parts)) → OnErr found (BeginsLongOr line)
 or_of_line line words (Ok done) same is = tt
-or_of_line line words (Err error) same is = record { words = is.0; same = line_from_words same is.1 }
+or_of_line line words (Err error) same is = record { words = is.0; same = line_from_words same is.1; many = is.2 }
 
 -- ---- openings
 

@@ -33,7 +33,7 @@ use Rattle.hx_text.specs.Lengths.{most_nodes}
 use Rattle.hx_text.specs.Entries.{EachEntryFits, entries_for, entries_of, entry_line, steps_told}
 use Rattle.hx_text.specs.Entries.{threats_told, answers_told, fills_told, entries_told}
 use Rattle.hx_reader.specs.EntryReads.{IsEntryLine}
-use Rattle.hx_reader.specs.Ors.{BeginsOr}
+use Rattle.hx_reader.specs.Ors.{BeginsLongOr}
 use Rattle.hx_text.specs.TreeTexts.{AreTreeLines, AreTreeLinesOf, NodeFits, IsRootWinner}
 use Rattle.hx_text.specs.TreeTexts.{HeadFits, title_line, front_lines, head_of, head_line, node_lines}
 
@@ -136,10 +136,10 @@ kind_due begun =
     if nat_lt (length begun.lines.items) (answers_told begun.head.opening) then Answer_kind else Fill_kind
 
 -- The lines that take memory. A right first line of a node that tells of entries takes it for their lists, and where a
--- step is due, a line that begins as that of an Or takes it for the parts.
+-- step is due, a line that begins as that of an Or with more than eight parts takes it for these.
 pub data TakesMemory (place : Place) (line : List ℕ) : Type 0 where
   ForEntries : (first : IsNextNode place line) → 0 < entries_told first.head.opening → TakesMemory place line
-  ForParts : (begun : Begun) → place ≡ Inside begun → kind_due begun ≡ Step_kind → BeginsOr line
+  ForParts : (begun : Begun) → place ≡ Inside begun → kind_due begun ≡ Step_kind → BeginsLongOr line
       → TakesMemory place line
 
 -- what a line brought: the place after it, the nodes before it, the lines with it; the end comes with the last line

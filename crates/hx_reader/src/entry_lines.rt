@@ -4,7 +4,7 @@ ghost use Rattle.std.specs.Prelude.{◌≡◌, IfOk, OnErr};
 ghost use Rattle.hx_letters.specs.Words.{Reads};
 ghost use Rattle.hx_reader.specs.EntryReads.{IsEntryLine};
 ghost use Rattle.hx_text.specs.Entries.{entry_line};
-ghost use Rattle.hx_reader.specs.Ors.{BeginsOr};
+ghost use Rattle.hx_reader.specs.Ors.{BeginsLongOr};
 
 use crate::answer_lines::read_answer;
 use crate::fill_lines::read_fill;
@@ -13,7 +13,7 @@ use hx_board::{Memory, Size};
 use hx_text::{Entry, EntryKind};
 use std::alloc::Global;
 
-/// The line of an entry of this kind. It takes memory for the parts of an Or alone.
+/// The line of an entry of this kind. It takes memory for the parts of an Or with more than eight alone.
 pub(crate) fn read_entry(
     alloc: Global,
     size: Size,
@@ -21,7 +21,7 @@ pub(crate) fn read_entry(
     line: &[u8],
 ) -> Result<Option<Entry>, Memory>
     ensures reads { IfOk result (Reads entry_line (IsEntryLine size kind) line.now) }
-    ensures memory { OnErr result ((kind ≡ EntryKind.Step) × BeginsOr line.now) }
+    ensures memory { OnErr result ((kind ≡ EntryKind.Step) × BeginsLongOr line.now) }
 {
     match kind {
         EntryKind::Step => match read_step(alloc, size, line) {

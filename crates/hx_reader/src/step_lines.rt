@@ -1,13 +1,13 @@
 //! The lines of a node's steps and threats.
 
-ghost use Rattle.std.specs.Prelude.{◌≡◌, ℕ, ◌≤◌, ◌∷◌, [], map, length, codes, List, All, IfOk, OnErr};
+ghost use Rattle.std.specs.Prelude.{◌≡◌, ℕ, ◌<◌, ◌≤◌, ◌∷◌, [], map, length, codes, List, All, IfOk, OnErr};
 ghost use Rattle.std.specs.Fmt.{decimal};
 ghost use Rattle.hx_board.specs.declared.vertices.Vertex.{Vertex};
 ghost use Rattle.hx_board.specs.Finds.{Finds};
 ghost use Rattle.hx_board.specs.Graph.{IsVertex};
 ghost use Rattle.hx_letters.specs.Words.{Reads, IsNumber, vertex_word};
 ghost use Rattle.hx_text.specs.StepTexts.{step_words, step_line, StepFits, threat_line};
-ghost use Rattle.hx_reader.specs.Ors.{BeginsOr};
+ghost use Rattle.hx_reader.specs.Ors.{BeginsLongOr};
 
 use hx_board::{Memory, Size};
 use hx_letters::Words;
@@ -16,10 +16,10 @@ use smallvec::SmallVec;
 use std::alloc::Global;
 
 /// The line of a step: `base VERTEX VERTEX`, `stone NUMBER NUMBER`, `cell NUMBER NUMBER`, or `or` and at most 128 numbers.
-/// It takes memory for the parts of an Or alone.
+/// It takes memory for the parts of an Or with more than eight alone.
 pub(crate) fn read_step(alloc: Global, size: Size, line: &[u8]) -> Result<Option<Step>, Memory>
     ensures reads { IfOk result (Reads step_line (StepFits size) line.now) }
-    ensures memory { OnErr result (BeginsOr line.now) }
+    ensures memory { OnErr result (BeginsLongOr line.now) }
 {
     // The proof takes from here that the size is one of a board.
     let _rows = size.rows();
@@ -30,7 +30,7 @@ pub(crate) fn read_step(alloc: Global, size: Size, line: &[u8]) -> Result<Option
 /// The words of a step's line.
 fn read_words(alloc: Global, size: Size, words: &mut Words<'_>) -> Result<Option<Step>, Memory>
     ensures reads { IfOk result (Reads step_words (StepFits size) words.old) }
-    ensures memory { OnErr result ((parts : List (List ℕ)) × (words.old ≡ codes "or" ∷ parts)) }
+    ensures memory { OnErr result ((parts : List (List ℕ)) × (words.old ≡ codes "or" ∷ parts) × (8 < length parts)) }
 {
     if words.keyword(b"base").is_some() {
         return Ok(read_base(size, words));
@@ -99,6 +99,7 @@ fn read_or(alloc: Global, words: &mut Words<'_>) -> Result<Option<Step>, Memory>
     ensures reads { IfOk result (λ found. Finds found (λ step. (parts : List ℕ)
         × (step ≡ Step.Or parts) × (length parts ≤ MOST_PARTS) × All IsNumber parts
         × (words.old ≡ map decimal parts))) }
+    ensures memory { OnErr result (8 < length words.old) }
 {
     let mut items = SmallVec::new(alloc);
     for _ in 0..MOST_PARTS {

@@ -54,4 +54,4 @@ returns-then-is_some-4-clause-memory c =
     let after_cell = words_kept _ c.keyword-3.ensures.same (sym c.if-is_some-3.false ∙ c.is_some-3.ensures) in
     let first = sym after_base ∙ sym after_stone ∙ sym after_cell
     ∙ word_taken _ c.keyword-4.ensures.takes (sym c.if-is_some-4.true ∙ c.is_some-4.ensures) in
-    or_memory _ _ _ first
+    or_memory _ _ _ first c.read_or.ensures.memory
