@@ -25,7 +25,7 @@ use crate::refusals::NoSlot;
 use crate::trees::tree_of;
 use crate::wider::{Wider, is_wider};
 use hx_board::{Colour, Memory, Position};
-use hx_entry::Entry;
+use hx_entry::{Entry, Offer};
 use hx_tree::{Found, Heading, Node};
 use std::alloc::Global;
 use std::marker::Model;
@@ -158,18 +158,18 @@ impl Book {
 
     /// Puts in a node that is right after those that are held. Its index, or that of the entry which its position and mover
     /// have already: then nothing changes. The node comes back exactly where there is no such entry and each slot is taken.
-    pub fn put(&mut self, entry: Entry) -> Result<u32, NoSlot>
-        requires { IsRightNode (headings_of self.old.nodes) entry }
+    pub fn put(&mut self, offer: Offer) -> Result<u32, NoSlot>
+        requires { IsRightNode (headings_of self.old.nodes) offer }
         ensures slots { self.new.slots ≡ self.old.slots }
-        ensures nodes { Puts self.old.slots self.old.nodes entry result self.new.nodes }
+        ensures nodes { Puts self.old.slots self.old.nodes offer result self.new.nodes }
     {
-        let heading = *entry.heading();
+        let heading = *offer.heading();
         if let Some(found) = self.find(&heading.position, heading.to_move) {
             return Ok(found.index);
         }
         let held = self.nodes.len() as u32;
         if held == self.slots {
-            return Err(NoSlot::new(held, entry));
+            return Err(NoSlot::new(held, offer));
         }
         let place = bucket(
             self.by_position.buckets(),
@@ -184,7 +184,7 @@ impl Book {
             heading.winner,
         );
         self.by_stones.add(stones);
-        self.nodes.push_reserved(entry);
+        self.nodes.push_reserved(offer.into_entry());
         Ok(held)
     }
 

@@ -19,8 +19,8 @@ pub struct Either {
     pub turned: bool,
 }
 
-/// The first entry of a position and mover, or, where there is none and the list is not plain, that of the turned position and the
-/// same mover. None only where neither has one.
+/// The first entry of a position and mover, or, where there is none, that of the turned position and the same mover. None only where
+/// neither has one.
 pub fn look_either<P: Proofs, R: Wait>(
     rt: &R,
     proofs: &mut P,
@@ -28,15 +28,12 @@ pub fn look_either<P: Proofs, R: Wait>(
     to_move: Colour,
 ) -> Option<Either>
     ensures grew { Grows (P.sight proofs.old) (P.sight proofs.new) }
-    ensures found { FindsEither P.is_plain (P.sight proofs.old).list (P.sight proofs.new).list position.now
+    ensures found { FindsEither (P.sight proofs.old).list (P.sight proofs.new).list position.now
         to_move result }
 {
     if let Some(found) = proofs.look(rt, position, to_move) {
         let turned = false;
         return Some(Either { found, turned });
-    }
-    if proofs.plain() {
-        return None;
     }
     let other = turned(position);
     match proofs.look(rt, &other, to_move) {

@@ -13,7 +13,7 @@ use crate::growing::Proofs;
 use crate::refusals::NoSlot;
 use crate::wider::Wider;
 use hx_board::{Colour, Memory, Position};
-use hx_entry::Entry;
+use hx_entry::{Entry, Offer};
 use hx_tree::{Found, Node};
 use std::alloc::Global;
 use std::marker::Model;
@@ -82,6 +82,11 @@ impl Proofs for PlainBook {
         true
     }
 
+    fn keeps(&self) {
+        // To read the field brings the type's invariant to the proof.
+        let _book = &self.book;
+    }
+
     fn look<R: Wait>(&mut self, _rt: &R, position: &Position, to_move: Colour) -> Option<Found> {
         self.book.find(position, to_move)
     }
@@ -105,7 +110,7 @@ impl Proofs for PlainBook {
         Some(Wider { found, position })
     }
 
-    fn store<R: Wait>(&mut self, _rt: &R, entry: Entry) -> Result<u32, NoSlot> {
-        self.book.put(entry)
+    fn store<R: Wait>(&mut self, _rt: &R, offer: Offer) -> Result<u32, NoSlot> {
+        self.book.put(offer)
     }
 }

@@ -2,16 +2,17 @@
 
 ghost use Rattle.std.specs.Prelude.{◌≡◌};
 
-use hx_entry::Entry;
+use hx_entry::Offer;
+use hx_tree::Node;
 use std::marker::Model;
 use thiserror::Error;
 
-/// The answer of a book whose slots are all taken, with the entry that found no room.
+/// The answer of a book whose slots are all taken, with the node that found no room.
 #[derive(Debug, Drop, Error)]
 #[error("each of the {held} slots is taken")]
 pub struct NoSlot {
     held: u32,
-    entry: Entry,
+    offer: Offer,
 }
 
 impl Model for NoSlot {
@@ -19,15 +20,15 @@ impl Model for NoSlot {
 
     ghost Value = { Refusal };
 
-    ghost view = { λ r. record { held = r.held; node = r.entry } };
+    ghost view = { λ r. record { held = r.held; node = r.offer } };
 }
 
 impl NoSlot {
-    /// The refusal of an entry by a book that holds so many.
-    pub(crate) fn new(held: u32, entry: Entry) -> NoSlot
-        ensures { result ≡ record { held = held; node = entry } }
+    /// The refusal of a node by a book that holds so many.
+    pub(crate) fn new(held: u32, offer: Offer) -> NoSlot
+        ensures { result ≡ record { held = held; node = offer } }
     {
-        NoSlot { held, entry }
+        NoSlot { held, offer }
     }
 
     /// How many nodes the book held.
@@ -37,10 +38,10 @@ impl NoSlot {
         self.held
     }
 
-    /// The entry that was refused.
-    pub fn into_entry(self) -> Entry
+    /// The node that was refused. It takes no memory.
+    pub fn into_node(self) -> Node
         ensures { result ≡ self.node }
     {
-        self.entry
+        self.offer.into_node()
     }
 }
