@@ -188,6 +188,13 @@ impl Book {
         Ok(held)
     }
 
+    /// The entries of all nodes, in their order.
+    pub fn into_entries(self) -> Vec<Entry>
+        ensures { result.items ≡ self.nodes }
+    {
+        self.nodes
+    }
+
     /// The tree of an entry: the nodes that it needs, in their order, with new numbers for their children. Where all nodes of the
     /// book are plain those of the tree are.
     pub fn into_tree(self, index: u32) -> Result<Vec<Node>, Memory>

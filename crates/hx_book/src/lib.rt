@@ -17,5 +17,5 @@ pub use growing::Proofs;
 pub use hx_tree::Found;
 pub use plain_books::PlainBook;
 pub use refusals::NoSlot;
-pub use trees::renamed;
+pub use trees::{renamed, tree_of};
 pub use wider::Wider;

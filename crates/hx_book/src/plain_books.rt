@@ -54,6 +54,13 @@ impl PlainBook {
         self.book.keeps();
     }
 
+    /// The entries of all nodes, in their order.
+    pub fn into_entries(self) -> Vec<Entry>
+        ensures { result.items ≡ self.nodes }
+    {
+        self.book.into_entries()
+    }
+
     /// The tree of an entry: the nodes that it needs, in their order, with new numbers for their children. Each of them is plain.
     pub fn into_tree(self, index: u32) -> Result<Vec<Node>, Memory>
         requires { index < length self.nodes }

@@ -204,7 +204,7 @@ fn kept_of(alloc: Global, nodes: Vec<Entry>, root: u32, marks: &[bool]) -> Resul
 }
 
 /// The tree of the node at a place, of nodes that are right.
-pub(crate) fn tree_of(alloc: Global, nodes: Vec<Entry>, root: u32) -> Result<Vec<Node>, Memory>
+pub fn tree_of(alloc: Global, nodes: Vec<Entry>, root: u32) -> Result<Vec<Node>, Memory>
     requires right { AreRight nodes.items }
     requires few { length nodes.items < 4294967296 }
     requires inside { root < length nodes.items }

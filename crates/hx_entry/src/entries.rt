@@ -1,9 +1,10 @@
 //! Entries of a book.
 
-ghost use Rattle.std.specs.Prelude.{◌≡◌, IfOk, IsOk};
-ghost use Rattle.hx_entry.specs.Children.{child_of, lines_of, HasNoLinks};
+ghost use Rattle.std.specs.Prelude.{◌≡◌, IfOk};
+ghost use Rattle.hx_entry.specs.Children.{child_of, lines_of};
+ghost use Rattle.hx_entry.specs.KeptRules.{rule_of};
 
-use crate::rules::{KeptRule, kept_rule};
+use crate::rules::KeptRule;
 use hx_board::Memory;
 use hx_tree::{Heading, Line, Node};
 use std::marker::Model;
@@ -29,14 +30,11 @@ impl Model for Entry {
 }
 
 impl Entry {
-    /// The entry of a node. It takes no memory for a node that has no links.
-    pub fn new(node: Node) -> Result<Entry, Memory>
-        ensures node { IfOk result (λ entry. entry ≡ node) }
-        ensures memory { HasNoLinks node.rule → IsOk result }
+    /// The entry of a node with this rule.
+    pub(crate) fn by_rule(heading: Heading, rule: KeptRule) -> Entry
+        ensures { result ≡ record { heading = heading; rule = rule_of rule } }
     {
-        let Node { heading, rule } = node;
-        let rule = kept_rule(rule)?;
-        Ok(Entry { heading, rule })
+        Entry { heading, rule }
     }
 
     /// What the node says.

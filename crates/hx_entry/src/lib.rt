@@ -2,7 +2,9 @@
 #![tactic(auto)]
 
 mod entries;
+mod offers;
 mod rules;
 mod steps;
 
 pub use entries::Entry;
+pub use offers::Offer;

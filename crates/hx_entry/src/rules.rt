@@ -1,21 +1,39 @@
 //! The rule of a node in little room.
 
-ghost use Rattle.std.specs.Prelude.{◌≡◌, IfOk, IsOk};
-ghost use Rattle.hx_tree.specs.declared.nodes.Rule.TheVariants.{Links, All};
-ghost use Rattle.hx_entry.specs.Children.{child_of, lines_of, HasNoLinks};
-ghost use Rattle.hx_entry.specs.KeptRules.{rule_of};
+ghost use Rattle.std.specs.Prelude.{◌≡◌, IfOk};
+ghost use Rattle.hx_tree.specs.declared.nodes.Rule.TheVariants.{All};
+ghost use Rattle.hx_entry.specs.Children.{child_of, lines_of};
+ghost use Rattle.hx_entry.specs.KeptRules.{rule_of, kept_steps};
 
 use crate::steps::KeptSteps;
 use hx_board::{Cell, Memory};
 use hx_tree::{FillSteps, Line, Lines, Rule, Steps, Threats};
-use std::alloc::Global;
 
 /// The steps, threats and lines of a node by answers.
 #[derive(Debug, Drop)]
 pub(crate) struct KeptAnswers {
-    steps: KeptSteps,
-    threats: Threats,
-    lines: Lines,
+    pub(crate) steps: KeptSteps,
+    pub(crate) threats: Threats,
+    pub(crate) lines: Lines,
+}
+
+impl KeptAnswers {
+    /// The rule by these answers, with these steps in place of those in little room.
+    fn with_steps(self, steps: Steps) -> Rule
+        requires { steps ≡ self.steps }
+        ensures { result ≡ All self.steps self.threats self.lines }
+    {
+        let KeptAnswers {
+            steps: _,
+            threats,
+            lines,
+        } = self;
+        Rule::All {
+            steps,
+            threats,
+            lines,
+        }
+    }
 }
 
 /// A rule in little room. Steps stand behind a pointer, since most rules have none.
@@ -32,107 +50,49 @@ pub(crate) enum KeptRule {
     Whole { rule: Box<Rule> },
 }
 
-/// The rule in little room.
-pub(crate) fn kept_rule(rule: Rule) -> Result<KeptRule, Memory>
-    ensures rule { IfOk result (λ kept. rule_of kept ≡ rule) }
-    ensures memory { HasNoLinks rule → IsOk result }
-{
-    match rule {
-        Rule::Chain => Ok(KeptRule::Chain),
-        Rule::Links { steps } => kept_links(steps),
-        Rule::Move { cell, child } => Ok(KeptRule::Move { cell, child }),
-        Rule::All {
-            steps,
-            threats,
-            lines,
-        } => kept_answers(steps, threats, lines),
-        Rule::Fill { steps, child } => Ok(KeptRule::Fill {
-            steps: fitted(steps),
-            child,
-        }),
-        Rule::Turned { child } => Ok(KeptRule::Turned { child }),
-    }
-}
-
-/// The rule by these links.
-fn kept_links(steps: Steps) -> Result<KeptRule, Memory>
-    ensures { IfOk result (λ kept. rule_of kept ≡ Links steps) }
-{
-    let items = steps.into_inner();
-    let alloc = *items.allocator();
-    let Some(kept) = KeptSteps::of(alloc, items.as_slice()) else {
-        let steps = Steps::new(items);
-        return whole(alloc, Rule::Links { steps });
-    };
-    match Box::new(alloc, kept) {
-        Ok(steps) => Ok(KeptRule::Links { steps }),
-        Err(_) => Err(Memory),
-    }
-}
-
-/// The rule by these answers.
-fn kept_answers(steps: Steps, threats: Threats, lines: Lines) -> Result<KeptRule, Memory>
-    ensures { IfOk result (λ kept. rule_of kept ≡ All steps threats lines) }
-{
-    let items = steps.into_inner();
-    let alloc = *items.allocator();
-    let Some(steps) = KeptSteps::of(alloc, items.as_slice()) else {
-        let steps = Steps::new(items);
-        return whole(
-            alloc,
-            Rule::All {
-                steps,
-                threats,
-                lines,
-            },
-        );
-    };
-    let kept = KeptAnswers {
-        steps,
-        threats,
-        lines,
-    };
-    match Box::new(alloc, kept) {
-        Ok(answers) => Ok(KeptRule::All { answers }),
-        Err(_) => Err(Memory),
-    }
-}
-
-/// The rule as it is.
-fn whole(alloc: Global, rule: Rule) -> Result<KeptRule, Memory>
-    ensures { IfOk result (λ kept. rule_of kept ≡ rule) }
-{
-    match Box::new(alloc, rule) {
-        Ok(rule) => Ok(KeptRule::Whole { rule }),
-        Err(_) => Err(Memory),
-    }
-}
-
-/// The same fill steps, in no more room than they need.
-fn fitted(steps: FillSteps) -> FillSteps
-    ensures { result ≡ steps }
-{
-    let mut items = steps.into_inner();
-    items.shrink_to_fit();
-    FillSteps::new(items)
-}
-
 impl KeptRule {
-    /// The rule as it was.
+    /// The rule as it was. Its steps are made anew where it keeps them in little room.
     pub(crate) fn into_rule(self) -> Result<Rule, Memory>
         ensures { IfOk result (λ rule. rule ≡ rule_of self) }
     {
+        let steps = self.steps()?;
+        Ok(self.with_steps(steps))
+    }
+
+    /// The steps that the rule keeps in little room.
+    fn steps(&self) -> Result<Option<Steps>, Memory>
+        ensures { IfOk result (λ steps. steps ≡ kept_steps self.now) }
+    {
         match self {
-            KeptRule::Chain => Ok(Rule::Chain),
-            KeptRule::Move { cell, child } => Ok(Rule::Move { cell, child }),
-            KeptRule::Turned { child } => Ok(Rule::Turned { child }),
-            KeptRule::Fill { steps, child } => Ok(Rule::Fill { steps, child }),
-            KeptRule::Links { steps } => {
-                let steps = steps.steps()?;
-                Ok(Rule::Links { steps })
-            }
-            KeptRule::All { answers } => rule_of_answers(Box::into_inner(answers)),
-            KeptRule::Whole { rule } => Ok(Box::into_inner(rule)),
+            KeptRule::Links { steps } => Ok(Some(steps.steps()?)),
+            KeptRule::All { answers } => Ok(Some(answers.steps.steps()?)),
+            KeptRule::Chain
+            | KeptRule::Move { .. }
+            | KeptRule::Turned { .. }
+            | KeptRule::Fill { .. }
+            | KeptRule::Whole { .. } => Ok(None),
+        }
+    }
+
+    /// The rule as it was, with these steps in place of those that it keeps in little room. It takes no memory.
+    pub(crate) fn with_steps(self, steps: Option<Steps>) -> Rule
+        requires { steps ≡ kept_steps self }
+        ensures { result ≡ rule_of self }
+    {
+        match self {
+            KeptRule::Chain => Rule::Chain,
+            KeptRule::Move { cell, child } => Rule::Move { cell, child },
+            KeptRule::Turned { child } => Rule::Turned { child },
+            KeptRule::Fill { steps, child } => Rule::Fill { steps, child },
+            KeptRule::Links { .. } => match steps {
+                Some(steps) => Rule::Links { steps },
+                None => unreachable!(),
+            },
+            KeptRule::All { answers } => match steps {
+                Some(steps) => Box::into_inner(answers).with_steps(steps),
+                None => unreachable!(),
+            },
+            KeptRule::Whole { rule } => Box::into_inner(rule),
         }
     }
 
@@ -163,23 +123,6 @@ impl KeptRule {
             | KeptRule::Links { .. } => &[],
         }
     }
-}
-
-/// The rule by these answers.
-fn rule_of_answers(answers: KeptAnswers) -> Result<Rule, Memory>
-    ensures { IfOk result (λ rule. rule ≡ All answers.steps answers.threats answers.lines) }
-{
-    let KeptAnswers {
-        steps,
-        threats,
-        lines,
-    } = answers;
-    let steps = steps.steps()?;
-    Ok(Rule::All {
-        steps,
-        threats,
-        lines,
-    })
 }
 
 /// The one child that a whole rule leads to.
