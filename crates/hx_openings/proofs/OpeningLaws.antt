@@ -6,7 +6,7 @@ use Rattle.hx_board.specs.declared.colours.Colour.{Colour}
 use Rattle.hx_board.specs.declared.colours.Colour.TheVariants.{Black, White}
 use Rattle.hx_board.specs.Sets.{has}
 use Rattle.hx_board.specs.Cells.{Extent, IsExtent, OnBoard}
-use Rattle.hx_board.specs.Positions.{IsEmpty, stones_of}
+use Rattle.hx_board.specs.Positions.{IsBoard, IsEmpty, stones_of}
 use Rattle.hx_board.specs.Game.{Wins, By_chain, By_move, By_answers}
 use Rattle.hx_board.proofs.SetLaws.{has-empty}
 use Rattle.hx_law.proofs.WinLaws.{chain-put}
@@ -19,6 +19,16 @@ module _ (size : Extent) (extent : IsExtent size.rows size.cols) where
   no_stone : (player : Colour) (cell : ℕ) → has (stones_of (empty_board size) player) cell ≡ true → ⊥
   no_stone Black cell h = false≢true (sym (has-empty cell) ∙ h)
   no_stone White cell h = false≢true (sym (has-empty cell) ∙ h)
+
+  pub empty_is_board : IsBoard (empty_board size)
+  empty_is_board = (
+    extent,
+    record {
+      apart = λ cell h. absurd (no_stone Black cell h);
+      black_inside = λ cell h. absurd (no_stone Black cell h);
+      white_inside = λ cell h. absurd (no_stone White cell h);
+    },
+  )
 
   mirrors_itself : Mirrors size (empty_board size) (empty_board size)
   mirrors_itself = record {
@@ -39,7 +49,7 @@ module _ (size : Extent) (extent : IsExtent size.rows size.cols) where
         (exchanged size (opening size cell) (opening size (turned_cell size cell)) (opening_mirrors cell on)),
   )
 
-  all_empty : (cell : ℕ) → OnBoard size cell → IsEmpty (empty_board size) cell
+  pub all_empty : (cell : ℕ) → OnBoard size cell → IsEmpty (empty_board size) cell
   all_empty cell on = record { on_board = on; no_black = has-empty cell; no_white = has-empty cell }
 
   corner : OnBoard size 0

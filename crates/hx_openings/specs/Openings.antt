@@ -1,9 +1,10 @@
 -- The openings of a board: Black has moved once, and White is to move.
-use Rattle.std.specs.Prelude.{ℕ, ◌↔◌}
+use Rattle.std.specs.Prelude.{ℕ, ◌-◌, ◌*◌, ◌≤◌, ◌↔◌}
 use Rattle.hx_board.specs.declared.colours.Colour.{Colour}
 use Rattle.hx_board.specs.declared.colours.Colour.TheVariants.{Black, White}
 use Rattle.hx_board.specs.Cells.{Extent, OnBoard}
 use Rattle.hx_board.specs.Positions.{Board, put}
+use Rattle.hx_board.specs.Counts.{sweep_size}
 use Rattle.hx_board.specs.Game.{Wins}
 use Rattle.hx_turn.specs.Turned.{turned_cell}
 
@@ -28,3 +29,13 @@ HaveOneWinner size cell =
 abbrev pub IsWonByAnOpening : Extent → Type 0
 IsWonByAnOpening size =
     Wins Black (empty_board size) Black ↔ ((cell : ℕ) × OnBoard size cell × WinsOpening size cell Black)
+
+-- how many cells are empty after an opening: all but the one that Black took
+abbrev pub empties_left : Extent → ℕ
+empties_left size = size.rows * size.cols - 1
+
+-- The openings of a board are small under a budget: at most nine cells are empty after each, and a full search of a position with so
+-- many has no more nodes than the budget has units.
+pub record OpeningsAreSmall (size : Extent) (budget : ℕ) : Type 0 where
+  pub few : empties_left size ≤ 9
+  pub within : sweep_size (empties_left size) ≤ budget

@@ -3,4 +3,4 @@
 
 mod laws;
 
-pub use laws::{first_player, openings_turned};
+pub use laws::{first_player, openings_small, openings_turned};
