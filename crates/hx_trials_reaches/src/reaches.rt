@@ -20,6 +20,7 @@
 //! | at most 8 Full ones with more than eight rows or columns | nine_by_four | full | 11691 | 11692 |
 //! | at most 32 Semi ones there | none | | | |
 //! | the end at the first link that decides | nine_by_four | full | 11691 | 14167 |
+//! | the rest of a reach whose kept steps break off | kept_steps_that_break_off | decided | 2 | 1 |
 //!
 //! A change of what is useful changes these numbers, and is to be judged by the answers beside them: how many differ from those
 //! on a new set and on a closed one (none), and how many links between the sides closed sets alone have (one in each of two
@@ -28,8 +29,8 @@
 use hx_board::Colour::{Black, White};
 use hx_board::{CELLS, Cell, Colour, Position, Size, Vertex};
 use hx_fill::fill_in;
-use hx_link::{Kind, Link};
-use hx_linkset::LinkSet;
+use hx_link::{Kind, Link, Step};
+use hx_linkset::{Added, LinkSet};
 use hx_samples::Draws;
 use hx_search::{Reached, Workspace, close, decided, reach, reach_with};
 use std::alloc::Global;
@@ -409,6 +410,46 @@ fn the_same_links_come_again(rt: HostRuntime) -> Result<(), Fail> {
         assert!(rt; is_same);
         turn = turn.other();
     }
+    Ok(())
+}
+
+/// Black's set on an empty board of four rows and columns, with one link: the Base of his first side and a cell beside it.
+fn with_base(alloc: Global, col: u8) -> Result<LinkSet, Fail> {
+    let size = Size::new(4, 4).ok_or("size")?;
+    let cell = size.cell(0, col).ok_or("cell")?;
+    let mut set = LinkSet::new(alloc, &Position::empty(size), Black)
+        .ok()
+        .ok_or("memory")?;
+    let added = set.add(Step::Base {
+        a: Vertex::First,
+        b: Vertex::Of(cell),
+    });
+    match added {
+        Ok(Added::New(_)) => Ok(set),
+        _ => Err("link".into()),
+    }
+}
+
+/// The kind of the link by which Black wins with the move, if links decide after a reach.
+fn kind_with_move(workspace: &mut Workspace, set: &mut LinkSet) -> Result<Option<Kind>, Fail> {
+    let reached = reach_with(workspace, set, Black).ok().ok_or("memory")?;
+    Ok(kind_of(set, reached))
+}
+
+/// Two sets of one position with as many links share a number, whichever links these are. So the steps that a reach kept on the
+/// one are added on the other, up to the first And of the link that the other lacks. They break off there, and the reach there
+/// goes on by itself to a link that decides, since the mover wins.
+#[test]
+fn kept_steps_that_break_off(rt: HostRuntime) -> Result<(), Fail> {
+    let mut workspace = Workspace::new(rt.alloc()).ok().ok_or("memory")?;
+    let mut one = with_base(rt.alloc(), 0)?;
+    let mut other = with_base(rt.alloc(), 3)?;
+    assert_eq!(rt; one.number(), other.number());
+    assert_eq!(rt; kind_with_move(&mut workspace, &mut one)?, Some(Kind::Semi));
+    assert_eq!(rt;
+        kind_with_move(&mut workspace, &mut other)?,
+        Some(Kind::Semi)
+    );
     Ok(())
 }
 
