@@ -6,7 +6,7 @@ use crate::readers::BookSeat;
 use crate::shared::Shared;
 use hx_board::{Colour, Position};
 use hx_book::{NoSlot, Proofs, Wider};
-use hx_entry::Entry;
+use hx_entry::Offer;
 use hx_tree::Found;
 use std::sync::Wait;
 
@@ -33,6 +33,8 @@ impl<'a> Proofs for Desk<'a> {
         false
     }
 
+    fn keeps(&self) {}
+
     fn look<R: Wait>(&mut self, rt: &R, position: &Position, to_move: Colour) -> Option<Found> {
         self.shared.look(rt, &mut self.seat, position, to_move)
     }
@@ -48,7 +50,7 @@ impl<'a> Proofs for Desk<'a> {
             .look_wider(rt, &mut self.seat, position, to_move, winner)
     }
 
-    fn store<R: Wait>(&mut self, rt: &R, entry: Entry) -> Result<u32, NoSlot> {
-        self.shared.store(rt, &mut self.seat, entry)
+    fn store<R: Wait>(&mut self, rt: &R, offer: Offer) -> Result<u32, NoSlot> {
+        self.shared.store(rt, &mut self.seat, offer)
     }
 }

@@ -24,7 +24,7 @@ use atomic_table::{Refused, Seat, Table};
 use crossbeam_utils::Backoff;
 use hx_board::{Colour, Memory, Position};
 use hx_book::{Book, NoSlot, Wider};
-use hx_entry::Entry;
+use hx_entry::Offer;
 use hx_tree::Found;
 use std::alloc::Global;
 use std::marker::Model;
@@ -152,22 +152,22 @@ impl Shared {
     /// Stores a node that is right after those that the seat has seen. The index of the entry of its position and mover, of the
     /// nodes that the seat has then seen. The node comes back exactly where there is no such entry and each slot is taken. It
     /// may wait for the book.
-    pub fn store<R: Wait>(&self, rt: &R, seat: &mut BookSeat, entry: Entry) -> Result<u32, NoSlot>
+    pub fn store<R: Wait>(&self, rt: &R, seat: &mut BookSeat, offer: Offer) -> Result<u32, NoSlot>
         requires seat { seat.old.made ≡ self.now.made }
-        requires node { IsRightNode (headings_of seat.old.seen) entry }
+        requires node { IsRightNode (headings_of seat.old.seen) offer }
         ensures made { seat.new.made ≡ seat.old.made }
         ensures seen { Extends seat.new.seen seat.old.seen }
-        ensures stored { PutsLater self.now.made.slots seat.old.seen entry result seat.new.seen }
+        ensures stored { PutsLater self.now.made.slots seat.old.seen offer result seat.new.seen }
         ensures first { IfOk result (λ place. IsFirstEntry seat.new.seen
-            entry.heading.position entry.heading.to_move place) }
+            offer.heading.position offer.heading.to_move place) }
         ensures none { IfErr result (λ refusal. HasNoEntry seat.new.seen
-            entry.heading.position entry.heading.to_move) }
+            offer.heading.position offer.heading.to_move) }
         ensures full { IfErr result (λ refusal. length seat.new.seen ≡ self.now.made.slots) }
         ensures back { IfErr result (λ refusal. refusal
-            ≡ record { held = self.now.made.slots; node = entry }) }
+            ≡ record { held = self.now.made.slots; node = offer }) }
     {
         let mut book = self.take_book(rt, &mut seat.seat);
-        let answer = book.put(entry);
+        let answer = book.put(offer);
         book.keeps();
         seat.seen = book.held();
         self.give_back(&mut seat.seat, book);

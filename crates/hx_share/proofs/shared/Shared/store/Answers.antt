@@ -9,7 +9,7 @@ use Rattle.hx_share.proofs.shared.Shared.store.Goals as goal
 
 pub put-answer-requires : goal.put-answer-requires
 put-answer-requires g c =
-    right-later c.args.seat.now.seen c.take_book-book.result.nodes c.args.entry
+    right-later c.args.seat.now.seen c.take_book-book.result.nodes c.args.offer
     (subst (λ (l : List Node). Extends c.take_book-book.result.nodes l)
     (ap (λ r. r.seen) c.seat.view_is) c.take_book-book.ensures.seen) c.requires.node
 
@@ -19,7 +19,7 @@ give_back-requires-clause-more g c =
     subst (Extends nodes)
     (sym (acting-seen c.args.self.now.made.slots c.take_book-book.result.nodes None c.take_book-book.new.seat.me
     c.take_book-book.ensures.acts))
-    (puts-extend c.take_book-book.result.slots c.take_book-book.result.nodes c.args.entry nodes c.put-answer.result
+    (puts-extend c.take_book-book.result.slots c.take_book-book.result.nodes c.args.offer nodes c.put-answer.result
     c.put-answer.ensures.nodes)
 
 pub invariant_of-seat : goal.invariant_of-seat
@@ -33,15 +33,15 @@ pub returns-clause-first : goal.returns-clause-first
 returns-clause-first g c =
     let b = c.put-answer.new.self in
     subst (λ (l : List Node).
-    IfOk c.put-answer.result (λ place. IsFirstEntry l c.args.entry.heading.position c.args.entry.heading.to_move place))
+    IfOk c.put-answer.result (λ place. IsFirstEntry l c.args.offer.heading.position c.args.offer.heading.to_move place))
     (sym (alone-seen c.args.self.now.made.slots Waiting b.nodes c.give_back.new.seat.me c.give_back.ensures.waits))
-    (puts-first c.take_book-book.result.slots c.take_book-book.result.nodes c.args.entry b.nodes c.put-answer.result
+    (puts-first c.take_book-book.result.slots c.take_book-book.result.nodes c.args.offer b.nodes c.put-answer.result
     c.put-answer.ensures.nodes)
 
 pub returns-clause-none : goal.returns-clause-none
 returns-clause-none g c =
     let b = c.put-answer.new.self in
-    subst (λ (l : List Node). IfErr c.put-answer.result (λ refusal. HasNoEntry l c.args.entry.heading.position c.args.entry.heading.to_move))
+    subst (λ (l : List Node). IfErr c.put-answer.result (λ refusal. HasNoEntry l c.args.offer.heading.position c.args.offer.heading.to_move))
     (sym (alone-seen c.args.self.now.made.slots Waiting b.nodes c.give_back.new.seat.me c.give_back.ensures.waits))
-    (puts-none c.take_book-book.result.slots c.take_book-book.result.nodes c.args.entry b.nodes c.put-answer.result
+    (puts-none c.take_book-book.result.slots c.take_book-book.result.nodes c.args.offer b.nodes c.put-answer.result
     c.put-answer.ensures.nodes)
