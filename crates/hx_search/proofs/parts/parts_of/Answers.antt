@@ -16,7 +16,7 @@ loop-shared-init c =
     let is : IsFirstFrom c.args.set.now Semi c.args.a.now c.args.b.now 0 c.in-Some.first = c.in-Some.ensures in
     let pushed : c.push.new.self.items ≡ c.new-parts.result.items ++ c.in-Some.first ∷ [] = search rules in
     let items : c.push.new.self.items ≡ c.in-Some.first ∷ [] = pushed
-    ∙ ap (λ (xs : List ℕ). xs ++ c.in-Some.first ∷ []) c.new.ensures.items in
+    ∙ ap (λ (xs : List ℕ). xs ++ c.in-Some.first ∷ []) c.new-parts.ensures.items in
     let carrier : c.carrier-shared.result ≡ is.is.link.carrier = c.carrier-shared.ensures.held is.is.link is.is.there in
     let P : List ℕ → Type 0 = λ xs. AreParts c.args.set.now c.args.a.now c.args.b.now xs c.carrier-shared.result in
     record {
