@@ -7,6 +7,7 @@ ghost use Rattle.hx_entry.specs.KeptRules.{rule_of};
 use crate::rules::KeptRule;
 use hx_board::Memory;
 use hx_tree::{Heading, Line, Node};
+use std::alloc::Global;
 use std::marker::Model;
 
 /// A node, in little room.
@@ -56,6 +57,17 @@ impl Entry {
         ensures { result.now ≡ lines_of self.now.rule }
     {
         self.rule.lines()
+    }
+
+    /// The node, while the entry stays.
+    pub fn to_node(&self, alloc: Global) -> Result<Node, Memory>
+        ensures { IfOk result (λ node. node ≡ self.now) }
+    {
+        let rule = self.rule.to_rule(alloc)?;
+        Ok(Node {
+            heading: self.heading,
+            rule,
+        })
     }
 
     /// The node.

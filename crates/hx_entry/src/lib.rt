@@ -1,6 +1,7 @@
 //! A node as a book keeps it, in little room.
 #![tactic(auto)]
 
+mod copies;
 mod entries;
 mod offers;
 mod rules;

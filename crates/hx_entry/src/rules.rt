@@ -5,9 +5,11 @@ ghost use Rattle.hx_tree.specs.declared.nodes.Rule.TheVariants.{All};
 ghost use Rattle.hx_entry.specs.Children.{child_of, lines_of};
 ghost use Rattle.hx_entry.specs.KeptRules.{rule_of, kept_steps};
 
+use crate::copies::{copied_fills, copied_lines, copied_rule, copied_threats};
 use crate::steps::KeptSteps;
 use hx_board::{Cell, Memory};
 use hx_tree::{FillSteps, Line, Lines, Rule, Steps, Threats};
+use std::alloc::Global;
 
 /// The steps, threats and lines of a node by answers.
 #[derive(Debug, Drop)]
@@ -18,6 +20,20 @@ pub(crate) struct KeptAnswers {
 }
 
 impl KeptAnswers {
+    /// The rule by these answers, while they stay.
+    fn to_rule(&self, alloc: Global) -> Result<Rule, Memory>
+        ensures { IfOk result (λ rule. rule ≡ All self.now.steps self.now.threats self.now.lines) }
+    {
+        let steps = self.steps.steps()?;
+        let threats = copied_threats(alloc, &self.threats)?;
+        let lines = copied_lines(alloc, &self.lines)?;
+        Ok(Rule::All {
+            steps,
+            threats,
+            lines,
+        })
+    }
+
     /// The rule by these answers, with these steps in place of those in little room.
     fn with_steps(self, steps: Steps) -> Rule
         requires { steps ≡ self.steps }
@@ -93,6 +109,33 @@ impl KeptRule {
                 None => unreachable!(),
             },
             KeptRule::Whole { rule } => Box::into_inner(rule),
+        }
+    }
+
+    /// The rule as it was, while this one stays.
+    pub(crate) fn to_rule(&self, alloc: Global) -> Result<Rule, Memory>
+        ensures { IfOk result (λ rule. rule ≡ rule_of self.now) }
+    {
+        match self {
+            KeptRule::Chain => Ok(Rule::Chain),
+            KeptRule::Move { cell, child } => Ok(Rule::Move {
+                cell: *cell,
+                child: *child,
+            }),
+            KeptRule::Turned { child } => Ok(Rule::Turned { child: *child }),
+            KeptRule::Fill { child, steps } => {
+                let steps = copied_fills(alloc, steps)?;
+                Ok(Rule::Fill {
+                    steps,
+                    child: *child,
+                })
+            }
+            KeptRule::Links { steps } => {
+                let steps = steps.steps()?;
+                Ok(Rule::Links { steps })
+            }
+            KeptRule::All { answers } => answers.to_rule(alloc),
+            KeptRule::Whole { rule } => copied_rule(alloc, rule),
         }
     }
 
