@@ -7,3 +7,4 @@ pub mod MoveNodes
 pub mod FillNodes
 pub mod LinkNodes
 pub mod AllNodes
+pub mod TurnedNodes

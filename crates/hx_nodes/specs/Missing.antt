@@ -1,5 +1,5 @@
 -- What a proof lacks, in a list of nodes that only grows.
-use Rattle.std.specs.Prelude.{◌≡◌, ◌⊎◌, ℕ, Bool, true, List, []}
+use Rattle.std.specs.Prelude.{◌≡◌, ◌⊎◌, ℕ, Bool, true, false, List, []}
 use Rattle.hx_board.specs.declared.colours.Colour.{Colour}
 use Rattle.hx_board.specs.Colours.{other_of}
 use Rattle.hx_board.specs.Sets.{has}
@@ -8,7 +8,7 @@ use Rattle.hx_tree.specs.declared.entries.Found.{Found}
 use Rattle.hx_tree.specs.declared.nodes.Line.{Line}
 use Rattle.hx_tree.specs.declared.nodes.Node.{Node}
 use Rattle.hx_tree.specs.Entries.{HasNoEntry, IsFirstFound, WasSeen}
-use Rattle.hx_book.specs.EitherEntry.{WasMissed}
+use Rattle.hx_book.specs.EitherEntry.{WasMissed, IsNeitherFound}
 use Rattle.hx_linkset.specs.States.{Standing}
 use Rattle.hx_fill.specs.declared.fills.Fill.{Fill}
 use Rattle.hx_fill.specs.Unders.{HasLineFor}
@@ -39,6 +39,12 @@ LacksAnswer old new board player cell = WasNotWon old new (put board (other_of p
 -- the list is plain, or nothing was filled, or the filled position was missed
 abbrev pub LacksFill : Bool → List Node → List Node → List Fill → Board → Colour → Type 0
 LacksFill plain old new fills filled mover = (plain ≡ true) ⊎ ((fills ≡ []) ⊎ WasMissed old new filled mover)
+
+-- neither the position nor the turned one was found, or in a plain list, where the turned one is not looked for, the
+-- position was missed
+abbrev pub LacksEither : Bool → List Node → List Node → Board → Colour → Type 0
+LacksEither true old new board mover = WasMissed old new board mover
+LacksEither false old new board mover = IsNeitherFound old new board mover
 
 -- a cell with no line among these, where the player was not seen to win after the opponent's move to it
 pub record IsLacking (old new : List Node) (board : Board) (player : Colour) (under : List Line) (cell : ℕ)

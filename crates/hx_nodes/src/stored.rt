@@ -9,7 +9,7 @@ ghost use Rattle.hx_entry.specs.Children.{HasNoLinks};
 ghost use Rattle.hx_nodes.specs.Stored.{TellsStored, HandsBack, IsAnswered, HadMemory};
 
 use hx_book::{NoSlot, Proofs};
-use hx_entry::Entry;
+use hx_entry::Offer;
 use hx_tree::Node;
 use std::sync::Wait;
 
@@ -41,10 +41,10 @@ pub fn store<P: Proofs, R: Wait>(rt: &R, proofs: &mut P, node: Node) -> Stored
     ensures answered { IsAnswered result }
     ensures memory { HasNoLinks node.rule → HadMemory result }
 {
-    let Ok(entry) = Entry::new(node) else {
+    let Ok(offer) = Offer::of(node) else {
         return Stored::Memory;
     };
-    match proofs.store(rt, entry) {
+    match proofs.store(rt, offer) {
         Ok(_) => Stored::Done,
         Err(refusal) => Stored::Refused(refusal),
     }

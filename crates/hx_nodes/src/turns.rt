@@ -1,8 +1,8 @@
 //! Proofs by the turned position.
 
-ghost use Rattle.hx_book.specs.EitherEntry.{IsNeitherFound};
 ghost use Rattle.hx_book.specs.Sights.{Grows};
 ghost use Rattle.hx_nodes.specs.Stored.{TellsStored, MissingFor, HadMemory};
+ghost use Rattle.hx_nodes.specs.Missing.{LacksEither};
 
 use crate::stored::{Stored, store};
 use hx_board::{Colour, Position};
@@ -11,7 +11,7 @@ use hx_tree::{Heading, Node, Rule};
 use std::sync::Wait;
 
 /// Looks the position up in both orientations, and where the turned one alone has an entry stores who wins by it. Missing only
-/// where neither has one. In a plain list the position itself is looked up alone.
+/// where neither has one. In a plain list, which takes no such node, the position itself is looked up alone.
 pub fn store_turned<P: Proofs, R: Wait>(
     rt: &R,
     proofs: &mut P,
@@ -21,12 +21,18 @@ pub fn store_turned<P: Proofs, R: Wait>(
     ensures grew { Grows (P.sight proofs.old) (P.sight proofs.new) }
     ensures stored { TellsStored (P.sight proofs.new).list (P.sight proofs.new).slots
         position.now to_move result }
-    ensures missing { MissingFor (IsNeitherFound P.is_plain (P.sight proofs.old).list (P.sight proofs.new).list
+    ensures missing { MissingFor (LacksEither P.is_plain (P.sight proofs.old).list (P.sight proofs.new).list
         position.now to_move) result }
     ensures memory { HadMemory result }
 {
     // The proof takes from here that the position's board is one.
     let _size = position.size();
+    if proofs.plain() {
+        return match proofs.look(rt, position, to_move) {
+            Some(_found) => Stored::Done,
+            None => Stored::Missing,
+        };
+    }
     let Some(either) = look_either(rt, proofs, position, to_move) else {
         return Stored::Missing;
     };
