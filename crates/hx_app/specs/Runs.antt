@@ -4,7 +4,7 @@ use Rattle.hx_io.specs.Sources.{Reading}
 use Rattle.hx_io.specs.Sinks.{Writing}
 use Rattle.hx_board.specs.Cells.{Extent}
 use Rattle.hx_settings.specs.declared.settings.Settings.{Settings}
-use Rattle.hx_solve.specs.Tallies.{tallied}
+use Rattle.hx_settings.specs.Settings.{defaults}
 use Rattle.hx_words.specs.declared.commands.Command.{Command}
 use Rattle.hx_words.specs.Commands.{NameAndOptions, IsSolve, IsDemo, IsSurvey, Asks}
 use Rattle.hx_answers.specs.Endings.{IsWritten}
@@ -13,6 +13,7 @@ use Rattle.hx_match.specs.Runs.{IsPlayRun}
 use Rattle.hx_claim.specs.Claims.{IsTemplateRun}
 use Rattle.hx_chart.specs.Answers.{IsSurveyRun}
 use Rattle.hx_finish.specs.declared.finishes.Finish.{Finish}
+use Rattle.hx_finish.specs.Wants.{no_refusal}
 use Rattle.hx_app.specs.Answers.{IsSolveRun}
 use Rattle.hx_app.specs.Sessions.{IsSessionRun}
 use Rattle.hx_app.specs.DemoAnswers.{IsDemoRun}
@@ -25,9 +26,10 @@ IsCommand words = (command : Command) × Asks command words
 abbrev pub bad_words_line : List ℕ
 bad_words_line = codes "bad words\n"
 
--- no refusal is counted
+-- A run without settings has the budget and the slots of a search for which nobody chose a number, which are 1,000,000
+-- and 65,536, and counts no refusal.
 abbrev pub CountsNothing : Finish → Type 0
-CountsNothing finish = finish.tally ≡ tallied 0 0 0 0
+CountsNothing finish = finish.tally ≡ no_refusal defaults
 
 -- A run: words that are no command are told so, and then the source is left as it was; or they are one, and it ran.
 -- `demo` and `survey` leave the source as it was too.

@@ -26,7 +26,7 @@ use hx_claim::run_template;
 use hx_finish::Finish;
 use hx_io::{Failed, Gate, Sink, Source, write_all};
 use hx_match::run_play;
-use hx_solve::Tally;
+use hx_solve::{Settings, Tally};
 use hx_words::{Command, command_of};
 use std::alloc::Global;
 use std::sync::Wait;
@@ -158,9 +158,10 @@ fn uncounted(status: u8) -> Finish
     ensures status { result.status ≡ status }
     ensures tally { CountsNothing result }
 {
-    // Such a run has no settings, so it has a budget of 0 and no slots.
+    // Such a run has no settings of its own.
+    let settings = Settings::default();
     Finish {
         status,
-        tally: Tally::new(0, 0),
+        tally: Tally::new(settings.budget, settings.slots),
     }
 }
