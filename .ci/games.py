@@ -48,3 +48,14 @@ def drawn_board(draws, rows, columns, empty):
 
 def text_of(board, mover):
     return check.position_text(check.Heading(board, mover, mover))
+
+
+def names_a_move(tree):
+    """Whether a tree's root is by a move; or need not be, where the other player wins, or a chain decides, at once or
+    after fill steps."""
+    nodes = [words for words in map(str.split, tree.decode().splitlines()) if words[0] == "node"]
+    mover, winner, rule = nodes[-1][3:6]
+    last = nodes[-1]
+    while last[5] == "fill":
+        last = nodes[int(last[7])]
+    return rule == "move" or mover != winner or last[5] == "chain"

@@ -2,6 +2,7 @@
 
 ghost use Rattle.std.specs.Prelude.{◌≡◌, ◌<◌, ◌≤◌, true, length, IfSome, IfNone, IfOk};
 ghost use Rattle.hx_tree.specs.declared.checkers.TheConstants.{MOST_NODES};
+ghost use Rattle.hx_tree.specs.Plain.{IsPlain};
 ghost use Rattle.hx_tree.specs.Trees.{AreRight, headings_of};
 ghost use Rattle.hx_naming.specs.Added.{IsMore, IsPushed};
 
@@ -66,7 +67,7 @@ pub(crate) fn add(
     if nodes.len() >= MOST_NODES as usize {
         return None;
     }
-    if must_be_plain && !plain(&node) {
+    if !is_plain_enough(must_be_plain, &node) {
         return None;
     }
     match check_node(alloc, headings.as_slice(), &node) {
@@ -74,6 +75,13 @@ pub(crate) fn add(
         Ok(false) => None,
         Err(Memory) => None,
     }
+}
+
+/// Whether a node is plain, or need not be.
+fn is_plain_enough(must_be_plain: bool, node: &Node) -> bool
+    ensures { result ≡ true → must_be_plain ≡ true → IsPlain node.now }
+{
+    !must_be_plain || plain(node)
 }
 
 /// Puts a node behind the others, and answers its place. None where memory is wanting: then the list is as before.

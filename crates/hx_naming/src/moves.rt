@@ -11,15 +11,15 @@ use hx_search::{Reached, Workspace, decided, reach_with};
 use hx_tree::{Heading, Node, Rule};
 use std::alloc::Global;
 
-/// A move of the winner's, and a node by links of the position after it.
+/// A move of the winner's, and a node of the position after it.
 #[derive(Drop)]
-pub(crate) struct LinkedMove {
+pub(crate) struct WinningMove {
     pub(crate) cell: Cell,
     pub(crate) node: Node,
 }
 
 /// A move of the winner's after which links decide, where steps decide the position. None where none was found.
-pub(crate) fn linked_move(alloc: Global, heading: &Heading, steps: &[Step]) -> Option<LinkedMove> {
+pub(crate) fn linked_move(alloc: Global, heading: &Heading, steps: &[Step]) -> Option<WinningMove> {
     let set = set_of(alloc, &heading.position, heading.winner, steps)?;
     let Reached::Decided(index) = decided(&set, heading.to_move) else {
         return None;
@@ -33,7 +33,7 @@ pub(crate) fn linked_move(alloc: Global, heading: &Heading, steps: &[Step]) -> O
         let cell = left.least(size)?;
         left = left.without(cell);
         if let Some(node) = node_after(alloc, &mut workspace, heading, steps, cell) {
-            return Some(LinkedMove { cell, node });
+            return Some(WinningMove { cell, node });
         }
     }
     None

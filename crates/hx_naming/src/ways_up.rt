@@ -3,10 +3,11 @@
 //! The winner's own fill steps stay right after a further stone of his, and the opponent's fill any cell that is empty. So what leads
 //! from a position to another leads, with the stone on both, from the one to the other too.
 
-use crate::moves::linked_move;
+use crate::moves::{WinningMove, linked_move};
 use crate::paths::{End, Leads, Passed, Path};
 use hx_board::{Cell, Colour, Position};
 use hx_entry::Entry;
+use hx_link::Steps;
 use hx_tree::{Heading, Node, Rule};
 use hx_turn::turned;
 use std::alloc::Global;
@@ -17,6 +18,13 @@ struct Named {
     cell: Cell,
     position: Position,
     child: u32,
+}
+
+/// How far the way up has come: the move at the node where it is, and the nodes that were made for it.
+#[derive(Drop)]
+struct Begun {
+    named: Named,
+    made: Vec<Node>,
 }
 
 /// A move of the winner's from the first position of the way, the nodes that prove what is after it, in their order, and the place of
@@ -35,21 +43,26 @@ pub(crate) fn found_by(
     winner: Colour,
     path: Path,
 ) -> Option<Found> {
-    let Path { mut passed, end } = path;
-    let mut made = Vec::new(alloc);
-    let mut named = named_at(alloc, nodes, &mut made, end)?;
-    while let Some(one) = passed.pop() {
-        let child = place_behind(nodes, made.as_slice())?;
-        let (cell, node) = node_above(one, winner, &named)?;
-        named = Named {
-            cell,
-            position: node.heading.position,
-            child,
-        };
-        if made.push(node).is_err() {
+    let Path { passed, end } = path;
+    match begun_at(alloc, nodes, &end) {
+        Some(begun) => back_up(nodes, winner, passed, begun),
+        None => None,
+    }
+}
+
+/// The way up from its last node to its first one.
+fn back_up(
+    nodes: &[Entry],
+    winner: Colour,
+    mut passed: Vec<Passed>,
+    mut begun: Begun,
+) -> Option<Found> {
+    while let Some(above) = passed.pop() {
+        if !step_up(nodes, winner, above, &mut begun) {
             return None;
         }
     }
+    let Begun { named, made } = begun;
     Some(Found {
         cell: named.cell,
         child: named.child,
@@ -57,33 +70,76 @@ pub(crate) fn found_by(
     })
 }
 
-/// The move at the end of the way. Where it is by links a node is made for the position after it.
-fn named_at(alloc: Global, nodes: &[Entry], made: &mut Vec<Node>, end: End) -> Option<Named> {
+/// The way up from one node to the one above it. False where that is not to be had.
+fn step_up(nodes: &[Entry], winner: Colour, above: Passed, begun: &mut Begun) -> bool {
+    let Some(child) = place_behind(nodes, begun.made.as_slice()) else {
+        return false;
+    };
+    let Some(found) = node_above(above, winner, &begun.named) else {
+        return false;
+    };
+    begun.named = named_by(&found, child);
+    let node = node_of(found);
+    put(&mut begun.made, node)
+}
+
+/// Where the way up begins. Where the way down ends by links a node is made for the position after the move.
+fn begun_at(alloc: Global, nodes: &[Entry], end: &End) -> Option<Begun> {
     match end {
-        End::Move { cell, child } => {
-            let entry = nodes.get(child as usize)?;
-            let position = entry.heading().position;
-            Some(Named {
-                cell,
-                position,
-                child,
-            })
-        }
-        End::Links { heading, steps } => {
-            let found = linked_move(alloc, &heading, steps.items())?;
-            let child = place_behind(nodes, made.as_slice())?;
-            let position = found.node.heading.position;
-            let cell = found.cell;
-            if made.push(found.node).is_err() {
-                return None;
-            }
-            Some(Named {
-                cell,
-                position,
-                child,
-            })
-        }
+        End::Move { cell, child } => begun_by_move(alloc, nodes, *cell, *child),
+        End::Links { heading, steps } => begun_by_links(alloc, nodes, heading, steps),
     }
+}
+
+/// The beginning at a node by a move.
+fn begun_by_move(alloc: Global, nodes: &[Entry], cell: Cell, child: u32) -> Option<Begun> {
+    let entry = nodes.get(child as usize)?;
+    let position = entry.heading().position;
+    Some(Begun {
+        named: Named {
+            cell,
+            position,
+            child,
+        },
+        made: Vec::new(alloc),
+    })
+}
+
+/// The beginning at a node by links.
+fn begun_by_links(
+    alloc: Global,
+    nodes: &[Entry],
+    heading: &Heading,
+    steps: &Steps,
+) -> Option<Begun> {
+    let child = place_behind(nodes, &[])?;
+    let found = linked_move(alloc, heading, steps.items())?;
+    let named = named_by(&found, child);
+    let node = node_of(found);
+    let mut made = Vec::new(alloc);
+    if !put(&mut made, node) {
+        return None;
+    }
+    Some(Begun { named, made })
+}
+
+/// The move as it is named, where its node is to stand at this place.
+fn named_by(found: &WinningMove, child: u32) -> Named {
+    Named {
+        cell: found.cell,
+        position: found.node.heading.position,
+        child,
+    }
+}
+
+/// The node of the position after the move.
+fn node_of(found: WinningMove) -> Node {
+    found.node
+}
+
+/// Puts a node behind those that were made. False where memory is wanting.
+fn put(made: &mut Vec<Node>, node: Node) -> bool {
+    made.push(node).is_ok()
 }
 
 /// The place of the next node that is made.
@@ -93,7 +149,7 @@ fn place_behind(nodes: &[Entry], made: &[Node]) -> Option<u32> {
 }
 
 /// The move of the winner's at a node of the way, and the node of the position after it, where the one below is named.
-fn node_above(passed: Passed, winner: Colour, below: &Named) -> Option<(Cell, Node)> {
+fn node_above(passed: Passed, winner: Colour, below: &Named) -> Option<WinningMove> {
     let Passed { position, leads } = passed;
     let child = below.child;
     let (cell, rule) = match leads {
@@ -112,7 +168,8 @@ fn node_above(passed: Passed, winner: Colour, below: &Named) -> Option<(Cell, No
         to_move: winner.other(),
         winner,
     };
-    Some((cell, Node { heading, rule }))
+    let node = Node { heading, rule };
+    Some(WinningMove { cell, node })
 }
 
 /// A cell on which a player has a stone after, and none before.
