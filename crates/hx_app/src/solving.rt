@@ -25,7 +25,7 @@ use hx_finish::{Finish, LeftOpen, Wanting, left_open};
 use hx_io::{Failed, Gate, Sink, Source};
 use hx_lines::LONGEST;
 use hx_reader::read_position;
-use hx_solve::{Settings, Tally, Unsolved, solve, solve_plain};
+use hx_solve::{Settings, Tally, Unsolved, solve_naming_move, solve_plain};
 use hx_text::version_of;
 use hx_tree::Node;
 use std::alloc::Global;
@@ -175,7 +175,7 @@ fn search<G: Gate + Sync, R: Threads + Wait + Sync>(
             gate,
         )
     } else {
-        solve(rt, alloc, position, to_move, settings, gate)
+        solve_naming_move(rt, alloc, position, to_move, settings, gate)
     }
 }
 

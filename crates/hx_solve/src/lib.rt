@@ -19,6 +19,6 @@ pub use hx_settings::Settings;
 pub use laws::same_winner;
 pub use plain_solves::solve_plain;
 pub use small_positions::is_small;
-pub use solves::solve;
+pub use solves::{solve, solve_naming_move};
 pub use tallies::Tally;
 pub use unsolved::Unsolved;

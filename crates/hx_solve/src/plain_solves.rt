@@ -12,6 +12,7 @@ ghost use Rattle.hx_solve.specs.Searches.{HasEntryFor, IsTreeFrom, SaysWhy};
 
 use crate::lone_searches::{SearchedAlone, search_alone};
 use crate::small_positions::{by_sweep, is_small};
+use crate::trees::tree_at;
 use crate::unsolved::Unsolved;
 use hx_board::{Colour, Memory, Position};
 use hx_io::Gate;
@@ -73,13 +74,13 @@ fn by_one_worker<G: Gate, R: Wait>(
         (λ why. LacksUnit why → 0 < settings.now.budget → HasNoChain position.now) }
 {
     match search_alone(rt, alloc, position, to_move, settings, gate) {
-        Ok(searched) => conclude(searched),
+        Ok(searched) => conclude(alloc, searched),
         Err(Memory) => Err(Unsolved::Memory),
     }
 }
 
-/// The tree that the book has, where the end is a proof, and else what was wanting.
-fn conclude(searched: SearchedAlone) -> Result<Vec<Node>, Unsolved>
+/// The tree that the book has, whose root names a move if one is found, where the end is a proof, and else what was wanting.
+fn conclude(alloc: Global, searched: SearchedAlone) -> Result<Vec<Node>, Unsolved>
     requires { HasEntryFor searched.book.nodes searched.ended }
     ensures tree { IfOk result (λ tree. IsTreeFrom searched.book.nodes searched.ended tree.items) }
     ensures plain { IfOk result (λ tree. ArePlain tree.items) }
@@ -91,10 +92,10 @@ fn conclude(searched: SearchedAlone) -> Result<Vec<Node>, Unsolved>
         ended,
     } = searched;
     match ended {
-        Ended::Proved { index, winner: _ } => match book.into_tree(index) {
-            Ok(tree) => Ok(tree),
-            Err(Memory) => Err(Unsolved::Memory),
-        },
+        Ended::Proved { index, winner: _ } => {
+            book.keeps();
+            tree_at(alloc, book.into_entries(), index, true)
+        }
         Ended::Memory => Err(Unsolved::Memory),
         Ended::NoSlots(refusal) => Err(Unsolved::Slots(refusal)),
         Ended::Spent(refusal) => Err(Unsolved::Budget(refusal)),

@@ -42,7 +42,47 @@ pub fn solve<G: Gate + Sync, R: Threads + Wait + Sync>(
         (λ why. LacksUnit why → 0 < settings.budget → HasNoChain position.now) }
     ensures small { IsSmall position.now settings.budget → IfErr result LacksMemory }
 {
-    let answer = by_workers(rt, alloc, position, to_move, &settings, gate);
+    by_workers_or_sweep(rt, alloc, position, to_move, settings, gate, false)
+}
+
+/// As `solve`, but that the root of the tree names a winning move where one is found: not where the mover wins by a chain, at once or
+/// after fill-in, and not always else.
+pub fn solve_naming_move<G: Gate + Sync, R: Threads + Wait + Sync>(
+    rt: &R,
+    alloc: Global,
+    position: &Position,
+    to_move: Colour,
+    settings: Settings,
+    gate: &G,
+) -> Result<Vec<Node>, Unsolved>
+    requires { AreSettings settings }
+    ensures tree { IfOk result (λ tree. IsSolution position.now to_move tree.items) }
+    ensures cause { IfErr result (HasCause settings) }
+    ensures no_chain { IfErr result
+        (λ why. LacksUnit why → 0 < settings.budget → HasNoChain position.now) }
+    ensures small { IsSmall position.now settings.budget → IfErr result LacksMemory }
+{
+    by_workers_or_sweep(rt, alloc, position, to_move, settings, gate, true)
+}
+
+/// The tree of a position and mover by workers or, where they come to no proof of a small position, by a full search.
+fn by_workers_or_sweep<G: Gate + Sync, R: Threads + Wait + Sync>(
+    rt: &R,
+    alloc: Global,
+    position: &Position,
+    to_move: Colour,
+    settings: Settings,
+    gate: &G,
+    names_move: bool,
+) -> Result<Vec<Node>, Unsolved>
+    requires { AreSettings settings }
+    ensures tree { IfOk result (λ tree. IsSolution position.now to_move tree.items) }
+    ensures cause { IfErr result (HasCause settings) }
+    ensures no_chain { IfErr result
+        (λ why. LacksUnit why → 0 < settings.budget → HasNoChain position.now) }
+    ensures small { IsSmall position.now settings.budget → IfErr result LacksMemory }
+{
+    let answer = by_workers(rt, alloc, position, to_move, &settings, gate, names_move);
     if answer.is_err() && is_small(position, settings.budget) {
         return by_sweep(alloc, position, to_move);
     }
@@ -57,6 +97,7 @@ fn by_workers<G: Gate + Sync, R: Threads + Wait + Sync>(
     to_move: Colour,
     settings: &Settings,
     gate: &G,
+    names_move: bool,
 ) -> Result<Vec<Node>, Unsolved>
     requires { AreSettings settings.now }
     ensures tree { IfOk result (λ tree. IsSolution position.now to_move tree.items) }
@@ -70,7 +111,7 @@ fn by_workers<G: Gate + Sync, R: Threads + Wait + Sync>(
     };
     let empties = position.empty_count();
     match run_all(rt, alloc, &errand, empties, settings, gate) {
-        Ok(searched) => conclude(searched),
+        Ok(searched) => conclude(alloc, searched, names_move),
         Err(Memory) => Err(Unsolved::Memory),
     }
 }

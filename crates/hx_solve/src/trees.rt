@@ -1,16 +1,29 @@
 //! What a search comes to: the tree of the entry that a worker proved, or what was wanting.
 
-ghost use Rattle.std.specs.Prelude.{IfOk, IfErr};
-ghost use Rattle.hx_solve.specs.Searches.{HasEntryFor, IsTreeFrom, SaysWhy};
+ghost use Rattle.std.specs.Prelude.{◌<◌, ◌≤◌, length, IfOk, IfErr};
+ghost use Rattle.hx_book.specs.declared.books.TheConstants.{MOST_SLOTS};
+ghost use Rattle.hx_tree.specs.Plain.{ArePlain};
+ghost use Rattle.hx_tree.specs.Trees.{AreRight};
+ghost use Rattle.hx_solve.specs.Causes.{LacksMemory};
+ghost use Rattle.hx_solve.specs.Searches.{HasEntryFor, IsTreeFor, IsTreeFrom, SaysWhy};
 
 use crate::unsolved::Unsolved;
 use hx_board::Memory;
+use hx_book::tree_of;
 use hx_crew::Searched;
+use hx_entry::Entry;
+use hx_naming::name_move;
 use hx_tree::Node;
 use hx_worker::Ended;
+use std::alloc::Global;
 
-/// The tree that the book has, where the end is a proof, and else what was wanting.
-pub(crate) fn conclude(searched: Searched) -> Result<Vec<Node>, Unsolved>
+/// The tree that the book has, where the end is a proof, and else what was wanting. Where a move is to be named, the root names one if
+/// one is found.
+pub(crate) fn conclude(
+    alloc: Global,
+    searched: Searched,
+    names_move: bool,
+) -> Result<Vec<Node>, Unsolved>
     requires { HasEntryFor searched.book.nodes searched.ended }
     ensures tree { IfOk result (λ tree. IsTreeFrom searched.book.nodes searched.ended tree.items) }
     ensures cause { IfErr result (SaysWhy searched.ended) }
@@ -21,12 +34,38 @@ pub(crate) fn conclude(searched: Searched) -> Result<Vec<Node>, Unsolved>
         ended,
     } = searched;
     match ended {
-        Ended::Proved { index, winner: _ } => match book.into_tree(index) {
-            Ok(tree) => Ok(tree),
-            Err(Memory) => Err(Unsolved::Memory),
-        },
+        Ended::Proved { index, winner: _ } => {
+            book.keeps();
+            tree_at(alloc, book.into_entries(), index, names_move)
+        }
         Ended::Memory => Err(Unsolved::Memory),
         Ended::NoSlots(refusal) => Err(Unsolved::Slots(refusal)),
         Ended::Spent(refusal) => Err(Unsolved::Budget(refusal)),
+    }
+}
+
+/// The tree of the entry at a place. Where a move is to be named, further nodes may be added for it first.
+pub(crate) fn tree_at(
+    alloc: Global,
+    nodes: Vec<Entry>,
+    place: u32,
+    names_move: bool,
+) -> Result<Vec<Node>, Unsolved>
+    requires right { AreRight nodes.items }
+    requires few { length nodes.items ≤ MOST_SLOTS }
+    requires inside { place < length nodes.items }
+    ensures tree { IfOk result (λ tree. IsTreeFor nodes.items place tree.items) }
+    ensures plain { ArePlain nodes.items → IfOk result (λ tree. ArePlain tree.items) }
+    ensures memory { IfErr result LacksMemory }
+{
+    let mut nodes = nodes;
+    let root = if names_move {
+        name_move(alloc, &mut nodes, place)
+    } else {
+        place
+    };
+    match tree_of(alloc, nodes, root) {
+        Ok(tree) => Ok(tree),
+        Err(Memory) => Err(Unsolved::Memory),
     }
 }
