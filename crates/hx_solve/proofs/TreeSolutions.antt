@@ -1,5 +1,6 @@
 -- The tree of a proof that a search came to solves the position; what else the search came to is a cause.
 use Rattle.std.proofs.Common.{◌≡◌, ℕ, ◌≤◌, List, length, get_or, sym, ap, ◌∙◌, subst, arith}
+use Rattle.std.specs.Prelude.{slice_get}
 use Rattle.std.proofs.lemmas.Option.{slice_get-get_or, same_Some, slice_get_within}
 use Rattle.hx_board.specs.declared.colours.Colour.{Colour}
 use Rattle.hx_board.specs.Positions.{Board}
@@ -12,6 +13,7 @@ use Rattle.hx_book.specs.declared.books.TheConstants.{MOST_SLOTS}
 use Rattle.hx_book.specs.Entries.{contents, IsBook}
 use Rattle.hx_book.specs.Trees.{IsTreeOf}
 use Rattle.hx_tree.specs.Entries.{IsFirstFound}
+use Rattle.hx_tree.specs.Trees.{headings_of}
 use Rattle.hx_sweep.specs.Sweeps.{IsSweep}
 use Rattle.hx_worker.specs.declared.ended.Ended.{Ended}
 use Rattle.hx_worker.specs.declared.ended.Ended.TheVariants.{Proved, Spent, NoSlots, Memory}
@@ -21,27 +23,41 @@ use Rattle.hx_solve.specs.declared.unsolved.Unsolved.{Unsolved}
 use Rattle.hx_solve.specs.Solutions.{IsSolution}
 use Rattle.hx_solve.specs.Causes.{HasCause, FoundNoRoom, LacksUnit}
 use Rattle.hx_crew.specs.Searches.{IsClosedEnd}
-use Rattle.hx_solve.specs.Searches.{IsProofOf, HasEntryFor, IsTreeFrom, SaysWhy}
+use Rattle.hx_solve.specs.Searches.{IsProofOf, HasEntryFor, IsTreeFor, IsTreeFrom, SaysWhy}
+
+-- ---- the tree of an entry, where nodes were added behind the others
+
+pub tree-for : (old new : List Node) (place root : ℕ) (tree : List Node)
+    → slice_get (headings_of new) root ≡ slice_get (headings_of old) place → length new ≤ MOST_SLOTS → IsTreeOf new root tree
+    → IsTreeFor old place tree
+tree-for old new place root tree same few is = record {
+  valid = is.valid;
+  few = omega (arith, is.few, few);
+  root = is.root;
+  is_root = is.is_root;
+  same_heading = sym same ∙ is.same_heading;
+  one_size = is.one_size;
+}
 
 -- ---- by workers
 
 -- the root of an entry's tree has the entry's heading
 root-heading : (nodes tree : List Node) (board : Board) (mover : Colour) (index : ℕ) (winner : Colour)
-    → (found : IsFirstFound nodes board mover (record { index = index; winner = winner })) (is : IsTreeOf nodes index tree)
+    → (found : IsFirstFound nodes board mover (record { index = index; winner = winner })) (is : IsTreeFor nodes index tree)
     → is.root.heading ≡ found.first.entry.node.heading
 root-heading nodes tree board mover index winner found is =
     same_Some is.root.heading found.first.entry.node.heading
     (sym is.same_heading ∙ get-map (λ (node : Node). node.heading) nodes index found.first.entry.node found.first.entry.there)
 
-entry-solves : (nodes tree : List Node) (board : Board) (mover : Colour) (index : ℕ) (winner : Colour) → length nodes ≤ MOST_SLOTS
-    → IsFirstFound nodes board mover (record { index = index; winner = winner }) → IsTreeOf nodes index tree → IsSolution board mover tree
-entry-solves nodes tree board mover index winner few found is = record {
+entry-solves : (nodes tree : List Node) (board : Board) (mover : Colour) (index : ℕ) (winner : Colour)
+    → IsFirstFound nodes board mover (record { index = index; winner = winner }) → IsTreeFor nodes index tree → IsSolution board mover tree
+entry-solves nodes tree board mover index winner found is = record {
   valid = is.valid;
   root = is.root;
   last = is.is_root;
   position = position;
   to_move = ap (λ (h : Heading). h.to_move) same ∙ found.first.entry.is_of.same_mover;
-  few = omega (arith, is.few, few);
+  few = is.few;
   size = λ k d inside. is.one_size k (get_or tree k d) (slice_get-get_or tree k d inside) ∙ ap (λ (b : Board). b.size) position;
 }
   where
@@ -52,13 +68,12 @@ entry-solves nodes tree board mover index winner few found is = record {
     position = ap (λ (h : Heading). h.position) same ∙ found.first.entry.is_of.same_position
 
 pub tree-solves : (nodes tree : List Node) (granted : ℕ) (board : Board) (mover : Colour) (settings : Settings) (ended : Ended)
-    → length nodes ≤ MOST_SLOTS
     → IsClosedEnd (IsProofOf board mover) nodes granted settings ended → IsTreeFrom nodes ended tree → IsSolution board mover tree
-tree-solves nodes tree granted board mover settings (Proved index winner) few says is =
-    entry-solves nodes tree board mover index winner few says is
-tree-solves nodes tree granted board mover settings (Spent taken) few says is = absurd is
-tree-solves nodes tree granted board mover settings (NoSlots refusal) few says is = absurd is
-tree-solves nodes tree granted board mover settings Memory few says is = absurd is
+tree-solves nodes tree granted board mover settings (Proved index winner) says is =
+    entry-solves nodes tree board mover index winner says is
+tree-solves nodes tree granted board mover settings (Spent taken) says is = absurd is
+tree-solves nodes tree granted board mover settings (NoSlots refusal) says is = absurd is
+tree-solves nodes tree granted board mover settings Memory says is = absurd is
 
 pub entry-there : (nodes : List Node) (granted : ℕ) (board : Board) (mover : Colour) (settings : Settings) (ended : Ended)
     → IsClosedEnd (IsProofOf board mover) nodes granted settings ended → HasEntryFor nodes ended

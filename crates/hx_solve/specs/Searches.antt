@@ -1,11 +1,13 @@
 -- What a search of one position comes to.
-use Rattle.std.specs.Prelude.{◌≡◌, ◌<◌, ℕ, List, length}
+use Rattle.std.specs.Prelude.{◌≡◌, ◌<◌, ◌≤◌, ℕ, List, length, slice_get}
+use Rattle.std.specs.declared.option.Option.TheVariants.{Some}
 use Rattle.hx_board.specs.declared.colours.Colour.{Colour}
 use Rattle.hx_board.specs.Positions.{Board}
 use Rattle.hx_board.specs.Graph.{HasNoChain}
 use Rattle.hx_tree.specs.declared.nodes.Node.{Node}
 use Rattle.hx_tree.specs.Entries.{IsFirstFound}
-use Rattle.hx_book.specs.Trees.{IsTreeOf}
+use Rattle.hx_tree.specs.Trees.{headings_of, IsValidTree, IsRoot}
+use Rattle.hx_book.specs.declared.books.TheConstants.{MOST_SLOTS}
 use Rattle.hx_worker.specs.declared.ended.Ended.{Ended}
 use Rattle.hx_worker.specs.declared.ended.Ended.TheVariants.{Proved, Spent, NoSlots, Memory}
 use Rattle.hx_settings.specs.declared.settings.Settings.{Settings}
@@ -31,9 +33,20 @@ HasEntryFor nodes (Spent taken) = Unit {0}
 HasEntryFor nodes (NoSlots refusal) = Unit {0}
 HasEntryFor nodes Memory = Unit {0}
 
--- the end is a proof, and this is the tree of its entry
+-- a valid tree whose root has the heading of the node at this place, of no more nodes than a book may have, all on boards
+-- of one size
+pub record IsTreeFor (nodes : List Node) (place : ℕ) (tree : List Node) : Type 0 where
+  pub valid : IsValidTree tree
+  pub few : length tree ≤ MOST_SLOTS
+  pub root : Node
+  pub is_root : IsRoot tree root
+  pub same_heading : slice_get (headings_of nodes) place ≡ Some root.heading
+  pub one_size : (k : ℕ) (node : Node) → slice_get tree k ≡ Some node
+      → node.heading.position.size ≡ root.heading.position.size
+
+-- the end is a proof, and this is a tree for its entry
 abbrev pub IsTreeFrom : List Node → Ended → List Node → Type 0
-IsTreeFrom nodes (Proved index winner) tree = IsTreeOf nodes index tree
+IsTreeFrom nodes (Proved index winner) tree = IsTreeFor nodes index tree
 IsTreeFrom nodes (Spent taken) tree = ⊥
 IsTreeFrom nodes (NoSlots refusal) tree = ⊥
 IsTreeFrom nodes Memory tree = ⊥

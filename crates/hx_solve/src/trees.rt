@@ -1,9 +1,9 @@
 //! What a search comes to: the tree of the entry that a worker proved, or what was wanting.
 
-ghost use Rattle.std.specs.Prelude.{◌<◌, ◌≤◌, length, IfOk, IfErr};
+ghost use Rattle.std.specs.Prelude.{◌≡◌, ◌<◌, ◌≤◌, length, slice_get, IfOk, IfErr};
 ghost use Rattle.hx_book.specs.declared.books.TheConstants.{MOST_SLOTS};
 ghost use Rattle.hx_tree.specs.Plain.{ArePlain};
-ghost use Rattle.hx_tree.specs.Trees.{AreRight};
+ghost use Rattle.hx_tree.specs.Trees.{AreRight, headings_of};
 ghost use Rattle.hx_solve.specs.Causes.{LacksMemory};
 ghost use Rattle.hx_solve.specs.Searches.{HasEntryFor, IsTreeFor, IsTreeFrom, SaysWhy};
 
@@ -59,13 +59,28 @@ pub(crate) fn tree_at(
     ensures memory { IfErr result LacksMemory }
 {
     let mut nodes = nodes;
-    let root = if names_move {
-        name_move(alloc, &mut nodes, place)
-    } else {
-        place
-    };
+    let root = root_for(alloc, &mut nodes, place, names_move);
     match tree_of(alloc, nodes, root) {
         Ok(tree) => Ok(tree),
         Err(Memory) => Err(Unsolved::Memory),
+    }
+}
+
+/// The place of the tree's root: of the entry itself, or where a move is to be named and one is found of a node that is added for it.
+fn root_for(alloc: Global, nodes: &mut Vec<Entry>, place: u32, names_move: bool) -> u32
+    requires right { AreRight nodes.old.items }
+    requires few { length nodes.old.items ≤ MOST_SLOTS }
+    requires inside { place < length nodes.old.items }
+    ensures right { AreRight nodes.new.items }
+    ensures few { length nodes.new.items ≤ MOST_SLOTS }
+    ensures inside { result < length nodes.new.items }
+    ensures same_heading { slice_get (headings_of nodes.new.items) result
+        ≡ slice_get (headings_of nodes.old.items) place }
+    ensures plain { ArePlain nodes.old.items → ArePlain nodes.new.items }
+{
+    if names_move {
+        name_move(alloc, nodes, place)
+    } else {
+        place
     }
 }

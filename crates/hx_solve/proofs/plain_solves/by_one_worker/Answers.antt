@@ -1,4 +1,4 @@
-use Rattle.std.proofs.Common.{◌<◌, arith}
+use Rattle.std.proofs.Common.{◌<◌}
 use Rattle.std.proofs.lemmas.Result.{IfErr-weaker, IfOk-weaker}
 use Rattle.hx_board.specs.Graph.{HasNoChain}
 use Rattle.hx_solve.specs.Solutions.{IsSolution}
@@ -13,7 +13,7 @@ returns-in-Ok-clause-tree g c =
     IfOk-weaker c.conclude.result (λ tree. IsTreeFrom searched.book.nodes searched.ended tree.items)
     (λ tree. IsSolution c.args.position.now c.args.to_move tree.items)
     (λ tree from. tree-solves searched.book.nodes tree.items searched.totals.granted c.args.position.now c.args.to_move c.args.settings.now
-    searched.ended (omega (arith, is.is_book.held, is.is_book.small)) is.ended from)
+    searched.ended is.ended from)
     c.conclude.ensures.tree
 
 pub returns-in-Ok-clause-no_chain : goal.returns-in-Ok-clause-no_chain
