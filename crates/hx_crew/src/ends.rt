@@ -19,8 +19,8 @@ fn rank(ended: &Ended) -> u32
     }
 }
 
-/// The end that counts. It is one of these, and none of them comes before it.
-pub(crate) fn foremost(ends: Vec<Ended>) -> Ended
+/// The end that counts: it is one of these, and none of them comes before it.
+pub fn foremost(ends: Vec<Ended>) -> Ended
     requires { 0 < vec_len ends }
     ensures one { Contains ends.items result }
     ensures first { All (λ end. rank result ≤ rank end) ends.items }

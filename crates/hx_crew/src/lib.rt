@@ -17,6 +17,7 @@ mod seats;
 mod sets;
 
 pub use benches::Bench;
+pub use ends::foremost;
 pub use errands::Errand;
 pub use hints::hint_words;
 pub use searches::{Searched, run_all};
