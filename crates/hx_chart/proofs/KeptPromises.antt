@@ -3,7 +3,7 @@ use Rattle.std.proofs.Common.{◌≡◌, ap, ◌∙◌}
 use Rattle.hx_io.specs.Sinks.{Writing, append}
 use Rattle.hx_board.specs.Cells.{Extent}
 use Rattle.hx_settings.specs.declared.settings.Settings.{Settings}
-use Rattle.hx_survey.specs.Surveys.{AreSmall}
+use Rattle.hx_openings.specs.Openings.{OpeningsAreSmall}
 use Rattle.hx_answers.specs.Endings.{IsWritten}
 use Rattle.hx_finish.specs.declared.finishes.Finish.{Finish}
 use Rattle.hx_finish.proofs.SearchEnds.{EndsSo, said_so, open_so}
@@ -16,11 +16,11 @@ use Rattle.hx_chart.specs.Promises.{SaysTable, KeepsPromises}
 module _ (size : Extent) (settings : Settings) (sink sink_now : Writing) (answer : Answer) (finish : Finish) where
   ends : (answer : Answer) → IsDue size settings answer → finish.tally ≡ tally_of settings answer
       → IsWritten sink sink_now (answer_text answer) (status_of answer) finish.status
-      → EndsSo (SaysTable size sink.taken sink_now.taken) (¬ AreSmall size settings.budget) settings sink sink_now finish
-  ends (Surveyed table) due counted written = said_so _ _ settings sink sink_now finish (table_text table.size table.black) (λ is. record {
-    black = table.black;
+      → EndsSo (SaysTable size sink.taken sink_now.taken) (¬ OpeningsAreSmall size settings.budget) settings sink sink_now finish
+  ends (Surveyed table) due counted written = said_so _ _ settings sink sink_now finish (table_text table.size table.cells_of_black) (λ is. record {
+    black = table.cells_of_black;
     survey = due.1;
-    output = is ∙ ap (λ (s : Extent). append sink.taken (table_text s table.black)) due.0;
+    output = is ∙ ap (λ (s : Extent). append sink.taken (table_text s table.cells_of_black)) due.0;
   }) counted written
   ends (LeftOpen wanting) due counted written = open_so _ _ settings sink sink_now finish wanting due counted written
 

@@ -4,7 +4,8 @@ use Rattle.hx_io.specs.Sinks.{Writing}
 use Rattle.hx_board.specs.Cells.{Extent}
 use Rattle.hx_settings.specs.declared.settings.Settings.{Settings}
 use Rattle.hx_solve.specs.Tallies.{Tallied}
-use Rattle.hx_survey.specs.Surveys.{IsSurvey, AreSmall}
+use Rattle.hx_openings.specs.Openings.{OpeningsAreSmall}
+use Rattle.hx_survey.specs.Surveys.{IsSurvey}
 use Rattle.hx_answers.specs.Endings.{IsWritten}
 use Rattle.hx_finish.specs.declared.finishes.Finish.{Finish}
 use Rattle.hx_finish.specs.Wants.{wanting_text, wanting_status, wanting_tally, no_refusal, IsWantingWhere}
@@ -14,7 +15,7 @@ use Rattle.hx_chart.specs.Texts.{table_text}
 
 -- what is written for each answer
 abbrev pub answer_text : Answer → List ℕ
-answer_text (Surveyed table) = table_text table.size table.black
+answer_text (Surveyed table) = table_text table.size table.cells_of_black
 answer_text (LeftOpen wanting) = wanting_text wanting
 
 -- the exit status that tells each answer, where it was written whole
@@ -27,11 +28,11 @@ abbrev pub tally_of : Settings → Answer → Tallied
 tally_of settings (Surveyed table) = no_refusal settings
 tally_of settings (LeftOpen wanting) = wanting_tally settings wanting
 
--- When each answer comes: a table only where it tells who wins after each opening, and a limit only where not each opening
--- is small under the budget.
+-- When each answer comes: a table only where it tells who wins after each opening, and a limit only where the openings are not
+-- small under the budget.
 abbrev pub IsDue : Extent → Settings → Answer → Type 0
-IsDue size settings (Surveyed table) = (table.size ≡ size) × IsSurvey size table.black
-IsDue size settings (LeftOpen wanting) = IsWantingWhere settings (¬ AreSmall size settings.budget) wanting
+IsDue size settings (Surveyed table) = (table.size ≡ size) × IsSurvey size table.cells_of_black
+IsDue size settings (LeftOpen wanting) = IsWantingWhere settings (¬ OpeningsAreSmall size settings.budget) wanting
 
 -- A run of `survey`: some answer is due, it was written, and the tally has the refusals behind it.
 pub record IsSurveyRun (size : Extent) (settings : Settings) (sink sink_now : Writing) (finish : Finish) : Type 0 where

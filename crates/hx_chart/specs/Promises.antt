@@ -3,7 +3,8 @@ use Rattle.std.specs.Prelude.{◌≡◌, ◌⊎◌, ℕ, List, Option}
 use Rattle.hx_io.specs.Sinks.{Writing, SomeWriteFailed, append}
 use Rattle.hx_board.specs.Cells.{Extent}
 use Rattle.hx_settings.specs.declared.settings.Settings.{Settings}
-use Rattle.hx_survey.specs.Surveys.{IsSurvey, AreSmall}
+use Rattle.hx_openings.specs.Openings.{OpeningsAreSmall}
+use Rattle.hx_survey.specs.Surveys.{IsSurvey}
 use Rattle.hx_answers.specs.Texts.{out_of_memory_line}
 use Rattle.hx_finish.specs.declared.finishes.Finish.{Finish}
 use Rattle.hx_finish.specs.Finishes.{SaysUnknown, CountsNoRefusal, IsUnlessCutShort}
@@ -21,12 +22,12 @@ pub record KeepsPromises (size : Extent) (settings : Settings) (sink sink_now : 
   -- with status 0 the output is the true table, and no refusal was counted
   pub surveyed : finish.status ≡ 0 → SaysTable size sink.taken sink_now.taken
   pub no_refusal : finish.status ≡ 0 → CountsNoRefusal finish.tally
-  -- where each opening is small under the budget it ends so, whatever the other options
-  pub small : AreSmall size settings.budget → IsUnlessCutShort finish.status 0
-  -- 3 comes only where not each opening is small, and only where a refusal was counted, of a unit of the budget or of one
+  -- where the openings are small under the budget it ends so, whatever the other options
+  pub small : OpeningsAreSmall size settings.budget → IsUnlessCutShort finish.status 0
+  -- 3 comes only where the openings are not small, and only where a refusal was counted, of a unit of the budget or of one
   -- of the slots; the line that is written says which of them
   pub unknown : finish.status ≡ 3
-      → (¬ AreSmall size settings.budget) × SaysUnknown settings sink.taken sink_now.taken finish.tally
+      → (¬ OpeningsAreSmall size settings.budget) × SaysUnknown settings sink.taken sink_now.taken finish.tally
   -- with 7 the output says that memory was wanting
   pub memory : finish.status ≡ 7 → sink_now.taken ≡ append sink.taken out_of_memory_line
   -- a failed write has its cause, and no other status comes

@@ -40,7 +40,7 @@ pub fn run_survey<K: Sink, G: Gate + Sync, R: Threads + Wait + Sync>(
     // Some answer is due, and it was written whole, or the sink failed before it took all of it.
     ensures run { IsSurveyRun size settings (K.writing sink.old) (K.writing sink.new) result }
 
-    // The table that is written is the true one; where each opening is small it is written, unless the sink failed or memory was
+    // The table that is written is the true one; where the openings are small it is written, unless the sink failed or memory was
     // wanting; and a refusal that is told was counted.
     ensures promises { KeepsPromises size settings (K.writing sink.old) (K.writing sink.new) result }
 {

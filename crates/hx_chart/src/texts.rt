@@ -12,9 +12,9 @@ use hx_survey::Table;
 /// Writes the text of a table.
 pub(crate) fn write_table<K: Sink>(sink: &mut K, table: &Table) -> Result<(), Failed>
     ensures { WritesAll (K.writing sink.old) (K.writing sink.new) result
-        (table_text table.now.size table.now.black) }
+        (table_text table.now.size table.now.cells_of_black) }
 {
-    match write_heading(sink, table.size) {
+    match write_heading(sink, table.size()) {
         Ok(()) => {}
         Err(Failed) => return Err(Failed),
     }
@@ -37,9 +37,9 @@ fn write_heading<K: Sink>(sink: &mut K, size: Size) -> Result<(), Failed>
 /// Writes the lines of all rows.
 fn write_rows<K: Sink>(sink: &mut K, table: &Table) -> Result<(), Failed>
     ensures { WritesAll (K.writing sink.old) (K.writing sink.new) result
-        (row_lines table.now.black table.now.size.cols table.now.size.rows) }
+        (row_lines table.now.cells_of_black table.now.size.cols table.now.size.rows) }
 {
-    for row in 0..table.size.rows() {
+    for row in 0..table.size().rows() {
         match write_row(sink, table, row) {
             Ok(()) => {}
             Err(Failed) => return Err(Failed),
@@ -52,7 +52,7 @@ fn write_rows<K: Sink>(sink: &mut K, table: &Table) -> Result<(), Failed>
 fn write_row<K: Sink>(sink: &mut K, table: &Table, row: u8) -> Result<(), Failed>
     requires { row < table.now.size.rows }
     ensures { WritesAll (K.writing sink.old) (K.writing sink.new) result
-        (row_line table.now.black table.now.size.cols row) }
+        (row_line table.now.cells_of_black table.now.size.cols row) }
 {
     match write_letters(sink, table, row) {
         Ok(()) => write_all(sink, b"\n"),
@@ -64,10 +64,11 @@ fn write_row<K: Sink>(sink: &mut K, table: &Table, row: u8) -> Result<(), Failed
 fn write_letters<K: Sink>(sink: &mut K, table: &Table, row: u8) -> Result<(), Failed>
     requires { row < table.now.size.rows }
     ensures { WritesAll (K.writing sink.old) (K.writing sink.new) result
-        (letters table.now.black row table.now.size.cols) }
+        (letters table.now.cells_of_black row table.now.size.cols) }
 {
-    for col in 0..table.size.cols() {
-        let Some(cell) = table.size.cell(row, col) else {
+    let size = table.size();
+    for col in 0..size.cols() {
+        let Some(cell) = size.cell(row, col) else {
             unreachable!()
         };
         match write_all(sink, &[letter_of(table.winner(cell))]) {
@@ -91,10 +92,11 @@ fn letter_of(player: Colour) -> u8
 /// Writes after how many openings each player wins.
 fn write_counts<K: Sink>(sink: &mut K, table: &Table) -> Result<(), Failed>
     ensures { WritesAll (K.writing sink.old) (K.writing sink.new) result
-        (counts_line table.now.size table.now.black) }
+        (counts_line table.now.size table.now.cells_of_black) }
 {
-    let cells = u64::from(table.size.rows()) * u64::from(table.size.cols());
-    let black = u64::from(table.black_count());
+    let size = table.size();
+    let cells = u64::from(size.rows()) * u64::from(size.cols());
+    let black = u64::from(table.black());
     match write_numbered(sink, b"black ", black) {
         Ok(()) => write_counted(sink, b" white ", cells.saturating_sub(black)),
         Err(Failed) => Err(Failed),

@@ -68,7 +68,7 @@ impl Gate for Calls {
 
 /// These workers come to their turns, and no other one, so many times in all. Each unit has one turn, and so has the end of each worker,
 /// which is refused a unit.
-fn assert_turns<R: Threads + Wait + Sync + Abort>(
+pub(crate) fn assert_turns<R: Threads + Wait + Sync + Abort>(
     rt: &R,
     alloc: Global,
     words: &[&str],

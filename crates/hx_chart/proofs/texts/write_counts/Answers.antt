@@ -8,8 +8,8 @@ use Rattle.hx_chart.proofs.texts.write_counts.Goals as goal
 pub returns-in-Ok : goal.returns-in-Ok
 returns-in-Ok g c =
     let size = c.args.table.now.size in
-    let black = count_below 128 c.args.table.now.black in
-    let is_black : c.from-black.result ≡ black = c.from-black.ensures ∙ c.black_count.ensures in
+    let black = count_below 128 c.args.table.now.cells_of_black in
+    let is_black : c.from-black.result ≡ black = c.from-black.ensures ∙ c.black.ensures in
     let rows : c.from.result ≡ size.rows = c.from.ensures ∙ c.rows.ensures.value in
     let cols : c.from-2.result ≡ size.cols = c.from-2.ensures ∙ c.cols.ensures.value in
     WritesAll-then _ _ _ _ _ (numbered_text (codes "black ") black) (counted_text (codes " white ") (size.rows * size.cols - black))
@@ -21,6 +21,6 @@ returns-in-Ok g c =
 pub returns-in-Err : goal.returns-in-Err
 returns-in-Err g c =
     let size = c.args.table.now.size in
-    let black = count_below 128 c.args.table.now.black in
+    let black = count_below 128 c.args.table.now.cells_of_black in
     WritesAll-cut _ _ _ (numbered_text (codes "black ") black) (counted_text (codes " white ") (size.rows * size.cols - black))
-    (rw (c.from-black.ensures ∙ c.black_count.ensures) at c.in-Err.ensures)
+    (rw (c.from-black.ensures ∙ c.black.ensures) at c.in-Err.ensures)

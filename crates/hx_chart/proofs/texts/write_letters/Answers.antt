@@ -8,14 +8,14 @@ use Rattle.hx_chart.proofs.texts.write_letters.Goals as goal
 
 pub loop-col-init : goal.loop-col-init
 loop-col-init g c = record {
-  out = sym (ap (append (g.K.Sink.writing c.args.sink.now).taken) (letters-none c.args.table.now.black c.args.row)
+  out = sym (ap (append (g.K.Sink.writing c.args.sink.now).taken) (letters-none c.args.table.now.cells_of_black c.args.row)
       ∙ append-nil (g.K.Sink.writing c.args.sink.now).taken);
   later = omega arith;
 }
 
 pub returns-in-Err : goal.returns-in-Err
 returns-in-Err g c =
-    let black = c.args.table.now.black in
+    let black = c.args.table.now.cells_of_black in
     let row = c.args.row in
     let col = c.loop-col.col in
     let front = λ (bytes : List ℕ). TakesFront (g.K.Sink.writing c.loop-col.sink).taken (g.K.Sink.writing c.write_all.new.sink).taken bytes in
@@ -32,7 +32,7 @@ returns-in-Err g c =
 
 pub loop-col-preserved : goal.loop-col-preserved
 loop-col-preserved g c =
-    let black = c.args.table.now.black in
+    let black = c.args.table.now.cells_of_black in
     let row = c.args.row in
     let col = c.loop-col.col in
     let out = λ (bytes : List ℕ). (g.K.Sink.writing c.write_all.new.sink).taken ≡ append (g.K.Sink.writing c.loop-col.sink).taken bytes in

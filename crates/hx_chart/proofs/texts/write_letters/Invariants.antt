@@ -6,6 +6,6 @@ use Rattle.hx_chart.proofs.texts.write_letters.Given as goal
 
 abbrev pub invariant-loop-col : goal.invariant-loop-col
 invariant-loop-col g l = record {
-  out : (g.K.Sink.writing l.sink).taken ≡ append (g.K.Sink.writing l.initial.sink).taken (letters l.table.black l.row l.col);
+  out : (g.K.Sink.writing l.sink).taken ≡ append (g.K.Sink.writing l.initial.sink).taken (letters l.table.cells_of_black l.row l.col);
   later : (g.K.Sink.writing l.initial.sink).faults ≤ (g.K.Sink.writing l.sink).faults;
 }

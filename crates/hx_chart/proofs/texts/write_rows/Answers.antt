@@ -9,16 +9,16 @@ use Rattle.hx_chart.proofs.texts.write_rows.Goals as goal
 pub loop-row-init : goal.loop-row-init
 loop-row-init g c = record {
   out = sym (ap (append (g.K.Sink.writing c.args.sink.now).taken)
-      (row_lines-none c.args.table.now.black c.args.table.now.size.cols)
+      (row_lines-none c.args.table.now.cells_of_black c.args.table.now.size.cols)
       ∙ append-nil (g.K.Sink.writing c.args.sink.now).taken);
   later = omega arith;
 }
 
 pub returns-in-Err : goal.returns-in-Err
 returns-in-Err g c = record {
-  bytes = cut_short (row_lines c.args.table.now.black c.args.table.now.size.cols)
-      (row_line c.args.table.now.black c.args.table.now.size.cols)
-      (row_lines-next c.args.table.now.black c.args.table.now.size.cols) _ _ _ c.loop-row.row c.args.table.now.size.rows
+  bytes = cut_short (row_lines c.args.table.now.cells_of_black c.args.table.now.size.cols)
+      (row_line c.args.table.now.cells_of_black c.args.table.now.size.cols)
+      (row_lines-next c.args.table.now.cells_of_black c.args.table.now.size.cols) _ _ _ c.loop-row.row c.args.table.now.size.rows
       (omega (arith, c.loop-row-test.true, c.rows-row-end.ensures.value)) c.loop-row.invariant.out c.in-Err.ensures.bytes;
   cause = record {
     later = omega (arith, c.loop-row.invariant.later, c.in-Err.ensures.cause.later);
@@ -28,9 +28,9 @@ returns-in-Err g c = record {
 
 pub loop-row-preserved : goal.loop-row-preserved
 loop-row-preserved g c = record {
-  out = one_more (row_lines c.args.table.now.black c.args.table.now.size.cols)
-      (row_line c.args.table.now.black c.args.table.now.size.cols)
-      (row_lines-next c.args.table.now.black c.args.table.now.size.cols) _ _ _ c.loop-row.row c.loop-row.invariant.out
+  out = one_more (row_lines c.args.table.now.cells_of_black c.args.table.now.size.cols)
+      (row_line c.args.table.now.cells_of_black c.args.table.now.size.cols)
+      (row_lines-next c.args.table.now.cells_of_black c.args.table.now.size.cols) _ _ _ c.loop-row.row c.loop-row.invariant.out
       c.in-Ok.ensures.bytes;
   later = omega (arith, c.loop-row.invariant.later, c.in-Ok.ensures.cause.later);
 }

@@ -7,6 +7,6 @@ use Rattle.hx_chart.proofs.texts.write_rows.Given as goal
 abbrev pub invariant-loop-row : goal.invariant-loop-row
 invariant-loop-row g l = record {
   out : (g.K.Sink.writing l.sink).taken
-      ≡ append (g.K.Sink.writing l.initial.sink).taken (row_lines l.table.black l.table.size.cols l.row);
+      ≡ append (g.K.Sink.writing l.initial.sink).taken (row_lines l.table.cells_of_black l.table.size.cols l.row);
   later : (g.K.Sink.writing l.initial.sink).faults ≤ (g.K.Sink.writing l.sink).faults;
 }
