@@ -164,7 +164,7 @@ fn two_ways(alloc: Global, cells: [Cell; 2]) -> Result<Vec<Step>, Fail> {
 /// The link that is either way.
 fn either_way(alloc: Global, cells: [Cell; 2]) -> Result<Rule, Fail> {
     let places = SmallVec::from_slice(alloc, &WAYS).or(Err("memory"))?;
-    let parts = Parts::new(alloc, places).or(Err("memory"))?;
+    let parts = Parts::new(places);
     let mut steps = two_ways(alloc, cells)?;
     steps.push(Step::Or { parts })?;
     let steps = Steps::new(steps);
