@@ -4,8 +4,8 @@ use Rattle.hx_solve.proofs.trees.tree_at.Goals as goal
 
 pub returns-in-Ok-clause-tree : goal.returns-in-Ok-clause-tree
 returns-in-Ok-clause-tree c =
-    tree-for _ _ _ _ _ c.root_for.ensures.same_heading c.root_for.ensures.few c.in-Ok.ensures
+    tree-for _ _ _ _ _ c.root_for-root.ensures.same_heading c.root_for-root.ensures.few c.in-Ok.ensures
 
 pub returns-in-Ok-clause-plain : goal.returns-in-Ok-clause-plain
 returns-in-Ok-clause-plain c = λ plain.
-    tree-plain _ c.root_for.ensures.right c.root_for.result _ c.in-Ok.ensures (c.root_for.ensures.plain plain)
+    tree-plain _ c.root_for-root.ensures.right c.root_for-root.result _ c.in-Ok.ensures (c.root_for-root.ensures.plain plain)
