@@ -12,7 +12,7 @@ ghost use Rattle.hx_tree.specs.Entries.{Extends};
 ghost use Rattle.hx_book.specs.EitherEntry.{FindsEither};
 ghost use Rattle.hx_openings.specs.Openings.{opening};
 ghost use Rattle.hx_crew.specs.Seats.{IsEndedBy};
-ghost use Rattle.hx_survey.specs.Surveys.{HasOpening, HasOpeningsOf};
+ghost use Rattle.hx_survey.specs.Surveys.{HasOpening, HasOpenings, HasOpeningsOf};
 ghost use Rattle.hx_survey.specs.Shares.{IsShare};
 ghost use Rattle.hx_survey.specs.Ends.{is_proof};
 
@@ -59,17 +59,15 @@ impl Errand for Openings {
         seats: Seats,
     ) -> Done {
         let worker = seats.worker;
-        let all = self.size.all();
         let share = self.share(worker);
         if share.is_empty() {
-            return self.go_through(rt, alloc, gate, bench, seats, Order::FromMiddle, all);
+            return self.go_through_all(rt, alloc, gate, bench, seats);
         }
         let done = self.go_through_share(rt, alloc, gate, bench, seats, share);
         if !is_proof(&done.ended) {
             return done;
         }
-        let again = seats_again(worker, done);
-        self.go_through(rt, alloc, gate, bench, again, Order::FromMiddle, all)
+        self.go_through_all(rt, alloc, gate, bench, seats_again(worker, done))
     }
 }
 
@@ -127,6 +125,28 @@ impl Openings {
             bench.now.shared.now.made.slots result.counts result.ended }
     {
         self.go_through(rt, alloc, gate, bench, seats, Order::OfCells, share)
+    }
+
+    /// Goes through all openings, from the middle of the board to its edge, up to one that is left open.
+    fn go_through_all<G: Gate, R: Wait>(
+        &self,
+        rt: &R,
+        alloc: Global,
+        gate: &G,
+        bench: &Bench<'_>,
+        seats: Seats,
+    ) -> Done
+        requires words { bench.now.counts.now.limits.words ≡ LOSS_WORDS }
+        requires book { seats.book.made ≡ bench.now.shared.now.made }
+        requires counts { seats.counts.made ≡ bench.now.counts.now }
+        requires nothing_held { held_in_all (own seats.counts) ≡ 0 }
+        ensures book { result.book.made ≡ bench.now.shared.now.made }
+        ensures counts { result.counts.made ≡ bench.now.counts.now }
+        ensures ended { IsEndedBy (λ nodes index winner. HasOpenings nodes self.now.size) result.book.seen
+            bench.now.shared.now.made.slots result.counts result.ended }
+    {
+        let all = self.size.all();
+        self.go_through(rt, alloc, gate, bench, seats, Order::FromMiddle, all)
     }
 
     /// Goes through these openings in an order, up to one that is left open.

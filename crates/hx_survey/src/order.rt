@@ -1,12 +1,13 @@
 //! In which order openings are gone through. A worker's share comes in cell order; what is open then, from the middle of the board to its
-//! edge, since those in the middle are the easiest, and what is proved of them serves those at the edge.
+//! edge. Those in the middle are the easiest, and what is proved of them serves those at the edge.
 //!
-//! With one worker the share is the whole board.
+//! With one worker the share is the whole board. So a survey of 6 by 6 takes 7,425 units, and one of 7 by 7 431,135. With all openings from
+//! the middle these take 6,516 and 410,395; 6 by 6 takes 6,555 row by row from the middle, and 7,302 from the edge to the middle.
 
-ghost use Rattle.std.specs.Prelude.{◌≡◌, ℕ, false, MatchOption};
-ghost use Rattle.hx_board.specs.Cells.{OnBoard};
+ghost use Rattle.std.specs.Prelude.{◌≡◌, ℕ, false, IfSome, MatchOption};
+ghost use Rattle.hx_board.specs.Cells.{OnBoard, IsLeastOn};
 ghost use Rattle.hx_board.specs.Sets.{has};
-ghost use Rattle.hx_survey.specs.Orders.{IsAmong, IsNext};
+ghost use Rattle.hx_survey.specs.Orders.{IsAmong};
 
 use hx_board::{Cell, Mask, Size};
 
@@ -21,9 +22,11 @@ pub(crate) enum Order {
 }
 
 impl Order {
-    /// The one of these cells that comes first. None exactly where no cell of the board is among them.
+    /// The one of these cells that comes first. None exactly where no cell of the board is among them. Which one is the middlemost no
+    /// clause says.
     pub(crate) fn first(self, size: Size, cells: Mask) -> Option<Cell>
-        ensures { MatchOption result ((n : ℕ) → OnBoard size n → has cells n ≡ false) (IsNext self size cells) }
+        ensures among { MatchOption result ((n : ℕ) → OnBoard size n → has cells n ≡ false) (IsAmong size cells) }
+        ensures least { self ≡ Order.OfCells → IfSome result (IsLeastOn size cells) }
     {
         match self {
             Order::OfCells => cells.least(size),
