@@ -1,4 +1,5 @@
 pub mod LaterOpenings
 pub mod ThroughOpenings
+pub mod PartShares
 pub mod PartTables
 pub mod ReadWinners

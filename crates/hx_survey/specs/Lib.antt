@@ -3,3 +3,4 @@ pub mod Surveys
 pub mod Ends
 pub mod Readings
 pub mod Orders
+pub mod Shares

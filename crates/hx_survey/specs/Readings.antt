@@ -10,8 +10,7 @@ use Rattle.hx_tree.specs.declared.nodes.Node.{Node}
 use Rattle.hx_tree.specs.Entries.{HasNoEntry}
 use Rattle.hx_turn.specs.Turned.{IsTurned}
 use Rattle.hx_openings.specs.Openings.{opening}
-use Rattle.hx_survey.specs.declared.tables.Table.{Table}
-use Rattle.hx_survey.specs.Surveys.{IsSurvey, HasOpening}
+use Rattle.hx_survey.specs.Surveys.{Winners, IsSurvey, HasOpening}
 
 -- with White to move the list has no entry of the position, nor of the turned one
 pub record IsUnlisted (nodes : List Node) (board : Board) : Type 0 where
@@ -30,9 +29,9 @@ pub record HasOpen (nodes : List Node) (size : Extent) (budget : ℕ) : Type 0 w
   pub is_open : IsOpen nodes size budget cell
 
 -- the table of all openings of a board of this size
-pub record IsTable (size : Extent) (table : Table) : Type 0 where
+pub record IsTable (size : Extent) (table : Winners) : Type 0 where
   pub same_size : table.size ≡ size
-  pub right : IsSurvey size table.black
+  pub right : IsSurvey size table.cells_of_black
 
 -- the set with the cell in it where Black wins
 abbrev pub marked : ℕ → ℕ → Colour → ℕ

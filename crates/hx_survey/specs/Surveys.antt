@@ -4,13 +4,17 @@ use Rattle.hx_board.specs.declared.colours.Colour.{Colour}
 use Rattle.hx_board.specs.declared.colours.Colour.TheVariants.{Black, White}
 use Rattle.hx_board.specs.Sets.{has}
 use Rattle.hx_board.specs.Cells.{Extent, OnBoard}
-use Rattle.hx_board.specs.Counts.{IsSmall}
 use Rattle.hx_board.specs.Positions.{Board}
 use Rattle.hx_tree.specs.declared.nodes.Node.{Node}
 use Rattle.hx_tree.specs.Entries.{IsFirstFound}
 use Rattle.hx_tree.specs.declared.entries.Found.{Found}
 use Rattle.hx_turn.specs.Turned.{IsTurned}
 use Rattle.hx_openings.specs.Openings.{opening, WinsOpening}
+
+-- what a table tells: the size of the board, and the cells of the openings that Black wins
+pub record Winners : Type 0 where
+  pub size : Extent
+  pub cells_of_black : ℕ
 
 -- whom a set of cells names as the winner after the opening on a cell, where it is the set of those that Black wins
 abbrev pub winner_at : ℕ → ℕ → Colour
@@ -20,10 +24,6 @@ winner_at black cell = if has black cell then Black else White
 pub record IsSurvey (size : Extent) (black : ℕ) : Type 0 where
   pub inside : (cell : ℕ) → has black cell ≡ true → OnBoard size cell
   pub winners : (cell : ℕ) → OnBoard size cell → WinsOpening size cell (winner_at black cell)
-
--- each opening is small under the budget
-abbrev pub AreSmall : Extent → ℕ → Type 0
-AreSmall size budget = (cell : ℕ) → OnBoard size cell → IsSmall (opening size cell) budget
 
 -- ---- words for the functions inside the crate alone
 

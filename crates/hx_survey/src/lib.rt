@@ -7,6 +7,7 @@
 mod openings;
 mod order;
 mod readings;
+mod shares;
 mod surveys;
 mod tables;
 

@@ -1,7 +1,8 @@
-//! What the workers are sent for: each goes through the openings of its share first, and then through all of them. What it finds
-//! proved, by itself or by another worker, it passes over, and so it does with an opening whose turned one is proved.
+//! What the workers are sent for: each goes through the openings of its share first, in cell order, and then through all of them, from
+//! the middle of the board. What it finds proved, by itself or by another worker, it passes over, and so it does with an opening whose
+//! turned one is proved.
 
-ghost use Rattle.std.specs.Prelude.{◌≡◌, ℕ, true, false};
+ghost use Rattle.std.specs.Prelude.{◌≡◌, ◌<◌, ℕ, true, false};
 ghost use Rattle.hx_board.specs.declared.colours.Colour.TheVariants.{White};
 ghost use Rattle.hx_board.specs.Cells.{OnBoard};
 ghost use Rattle.hx_board.specs.Sets.{has};
@@ -11,10 +12,11 @@ ghost use Rattle.hx_tree.specs.Entries.{Extends};
 ghost use Rattle.hx_book.specs.EitherEntry.{FindsEither};
 ghost use Rattle.hx_openings.specs.Openings.{opening};
 ghost use Rattle.hx_crew.specs.Seats.{IsEndedBy};
-ghost use Rattle.hx_survey.specs.Surveys.{HasOpening, HasOpeningsOf};
+ghost use Rattle.hx_survey.specs.Surveys.{HasOpening, HasOpenings, HasOpeningsOf};
+ghost use Rattle.hx_survey.specs.Shares.{IsShare};
 ghost use Rattle.hx_survey.specs.Ends.{is_proof};
 
-use crate::order::middlemost;
+use crate::order::Order;
 use hx_board::{Cell, Colour, Mask, Position, Size};
 use hx_book::{Either, look_either};
 use hx_crew::{Bench, Done, Errand, Seats};
@@ -30,6 +32,7 @@ use std::sync::Wait;
 pub(crate) struct Openings {
     pub(crate) size: Size,
     pub(crate) workers: u32,
+    ghost some: { 0 < workers },
 }
 
 impl Errand for Openings {
@@ -56,16 +59,15 @@ impl Errand for Openings {
         seats: Seats,
     ) -> Done {
         let worker = seats.worker;
-        let all = self.size.all();
         let share = self.share(worker);
         if share.is_empty() {
-            return self.go_through(rt, alloc, gate, bench, seats, all);
+            return self.go_through_all(rt, alloc, gate, bench, seats);
         }
-        let done = self.go_through(rt, alloc, gate, bench, seats, share);
+        let done = self.go_through_share(rt, alloc, gate, bench, seats, share);
         if !is_proof(&done.ended) {
             return done;
         }
-        self.go_through(rt, alloc, gate, bench, seats_again(worker, done), all)
+        self.go_through_all(rt, alloc, gate, bench, seats_again(worker, done))
     }
 }
 
@@ -100,25 +102,54 @@ fn seats_again(worker: u32, done: Done) -> Seats
 }
 
 impl Openings {
-    /// The openings with which a worker begins: of all in cell order each one that comes so many workers later than the one before.
-    fn share(&self, worker: u32) -> Mask
-        ensures { (cell : ℕ) → has result cell ≡ true → OnBoard self.now.size cell }
+    /// Goes through the share of this worker, in cell order, up to an opening that is left open.
+    fn go_through_share<G: Gate, R: Wait>(
+        &self,
+        rt: &R,
+        alloc: Global,
+        gate: &G,
+        bench: &Bench<'_>,
+        seats: Seats,
+        share: Mask,
+    ) -> Done
+        requires words { bench.now.counts.now.limits.words ≡ LOSS_WORDS }
+        requires book { seats.book.made ≡ bench.now.shared.now.made }
+        requires counts { seats.counts.made ≡ bench.now.counts.now }
+        requires nothing_held { held_in_all (own seats.counts) ≡ 0 }
+        requires some { (cell : ℕ) × (has share cell ≡ true) }
+        requires share { IsShare self.now.size self.now.workers seats.worker share }
+        ensures book { result.book.made ≡ bench.now.shared.now.made }
+        ensures counts { result.counts.made ≡ bench.now.counts.now }
+        ensures nothing_held { held_in_all (own result.counts) ≡ 0 }
+        ensures ended { IsEndedBy (λ nodes index winner. HasOpeningsOf nodes self.now.size share) result.book.seen
+            bench.now.shared.now.made.slots result.counts result.ended }
     {
-        let mut share = Mask::empty();
-        let mut passed_over = worker;
-        let mut left = self.size.all();
-        while let Some(cell) = left.least(self.size) {
-            if passed_over == 0 {
-                share = share.with(cell);
-                passed_over = self.workers;
-            }
-            passed_over = passed_over.saturating_sub(1);
-            left = left.without(cell);
-        }
-        share
+        self.go_through(rt, alloc, gate, bench, seats, Order::OfCells, share)
     }
 
-    /// Goes through these openings, from the middle of the board to its edge, up to one that is left open.
+    /// Goes through all openings, from the middle of the board to its edge, up to one that is left open.
+    fn go_through_all<G: Gate, R: Wait>(
+        &self,
+        rt: &R,
+        alloc: Global,
+        gate: &G,
+        bench: &Bench<'_>,
+        seats: Seats,
+    ) -> Done
+        requires words { bench.now.counts.now.limits.words ≡ LOSS_WORDS }
+        requires book { seats.book.made ≡ bench.now.shared.now.made }
+        requires counts { seats.counts.made ≡ bench.now.counts.now }
+        requires nothing_held { held_in_all (own seats.counts) ≡ 0 }
+        ensures book { result.book.made ≡ bench.now.shared.now.made }
+        ensures counts { result.counts.made ≡ bench.now.counts.now }
+        ensures ended { IsEndedBy (λ nodes index winner. HasOpenings nodes self.now.size) result.book.seen
+            bench.now.shared.now.made.slots result.counts result.ended }
+    {
+        let all = self.size.all();
+        self.go_through(rt, alloc, gate, bench, seats, Order::FromMiddle, all)
+    }
+
+    /// Goes through these openings in an order, up to one that is left open.
     fn go_through<G: Gate, R: Wait>(
         &self,
         rt: &R,
@@ -126,6 +157,7 @@ impl Openings {
         gate: &G,
         bench: &Bench<'_>,
         seats: Seats,
+        order: Order,
         cells: Mask,
     ) -> Done
         requires words { bench.now.counts.now.limits.words ≡ LOSS_WORDS }
@@ -143,12 +175,12 @@ impl Openings {
         let worker = seats.worker;
         // The proof takes from here that the board is one, so that its cells are below 128.
         let _rows = self.size.rows();
-        let Some(first) = middlemost(self.size, cells) else {
+        let Some(first) = order.first(self.size, cells) else {
             unreachable!()
         };
         let mut done = self.visit(rt, alloc, gate, bench, seats, first);
         let mut left = cells.without(first);
-        while let Some(cell) = middlemost(self.size, left) {
+        while let Some(cell) = order.first(self.size, left) {
             if !is_proof(&done.ended) {
                 return done;
             }

@@ -1,17 +1,43 @@
-//! In which order openings are gone through: from the middle of the board to its edge. Those in the middle are the easiest, and what
-//! is proved of them serves those at the edge: a survey of 6 by 6 takes 6,516 units so, 7,425 in cell order, 6,555 row by row from the
-//! middle, and 7,302 from the edge to the middle.
+//! In which order openings are gone through. A worker's share comes in cell order; what is open then, from the middle of the board to its
+//! edge. Those in the middle are the easiest, and what is proved of them serves those at the edge.
+//!
+//! With one worker the share is the whole board. So a survey of 6 by 6 takes 7,425 units, and one of 7 by 7 431,135. With all openings from
+//! the middle these take 6,516 and 410,395; 6 by 6 takes 6,555 row by row from the middle, and 7,302 from the edge to the middle.
 
-ghost use Rattle.std.specs.Prelude.{◌≡◌, ℕ, false, MatchOption};
-ghost use Rattle.hx_board.specs.Cells.{OnBoard};
+ghost use Rattle.std.specs.Prelude.{◌≡◌, ℕ, false, IfSome, MatchOption};
+ghost use Rattle.hx_board.specs.Cells.{OnBoard, IsLeastOn};
 ghost use Rattle.hx_board.specs.Sets.{has};
 ghost use Rattle.hx_survey.specs.Orders.{IsAmong};
 
 use hx_board::{Cell, Mask, Size};
 
+/// An order of cells.
+#[derive(Clone, Copy)]
+pub(crate) enum Order {
+    /// Row after row, and each from its first cell to its last.
+    OfCells,
+
+    /// From the middle of the board to its edge.
+    FromMiddle,
+}
+
+impl Order {
+    /// The one of these cells that comes first. None exactly where no cell of the board is among them. Which one is the middlemost no
+    /// clause says.
+    pub(crate) fn first(self, size: Size, cells: Mask) -> Option<Cell>
+        ensures among { MatchOption result ((n : ℕ) → OnBoard size n → has cells n ≡ false) (IsAmong size cells) }
+        ensures least { self ≡ Order.OfCells → IfSome result (IsLeastOn size cells) }
+    {
+        match self {
+            Order::OfCells => cells.least(size),
+            Order::FromMiddle => middlemost(size, cells),
+        }
+    }
+}
+
 /// The cell of these that is nearest to the middle of the board, and of several the first. None exactly where no cell of the board is
 /// among them.
-pub(crate) fn middlemost(size: Size, cells: Mask) -> Option<Cell>
+fn middlemost(size: Size, cells: Mask) -> Option<Cell>
     ensures { MatchOption result ((n : ℕ) → OnBoard size n → has cells n ≡ false) (IsAmong size cells) }
 {
     // The proof takes from here that the board is one, so that its cells are below 128.

@@ -38,7 +38,7 @@ pub(crate) fn table_of(
         black = marked(black, cell, winner);
         left = left.without(cell);
     }
-    Ok(Some(Table { size, black }))
+    Ok(Some(Table::new(size, black)))
 }
 
 /// The set with the cell of an opening in it where Black wins after it.

@@ -4,7 +4,8 @@ ghost use Rattle.std.specs.Prelude.{◌≡◌, IfOk, IfErr};
 ghost use Rattle.hx_settings.specs.Settings.{AreSettings};
 ghost use Rattle.hx_crew.specs.Searches.{IsSearchEnd};
 ghost use Rattle.hx_solve.specs.Causes.{HasCause, LacksMemory};
-ghost use Rattle.hx_survey.specs.Surveys.{IsSurvey, AreSmall, HasOpenings};
+ghost use Rattle.hx_openings.specs.Openings.{OpeningsAreSmall};
+ghost use Rattle.hx_survey.specs.Surveys.{IsSurvey, HasOpenings};
 ghost use Rattle.hx_survey.specs.Ends.{IsNoProof, SaysWanting};
 
 use crate::openings::Openings;
@@ -13,6 +14,7 @@ use crate::tables::Table;
 use hx_board::{Memory, Size};
 use hx_crew::{Searched, run_all};
 use hx_io::Gate;
+use hx_openings::openings_small;
 use hx_settings::Settings;
 use hx_solve::Unsolved;
 use hx_worker::Ended;
@@ -21,7 +23,8 @@ use std::sync::Wait;
 use std::thread::Threads;
 
 /// Who wins after each opening of a board of this size, by workers that share one book and one budget for all openings. Else it is
-/// answered what was wanting, as by `solve`. An opening that no worker proved is solved by a full search where it is small.
+/// answered what was wanting, as by `solve`: what the foremost of the workers' ends says (`foremost` of hx_crew). An opening that no
+/// worker proved is solved by a full search where it is small.
 ///
 /// It may wait for a worker. Before each of its turns a worker calls the gate.
 pub fn survey<G: Gate + Sync, R: Threads + Wait + Sync>(
@@ -33,10 +36,10 @@ pub fn survey<G: Gate + Sync, R: Threads + Wait + Sync>(
 ) -> Result<Table, Unsolved>
     requires { AreSettings settings }
     ensures size { IfOk result (λ table. table.size ≡ size) }
-    ensures table { IfOk result (λ table. IsSurvey size table.black) }
+    ensures table { IfOk result (λ table. IsSurvey size table.cells_of_black) }
     // A refusal carries the budget or the slots of the settings.
     ensures cause { IfErr result (HasCause settings) }
-    ensures small { AreSmall size settings.budget → IfErr result LacksMemory }
+    ensures small { OpeningsAreSmall size settings.budget → IfErr result LacksMemory }
 {
     let openings = Openings {
         size,
@@ -59,9 +62,9 @@ fn conclude(
     requires { IsSearchEnd (λ nodes index winner. HasOpenings nodes size) (Unit {0}) settings.now searched.book
         searched.totals.granted searched.ended }
     ensures size { IfOk result (λ table. table.size ≡ size) }
-    ensures table { IfOk result (λ table. IsSurvey size table.black) }
+    ensures table { IfOk result (λ table. IsSurvey size table.cells_of_black) }
     ensures cause { IfErr result (HasCause settings.now) }
-    ensures small { AreSmall size settings.now.budget → IfErr result LacksMemory }
+    ensures small { OpeningsAreSmall size settings.now.budget → IfErr result LacksMemory }
 {
     let Searched {
         book,
@@ -70,7 +73,10 @@ fn conclude(
     } = searched;
     match table_of(alloc, size, settings.budget, &book) {
         Ok(Some(table)) => Ok(table),
-        Ok(None) => Err(wanting(ended)),
+        Ok(None) => {
+            openings_small(size, settings.budget);
+            Err(wanting(ended))
+        }
         Err(Memory) => Err(Unsolved::Memory),
     }
 }

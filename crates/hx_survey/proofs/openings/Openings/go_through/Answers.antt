@@ -11,16 +11,16 @@ use Rattle.hx_survey.proofs.openings.Openings.go_through.Goals as goal
 
 pub loop-cell-smaller : goal.loop-cell-smaller
 loop-cell-smaller g c =
-    let least = c.in-Some-middlemost.ensures in
-    let small : c.in-Some-middlemost.cell < 121 =
-    on_board-small c.args.self.now.size c.in-Some-middlemost.cell c.rows-rows.ensures.valid least.on_board in
-    rw c.without-left-in-Some-middlemost.ensures.set
-    (omega (arith, count_below-remove 128 c.loop-cell.left c.in-Some-middlemost.cell least.member (omega arith)))
+    let least = c.in-Some-first.ensures.among in
+    let small : c.in-Some-first.cell < 121 =
+    on_board-small c.args.self.now.size c.in-Some-first.cell c.rows-rows.ensures.valid least.on_board in
+    rw c.without-left-in-Some-first.ensures.set
+    (omega (arith, count_below-remove 128 c.loop-cell.left c.in-Some-first.cell least.member (omega arith)))
 
 pub loop-cell-preserved : goal.loop-cell-preserved
 loop-cell-preserved g c =
-    let visit = c.visit-done-in-Some-middlemost.ensures in
-    let done = c.visit-done-in-Some-middlemost.result in
+    let visit = c.visit-done-in-Some-first.ensures in
+    let done = c.visit-done-in-Some-first.result in
     let before = c.loop-cell.invariant in
     let proof : is_proof c.loop-cell.done.ended ≡ true = search rules in
     let more =
@@ -29,10 +29,10 @@ loop-cell-preserved g c =
       book = visit.book;
       counts = visit.counts;
       nothing_held = visit.nothing_held;
-      inside = λ cell h. before.inside cell (has-remove_before c.loop-cell.left c.in-Some-middlemost.cell cell
-          (subst (λ (s : ℕ). has s cell ≡ true) c.without-left-in-Some-middlemost.ensures.set h));
-      ended = rw c.without-left-in-Some-middlemost.ensures.set
+      inside = λ cell h. before.inside cell (has-remove_before c.loop-cell.left c.in-Some-first.cell cell
+          (subst (λ (s : ℕ). has s cell ≡ true) c.without-left-in-Some-first.ensures.set h));
+      ended = rw c.without-left-in-Some-first.ensures.set
           (through-next c.args.self.now.size c.args.cells c.args.bench.now.shared.now.made.slots c.loop-cell.done.book.seen
-          done.book.seen c.loop-cell.done.counts done.counts c.loop-cell.done.ended done.ended c.loop-cell.left c.in-Some-middlemost.cell
+          done.book.seen c.loop-cell.done.counts done.counts c.loop-cell.done.ended done.ended c.loop-cell.left c.in-Some-first.cell
           more proof before.ended visit.ended);
     }
