@@ -12,7 +12,7 @@ mod clock;
 use crate::clock::since;
 use hx_board::{Colour, Mask, Position, Size, chain};
 use hx_book::{Book, Found, look_either};
-use hx_entry::Entry;
+use hx_entry::{Entry, Offer};
 use hx_tree::{Heading, Node, Rule};
 use hx_turn::turned;
 use std::alloc::{AllocError, Global};
@@ -54,7 +54,7 @@ impl Asked {
         }
     }
 
-    fn entry(&self) -> Entry
+    fn offer(&self) -> Offer
         ensures { result ≡ record {
           heading = record {
             position = self.now.position;
@@ -70,8 +70,8 @@ impl Asked {
             winner: Colour::Black,
         };
         let rule = Rule::Chain;
-        match Entry::new(Node { heading, rule }) {
-            Ok(entry) => entry,
+        match Offer::of(Node { heading, rule }) {
+            Ok(offer) => offer,
             Err(_) => unreachable!(),
         }
     }
@@ -237,7 +237,7 @@ fn look_at_all(list: &[Asked]) -> u64 {
 fn put(book: &mut Book, one: &Asked) -> u64 {
     let _size = one.position.size();
     if chain(&one.position, Colour::Black) {
-        if let Ok(index) = book.put(one.entry()) {
+        if let Ok(index) = book.put(one.offer()) {
             return u64::from(index);
         }
     }
@@ -280,7 +280,7 @@ fn insert_all(
 ) -> Result<u64, AllocError> {
     let mut sum = 0u64;
     for one in list {
-        let entry = one.entry();
+        let entry = one.offer().into_entry();
         let key = one.key();
         if map.get(&key).is_none() {
             let index = u32::try_from(entries.len()).or(Err(AllocError))?;

@@ -11,7 +11,7 @@ mod clock;
 use crate::clock::since;
 use hx_board::{Colour, Mask, Position, Size, chain};
 use hx_book::Book;
-use hx_entry::Entry;
+use hx_entry::Offer;
 use hx_share::{BookSeat, Shared};
 use hx_tree::{Heading, Node, Rule};
 use std::alloc::{AllocError, Global};
@@ -36,7 +36,7 @@ struct Asked {
 }
 
 impl Asked {
-    fn entry(&self) -> Entry
+    fn offer(&self) -> Offer
         ensures { result ≡ record {
           heading = record {
             position = self.now.position;
@@ -52,8 +52,8 @@ impl Asked {
             winner: Colour::Black,
         };
         let rule = Rule::Chain;
-        match Entry::new(Node { heading, rule }) {
-            Ok(entry) => entry,
+        match Offer::of(Node { heading, rule }) {
+            Ok(offer) => offer,
             Err(_) => unreachable!(),
         }
     }
@@ -124,7 +124,7 @@ fn store_one<R: Wait>(rt: &R, shared: &Shared, seat: &mut BookSeat, one: &Asked)
 {
     let _size = one.position.size();
     if chain(&one.position, Colour::Black) {
-        if let Ok(index) = shared.store(rt, seat, one.entry()) {
+        if let Ok(index) = shared.store(rt, seat, one.offer()) {
             return u64::from(index);
         }
     }
@@ -211,7 +211,7 @@ fn look_all<R: Threads + Wait + Sync>(
 fn put_one(book: &mut Book, one: &Asked) -> u64 {
     let _size = one.position.size();
     if chain(&one.position, Colour::Black) {
-        if let Ok(index) = book.put(one.entry()) {
+        if let Ok(index) = book.put(one.offer()) {
             return u64::from(index);
         }
     }

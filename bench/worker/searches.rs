@@ -5,8 +5,8 @@ ghost use Rattle.std.specs.List.{All};
 ghost use Rattle.hx_count.specs.Machine.{held_in_all, HasNothing};
 ghost use Rattle.hx_count.specs.Seats.{own};
 
-use crate::counting::Counting;
 use hx_board::{Colour, Memory, Position};
+use hx_book::Book;
 use hx_count::{CountSeat, Counts, Hints};
 use hx_io::RealGate;
 use hx_linkset::LinkSet;
@@ -19,7 +19,7 @@ use std::sync::Wait;
 #[derive(Drop)]
 pub(crate) struct Done {
     pub(crate) ended: Ended,
-    pub(crate) book: Counting,
+    pub(crate) book: Book,
     pub(crate) units: u64,
 }
 
@@ -41,7 +41,7 @@ fn counted(alloc: Global, budget: u64) -> Result<(Counts, CountSeat), Memory>
 pub(crate) fn search<R: Wait>(
     rt: &R,
     alloc: Global,
-    book: Counting,
+    book: Book,
     hints: &Hints,
     position: &Position,
     to_move: Colour,

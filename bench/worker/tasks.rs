@@ -2,7 +2,7 @@
 
 ghost use Rattle.std.specs.Prelude.{◌≤◌, ◌^◌};
 
-use crate::counting::Counting;
+use crate::counting::count_leading;
 use crate::searches::{Done, search};
 use hx_board::{Colour, Memory, Position, Size};
 use hx_book::Book;
@@ -165,13 +165,13 @@ fn after(position: &Position, row: u8, col: u8) -> Option<Position> {
 fn timed<R: Wait + Clock>(
     rt: &R,
     alloc: Global,
-    book: Counting,
+    book: Book,
     hints: &Hints,
     position: &Position,
     to_move: Colour,
     budget: u64,
     sum: &mut Sum,
-) -> Result<Counting, Memory>
+) -> Result<Book, Memory>
     requires { budget ≤ 2 ^ 40 }
 {
     let start = Instant::now(rt).map_err(|_| Memory)?;
@@ -185,11 +185,11 @@ fn timed<R: Wait + Clock>(
 fn search_openings<R: Wait + Clock>(
     rt: &R,
     alloc: Global,
-    book: Counting,
+    book: Book,
     hints: &Hints,
     empty: &Position,
     sum: &mut Sum,
-) -> Result<Counting, Memory> {
+) -> Result<Book, Memory> {
     let size = empty.size();
     let mut book = book;
     for row in 0..size.rows() {
@@ -226,11 +226,7 @@ pub(crate) fn run<R: Wait + Clock>(rt: &R, alloc: Global, task: &Task) -> Result
     };
     let budget = task.budget.min(MANY_UNITS);
     let hints = Hints::with_words(alloc, HINTS)?;
-    let book = Counting {
-        book: Book::with_slots(alloc, SLOTS)?,
-        headings: Vec::new(alloc),
-        leading: 0,
-    };
+    let book = Book::with_slots(alloc, SLOTS)?;
     let empty = Position::empty(size);
     let book = match task.positions {
         Positions::Empty => timed(
@@ -258,7 +254,8 @@ pub(crate) fn run<R: Wait + Clock>(rt: &R, alloc: Global, task: &Task) -> Result
         },
         Positions::EachOpening => search_openings(rt, alloc, book, &hints, &empty, &mut sum)?,
     };
-    sum.nodes = book.book.held();
-    sum.leading = book.leading;
+    sum.nodes = book.held();
+    let entries = book.into_entries();
+    sum.leading = count_leading(entries.as_slice());
     Ok(sum)
 }

@@ -1,6 +1,6 @@
 //! A book beside a list that is scanned from the front: what is found, where a node comes, and when it is refused.
 
-use crate::made_nodes::entry_by_chain;
+use crate::made_nodes::offer_by_chain;
 use hx_board::Colour::{Black, White};
 use hx_board::{Colour, Position, Size, chain};
 use hx_book::Book;
@@ -33,7 +33,7 @@ fn put_chain(book: &mut Book, place: &Place, winner: Colour) -> Option<Option<u3
     if !chain(&place.position, winner) {
         return None;
     }
-    match book.put(entry_by_chain(place.position, place.to_move, winner)) {
+    match book.put(offer_by_chain(place.position, place.to_move, winner)) {
         Ok(index) => Some(Some(index)),
         Err(_refusal) => Some(None),
     }

@@ -1,10 +1,10 @@
-//! A node by a chain, and its entry.
+//! A node by a chain, and its offer.
 
 ghost use Rattle.std.specs.Prelude.{◌≡◌};
 ghost use Rattle.hx_tree.specs.declared.nodes.Rule.TheVariants.{Chain};
 
 use hx_board::{Colour, Position};
-use hx_entry::Entry;
+use hx_entry::Offer;
 use hx_tree::{Heading, Node, Rule};
 
 pub(crate) fn by_chain(position: Position, to_move: Colour, winner: Colour) -> Node
@@ -22,14 +22,14 @@ pub(crate) fn by_chain(position: Position, to_move: Colour, winner: Colour) -> N
     Node { heading, rule }
 }
 
-pub(crate) fn entry_by_chain(position: Position, to_move: Colour, winner: Colour) -> Entry
+pub(crate) fn offer_by_chain(position: Position, to_move: Colour, winner: Colour) -> Offer
     ensures { result ≡ record {
       heading = record { position = position; to_move = to_move; winner = winner };
       rule = Chain;
     } }
 {
-    match Entry::new(by_chain(position, to_move, winner)) {
-        Ok(entry) => entry,
+    match Offer::of(by_chain(position, to_move, winner)) {
+        Ok(offer) => offer,
         Err(_) => unreachable!(),
     }
 }

@@ -1,6 +1,6 @@
 //! A book of plain nodes at one node: the tree of what it was given has that node alone.
 
-use crate::made_nodes::{by_chain, entry_by_chain};
+use crate::made_nodes::{by_chain, offer_by_chain};
 use hx_board::Colour::{Black, White};
 use hx_board::{Size, chain};
 use hx_book::{PlainBook, Proofs};
@@ -14,7 +14,7 @@ fn a_plain_book_of_one_node(rt: HostRuntime) -> Result<(), Fail> {
     let won = numbered(size, 1).ok_or("position")?;
     assert!(rt; chain(&won, Black));
     let mut book = PlainBook::with_slots(rt.alloc(), 1).or(Err("memory"))?;
-    let Ok(index) = book.store(&rt, entry_by_chain(won, White, Black)) else {
+    let Ok(index) = book.store(&rt, offer_by_chain(won, White, Black)) else {
         return Err("slot".into());
     };
     let tree = book.into_tree(index).or(Err("memory"))?;

@@ -1,6 +1,6 @@
 //! Entries that serve more positions than their own, beside a list whose boards are compared cell by cell.
 
-use crate::made_nodes::entry_by_chain;
+use crate::made_nodes::offer_by_chain;
 use hx_board::Colour::{Black, White};
 use hx_board::{Colour, Position, Size, chain};
 use hx_book::Book;
@@ -58,8 +58,8 @@ fn put_chain(book: &mut Book, held: &mut Vec<Claim>, claim: &Claim) -> Result<()
         return Ok(());
     }
     let before = book.held();
-    let entry = entry_by_chain(claim.position, claim.to_move, claim.winner);
-    if book.put(entry).is_ok() && book.held() != before {
+    let offer = offer_by_chain(claim.position, claim.to_move, claim.winner);
+    if book.put(offer).is_ok() && book.held() != before {
         held.push(*claim)?;
     }
     Ok(())

@@ -9,7 +9,7 @@ ghost use Rattle.hx_book.specs.Puts.{PutsLater};
 use hx_board::Colour::{Black, White};
 use hx_board::{Position, chain};
 use hx_book::{Book, NoSlot};
-use hx_entry::Entry;
+use hx_entry::Offer;
 use hx_share::{BookSeat, Shared};
 use hx_tree::{Heading, Node, Rule};
 use std::alloc::Global;
@@ -64,8 +64,8 @@ pub(crate) fn close_two(
     close(shared, seats, 2)
 }
 
-/// The entry that Black wins the position by its chain, with White to move.
-fn by_chain(position: Position) -> Entry
+/// The offer of a node by which Black wins the position by its chain, with White to move.
+fn by_chain(position: Position) -> Offer
     ensures { result ≡ record {
       rule = Chain;
       heading = record { position = position; to_move = White; winner = Black };
@@ -77,8 +77,8 @@ fn by_chain(position: Position) -> Entry
         winner: Black,
     };
     let rule = Rule::Chain;
-    match Entry::new(Node { heading, rule }) {
-        Ok(entry) => entry,
+    match Offer::of(Node { heading, rule }) {
+        Ok(offer) => offer,
         Err(_) => unreachable!(),
     }
 }
