@@ -221,7 +221,7 @@ fn look<R: Wait>(rt: &R, bench: &Bench<'_>, book: BookSeat, position: &Position)
     requires { book.made ≡ bench.now.shared.now.made }
     ensures book { result.book.made ≡ bench.now.shared.now.made }
     ensures grew { Extends result.book.seen book.seen }
-    ensures found { FindsEither false book.seen result.book.seen position.now White result.either }
+    ensures found { FindsEither book.seen result.book.seen position.now White result.either }
 {
     let mut desk = Desk {
         shared: bench.shared,

@@ -73,7 +73,7 @@ module _ (old : List Node) (board other : Board) (mover : Colour) (wider : Wider
 
   -- it is one of the turned wide position, so one of the two is there
   pub either_there : (new : List Node) (wide : Board) → Extends new old → ((twice : Board) → IsTurned wide twice → twice ≡ wider.position)
-      → ¬ IsNeitherFound false old new wide mover
+      → ¬ IsNeitherFound old new wide mover
   either_there new wide grown back neither =
       let same : neither.turned ≡ wider.position = back neither.turned neither.is_turned in
       neither.none wider.found.index (subst (λ (b : Board). IsEntry new b mover wider.found.index) (sym same)

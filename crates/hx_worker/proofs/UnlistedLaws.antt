@@ -5,11 +5,11 @@ use Rattle.hx_board.specs.Positions.{Board}
 use Rattle.hx_tree.specs.declared.nodes.Node.{Node}
 use Rattle.hx_tree.specs.Entries.{Extends}
 use Rattle.hx_tree.proofs.EntryLaws.{seen-now, seen-within}
-use Rattle.hx_book.specs.EitherEntry.{IsNeitherFound}
+use Rattle.hx_nodes.specs.Missing.{LacksEither}
 use Rattle.hx_worker.specs.Ends.{WasUnlisted}
 
 pub neither-unlisted : (plain : Bool) (old new : List Node) (board : Board) (mover : Colour) → Extends new old
-    → IsNeitherFound plain old new board mover → WasUnlisted plain old new board mover
+    → LacksEither plain old new board mover → WasUnlisted plain old new board mover
 neither-unlisted true old new board mover grown missed = missed
 neither-unlisted false old new board mover grown neither = record {
   missed = neither.missed;

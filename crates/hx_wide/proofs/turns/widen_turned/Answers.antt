@@ -1,10 +1,10 @@
 use Rattle.std.proofs.Common.{◌≡◌, Bool, false, sym, ◌∙◌, inl, inr, ⊎_elim, subst}
 use Rattle.hx_tree.specs.Entries.{Extends}
-use Rattle.hx_book.specs.EitherEntry.{IsNeitherFound}
 use Rattle.hx_book.specs.WiderEntry.{IsWiderFound}
 use Rattle.hx_nodes.specs.declared.stored.Stored.{Stored}
 use Rattle.hx_wide.specs.Missing.{WasUnservedByEach}
 use Rattle.hx_nodes.specs.Stored.{MissingFor, HadMemory}
+use Rattle.hx_nodes.specs.Missing.{LacksEither}
 use Rattle.hx_tree.proofs.EntryLaws.{extends-itself, extends-on}
 use Rattle.hx_book.proofs.SightLaws.{grows-on}
 use Rattle.hx_wide.proofs.LackingLaws.{unserved_by_each-within}
@@ -39,7 +39,7 @@ unreachable-requires g c =
     let found : IsWiderFound false list c.turned-other.result c.args.to_move wider.found.winner wider =
     subst (λ (kind : Bool). IsWiderFound kind list c.turned-other.result c.args.to_move wider.found.winner wider) ordinary
     c.in-Some-look_wider_either.ensures.found in
-    let Cause : Bool → Type 0 = λ kind. IsNeitherFound kind list new wide c.args.to_move in
+    let Cause : Bool → Type 0 = λ kind. LacksEither kind list new wide c.args.to_move in
     ⊎_elim
     (λ missing. either_there list c.args.position.now c.turned-other.result c.args.to_move wider found new wide
     c.store_turned.ensures.grew.seen c.turned-wide.ensures.back
