@@ -1,4 +1,5 @@
 use Rattle.std.proofs.Common.{◌≡◌, List, ℕ, sym, ap, ◌∙◌, subst, arith}
+use Rattle.hx_board.specs.Cells.{Extent}
 use Rattle.hx_io.specs.Sinks.{append, TakesFront}
 use Rattle.hx_io.proofs.SinkLaws.{append-nil}
 use Rattle.hx_chart.specs.Texts.{letters}
@@ -22,7 +23,7 @@ returns-in-Err g c =
     let same = is_letter black row col c.in-Some.ensures.1 c.winner.ensures c.letter_of.ensures in
     record {
       bytes = cut_short (letters black row) (letter_at black row) (letters-next black row) _ _ _ col c.args.table.now.size.cols
-          (omega (arith, c.loop-col-test.true, c.cols-col-end.ensures.value)) c.loop-col.invariant.out
+          (omega (arith, c.loop-col-test.true, c.cols-col-end.ensures.value, ap (λ (s : Extent). s.cols) c.size-size.ensures)) c.loop-col.invariant.out
           (subst front same c.in-Err.ensures.bytes);
       cause = record {
         later = omega (arith, c.loop-col.invariant.later, c.in-Err.ensures.cause.later);

@@ -1,4 +1,5 @@
 use Rattle.std.proofs.Common.{sym, ap, ◌∙◌, arith}
+use Rattle.hx_board.specs.Cells.{Extent}
 use Rattle.hx_io.specs.Sinks.{append}
 use Rattle.hx_io.proofs.SinkLaws.{append-nil}
 use Rattle.hx_chart.specs.Texts.{row_line, row_lines}
@@ -19,7 +20,7 @@ returns-in-Err g c = record {
   bytes = cut_short (row_lines c.args.table.now.cells_of_black c.args.table.now.size.cols)
       (row_line c.args.table.now.cells_of_black c.args.table.now.size.cols)
       (row_lines-next c.args.table.now.cells_of_black c.args.table.now.size.cols) _ _ _ c.loop-row.row c.args.table.now.size.rows
-      (omega (arith, c.loop-row-test.true, c.rows-row-end.ensures.value)) c.loop-row.invariant.out c.in-Err.ensures.bytes;
+      (omega (arith, c.loop-row-test.true, c.rows-row-end.ensures.value, ap (λ (s : Extent). s.rows) c.size.ensures)) c.loop-row.invariant.out c.in-Err.ensures.bytes;
   cause = record {
     later = omega (arith, c.loop-row.invariant.later, c.in-Err.ensures.cause.later);
     failed = omega (arith, c.loop-row.invariant.later, c.in-Err.ensures.cause.failed);
