@@ -51,7 +51,8 @@ class Browser:
         self.to_browser, self.from_browser = to_browser, from_browser
 
     def begin(self):
-        """Opens a page, and goes on with it alone."""
+        """Opens a page, and goes on with it alone. What is downloaded comes to its folder."""
+        self.call("Browser.setDownloadBehavior", behavior="allow", downloadPath=self.folder)
         page = self.call("Target.createTarget", url="about:blank")["targetId"]
         self.session = self.call("Target.attachToTarget", targetId=page, flatten=True)["sessionId"]
         self.call("Page.enable")

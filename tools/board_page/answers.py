@@ -135,7 +135,7 @@ class Answers(http.server.BaseHTTPRequestHandler):
 
     def send_error(self, code, message=None, explain=None):
         """What is no request at all is told as text too."""
-        self.request_version = self.request_version if hasattr(self, "request_version") else "HTTP/1.0"
+        self.request_version = "HTTP/1.0"  # whatever it says
         self.reply(code, "text/plain", f"{http.HTTPStatus(code).phrase}\n")
 
     def version_string(self):

@@ -9,6 +9,7 @@ const STONES = ["black", "white"];
 const MARKED = { "+": "wins", "-": "loses", "?": "left-open", "*": "in-carrier" };
 const SIGNS = { "-": "\u2212" };
 const SPOKEN = { "+": "a move here wins", "-": "a move here loses", "?": "a move here was left open", "*": "in the carrier" };
+const LARGEST = 1.8; // how much larger than drawn a small board may be
 const STEPS = { ArrowLeft: [0, -1], ArrowRight: [0, 1], ArrowUp: [-1, 0], ArrowDown: [1, 0] };
 
 function svgElement(name, attributes) {
@@ -36,6 +37,7 @@ export class Board {
 
   make() {
     this.svg.querySelector("style").remove();
+    this.svg.style.maxWidth = `${LARGEST * Number(this.svg.getAttribute("width"))}px`;
     this.svg.setAttribute("role", "group");
     this.svg.setAttribute("aria-label", `The board, ${this.rows} by ${this.columns}. Arrow keys go from cell to cell.`);
     for (const text of this.svg.querySelectorAll("text")) text.setAttribute("aria-hidden", "true");

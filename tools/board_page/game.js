@@ -5,7 +5,7 @@ import { moveTold } from "./position.js";
 
 export class Game {
   constructor(page, { winner, tree, answers, over }) {
-    Object.assign(this, { page, winner, tree, loser: other[winner], moves: [], isOver: over, isWaiting: false, said: "", begin: page.shown.at });
+    Object.assign(this, { page, winner, tree, loser: other[winner], moves: [], isOver: over, isWaiting: false, said: "", last: "" });
     if (answers.length) this.put(winner, answers[0]);
     this.said = this.told();
   }
@@ -36,6 +36,7 @@ export class Game {
     this.say("");
     const told = await this.page.ask({ question: "play", tree: this.tree, moves: [...this.moves, cell] });
     this.isWaiting = false;
+    if (this.page.mode !== this) return; // the game was left
     if (told.phase === "done") this.take(cell, told);
     else this.takeBack(told);
   }
@@ -44,7 +45,6 @@ export class Game {
     this.moves.push(cell);
     this.put(this.winner, answers.at(-1));
     this.isOver = over;
-    this.page.say(this.told());
     this.say(this.told());
   }
 
@@ -54,9 +54,13 @@ export class Game {
     this.say(told.why || "No answer came.");
   }
 
+  canUndo() {
+    return this.moves.length > 0 && !this.isWaiting;
+  }
+
   // The last move and its answer.
   undo() {
-    if (!this.moves.length || this.isWaiting) return;
+    if (!this.canUndo()) return;
     this.moves.pop();
     this.isOver = false;
     this.page.shown.go(this.page.shown.at - 2);
@@ -70,7 +74,7 @@ export class Game {
   }
 
   marks() {
-    return { last: this.last || "" };
+    return { last: this.last };
   }
 
   shown() {
@@ -79,7 +83,7 @@ export class Game {
       make("p", [`${colourName[this.winner]} plays by a tree that was accepted, so he wins whatever you play.`]),
       make("p", [this.said], { id: "game-said", role: "status" }),
       make("p", [
-        button("Take back", () => this.undo(), { disabled: !this.moves.length }),
+        button("Take back", () => this.undo(), { disabled: !this.canUndo() }),
         button("End the game", () => this.page.enter(null)),
       ], { className: "row" }));
   }

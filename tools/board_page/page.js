@@ -11,6 +11,7 @@ import { Desk, call } from "./questions.js";
 import { Why } from "./why.js";
 
 const DOING = { solve: "hx solve searches", check: "hx check reads the tree", play: "hx play answers", template: "hx template tries", "": "it begins" };
+const ACCEPTED = "hx check accepted the tree that proves it.";
 const TICK = 100; // milliseconds between two looks at the clock
 const RAN_OUT = { budget: "units were used up", proofs: "proved positions were kept, and there is no room for more" };
 
@@ -81,8 +82,12 @@ class Page {
   }
 
   undo() {
-    if (this.mode instanceof Game) this.mode.undo();
+    if (this.mode?.undo) this.mode.undo();
     else this.go(this.shown.at - 1);
+  }
+
+  canUndo() {
+    return this.mode?.undo ? this.mode.canUndo() : this.shown.canGo(this.shown.at - 1);
   }
 
   emptyBoard() {
@@ -142,8 +147,16 @@ class Page {
   take(told) {
     this.found = told.tree ? told : null;
     this.signs = told.marks || (told.move ? { [told.move]: "+" } : {});
-    this.say(told.marks && !told.chain ? this.movesTold(told) : this.whoTold(told), told.winner && told.tree);
+    const isOfMoves = told.marks && !told.chain;
+    const words = isOfMoves ? this.movesTold(told) : this.whoTold(told);
+    this.say(words, [isOfMoves ? this.winsListed(told) : "", told.tree ? ACCEPTED : ""].filter(Boolean).join(" "));
     this.render();
+  }
+
+  // The winning moves, where there are so many that the answer only counts them.
+  winsListed({ winner, marks }) {
+    const wins = this.position.cells.filter((cell) => marks[cell] === "+");
+    return winner === this.position.mover && wins.length > 1 ? `By ${wins.join(" ")}.` : "";
   }
 
   whoTold({ winner, chain, move, ...open }) {
@@ -165,7 +178,7 @@ class Page {
     if (told.winner === other[mover]) return this.whoTold(told);
     const rest = opens.length ? ` ${this.openTold(counted(opens.length, "move"), told)}` : "";
     if (!wins.length) return rest.trim();
-    const alone = wins.length === 1 && !opens.length ? `${wins[0]} alone` : `${wins.length} of ${counted(cells.length, "move")}: ${wins.join(" ")}`;
+    const alone = wins.length === 1 && !opens.length ? `${wins[0]} alone` : `${wins.length} of ${counted(cells.length, "move")}`;
     return `${colourName[mover]} wins, by ${alone}.${rest}`;
   }
 
@@ -192,7 +205,7 @@ class Page {
     if (!told) return;
     if (!told.winner) this.say(this.openTold("Who wins", told));
     else this.enter(new Game(this, told));
-    if (told.winner) this.say(this.mode.told(), true);
+    if (told.winner) this.say(`${colourName[told.winner]} wins.`, ACCEPTED);
   }
 
   askPattern(template) {
@@ -204,9 +217,9 @@ class Page {
 
   // ---- What is said
 
-  say(words, isProved) {
+  say(words, more = "") {
     byId("answer").textContent = words;
-    byId("proof").textContent = isProved ? "hx check accepted the tree that proves it." : "";
+    byId("proof").textContent = more;
   }
 
   showProgress(told) {
@@ -255,7 +268,7 @@ class Page {
     byId("pattern-tools").hidden = !isPattern;
     byId("pattern").hidden = !isPattern;
     document.querySelector(`[name=mover][value=${this.position.mover}]`).checked = true;
-    byId("undo").disabled = this.mode instanceof Game ? !this.mode.moves.length : !this.shown.canGo(this.shown.at - 1);
+    byId("undo").disabled = !this.canUndo();
     byId("redo").disabled = !this.shown.canGo(this.shown.at + 1);
   }
 

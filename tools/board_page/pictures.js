@@ -11,6 +11,7 @@ async function styles() {
 export async function svgOf(svg) {
   const copy = svg.cloneNode(true);
   copy.querySelector(".ring").remove();
+  copy.removeAttribute("style"); // how large it may be on the page
   copy.setAttribute("role", "img");
   copy.setAttribute("aria-label", "the board");
   for (const cell of copy.querySelectorAll("[data-cell]")) ["role", "tabindex", "aria-label"].forEach((name) => cell.removeAttribute(name));

@@ -5,6 +5,13 @@ import { button, colourName, fill, make } from "./elements.js";
 import { moveTold } from "./position.js";
 import { readTree } from "./reader.js";
 
+// Why a cell that was filled in needs no line.
+const whyFilled = {
+  other: (cell, winner, opponent) => `${cell} was given to ${opponent}: ${winner} wins even so.`,
+  dead: (cell, winner) => `${cell} is dead for ${winner}: whoever takes it, nothing changes.`,
+  pair: (cell, winner, opponent, partner) => `${cell} and ${partner} are a captured pair: after ${cell} ${winner} takes ${partner}.`,
+};
+
 export class Why {
   constructor(page, tree, { wide, edge }) {
     document.getElementById("tree").textContent = tree;
@@ -32,9 +39,11 @@ export class Why {
   }
 
   noteFills(reader, { fills }, winner, filled) {
+    const players = [colourName[winner], colourName[reader.other[winner]]];
     for (const [kind, named] of fills) {
-      const text = reader.fillTold[kind](named, colourName[winner], colourName[reader.other[winner]]);
-      named.split(" ").forEach((cell) => filled.set(cell, text));
+      const told = reader.fillTold[kind](named, ...players);
+      const cells = named.split(" ");
+      cells.forEach((cell, place) => filled.set(cell, { told, why: whyFilled[kind](cell, ...players, cells[1 - place]) }));
     }
   }
 
@@ -48,7 +57,7 @@ export class Why {
 
   // What is said of a click. Where it is a move of the tree's, the board goes on.
   clicked(record, cell) {
-    if (this.here.filled.has(cell)) return `${this.here.filled.get(cell)}, so no line answers it.`;
+    if (this.here.filled.has(cell)) return this.here.filled.get(cell).why;
     return this.byRule[record.rule].call(this, record, cell);
   }
 
@@ -124,6 +133,14 @@ export class Why {
     this.page.render();
   }
 
+  canUndo() {
+    return this.path.length > 1;
+  }
+
+  undo() {
+    if (this.canUndo()) this.back(this.path.length - 2);
+  }
+
   // ---- What is shown
 
   get position() {
@@ -174,7 +191,7 @@ export class Why {
   }
 
   fillsTold() {
-    const lines = [...new Set(this.here.filled.values())];
+    const lines = [...new Set([...this.here.filled.values()].map(({ told }) => told))];
     return lines.length ? [make("h3", ["Filled in"]), make("ul", lines.map((line) => make("li", [line])))] : [];
   }
 
