@@ -13,21 +13,23 @@ import subprocess
 import tempfile
 import time
 
+from boards import PATIENCE, STEP, TooLate
+
 BROWSERS = ("chromium", "chromium-browser", "google-chrome")
-PATIENCE = 120  # seconds for an answer of the browser, and for what a page is to come to
-STEP = 0.05  # seconds between two looks at a page
 # By the names of keys: the code by which the browser knows each, and the text that it types.
 KEYS = {"Tab": (9, ""), "Enter": (13, "\r"), " ": (32, " "), "ArrowLeft": (37, ""), "ArrowUp": (38, ""), "ArrowRight": (39, ""),
         "ArrowDown": (40, ""), "z": (90, ""), "y": (89, "")}
 SHIFT, CONTROL = 8, 2
+# What goes wrong in a page, as texts.
+COLLECTED = """window.wrongs = [];
+addEventListener("error", (event) => wrongs.push(`${event.message} ${event.filename}:${event.lineno}`));
+addEventListener("unhandledrejection", (event) => wrongs.push(String(event.reason?.stack || event.reason)));
+addEventListener("securitypolicyviolation", (event) => wrongs.push(`${event.violatedDirective} ${event.blockedURI}`));
+"""
 
 
 class NoBrowser(Exception):
     """The browser does not start, or does not answer."""
-
-
-class TooLate(Exception):
-    """What a page was to come to did not come."""
 
 
 def found_browser(words):
@@ -56,6 +58,7 @@ class Browser:
         page = self.call("Target.createTarget", url="about:blank")["targetId"]
         self.session = self.call("Target.attachToTarget", targetId=page, flatten=True)["sessionId"]
         self.call("Page.enable")
+        self.call("Page.addScriptToEvaluateOnNewDocument", source=COLLECTED)
 
     def close(self):
         with contextlib.suppress(ProcessLookupError):

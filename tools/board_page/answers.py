@@ -9,6 +9,7 @@ import http.server
 import io
 import json
 import pathlib
+import re
 import time
 
 from tree_page.pictures import EDGE, WIDE, picture
@@ -202,11 +203,11 @@ def read_reader(server):
 
 
 def board_at(server, rest):
-    """The empty board of ROWS/COLUMNS, as the pages of trees draw it."""
+    """The empty board of ROWS/COLUMNS, as the pages of trees draw it. How it looks the page says, in which no style may stand."""
     words = rest.split("/")
     require(len(words) == 2 and all(word.isascii() and word.isdigit() and len(word) < 3 for word in words), "rows and columns")
     size = asked.size_in(dict(zip(("rows", "columns"), map(int, words))))
-    return TYPES[".svg"], picture(size, {"chain": ""})
+    return TYPES[".svg"], re.sub("<style>.*?</style>\n", "", picture(size, {"chain": ""}), flags=re.S)
 
 
 def tree_at(server, rest):

@@ -36,7 +36,6 @@ export class Board {
   }
 
   make() {
-    this.svg.querySelector("style").remove();
     this.svg.style.maxWidth = `${LARGEST * Number(this.svg.getAttribute("width"))}px`;
     this.svg.setAttribute("role", "group");
     this.svg.setAttribute("aria-label", `The board, ${this.rows} by ${this.columns}. Arrow keys go from cell to cell.`);

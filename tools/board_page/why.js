@@ -165,6 +165,7 @@ export class Why {
     this.marked = {};
     this.here.reader.draw(record);
     this.page.board.nameByMarks();
+    document.getElementById("panel").dataset.node = this.here.number;
     fill("panel", ...this.told());
   }
 
