@@ -393,8 +393,11 @@ def try_page(trials, page, folder):
 
 
 def try_whys(trials, page):
-    came = [try_why(trials, page, *asked) for asked in ((RACE_LINK, 4), (BRIDGE_LINK, 4), ("#5x5;black;" + "/".join(["....."] * 5), 5))]
-    trials.want("whether a node with lines was looked at, and a line was gone down", True, any(looked and steps > 1 for looked, steps in came))
+    """The third position's tree has lines of each kind at its first node, and the second one's is gone down through some nodes."""
+    came = [try_why(trials, page, *asked) for asked in (
+        (RACE_LINK, 4), ("#5x5;white;...../b..../...../...../.....", 5), ("#6x6;white;....../..b.../....../....../....../......", 6))]
+    trials.want("whether nodes with lines were looked at, and how far lines were gone down", [(False, True), (True, True), (True, True)],
+                [(looked, steps > 0) for looked, steps in came])
 
 
 def try_browser(trials, words, folder):
