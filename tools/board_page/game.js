@@ -54,6 +54,10 @@ export class Game {
     this.say(told.why || "No answer came.");
   }
 
+  get hint() {
+    return `A click on a cell is your move, as ${colourName[this.loser]}.`;
+  }
+
   canUndo() {
     return this.moves.length > 0 && !this.isWaiting;
   }

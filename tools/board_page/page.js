@@ -267,6 +267,8 @@ class Page {
     byId("click-tools").hidden = this.mode !== null;
     byId("pattern-tools").hidden = !isPattern;
     byId("pattern").hidden = !isPattern;
+    byId("hint").hidden = !this.mode?.hint;
+    byId("hint").textContent = this.mode?.hint || "";
     document.querySelector(`[name=mover][value=${this.position.mover}]`).checked = true;
     byId("undo").disabled = !this.canUndo();
     byId("redo").disabled = !this.shown.canGo(this.shown.at + 1);

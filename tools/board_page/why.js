@@ -15,7 +15,7 @@ const whyFilled = {
 export class Why {
   constructor(page, tree, { wide, edge }) {
     document.getElementById("tree").textContent = tree;
-    Object.assign(this, { page, start: page.position, said: "" });
+    Object.assign(this, { page, start: page.position, said: "", marked: {} });
     const hooks = { cells: page.board.cells, cellWide: wide, cellEdge: edge, linkTo: (number) => this.linkTo(number) };
     this.readers = [readTree(hooks, false), readTree(hooks, true)];
     this.path = [this.arrived(this.readers[0].root, false, this.start, "Start", new Map())];
@@ -131,6 +131,10 @@ export class Why {
     this.path.length = at + 1;
     this.said = "";
     this.page.render();
+  }
+
+  get hint() {
+    return "A click on a cell goes down its line, or says why none answers it.";
   }
 
   canUndo() {
