@@ -37,36 +37,36 @@ class Page:
             self.browser.click(selector if selector[0] in "#.[" else f"[data-cell={selector}]")
 
     def text(self, selector):
-        return self.browser.value(f"document.querySelector({json.dumps(selector)}).innerText.trim()")
+        return self.browser.value(f"textOf({json.dumps(selector)})")
 
     def wait_text(self, selector, part):
         try:
-            self.wait(f"document.querySelector({json.dumps(selector)}).innerText.includes({json.dumps(part)})")
+            self.wait(f"textOf({json.dumps(selector)}).includes({json.dumps(part)})")
         except TooLate:
             raise TooLate(f"{part!r} does not come in {selector}, which has {self.text(selector)!r}") from None
 
     def cells(self, mark):
         """The cells that have a mark."""
-        return self.browser.value(f"[...document.querySelectorAll('.cell.{mark}')].map((cell) => cell.dataset.cell)")
+        return self.browser.value(f"namesOf('.cell.{mark}')")
 
     def wait_stones(self, black, white):
-        wanted = json.dumps([black, white])
-        self.wait(f"JSON.stringify(['black', 'white'].map((one) => [...document.querySelectorAll(`.cell.${{one}}`)].map((cell) => cell.dataset.cell)))"
-                  f" === {json.dumps(json.dumps([black, white], separators=(',', ':')))}", f"the stones {wanted}")
+        wanted = json.dumps([black, white], separators=(",", ":"))
+        self.wait(f"JSON.stringify([namesOf('.cell.black'), namesOf('.cell.white')]) === {json.dumps(wanted)}",
+                  f"the stones {wanted}")
 
     def signs(self):
-        return self.browser.value("Object.fromEntries([...document.querySelectorAll('[data-cell]')].map((cell) => [cell.dataset.cell,"
-                                  " cell.querySelector('.mark').textContent]).filter(([, sign]) => sign))")
+        return self.browser.value("Object.fromEntries(namesOf('[data-cell]').map((name) => [name,"
+                                  " one(`[data-cell=${name}] .mark`).textContent]).filter(([, sign]) => sign))")
 
     def label(self, cell):
-        return self.browser.value(f"document.querySelector('[data-cell={cell}]').getAttribute('aria-label')")
+        return self.browser.value(f"one('[data-cell={cell}]').getAttribute('aria-label')")
 
     def moves(self):
         return self.browser.value("[...document.querySelectorAll('#moves button')].map((one) => one.textContent)")
 
     def paste(self, text):
-        self.browser.value("document.querySelector('#paste').open = true")
-        self.browser.value(f"document.querySelector('#pasted').value = {json.dumps(text)}")
+        self.browser.value("one('#paste').open = true")
+        self.browser.value(f"one('#pasted').value = {json.dumps(text)}")
         self.click("#read")
 
     def made(self, name):
@@ -86,22 +86,25 @@ def try_stones(trials, page):
     page.click("d4", "c4")
     page.wait_stones(["d4"], ["c4"])
     trials.want("the list of moves", ["Start", "Black d4", "White c4"], page.moves())
-    trials.want("the address", "#7x7;black;......./......./......./..wb.../......./......./.......", page.browser.value("location.hash"))
+    trials.want("the address", "#7x7;black;......./......./......./..wb.../......./......./.......",
+                page.browser.value("location.hash"))
     page.click("#undo")
     page.wait_stones(["d4"], [])
     page.click("#redo")
     page.wait_stones(["d4"], ["c4"])
-    for tool, cell, stones in (("black", "a1", (["a1", "d4"], ["c4"])), ("white", "a1", (["d4"], ["a1", "c4"])), ("away", "a1", (["d4"], ["c4"])),
-                               ("away", "a2", (["d4"], ["c4"])), ("turns", "d4", (["d4"], ["c4"])), ("turns", "g7", (["d4", "g7"], ["c4"]))):
-        page.browser.value(f"document.querySelector('[name=tool][value={tool}]').click()")
+    for tool, cell, stones in (("black", "a1", (["a1", "d4"], ["c4"])), ("white", "a1", (["d4"], ["a1", "c4"])),
+                               ("away", "a1", (["d4"], ["c4"])),
+                               ("away", "a2", (["d4"], ["c4"])), ("turns", "d4", (["d4"], ["c4"])),
+                               ("turns", "g7", (["d4", "g7"], ["c4"]))):
+        page.browser.value(f"one('[name=tool][value={tool}]').click()")
         page.click(cell)
         page.wait_stones(*stones)
     page.click("#moves li:first-child button")
     page.wait_stones([], [])
-    page.browser.value("document.querySelector('[name=mover][value=white]').click()")
+    page.browser.value("one('[name=mover][value=white]').click()")
     page.click("b2")
     page.wait_stones([], ["b2"])
-    page.browser.value("[document.querySelector('#new-board').open, document.querySelector('#rows').value, document.querySelector('#columns').value] = [true, 3, 11]")
+    page.browser.value("[one('#new-board').open, one('#rows').value, one('#columns').value] = [true, 3, 11]")
     page.click("#empty")
     page.wait("document.querySelectorAll('#board [data-cell]').length === 33")
     page.click("#undo")
@@ -118,13 +121,14 @@ def try_questions(trials, page):
     trials.want("the sign of the winning move", {"b3": "+"}, page.signs())
     page.click("#ask-moves")
     page.wait_text("#answer", "Black wins, by b3 alone.")
-    page.wait("document.querySelectorAll('.cell.loses').length === 7")
+    page.wait("namesOf('.cell.loses').length === 7")
     trials.want("the signs", {"b3": "+", **dict.fromkeys("b1 c1 d1 c3 d3 b4 c4".split(), MINUS)}, page.signs())
-    trials.want("what is said of cells", ["b3, empty, a move here wins", "c3, empty, a move here loses", "a1, Black's stone"],
+    trials.want("what is said of cells", ["b3, empty, a move here wins", "c3, empty, a move here loses",
+                                          "a1, Black's stone"],
                 [page.label(cell) for cell in ("b3", "c3", "a1")])
     page.click("c3")
     page.wait_stones(["a1", "a2", "a3", "c3", "d4"], ["b2", "c2", "d2", "a4"])
-    page.wait("document.querySelector('#answer').innerText === ''")
+    page.wait("textOf('#answer') === ''")
     trials.want("signs of another position", {}, page.signs())
     page.open(BRIDGE_LINK, 4)
     page.click("#ask-who")
@@ -133,17 +137,18 @@ def try_questions(trials, page):
 
 def try_stop(trials, page):
     page.open("#11x11;black;" + "/".join(["." * 11] * 11), 11)
-    page.browser.value("document.querySelector('#budget').value = 1099511627776")
+    page.browser.value("one('#budget').value = 1099511627776")
     page.click("#ask-who")
-    page.wait("/^[1-9][0-9.]* s: hx solve searches/.test(document.querySelector('#progress').innerText)", "the seconds of a question")
+    page.wait("/^[1-9][0-9.]* s: hx solve searches/.test(textOf('#progress'))",
+              "the seconds of a question")
     child, = page.board.children()
     page.click("#stop")
     page.wait_text("#answer", "Stopped: it was stopped.")
     trials.want("the program that was stopped", False, is_there(child))
-    page.browser.value("document.querySelector('#budget').value = 0")
+    page.browser.value("one('#budget').value = 0")
     page.click("#ask-who")
     page.wait_text("#answer", "Who wins was left open: 0 units were used up. Raise --budget")
-    page.browser.value("document.querySelector('#budget').value = 1099511627776")
+    page.browser.value("one('#budget').value = 1099511627776")
     page.click("#ask-moves")
     child, = wait_for(page.board.children)
     page.click("f6")
@@ -164,25 +169,26 @@ def why_wanted(record, cell):
         return None
     if kind:
         return "Dominated: "
-    return f"A threat stands after {cell}: " if cell in record["carrier"].split() else f"{cell} is outside all threats: "
+    is_inside = cell in record["carrier"].split()
+    return f"A threat stands after {cell}: " if is_inside else f"{cell} is outside all threats: "
 
 
 def try_why(trials, page, link, rows):
     """From the root down the first line each time. At the first node with lines each cell is clicked."""
     page.open(link, rows)
     page.click("#ask-why")
-    page.wait("document.querySelector('#panel h2')")
+    page.wait("one('#panel h2')")
     nodes = read_nodes(page.board.call("GET", f"tree/{page.board.state()['tree']}")[2])
     looked, steps = False, 0
     while True:
-        number = page.browser.value("Number(document.querySelector('#panel').dataset.node)")
+        number = page.browser.value("Number(one('#panel').dataset.node)")
         record = record_of(nodes, number)
         for mark in ("carrier", "chosen"):
             trials.want(f"{mark} at node {number} of {link}", record[mark].split(), page.cells(mark))
         if record["rule"] == "all" and not looked:
             looked = True
             try_cells(trials, page, record)
-        cell = record["chosen"] if record["rule"] == "move" else next((cell for cell, kind, _ in record.get("lines", []) if kind == "child"), None)
+        cell = record["chosen"] if record["rule"] == "move" else first_line(record)
         if not cell:
             break
         steps += 1
@@ -193,14 +199,20 @@ def try_why(trials, page, link, rows):
     return looked, steps
 
 
+def first_line(record):
+    """The first cell that is answered by a child, where there is one."""
+    return next((cell for cell, kind, _ in record.get("lines", []) if kind == "child"), None)
+
+
 def try_cells(trials, page, record):
     length = page.browser.value("document.querySelectorAll('.path li').length")
-    for cell in page.browser.value("[...document.querySelectorAll('.cell:not(.black, .white, .black-fill, .white-fill)')].map((cell) => cell.dataset.cell)"):
+    for cell in page.browser.value("namesOf('.cell:not(.black, .white, .black-fill, .white-fill)')"):
         wanted = why_wanted(record, cell)
         page.click(cell)
         if wanted is None:
             page.wait(f"document.querySelectorAll('.path li').length === {length + 1}")
-            trials.want(f"what is said of {cell}", True, bool(re.match(rf"(Black|White) {cell} is (answered by|played)", page.text("#why-said"))))
+            trials.want(f"what is said of {cell}", True, bool(re.match(rf"(Black|White) {cell} is (answered by|played)",
+                                                                       page.text("#why-said"))))
             page.click("#undo")
             page.wait(f"document.querySelectorAll('.path li').length === {length}")
         else:
@@ -217,16 +229,17 @@ def try_game(trials, page):
     page.wait_text("#game-said", "Black begins with")
     moves, is_undone = 0, False
     while "won" not in page.text("#game-said"):
-        first = page.browser.value("document.querySelector('.cell:not(.black, .white)').dataset.cell")
+        first = page.browser.value("one('.cell:not(.black, .white)').dataset.cell")
         page.click(first)
         moves += 1
-        page.wait(f"document.querySelectorAll('.cell.black').length === {moves + 1} && /answers/.test(document.querySelector('#game-said').innerText)")
+        page.wait(f"namesOf('.cell.black').length === {moves + 1} && /answers/.test(textOf('#game-said'))")
         if moves == 2 and not is_undone:
             page.click("#undo")
             moves, is_undone = 1, True
-            page.wait("document.querySelectorAll('.cell.black').length === 2")
+            page.wait("namesOf('.cell.black').length === 2")
             page.wait_text("#game-said", "It is your turn, as White.")
-    board = check.Board(check.Size(4, 4), *(sum(check.only(cell_of(cell)) for cell in page.cells(player)) for player in ("black", "white")))
+    board = check.Board(check.Size(4, 4), *(sum(check.only(cell_of(cell)) for cell in page.cells(player))
+                                            for player in ("black", "white")))
     trials.want("Black's chain at the end", True, check.Graph(board, "black").are_joined(check.FIRST, check.LAST))
     page.click("#panel .row button:last-child", "#ask-who")
     page.wait_text("#answer", "Black has joined the top with the bottom and won.")
@@ -237,8 +250,10 @@ def try_game(trials, page):
 def try_pasting(trials, page):
     page.open("", 7)
     drawn = "  a b\n1 b .\n 2 . w\nblack to move\n"
-    for text, cells, stones in ((example("won-race.hexpos"), 16, (RACE["black"], RACE["white"])), (drawn, 4, (["a1"], ["b2"])), ("1. a1 b2 2. b1", 4, (["a1", "b1"], ["b2"])),
-                                ("1\\.  B\\1\n 2\\W  .\\2\nblack to move", 4, (["b1"], ["a2"])), ("o x\nx .\nwhite to move", 4, (["b1", "a2"], ["a1"]))):
+    for text, cells, stones in ((example("won-race.hexpos"), 16, (RACE["black"], RACE["white"])),
+                                (drawn, 4, (["a1"], ["b2"])), ("1. a1 b2 2. b1", 4, (["a1", "b1"], ["b2"])),
+                                ("1\\.  B\\1\n 2\\W  .\\2\nblack to move", 4, (["b1"], ["a2"])),
+                                ("o x\nx .\nwhite to move", 4, (["b1", "a2"], ["a1"]))):
         page.paste(text)
         page.wait(f"document.querySelectorAll('#board [data-cell]').length === {cells}")
         page.wait_stones(*stones)
@@ -248,9 +263,10 @@ def try_pasting(trials, page):
     page.wait_text("#read-wrong", "line 1: expected")
     page.wait_stones(["b1", "a2"], ["a1"])
     page.paste(example("templates/ziggurat.hextemplate"))
-    page.wait("document.querySelectorAll('.cell.carrier').length === 8")
+    page.wait("namesOf('.cell.carrier').length === 8")
     trials.want("the cells of a template", (sorted(BRIDGE["carrier"]), ["c2"], 1), (
-        sorted(page.cells("carrier")), page.cells("chosen"), page.browser.value("document.querySelectorAll('.side.chosen').length")))
+        sorted(page.cells("carrier")), page.cells("chosen"),
+        page.browser.value("document.querySelectorAll('.side.chosen').length")))
     page.click("#try-pattern")
     page.wait_text("#answer", "Yes: Black can join c2 with the bottom by these 8 cells, though White moves first.")
     page.click("d2")
@@ -258,28 +274,32 @@ def try_pasting(trials, page):
     page.click("#try-pattern")
     page.wait_text("#answer", "No: Black cannot join")
     page.click("#leave-pattern")
-    page.wait("document.querySelector('#pattern').hidden")
+    page.wait("one('#pattern').hidden")
 
 
 def try_taking(trials, page):
     page.open(RACE_LINK, 4)
     page.click("#ask-moves")
     page.wait_text("#answer", "by b3 alone")
-    page.wait("document.querySelectorAll('.cell.loses').length === 7")
-    page.browser.value("document.querySelector('#take-along').open = true")
-    for selector, part in (("#as-text", example("won-race.hexpos")), ("#as-drawn", " 2 b w w w\n  3 b + - -\n   4 w - - b\nblack to move\n"), ("#as-link", page.board.address + RACE_LINK)):
+    page.wait("namesOf('.cell.loses').length === 7")
+    page.browser.value("one('#take-along').open = true")
+    for selector, part in (("#as-text", example("won-race.hexpos")),
+                           ("#as-drawn", " 2 b w w w\n  3 b + - -\n   4 w - - b\nblack to move\n"),
+                           ("#as-link", page.board.address + RACE_LINK)):
         page.click(selector)
-        page.wait(f"document.querySelector('#taken').value.endsWith({json.dumps(part)})", f"{part!r} of {selector}")
+        page.wait(f"one('#taken').value.endsWith({json.dumps(part)})", f"{part!r} of {selector}")
         trials.count += 1
     page.click("#as-svg")
     picture = xml.etree.ElementTree.fromstring(page.made("board.svg"))
     signs = [text.text for text in picture.iter(f"{SVG}text") if text.get("class") == "mark" and text.text]
     trials.want("the signs in the SVG", ["+", *[MINUS] * 7], sorted(signs))
-    trials.want("the styles of the SVG", True, ".cell.wins" in picture.find(f"{SVG}style").text and "ring" not in [one.get("class") for one in picture.iter()])
+    trials.want("the styles of the SVG", True, ".cell.wins" in picture.find(f"{SVG}style").text
+                and "ring" not in [one.get("class") for one in picture.iter()])
     page.click("#as-png")
     content = page.made("board.png")
     wide, high = (2 * round(float(picture.get(name))) for name in ("width", "height"))
-    trials.want("the PNG", (b"\x89PNG\r\n\x1a\n", wide, high), (content[:8], int.from_bytes(content[16:20], "big"), int.from_bytes(content[20:24], "big")))
+    trials.want("the PNG", (b"\x89PNG\r\n\x1a\n", wide, high),
+                (content[:8], int.from_bytes(content[16:20], "big"), int.from_bytes(content[20:24], "big")))
 
 
 # ---- How it looks, and by the keyboard
@@ -293,12 +313,13 @@ def try_views(trials, page, folder):
                 page.open(link, rows)
                 if rows == 4:
                     page.click("#ask-moves")
-                    page.wait("document.querySelectorAll('.cell.loses').length === 7")
+                    page.wait("namesOf('.cell.loses').length === 7")
                 name = f"{rows}-{wide}-{scheme}"
                 fits, board, light = page.browser.value("""(() => {
                     const box = document.querySelector("#board svg").getBoundingClientRect();
-                    const [red, green, blue] = getComputedStyle(document.body).backgroundColor.match(/\\d+/g).map(Number);
-                    return [document.documentElement.scrollWidth <= innerWidth, box.width > 0.35 * innerWidth && box.right <= innerWidth, red + green + blue > 384];
+                    const ground = getComputedStyle(document.body).backgroundColor.match(/\\d+/g).map(Number);
+                    return [document.documentElement.scrollWidth <= innerWidth,
+                            box.width > 0.35 * innerWidth && box.right <= innerWidth, Math.min(...ground) > 128];
                 })()""")
                 trials.want(f"the view {name}", (True, True, scheme == "light"), (fits, board, light))
                 if folder:
@@ -337,13 +358,14 @@ def try_keyboard(trials, page):
     page.wait_stones(["b2"], [])
     page.browser.press("z", CONTROL | SHIFT)
     page.wait_stones(["b2"], ["c2"])
-    trials.want("the ring around the cell", True, page.browser.value("getComputedStyle(document.querySelector('.ring')).stroke !== 'none'"))
+    trials.want("the ring around the cell", True,
+                page.browser.value("getComputedStyle(one('.ring')).stroke !== 'none'"))
     tab_to(page, "#ask-who")
     page.browser.press("Enter")
     page.wait_text("#answer", "Black wins, by")
     tab_to(page, "#ask-why")
     page.browser.press(" ")
-    page.wait("document.querySelector('#panel h2')")
+    page.wait("one('#panel h2')")
     tab_to(page, "#panel button.link")
     page.browser.press("Enter")
     page.wait("document.querySelectorAll('.path li').length === 2")
@@ -354,7 +376,7 @@ def try_keyboard(trials, page):
     while page.browser.value("document.activeElement.matches('.black, .white')"):
         page.browser.press("ArrowDown")
     page.browser.press("Enter")
-    page.wait("/answers/.test(document.querySelector('#game-said').innerText)")
+    page.wait("/answers/.test(textOf('#game-said'))")
     tab_to(page, "#paste summary")
     page.browser.press("Enter")
     tab_to(page, "#pasted")
@@ -373,15 +395,21 @@ def try_names(trials, page):
     buttons = [name for role, name in named if role == "button"]
     stones = {**dict.fromkeys(RACE["black"], "Black's stone"), **dict.fromkeys(RACE["white"], "White's stone")}
     cells = [f"{letter}{row}" for row in range(1, 5) for letter in "abcd"]
-    trials.want("the names of cells", [f"{cell}, {stones.get(cell, 'empty')}" for cell in cells], [name for name in buttons if re.match("[a-d][1-4], ", name)])
-    trials.want("what has no name", [], [role for role, name in named if role in ("button", "textbox", "spinbutton", "radio", "checkbox", "combobox") and not name])
-    trials.want("the names of questions", True, {"Who wins?", "Which moves win?", "Why?", "Play against it", "Is this pattern safe?"} <= set(buttons))
+    trials.want("the names of cells", [f"{cell}, {stones.get(cell, 'empty')}" for cell in cells],
+                [name for name in buttons if re.match("[a-d][1-4], ", name)])
+    trials.want("what has no name", [], [role for role, name in named
+                                         if role in ("button", "textbox", "spinbutton", "radio", "checkbox",
+                                                     "combobox") and not name])
+    trials.want("the names of questions", True, {"Who wins?", "Which moves win?", "Why?", "Play against it",
+                                                 "Is this pattern safe?"} <= set(buttons))
 
 
 def try_page(trials, page, folder):
     page.browser.show(*DESK)
-    tried = [("stones", lambda: try_stones(trials, page)), ("questions", lambda: try_questions(trials, page)), ("stop", lambda: try_stop(trials, page)),
-             ("why", lambda: try_whys(trials, page)), ("a game", lambda: try_game(trials, page)), ("pasting", lambda: try_pasting(trials, page)),
+    tried = [("stones", lambda: try_stones(trials, page)), ("questions", lambda: try_questions(trials, page)),
+             ("stop", lambda: try_stop(trials, page)),
+             ("why", lambda: try_whys(trials, page)), ("a game", lambda: try_game(trials, page)),
+             ("pasting", lambda: try_pasting(trials, page)),
              ("taking along", lambda: try_taking(trials, page)), ("views", lambda: try_views(trials, page, folder)),
              ("the keyboard", lambda: try_keyboard(trials, page)), ("names", lambda: try_names(trials, page))]
     for name, tries in tried:
@@ -393,10 +421,13 @@ def try_page(trials, page, folder):
 
 
 def try_whys(trials, page):
-    """The third position's tree has lines of each kind at its first node, and the second one's is gone down through some nodes."""
+    """The third position's tree has lines of each kind at its first node, and the second one's is gone down through
+    some nodes."""
     came = [try_why(trials, page, *asked) for asked in (
-        (RACE_LINK, 4), ("#5x5;white;...../b..../...../...../.....", 5), ("#6x6;white;....../..b.../....../....../....../......", 6))]
-    trials.want("whether nodes with lines were looked at, and how far lines were gone down", [(False, True), (True, True), (True, True)],
+        (RACE_LINK, 4), ("#5x5;white;...../b..../...../...../.....", 5),
+        ("#6x6;white;....../..b.../....../....../....../......", 6))]
+    trials.want("whether nodes with lines were looked at, and how far lines were gone down",
+                [(False, True), (True, True), (True, True)],
                 [(looked, steps > 0) for looked, steps in came])
 
 

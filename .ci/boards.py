@@ -35,7 +35,8 @@ class Running:
     """tools/board, and calls to it."""
 
     def __init__(self, *words, top=TOP, **more):
-        self.program = subprocess.Popen([top / "tools" / "board", *words], stdout=subprocess.PIPE, stderr=subprocess.PIPE, text=True, **more)
+        self.program = subprocess.Popen([top / "tools" / "board", *words], stdout=subprocess.PIPE,
+                                        stderr=subprocess.PIPE, text=True, **more)
         self.address = self.program.stdout.readline().strip()
         _, _, self.host, self.token, _ = self.address.split("/") if self.address else [""] * 5
 
@@ -44,7 +45,8 @@ class Running:
         connection = http.client.HTTPConnection(self.host, timeout=PATIENCE)
         content = body if body is None or isinstance(body, bytes) else json.dumps(body).encode()
         typed = {} if content is None else {"Content-Type": "application/json"}
-        connection.request(method, f"/{self.token if token is None else token}/{path}", content, {**typed, **dict(headers)})
+        connection.request(method, f"/{self.token if token is None else token}/{path}", content,
+                           {**typed, **dict(headers)})
         answer = connection.getresponse()
         with contextlib.closing(connection):
             return answer.status, answer.headers, answer.read()
@@ -62,8 +64,10 @@ class Running:
 
     def children(self):
         """The programs that it has started and that have not ended."""
-        lines = subprocess.run(["ps", "-A", "-o", "pid=,ppid=,stat="], stdout=subprocess.PIPE, text=True).stdout.splitlines()
-        return [int(pid) for pid, parent, state in map(str.split, lines) if int(parent) == self.program.pid and not state.startswith("Z")]
+        lines = subprocess.run(["ps", "-A", "-o", "pid=,ppid=,stat="], stdout=subprocess.PIPE,
+                               text=True).stdout.splitlines()
+        return [int(pid) for pid, parent, state in map(str.split, lines) if int(parent) == self.program.pid
+                and not state.startswith("Z")]
 
     def end(self, number=signal.SIGTERM):
         """The status of its end, and its errors."""
@@ -110,5 +114,6 @@ def example(name):
 
 
 RACE = {"rows": 4, "columns": 4, "black": ["a1", "a2", "a3", "d4"], "white": ["b2", "c2", "d2", "a4"], "mover": "black"}
-BRIDGE = {"rows": 4, "columns": 5, "black": ["c2"], "white": [], "owner": "black", "kind": "full", "ends": ["c2", "last"],
+BRIDGE = {"rows": 4, "columns": 5, "black": ["c2"], "white": [], "owner": "black", "kind": "full",
+          "ends": ["c2", "last"],
           "carrier": ["d2", "b3", "c3", "d3", "a4", "b4", "c4", "d4"]}

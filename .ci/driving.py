@@ -1,5 +1,5 @@
-"""A browser that is driven: it is told what to open, which keys to press and where to click, over two pipes (the protocol of Chromium's tools
-for developers), and says what its page holds. Firefox has no such pipes.
+"""A browser that is driven: it is told what to open, which keys to press and where to click, over two pipes (the
+protocol of Chromium's tools for developers), and says what its page holds. Firefox has no such pipes.
 """
 import base64
 import contextlib
@@ -17,11 +17,15 @@ from boards import PATIENCE, STEP, TooLate
 
 BROWSERS = ("chromium", "chromium-browser", "google-chrome")
 # By the names of keys: the code by which the browser knows each, and the text that it types.
-KEYS = {"Tab": (9, ""), "Enter": (13, "\r"), " ": (32, " "), "ArrowLeft": (37, ""), "ArrowUp": (38, ""), "ArrowRight": (39, ""),
+KEYS = {"Tab": (9, ""), "Enter": (13, "\r"), " ": (32, " "), "ArrowLeft": (37, ""), "ArrowUp": (38, ""),
+        "ArrowRight": (39, ""),
         "ArrowDown": (40, ""), "z": (90, ""), "y": (89, "")}
 SHIFT, CONTROL = 8, 2
-# What goes wrong in a page, as texts.
+# In each page: what goes wrong in it, as texts, and short words for what is asked of it often.
 COLLECTED = """window.wrongs = [];
+window.one = (selector) => document.querySelector(selector);
+window.textOf = (selector) => one(selector).innerText.trim();
+window.namesOf = (selector) => [...document.querySelectorAll(selector)].map((cell) => cell.dataset.cell);
 addEventListener("error", (event) => wrongs.push(`${event.message} ${event.filename}:${event.lineno}`));
 addEventListener("unhandledrejection", (event) => wrongs.push(String(event.reason?.stack || event.reason)));
 addEventListener("securitypolicyviolation", (event) => wrongs.push(`${event.violatedDirective} ${event.blockedURI}`));
@@ -38,15 +42,18 @@ def found_browser(words):
 
 
 class Browser:
-    """A browser without a window, with one page. It has a folder of its own, and is a group of processes, so that all of it can be ended."""
+    """A browser without a window, with one page. It has a folder of its own, and is a group of processes, so that all
+    of it can be ended."""
 
     def __init__(self, program):
         self.folder, self.count, self.session, self.buffer = tempfile.mkdtemp(), 0, None, b""
         reads, to_browser = os.pipe()
         from_browser, writes = os.pipe()
-        words = ["--headless", "--no-sandbox", "--disable-gpu", "--remote-debugging-pipe", f"--user-data-dir={self.folder}", "about:blank"]
+        words = ["--headless", "--no-sandbox", "--disable-gpu", "--remote-debugging-pipe",
+                 f"--user-data-dir={self.folder}", "about:blank"]
         self.program = subprocess.Popen(
-            ["sh", "-c", f'exec "$0" "$@" 3<&{reads} 4>&{writes}', program, *words], pass_fds=(reads, writes), start_new_session=True,
+            ["sh", "-c", f'exec "$0" "$@" 3<&{reads} 4>&{writes}', program, *words], pass_fds=(reads, writes),
+            start_new_session=True,
             stdin=subprocess.DEVNULL, stdout=subprocess.DEVNULL, stderr=subprocess.DEVNULL)
         os.close(reads)
         os.close(writes)
@@ -73,7 +80,8 @@ class Browser:
     def call(self, method, **params):
         """What the browser answers."""
         self.count += 1
-        message = {"id": self.count, "method": method, "params": params, **({"sessionId": self.session} if self.session else {})}
+        message = {"id": self.count, "method": method, "params": params,
+                   **({"sessionId": self.session} if self.session else {})}
         try:
             os.write(self.to_browser, json.dumps(message).encode() + b"\0")
         except OSError:
@@ -138,7 +146,8 @@ class Browser:
 
     def press(self, key, modifiers=0):
         code, text = KEYS[key]
-        named = {"key": key, "code": {" ": "Space"}.get(key, key), "windowsVirtualKeyCode": code, "modifiers": modifiers}
+        named = {"key": key, "code": {" ": "Space"}.get(key, key), "windowsVirtualKeyCode": code,
+                 "modifiers": modifiers}
         self.call("Input.dispatchKeyEvent", type="keyDown", **named, **({"text": text} if text else {}))
         self.call("Input.dispatchKeyEvent", type="keyUp", **named)
 

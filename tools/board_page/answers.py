@@ -1,7 +1,8 @@
 """The requests of the page, and who may make them.
 
-Each request names the token of the address that was opened, this server as its host and, where it names one, this server as its origin. So
-no other site and no one who has not seen the address gets an answer, and no answer allows another site to read it.
+Each request names the token of the address that was opened, this server as its host and, where it names one, this
+server as its origin. So no other site and no one who has not seen the address gets an answer, and no answer allows
+another site to read it.
 """
 import hmac
 import http
@@ -20,16 +21,20 @@ from .connections import MOST_BODY
 
 HERE = pathlib.Path(__file__).resolve().parent
 PAGES = HERE.parent / "tree_page"
-TYPES = {".html": "text/html", ".css": "text/css", ".js": "text/javascript", ".json": "application/json", ".svg": "image/svg+xml"}
+TYPES = {".html": "text/html", ".css": "text/css", ".js": "text/javascript", ".json": "application/json",
+         ".svg": "image/svg+xml"}
 SCRIPTS = ("page", "board", "position", "questions", "why", "game", "pattern", "pictures", "elements")
-FILES = {"": HERE / "page.html", "page.css": HERE / "page.css", "marks.css": HERE / "marks.css", "board.css": PAGES / "board.css",
+FILES = {"": HERE / "page.html", "page.css": HERE / "page.css", "marks.css": HERE / "marks.css",
+         "board.css": PAGES / "board.css",
          **{f"{script}.js": HERE / f"{script}.js" for script in SCRIPTS}}
 # What the pages of trees have, in the order in which they have it: reader.html holds it together.
 READER = ("tree.js", "links.js", "records.js", "telling.js")
 HEADERS = {
-    "Content-Security-Policy": "default-src 'none'; script-src 'self'; style-src 'self'; connect-src 'self'; img-src 'self' blob: data:; "
-                               "base-uri 'none'; form-action 'none'; frame-ancestors 'none'",
-    "Cross-Origin-Resource-Policy": "same-origin", "Cross-Origin-Opener-Policy": "same-origin", "X-Content-Type-Options": "nosniff",
+    "Content-Security-Policy": "default-src 'none'; script-src 'self'; style-src 'self'; connect-src 'self'; "
+                               "img-src 'self' blob: data:; base-uri 'none'; form-action 'none'; "
+                               "frame-ancestors 'none'",
+    "Cross-Origin-Resource-Policy": "same-origin", "Cross-Origin-Opener-Policy": "same-origin",
+    "X-Content-Type-Options": "nosniff",
     "Referrer-Policy": "no-referrer", "Cache-Control": "no-store",
 }
 
@@ -71,7 +76,8 @@ class Answers(http.server.BaseHTTPRequestHandler):
         if self.headers.get_all("Origin", [f"http://{ours}"]) != [f"http://{ours}"]:
             raise Refused(403, "Another site asks.")
         parts = self.path.split("/", 2)
-        if len(parts) < 3 or not hmac.compare_digest(parts[1].encode("utf-8", "surrogateescape"), self.server.token.encode()):
+        if len(parts) < 3 or not hmac.compare_digest(parts[1].encode("utf-8", "surrogateescape"),
+                                                     self.server.token.encode()):
             raise Refused(403, "Open the whole address that tools/board wrote.")
 
     # ---- What is asked
@@ -196,6 +202,11 @@ def read_start(server):
     return TYPES[".json"], json.dumps({**server.start, "limits": asked.OPTIONS, "wide": WIDE, "edge": EDGE})
 
 
+def read_state(server):
+    """What is known of the question."""
+    return TYPES[".json"], json.dumps(server.desk.shown())
+
+
 def read_reader(server):
     """The scripts by which a page of a tree reads it, as one function of a tree's text."""
     front, back = (HERE / "reader.js").read_text().split("// HERE\n")
@@ -203,9 +214,11 @@ def read_reader(server):
 
 
 def board_at(server, rest):
-    """The empty board of ROWS/COLUMNS, as the pages of trees draw it. How it looks the page says, in which no style may stand."""
+    """The empty board of ROWS/COLUMNS, as the pages of trees draw it. How it looks the page says, in which no style
+    may stand."""
     words = rest.split("/")
-    require(len(words) == 2 and all(word.isascii() and word.isdigit() and len(word) < 3 for word in words), "rows and columns")
+    require(len(words) == 2 and all(word.isascii() and word.isdigit() and len(word) < 3 for word in words),
+            "rows and columns")
     size = asked.size_in(dict(zip(("rows", "columns"), map(int, words))))
     return TYPES[".svg"], re.sub("<style>.*?</style>\n", "", picture(size, {"chain": ""}), flags=re.S)
 
@@ -217,5 +230,5 @@ def tree_at(server, rest):
     return "text/plain", tree.content()
 
 
-READS = {"start": read_start, "reader.js": read_reader, "state": lambda server: (TYPES[".json"], json.dumps(server.desk.shown()))}
+READS = {"start": read_start, "reader.js": read_reader, "state": read_state}
 PLACES = {"board": board_at, "tree": tree_at}

@@ -1,4 +1,5 @@
-"""What the page asks, read from JSON: every value is looked at, and anything else than what is expected is refused in a sentence."""
+"""What the page asks, read from JSON: every value is looked at, and anything else than what is expected is refused in
+a sentence."""
 import json
 
 from drawn_boards.boards import MOST, Position, Template, cell_of
@@ -89,7 +90,8 @@ def template_in(asked):
 def marks_in(asked, size):
     """The mark of each cell that has one."""
     value = asked.get("marks", {})
-    require(isinstance(value, dict) and all(isinstance(mark, str) and mark in MARKS for mark in value.values()), "marks of cells")
+    require(isinstance(value, dict) and all(isinstance(mark, str) and mark in MARKS for mark in value.values()),
+            "marks of cells")
     return {cell_in(word, size): mark for word, mark in value.items()}
 
 

@@ -1,5 +1,5 @@
-"""Connections of browsers. What comes is taken as it comes, and what goes is sent as it can be, so that one thread serves all of them and
-none waits for another one."""
+"""Connections of browsers. What comes is taken as it comes, and what goes is sent as it can be, so that one thread
+serves all of them and none waits for another one."""
 import re
 import selectors
 import socket

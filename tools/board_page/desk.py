@@ -30,7 +30,9 @@ class Desk:
         self.changed, self.count, self.question, self.trees = changed, 0, None, Trees()
 
     def shown(self):
-        return {**self.question.shown(), "building": self.is_building()} if self.question else {"id": 0, "phase": "none"}
+        if not self.question:
+            return {"id": 0, "phase": "none"}
+        return {**self.question.shown(), "building": self.is_building()}
 
     def is_building(self):
         return self.is_asking() and not PROGRAM.exists()

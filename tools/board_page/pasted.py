@@ -22,7 +22,8 @@ def text_by_hexpos(words, content):
 
 
 def exact_text(content, size):
-    """The exact text of what is written here. A list of moves that does not tell its board is one on a board of this size."""
+    """The exact text of what is written here. A list of moves that does not tell its board is one on a board of this
+    size."""
     content = content.lstrip() if content.lstrip().startswith(NAMES) else content
     if content.startswith(NAMES):
         content = content.rstrip() + b"\n"
@@ -46,10 +47,12 @@ def read(content, size=None):
 def told(found):
     """A position or a template, as the page takes it."""
     board = found.board
-    shown = {"rows": board.size.rows, "columns": board.size.columns, "black": names(board.black).split(), "white": names(board.white).split()}
+    shown = {"rows": board.size.rows, "columns": board.size.columns, "black": names(board.black).split(),
+             "white": names(board.white).split()}
     if isinstance(found, Position):
         return {**shown, "mover": found.mover}
-    return {**shown, "owner": found.owner, "kind": found.kind, "ends": list(found.ends), "carrier": names(found.carrier).split()}
+    return {**shown, "owner": found.owner, "kind": found.kind, "ends": list(found.ends),
+            "carrier": names(found.carrier).split()}
 
 
 def texts(found, marks):

@@ -1,7 +1,8 @@
-"""The questions that the page asks. Each is a generator: it asks for a run of the program and is given back the run that has ended.
+"""The questions that the page asks. Each is a generator: it asks for a run of the program and is given back the run
+that has ended.
 
-What is told of a question is a dictionary, which the page shows. A winner is told only where `hx check` accepted the tree, with the
-position that was asked.
+What is told of a question is a dictionary, which the page shows. A winner is told only where `hx check` accepted the
+tree, with the position that was asked.
 """
 import re
 from typing import Any, NamedTuple

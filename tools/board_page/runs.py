@@ -1,4 +1,5 @@
-"""Runs of the program: what they read and write are files without a name, so that nothing is left behind, whatever ends them."""
+"""Runs of the program: what they read and write are files without a name, so that nothing is left behind, whatever
+ends them."""
 import contextlib
 import os
 import signal
@@ -24,7 +25,8 @@ class Run:
     def __init__(self, words, source):
         self.words, self.output = words, tempfile.TemporaryFile()
         source.seek(0)
-        # A session of its own: what the terminal sends reaches this server alone, which ends the run with all that it started.
+        # A session of its own: what the terminal sends reaches this server alone, which ends the run with all that it
+        # started.
         self.program = started(*words, stdin=source, stdout=self.output, start_new_session=True)
 
     def has_ended(self):

@@ -1,4 +1,5 @@
-"""The server of the page: one thread, on 127.0.0.1 alone, which tends the connections and the one run of the program."""
+"""The server of the page: one thread, on 127.0.0.1 alone, which tends the connections and the one run of the
+program."""
 import http.server
 import json
 import secrets

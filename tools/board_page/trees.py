@@ -1,4 +1,5 @@
-"""Trees that `hx check` accepted, and what the page asks of them. They may be large, so no more of them is read than that takes."""
+"""Trees that `hx check` accepted, and what the page asks of them. They may be large, so no more of them is read than
+that takes."""
 import os
 import re
 from typing import Any, NamedTuple

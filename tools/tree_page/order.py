@@ -7,7 +7,8 @@ def from_the_middle(board):
     size = board.size
 
     def distance(cell):
-        down, right = (2 * place - most + 1 for place, most in zip(divmod(cell, check.WIDTH), (size.rows, size.columns)))
+        down, right = (2 * place - most + 1 for place, most in zip(divmod(cell, check.WIDTH),
+                                                                   (size.rows, size.columns)))
         return down * down + down * right + right * right
 
     return sorted(check.members_of(board.empty()), key=distance)
