@@ -79,8 +79,9 @@ export class Board {
   // The marks that a record of a tree has put on the board are said too.
   nameByMarks() {
     const said = { carrier: "in the carrier", chosen: "chosen", "black-fill": "filled in for Black", "white-fill": "filled in for White" };
-    for (const [name, cell] of this.cells) {
-      this.name(name, STONES.find((stone) => cell.classList.contains(stone)), Object.keys(said).filter((mark) => cell.classList.contains(mark)).map((mark) => said[mark]));
+    for (const [name, { classList }] of this.cells) {
+      const marks = Object.keys(said).filter((mark) => classList.contains(mark));
+      this.name(name, STONES.find((stone) => classList.contains(stone)), marks.map((mark) => said[mark]));
     }
   }
 

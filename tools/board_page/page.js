@@ -10,7 +10,10 @@ import { MOST, Position, Shown, moveTold } from "./position.js";
 import { Desk, call } from "./questions.js";
 import { Why } from "./why.js";
 
-const DOING = { solve: "hx solve searches", check: "hx check reads the tree", play: "hx play answers", template: "hx template tries", "": "it begins" };
+const DOING = {
+  solve: "hx solve searches", check: "hx check reads the tree", play: "hx play answers", template: "hx template tries", "": "it begins",
+};
+const NO_ANSWER = "tools/board does not answer. Where it has ended, start it again, and open the address that it writes.";
 const ACCEPTED = "hx check accepted the tree that proves it.";
 const TICK = 100; // milliseconds between two looks at the clock
 const RAN_OUT = { budget: "units were used up", proofs: "proved positions were kept, and there is no room for more" };
@@ -18,7 +21,8 @@ const RAN_OUT = { budget: "units were used up", proofs: "proved positions were k
 class Page {
   constructor(start) {
     Object.assign(this, { start, mode: null, signs: {}, found: null, rendering: Promise.resolve(), pattern: null });
-    this.shown = new Shown(Position.ofLink(decodeURIComponent(location.hash)) || new Position(7, 7), "Start");
+    const ofFile = start.position && Position.from(start.position);
+    this.shown = new Shown(Position.ofLink(location.hash) || ofFile || new Position(7, 7), "Start");
     this.board = new Board(byId("board"), (cell) => this.click(cell));
     this.desk = new Desk({ told: (told) => this.showProgress(told), connected: (isThere) => this.showConnection(isThere) });
     setInterval(() => this.tick(), TICK);
@@ -168,7 +172,8 @@ class Page {
   }
 
   openTold(what, { open, most, raise }) {
-    return `${what} was left open: ${spelled(most)} ${RAN_OUT[open]}. Raise ${raise} under \u201cSearch options\u201d, or start tools/board with more.`;
+    const where = "under \u201cSearch options\u201d, or start tools/board with more";
+    return `${what} was left open: ${spelled(most)} ${RAN_OUT[open]}. Raise ${raise} ${where}.`;
   }
 
   movesTold(told) {
@@ -240,7 +245,7 @@ class Page {
 
   showConnection(isThere) {
     byId("connection").hidden = isThere;
-    byId("connection").textContent = isThere ? "" : "tools/board does not answer. Where it has ended, start it again, and open the address that it writes.";
+    byId("connection").textContent = isThere ? "" : NO_ANSWER;
   }
 
   // ---- What is shown
@@ -293,20 +298,20 @@ class Page {
     try {
       const { found, wrong } = await call("read", { text: byId("pasted").value, rows, columns });
       if (wrong) byId("read-wrong").textContent = wrong;
-      else this.takeRead(found, "Pasted");
+      else this.takeRead(found);
     } catch (wrong) {
       byId("read-wrong").textContent = wrong.message;
     }
   }
 
-  takeRead(found, told) {
+  takeRead(found) {
     this.enter(null);
-    this.show(Position.from(found), told);
+    this.show(Position.from(found), "Pasted");
     if (found.owner) this.askPattern(found);
   }
 
   takeLink() {
-    const position = Position.ofLink(decodeURIComponent(location.hash));
+    const position = Position.ofLink(location.hash);
     if (!position || position.isSame(this.shown.position)) return;
     this.enter(null);
     this.show(position, "Link");
@@ -330,7 +335,8 @@ class Page {
 
   async copy() {
     byId("taken").select();
-    await navigator.clipboard.writeText(byId("taken").value).then(() => { byId("copied").textContent = "Copied."; }, () => { byId("copied").textContent = "Marked: copy it by the keyboard."; });
+    const isCopied = await navigator.clipboard.writeText(byId("taken").value).then(() => true, () => false);
+    byId("copied").textContent = isCopied ? "Copied." : "Marked: copy it by the keyboard.";
   }
 
   async takeSvg() {
@@ -346,8 +352,9 @@ function connect(page) {
   const clicks = {
     "ask-who": () => page.askWho(), "ask-moves": () => page.askMoves(), "ask-why": () => page.askWhy(), "ask-game": () => page.askGame(),
     "ask-pattern": () => page.askPattern(), stop: () => page.desk.stop(), undo: () => page.undo(), redo: () => page.go(page.shown.at + 1),
-    empty: () => page.emptyBoard(), read: () => page.paste(), "as-text": () => page.takeText("text"), "as-drawn": () => page.takeText("drawn"),
-    "as-link": () => page.takeAddress(), "as-svg": () => page.takeSvg(), "as-png": () => page.takePng(), copy: () => page.copy(),
+    empty: () => page.emptyBoard(), read: () => page.paste(),
+    "as-text": () => page.takeText("text"), "as-drawn": () => page.takeText("drawn"), "as-link": () => page.takeAddress(),
+    "as-svg": () => page.takeSvg(), "as-png": () => page.takePng(), copy: () => page.copy(),
   };
   for (const [id, clicked] of Object.entries(clicks)) byId(id).onclick = clicked;
   for (const mover of document.querySelectorAll("[name=mover]")) mover.onchange = () => page.setMover(mover.value);
@@ -367,7 +374,7 @@ function pressed(page, event) {
 }
 
 function setOptions({ options, limits }) {
-  for (const [name, [least, most]] of Object.entries(limits)) Object.assign(byId(name), { min: least, max: most, value: options[name] ?? "" });
+  for (const [name, [min, max]] of Object.entries(limits)) Object.assign(byId(name), { min, max, value: options[name] ?? "" });
 }
 
 async function begin() {
@@ -375,7 +382,7 @@ async function begin() {
   setOptions(start);
   const page = new Page(start);
   connect(page);
-  if (start.position && !Position.ofLink(decodeURIComponent(location.hash))) page.takeRead(start.position, "File");
+  if (start.position?.owner && !Position.ofLink(location.hash)) page.askPattern(start.position);
   await page.render();
 }
 

@@ -71,10 +71,11 @@ export class Pattern {
 
   answer({ safe, cells }) {
     const [one, two] = this.ends.map((end) => this.endTold(end));
-    const first = this.kind === "full" ? `though ${colourName[other[this.owner]]} moves first` : `where ${colourName[this.owner]} moves first`;
+    const [owner, opponent] = [colourName[this.owner], colourName[other[this.owner]]];
+    const first = this.kind === "full" ? `though ${opponent} moves first` : `where ${owner} moves first`;
     if (safe === "unknown") return `That was left open: ${cells} cells are marked, and at most ${MOST_CELLS} are tried.`;
-    const can = safe === "yes" ? "Yes" : "No";
-    return `${can}: ${colourName[this.owner]} ${safe === "yes" ? "can" : "cannot"} join ${one} with ${two} by these ${counted(cells, "cell")}, ${first}.`;
+    const can = safe === "yes" ? `Yes: ${owner} can` : `No: ${owner} cannot`;
+    return `${can} join ${one} with ${two} by these ${counted(cells, "cell")}, ${first}.`;
   }
 
   endTold(end) {
@@ -95,7 +96,8 @@ export class Pattern {
       byId(`end-${side}`).checked = this.ends.includes(side);
       byId(`${side}-name`).textContent = `${SIDES[this.owner][side]} is an end`;
     }
-    for (const end of this.ends.filter((one) => !(one in SIDES.black))) this.page.board.name(end, this.position.stones.get(end), ["an end"]);
+    const cells = this.ends.filter((end) => !(end in SIDES.black));
+    cells.forEach((end) => this.page.board.name(end, this.position.stones.get(end), ["an end"]));
     const ends = this.ends.map((end) => this.endTold(end)).join(" and ");
     byId("pattern-told").textContent = this.said || `${counted(this.carrier.size, "cell")} marked. Ends: ${ends || "none"}.`;
   }

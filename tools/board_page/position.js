@@ -4,6 +4,7 @@ import { colourName, other } from "./elements.js";
 
 export const LETTERS = "abcdefghijk";
 export const MOST = LETTERS.length;
+const COLOURS = { b: "black", w: "white" };
 const LINK = /^#?(\d{1,2})x(\d{1,2});(black|white);([.bw/]+)$/;
 
 // The names of a board's cells, row by row.
@@ -72,8 +73,8 @@ export class Position {
       && lines.every((line) => line.length === Number(columns));
     if (!isRight) return null;
     const names = namesOf(Number(rows), Number(columns));
-    const stones = [...lines.join("")].map((letter, place) => [names[place], { b: "black", w: "white" }[letter]]).filter(([, colour]) => colour);
-    return new Position(Number(rows), Number(columns), new Map(stones), mover);
+    const stones = [...lines.join("")].map((letter, place) => [names[place], COLOURS[letter]]);
+    return new Position(Number(rows), Number(columns), new Map(stones.filter(([, colour]) => colour)), mover);
   }
 
   isSame(position) {

@@ -17,7 +17,6 @@ from .runs import file_of
 from .trees import Tree, move_told, winner_told
 
 OPEN = 3  # the status of `hx solve` where it leaves open who wins
-RAISED = {"budget": "--budget", "proofs": "--proofs"}  # the option to raise, by what ran out
 
 
 class NoAnswer(Exception):
@@ -71,10 +70,10 @@ def words_of(options, keys=("workers", "budget", "proofs")):
 
 def open_told(why_open):
     """What ran out, and which option to raise."""
-    what, _, most = why_open.partition(" ")[2].partition(" ")
-    if what not in RAISED:
+    found = re.fullmatch("unknown (budget|proofs) ([0-9]+)", why_open)
+    if not found:
         raise NoAnswer(f"hx solve says {why_open!r}")
-    return {"open": what, "most": int(most), "raise": RAISED[what]}
+    return {"open": found[1], "most": int(found[2]), "raise": f"--{found[1]}"}
 
 
 def chain_told(board):
@@ -185,10 +184,10 @@ def played(tell, tree, of_loser):
     tell(doing="play")
     run = yield from ended(["play"], tree.with_moves(of_loser))
     want_status(run, 0, 1)
-    first, *answers, last = run.written().decode("latin-1").split("\n")[:-1] or [run.answer()]
-    if not re.fullmatch("play (black|white)", first) or last not in ("chain", "unfinished") or "? illegal" in answers:
-        raise NoAnswer(f"hx play says {first!r}")
-    return answers, last == "chain"
+    lines = run.written().decode("latin-1").splitlines() or [""]
+    if lines[0] not in ("play black", "play white") or lines[-1] not in ("chain", "unfinished") or "? illegal" in lines:
+        raise NoAnswer(f"hx play says {' '.join(lines)!r}")
+    return lines[1:-1], lines[-1] == "chain"
 
 
 # ---- Is this pattern safe?

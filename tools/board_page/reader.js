@@ -1,5 +1,5 @@
-// What the pages of trees have, as one function. It reads the tree whose text stands in the element `tree` of the page, tells what its nodes
-// say, and marks a board. `isTurned` reads it as it stands behind a node by `turned`: with every cell turned by 180 degrees.
+// What the pages of trees have, as one function. It reads the tree whose text stands in the element `tree` of the page, tells what
+// its nodes say, and marks a board. `isTurned` reads it as it stands behind a node by `turned`: with every cell turned by 180 degrees.
 
 export function readTree({ cells, cellWide, cellEdge, linkTo }, isTurned) {
 // HERE

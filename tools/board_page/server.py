@@ -6,6 +6,7 @@ import secrets
 import selectors
 import socketserver
 import time
+import traceback
 
 from .answers import Answers
 from .connections import Connection
@@ -59,7 +60,11 @@ class Server(http.server.HTTPServer):
             taken.close()
 
     def answer(self, connection):
-        self.RequestHandlerClass(connection, connection.socket.getpeername(), self)
+        try:
+            self.RequestHandlerClass(connection, None, self)
+        except Exception:  # a fault here ends this request alone
+            traceback.print_exc()
+            connection.close()
 
     def tend(self):
         """What is done again and again: connections that are over go, and so does a question whose page is gone."""

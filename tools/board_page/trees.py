@@ -33,7 +33,8 @@ class Tree(NamedTuple):
 def winner_told(file):
     """The winner that the last line of a tree names."""
     length = os.fstat(file.fileno()).st_size
-    return os.pread(file.fileno(), END, max(length - END, 0)).decode("latin-1").split()[-1]
+    words = os.pread(file.fileno(), END, max(length - END, 0)).decode("latin-1").split()
+    return words[-1] if words else ""
 
 
 def move_told(content, size):

@@ -1,7 +1,7 @@
 // Why somebody wins: the tree that was accepted, on the same board. A click on a cell goes down its line, and the winner's answer is played
 // at once; of a cell that no line answers it is said why.
 
-import { button, colourName, fill, make } from "./elements.js";
+import { button, colourName, fill, make, other } from "./elements.js";
 import { moveTold } from "./position.js";
 import { readTree } from "./reader.js";
 
@@ -39,7 +39,7 @@ export class Why {
   }
 
   noteFills(reader, { fills }, winner, filled) {
-    const players = [colourName[winner], colourName[reader.other[winner]]];
+    const players = [colourName[winner], colourName[other[winner]]];
     for (const [kind, named] of fills) {
       const told = reader.fillTold[kind](named, ...players);
       const cells = named.split(" ");
@@ -63,12 +63,13 @@ export class Why {
 
   byRule = {
     chain: (record) => `${colourName[record.winner]} has a chain.`,
-    move: (record, cell) => (cell === record.chosen ? this.playWinner(record) : `${colourName[record.winner]}'s move in this tree is ${record.chosen}.`),
+    move: (record, cell) => this.atMove(record, cell),
     links: (record, cell) => this.inLink(record, cell),
     all: (record, cell) => this.ofAll(record, cell),
   };
 
-  playWinner(record) {
+  atMove(record, cell) {
+    if (cell !== record.chosen) return `${colourName[record.winner]}'s move in this tree is ${record.chosen}.`;
     this.goTo(record.child, [[record.winner, record.chosen]]);
     return `${colourName[record.winner]} plays ${record.chosen}.`;
   }
@@ -95,7 +96,8 @@ export class Why {
   }
 
   goTo(number, stones, { isTurned, filled } = this.here) {
-    const position = stones.reduce((before, [colour, cell]) => before.put(cell, colour).withMover(this.here.reader.other[colour]), this.here.position);
+    const played = (before, [colour, cell]) => before.put(cell, colour).withMover(other[colour]);
+    const position = stones.reduce(played, this.here.position);
     const told = stones.map(([colour, cell]) => moveTold(colour, cell)).join(", ");
     this.path.push({ ...this.arrived(number, isTurned, position, told, filled), last: stones.at(-1)[1] });
   }
@@ -176,12 +178,13 @@ export class Why {
   told() {
     const { reader, number } = this.here;
     const record = this.record();
-    const [winner, opponent] = [colourName[record.winner], colourName[reader.other[record.winner]]];
+    const [winner, opponent] = [colourName[record.winner], colourName[other[record.winner]]];
+    const meaning = reader.meaning[record.rule](record, winner, opponent);
     return [
       make("h2", [`Why ${winner} wins`]),
       this.pathTold(),
       make("p", [this.said], { id: "why-said", role: "status" }),
-      make("p", [`${colourName[record.mover]} is to move. The tree's rule here is `, make("code", [record.rule]), ". ", ...reader.meaning[record.rule](record, winner, opponent)]),
+      make("p", [`${colourName[record.mover]} is to move. The tree's rule here is `, make("code", [record.rule]), ". ", ...meaning]),
       ...this.fillsTold(),
       ...this.answersTold(record, opponent),
       ...this.stepsTold(record, number),
