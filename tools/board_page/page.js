@@ -149,7 +149,7 @@ class Page {
 
   // An answer about the position: who wins, and the marks.
   take(told) {
-    this.found = told.tree ? told : null;
+    this.found = told.tree ? { tree: told.tree, position: this.position } : null;
     this.signs = told.marks || (told.move ? { [told.move]: "+" } : {});
     const isOfMoves = told.marks && !told.chain;
     const words = isOfMoves ? this.movesTold(told) : this.whoTold(told);
@@ -189,7 +189,8 @@ class Page {
 
   async askWhy() {
     if (this.mode) this.enter(null);
-    if (!this.found) {
+    if (!this.found?.position.isSame(this.position)) {
+      this.found = null;
       const told = await this.askPosition("who");
       if (told) this.take(told);
     }
