@@ -429,6 +429,22 @@ def try_whys(trials, page):
     trials.want("whether nodes with lines were looked at, and how far lines were gone down",
                 [(False, True), (True, True), (True, True)],
                 [(looked, steps > 0) for looked, steps in came])
+    try_why_in_game(trials, page)
+
+
+def try_why_in_game(trials, page):
+    """The reasons are those of the position that is shown, though another one was asked about before."""
+    page.open("#4x4;black;..../..../..../....", 4)
+    page.click("#ask-who")
+    page.wait_text("#answer", "Black wins, by")
+    page.click("#ask-game")
+    page.wait_text("#game-said", "Black begins with")
+    page.click("a1")
+    page.wait_text("#game-said", "Black answers")
+    stones = page.cells("black")
+    page.click("#ask-why")
+    page.wait_text("#panel h2", "Why Black wins")
+    trials.want("the stones whose reasons are shown", (stones, ["a1"]), (page.cells("black"), page.cells("white")))
 
 
 def try_browser(trials, words, folder):
