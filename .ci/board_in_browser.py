@@ -344,6 +344,19 @@ def try_keyboard(trials, page):
     """Stones, undo, a question, its reasons, a game and a pasted board without the mouse."""
     page.browser.show(*PHONE, "dark")
     page.open("#4x4;black;..../..../..../....", 4)
+    try_keys_of_board(trials, page)
+    try_keys_of_questions(page)
+    tab_to(page, "#paste summary")
+    page.browser.press("Enter")
+    tab_to(page, "#pasted")
+    page.browser.write(". b\nw .\nblack to move")
+    tab_to(page, "#read")
+    page.browser.press("Enter")
+    page.wait_stones(["b1"], ["a2"])
+    page.browser.show(*DESK)
+
+
+def try_keys_of_board(trials, page):
     tab_to(page, "[data-cell]")
     trials.want("the cell that is reached first", "a1", focused(page))
     for key in ("ArrowRight", "ArrowDown", "ArrowLeft", "ArrowUp", "ArrowUp", "ArrowDown", "ArrowRight"):
@@ -360,6 +373,9 @@ def try_keyboard(trials, page):
     page.wait_stones(["b2"], ["c2"])
     trials.want("the ring around the cell", True,
                 page.browser.value("getComputedStyle(one('.ring')).stroke !== 'none'"))
+
+
+def try_keys_of_questions(page):
     tab_to(page, "#ask-who")
     page.browser.press("Enter")
     page.wait_text("#answer", "Black wins, by")
@@ -377,14 +393,6 @@ def try_keyboard(trials, page):
         page.browser.press("ArrowDown")
     page.browser.press("Enter")
     page.wait("/answers/.test(textOf('#game-said'))")
-    tab_to(page, "#paste summary")
-    page.browser.press("Enter")
-    tab_to(page, "#pasted")
-    page.browser.write(". b\nw .\nblack to move")
-    tab_to(page, "#read")
-    page.browser.press("Enter")
-    page.wait_stones(["b1"], ["a2"])
-    page.browser.show(*DESK)
 
 
 def try_names(trials, page):

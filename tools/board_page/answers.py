@@ -27,7 +27,7 @@ SCRIPTS = ("page", "board", "position", "questions", "why", "game", "pattern", "
 FILES = {"": HERE / "page.html", "page.css": HERE / "page.css", "marks.css": HERE / "marks.css",
          "board.css": PAGES / "board.css",
          **{f"{script}.js": HERE / f"{script}.js" for script in SCRIPTS}}
-# What the pages of trees have, in the order in which they have it: reader.html holds it together.
+# What the pages of trees have, in the order in which they have it: reader.js holds it together.
 READER = ("tree.js", "links.js", "records.js", "telling.js")
 HEADERS = {
     "Content-Security-Policy": "default-src 'none'; script-src 'self'; style-src 'self'; connect-src 'self'; "
