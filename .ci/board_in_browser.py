@@ -5,7 +5,7 @@ import re
 import sys
 import xml.etree.ElementTree
 
-from boards import BRIDGE, RACE, TOP, TooLate, empty, example, is_there, running, wait_for
+from boards import BRIDGE, LONG, RACE, TOP, TooLate, empty, example, is_there, running, wait_for
 from driving import CONTROL, SHIFT, Browser, NoBrowser, found_browser
 
 sys.path.insert(0, str(TOP / "tools"))
@@ -158,6 +158,21 @@ def try_stop(trials, page):
     child, = wait_for(page.board.children)
     page.browser.open("about:blank")
     wait_for(lambda: not is_there(child))
+
+
+def try_hidden(trials, page):
+    """A page that nobody sees holds no connection while it asks nothing, and keeps its question where it asks one."""
+    hide = "Object.defineProperty(document, 'hidden', { value: %s, configurable: true }); " \
+           "document.dispatchEvent(new Event('visibilitychange'))"
+    page.open(RACE_LINK, 4)
+    page.browser.value(hide % "true")
+    page.board.post("ask", {"question": "who", **empty(11), "options": LONG})
+    child, = wait_for(page.board.children)
+    wait_for(lambda: not is_there(child))
+    trials.want("a question beside a hidden page", "the page was gone", page.board.state()["why"])
+    page.browser.value(hide % "false")
+    page.click("#ask-who")
+    page.wait_text("#answer", "Black wins, by b3.")
 
 
 # ---- Why
@@ -415,7 +430,7 @@ def try_names(trials, page):
 def try_page(trials, page, folder):
     page.browser.show(*DESK)
     tried = [("stones", lambda: try_stones(trials, page)), ("questions", lambda: try_questions(trials, page)),
-             ("stop", lambda: try_stop(trials, page)),
+             ("stop", lambda: try_stop(trials, page)), ("a hidden page", lambda: try_hidden(trials, page)),
              ("why", lambda: try_whys(trials, page)), ("a game", lambda: try_game(trials, page)),
              ("pasting", lambda: try_pasting(trials, page)),
              ("taking along", lambda: try_taking(trials, page)), ("views", lambda: try_views(trials, page, folder)),

@@ -10,11 +10,26 @@ export async function call(path, sent) {
 
 export class Desk {
   constructor({ told, connected }) {
-    Object.assign(this, { onTold: told, waiting: null, last: { id: 0 } });
+    Object.assign(this, { onTold: told, onConnected: connected, events: null, waiting: null, last: { id: 0 } });
+    document.addEventListener("visibilitychange", () => this.connectAsNeeded());
+    this.connectAsNeeded();
+  }
+
+  // A browser has few connections to one server, so a page that nobody sees and that asks nothing holds none.
+  connectAsNeeded() {
+    const isNeeded = !document.hidden || this.isAsking();
+    if (isNeeded && !this.events) this.connect();
+    else if (!isNeeded && this.events) {
+      this.events.close();
+      this.events = null;
+    }
+  }
+
+  connect() {
     this.events = new EventSource("events");
     this.events.onmessage = (event) => this.take(JSON.parse(event.data));
-    this.events.onopen = () => connected(true);
-    this.events.onerror = () => connected(false);
+    this.events.onopen = () => this.onConnected(true);
+    this.events.onerror = () => this.onConnected(false);
   }
 
   isAsking() {
@@ -57,6 +72,7 @@ export class Desk {
     const { waiting } = this;
     this.waiting = null;
     if (waiting) waiting.done(told);
+    this.connectAsNeeded();
   }
 
   async stop() {
