@@ -11,7 +11,7 @@ from tree_page.pictures import EDGE, WIDE, mark_drawn, picture
 from tree_page.records import names
 
 HERE = pathlib.Path(__file__).parent
-SCRIPTS = ("tree.js", "links.js", "records.js", "page.js")
+SCRIPTS = ("tree.js", "links.js", "records.js", "telling.js", "page.js")
 KEY = [("chosen", "a move of the winner's, or moves that must be answered"),
        ("carrier", "the cells of a link, or of all threats together"),
        ("black-fill", "a stone that is filled in, here Black's"),
