@@ -150,12 +150,13 @@ const WAYS: [u32; 2] = [2, 5];
 /// A way by each of these cells, which a stone of Black's joins with the first row, to the last one.
 fn two_ways(alloc: Global, cells: [Cell; 2]) -> Result<Vec<Step>, Fail> {
     let mut steps = Vec::new(alloc);
-    for (cell, left) in [(cells[0], 0u32), (cells[1], 3)] {
-        let right = left + 1;
-        let (first, last) = (Vertex::First, Vertex::Last);
-        let cell = Vertex::Of(cell);
-        steps.push(Step::Base { a: first, b: cell })?;
-        steps.push(Step::Base { a: cell, b: last })?;
+    for (cell, left, right) in [(cells[0], 0u32, 1u32), (cells[1], 3, 4)] {
+        let a = Vertex::First;
+        let b = Vertex::Of(cell);
+        steps.push(Step::Base { a, b })?;
+        let a = Vertex::Of(cell);
+        let b = Vertex::Last;
+        steps.push(Step::Base { a, b })?;
         steps.push(Step::AndCell { left, right })?;
     }
     Ok(steps)
