@@ -1,13 +1,11 @@
-//! An entry of a node by each rule: it tells what the node says, and gives the node back. So does what a book is offered, and what a
-//! book refuses.
+//! An entry of a node by each rule: it tells what the node says, and gives the node back. So does what a book is offered.
 
 use hx_board::Colour::{Black, White};
-use hx_board::{Cell, Mask, Position, Size, Vertex};
-use hx_book::Book;
+use hx_board::{Cell, Position, Size, Vertex};
 use hx_entry::{Entry, Offer};
 use hx_inferior::{FillStep, Kill};
 use hx_link::{Parts, Step, Steps};
-use hx_tree::{FillSteps, Heading, Line, Lines, Node, Rule, Threats, check_node};
+use hx_tree::{FillSteps, Heading, Line, Lines, Node, Rule, Threats};
 use smallvec::SmallVec;
 use std::alloc::Global;
 use std::process::Abort;
@@ -141,78 +139,5 @@ fn a_node_by_each_rule_comes_back(rt: HostRuntime) -> Result<(), Fail> {
         let offer = Offer::of(Node { heading, rule }).expect(&rt, "memory");
         assert_eq!(rt; offer.into_node(), node);
     }
-    Ok(())
-}
-
-/// The links of `two_ways` that join the first row with the last.
-const WAYS: [u32; 2] = [2, 5];
-
-/// A way by each of these cells, which a stone of Black's joins with the first row, to the last one.
-fn two_ways(alloc: Global, cells: [Cell; 2]) -> Result<Vec<Step>, Fail> {
-    let mut steps = Vec::new(alloc);
-    for (cell, left, right) in [(cells[0], 0u32, 1u32), (cells[1], 3, 4)] {
-        let a = Vertex::First;
-        let b = Vertex::Of(cell);
-        steps.push(Step::Base { a, b })?;
-        let a = Vertex::Of(cell);
-        let b = Vertex::Last;
-        steps.push(Step::Base { a, b })?;
-        steps.push(Step::AndCell { left, right })?;
-    }
-    Ok(steps)
-}
-
-/// The link that is either way.
-fn either_way(alloc: Global, cells: [Cell; 2]) -> Result<Rule, Fail> {
-    let places = SmallVec::from_slice(alloc, &WAYS).or(Err("memory"))?;
-    let parts = Parts::new(places);
-    let mut steps = two_ways(alloc, cells)?;
-    steps.push(Step::Or { parts })?;
-    let steps = Steps::new(steps);
-    Ok(Rule::Links { steps })
-}
-
-/// Both ways are threats, and no move has to be answered.
-fn both_ways(alloc: Global, cells: [Cell; 2]) -> Result<Rule, Fail> {
-    Ok(Rule::All {
-        steps: Steps::new(two_ways(alloc, cells)?),
-        threats: Threats::new(Vec::from_slice(alloc, &WAYS)?),
-        lines: Lines::new(Vec::new(alloc)),
-    })
-}
-
-/// Offers a right node to a book of no slots, which gives it back.
-fn refused(alloc: Global, node: Node) -> Result<Node, Fail> {
-    let mut book = Book::with_slots(alloc, 0).or(Err("memory"))?;
-    if !check_node(alloc, &[], &node).or(Err("memory"))? {
-        return Err("wrong".into());
-    }
-    let offer = Offer::of(node).or(Err("memory"))?;
-    match book.put(offer) {
-        Ok(_) => Err("slot".into()),
-        Err(refusal) => Ok(refusal.into_node()),
-    }
-}
-
-#[test]
-fn a_refused_node_comes_back(rt: HostRuntime) -> Result<(), Fail> {
-    let alloc = rt.alloc();
-    let size = Size::new(2, 2).ok_or("size")?;
-    let b1 = size.cell(0, 1).ok_or("b1")?;
-    let cells = [size.cell(1, 0).ok_or("a2")?, size.cell(1, 1).ok_or("b2")?];
-    let black = Mask::empty().with(b1);
-    let heading = Heading {
-        position: Position::from_masks(size, black, Mask::empty()).ok_or("position")?,
-        to_move: White,
-        winner: Black,
-    };
-    let rule = either_way(alloc, cells)?;
-    let back = refused(alloc, Node { heading, rule })?;
-    assert_eq!(rt; back.rule, either_way(alloc, cells)?);
-    assert_eq!(rt; back.heading, heading);
-    let rule = both_ways(alloc, cells)?;
-    let back = refused(alloc, Node { heading, rule })?;
-    assert_eq!(rt; back.rule, both_ways(alloc, cells)?);
-    assert_eq!(rt; back.heading, heading);
     Ok(())
 }
