@@ -1,7 +1,7 @@
 //! Positions in the middle of a game, drawn by chance and the same in each run.
 
 use hx_board::{Colour, Position, Size};
-use hx_samples::Draws;
+use hx_test_support::Draws;
 
 /// The position after so many stones of Black and White in turn, or after as many as the board has
 /// room for.

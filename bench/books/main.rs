@@ -12,7 +12,7 @@ mod clock;
 use crate::clock::since;
 use hx_board::{Colour, Mask, Position, Size, chain};
 use hx_book::{Book, Found, look_either};
-use hx_entry::{Entry, Offer};
+use hx_packed::{Entry, Offer};
 use hx_tree::{Heading, Node, Rule};
 use hx_turn::turned;
 use std::alloc::{AllocError, Global};

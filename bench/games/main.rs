@@ -2,10 +2,10 @@
 //! of all answers of 200 games. The opponent's moves are drawn by a seed.
 #![tactic(auto)]
 
-use hx_letters::cut;
+use hx_lex::cut;
 use hx_play::Player;
-use hx_reader::{Fed, TreeReader};
-use hx_samples::Draws;
+use hx_parse::{Fed, TreeReader};
+use hx_test_support::Draws;
 use hx_tree::{Node, Verdict, check_tree, plain};
 use std::alloc::{AllocError, Global};
 use std::io;

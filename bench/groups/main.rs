@@ -8,7 +8,7 @@ mod positions;
 use crate::clock::since;
 use crate::positions::after_stones;
 use hx_board::{Colour, Groups, Position, Size, Vertex, chain};
-use hx_samples::Draws;
+use hx_test_support::Draws;
 use hx_turn::turned;
 use std::io;
 use std::time::Instant;

@@ -10,7 +10,7 @@ use crate::positions::after_stones;
 use hx_board::{CELLS, Cell, Colour, Position, Size, Vertex};
 use hx_link::Kind;
 use hx_linkset::LinkSet;
-use hx_samples::Draws;
+use hx_test_support::Draws;
 use hx_search::{Closure, Reached, close, reach};
 use std::io;
 use std::time::Instant;

@@ -11,7 +11,7 @@ mod clock;
 use crate::clock::since;
 use hx_board::{Colour, Mask, Position, Size, chain};
 use hx_book::Book;
-use hx_entry::Offer;
+use hx_packed::Offer;
 use hx_share::{BookSeat, Shared};
 use hx_tree::{Heading, Node, Rule};
 use std::alloc::{AllocError, Global};

@@ -7,7 +7,7 @@ mod positions;
 use crate::positions::after_stones;
 use hx_board::{Colour, Groups, Memory, Position, Size, Vertex};
 use hx_link::{Kind, Link, Parts, Step, result_of};
-use hx_samples::Draws;
+use hx_test_support::Draws;
 use hx_tree::{Heading, Node, Rule, Steps, check_node};
 use smallvec::SmallVec;
 use std::alloc::{AllocError, Global};

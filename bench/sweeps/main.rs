@@ -3,7 +3,7 @@
 #![tactic(auto)]
 
 use hx_board::{Colour, Position, Size};
-use hx_samples::Draws;
+use hx_test_support::Draws;
 use hx_sweep::sweep;
 use std::io;
 use std::time::Instant;

@@ -3,8 +3,8 @@
 #![tactic(auto)]
 
 use hx_io::{MemorySink, Sink};
-use hx_letters::cut;
-use hx_reader::{Fed, TreeReader};
+use hx_lex::cut;
+use hx_parse::{Fed, TreeReader};
 use hx_text::{version_of, write_end, write_heading, write_node};
 use hx_tree::{Node, Rule};
 use std::alloc::{AllocError, Global};

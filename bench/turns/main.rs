@@ -6,8 +6,8 @@ mod positions;
 
 use crate::positions::after_stones;
 use hx_board::{Cell, Colour, Size};
-use hx_samples::Draws;
-use hx_turn::{Orientations, folded_number, number, turned};
+use hx_test_support::Draws;
+use hx_turn::{Orientations, folded_key, number, turned};
 use std::io;
 use std::time::Instant;
 
@@ -78,7 +78,7 @@ fn numbers_anew(positions: &[Orientations]) -> u64 {
 fn folded(positions: &[Orientations]) -> u64 {
     let mut found = 0u64;
     for both in positions {
-        found = found.wrapping_add(folded_number(both.position(), Colour::Black));
+        found = found.wrapping_add(folded_key(both.position(), Colour::Black));
     }
     found
 }
@@ -135,5 +135,5 @@ fn main(rt: HostRuntime) -> io::Result<()> {
     measure(&rt, &positions, middle, 3, "test, with and number")?;
     measure(&rt, &positions, middle, 4, "Orientations::number")?;
     measure(&rt, &positions, middle, 5, "number")?;
-    measure(&rt, &positions, middle, 6, "folded_number")
+    measure(&rt, &positions, middle, 6, "folded_key")
 }

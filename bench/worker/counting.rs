@@ -1,6 +1,6 @@
 //! Which nodes of a book are no proofs of their own: those that lead from a position, by stones of the opponent's, to one that serves it.
 
-use hx_entry::Entry;
+use hx_packed::Entry;
 
 /// Whether a node leads to one with the same mover and the same stones of the winner, and more of the opponent's.
 fn is_leading(entries: &[Entry], entry: &Entry) -> bool {

@@ -10,7 +10,7 @@ use hx_book::Book;
 use hx_count::{CountSeat, Counts, Hints};
 use hx_io::RealGate;
 use hx_linkset::LinkSet;
-use hx_moves::{LOSS_WORDS, Replies};
+use hx_ordering::{LOSS_WORDS, Replies};
 use hx_worker::{Ended, Job, work};
 use std::alloc::Global;
 use std::sync::Wait;

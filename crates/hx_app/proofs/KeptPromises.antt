@@ -17,11 +17,11 @@ use Rattle.hx_text.specs.Grammars.{IsFaultyLine}
 use Rattle.hx_text.specs.PositionTexts.{ArePositionLines}
 use Rattle.hx_text.proofs.WholeTrees.{written_with}
 use Rattle.hx_text.proofs.OneFault.{one_position_fault}
-use Rattle.hx_settings.specs.declared.settings.Settings.{Settings}
+use Rattle.hx_limits.specs.declared.settings.Settings.{Settings}
 use Rattle.hx_solve.specs.Tallies.{Tallied}
 use Rattle.hx_answers.specs.Texts.{counted_text, unknown_budget_line, unknown_proofs_line}
 use Rattle.hx_answers.specs.Endings.{IsWritten, Whole, Cut, IsUnlessStopped, AnswersUnlessStopped, IsReadToEnd}
-use Rattle.hx_check.proofs.KeptPromises.{of_any}
+use Rattle.hx_cmd_check.proofs.KeptPromises.{of_any}
 use Rattle.hx_app.specs.declared.answers.Answer.{Answer}
 use Rattle.hx_app.specs.declared.answers.Answer.TheVariants.{Solved, LeftOpen, BadPosition, ReadFault, TooLong}
 use Rattle.hx_finish.specs.declared.finishes.Finish.{Finish}

@@ -6,7 +6,7 @@ use Rattle.hx_tree.specs.Plain.{IsPlainRule, IsPlain, ArePlain}
 use Rattle.hx_text.specs.declared.versions.Version.{Version}
 use Rattle.hx_text.specs.declared.versions.Version.TheVariants.{One, Two}
 use Rattle.hx_text.specs.Versions.{IsTurnedNode, HasTurned}
-use Rattle.hx_crew.proofs.LaterLists.{all-get}
+use Rattle.hx_pool.proofs.LaterLists.{all-get}
 
 plain_not_turned : (node : Node) → IsPlain node → IsTurnedNode node → ⊥
 plain_not_turned node plain turned = subst IsPlainRule turned.1 plain

@@ -10,13 +10,13 @@ use Rattle.hx_board.specs.Cells.{Extent, IsExtent}
 use Rattle.hx_board.specs.Positions.{Board, IsBoard}
 use Rattle.hx_board.specs.Counts.{IsSmall}
 use Rattle.hx_lines.specs.Lines.{longest}
-use Rattle.hx_reader.specs.declared.positions.TextFault.{TextFault}
-use Rattle.hx_letters.specs.Words.{spaced, mask_word, colour_word}
+use Rattle.hx_parse.specs.declared.positions.TextFault.{TextFault}
+use Rattle.hx_lex.specs.Words.{spaced, mask_word, colour_word}
 use Rattle.hx_text.specs.Grammars.{text_of, IsFaultyLine}
 use Rattle.hx_text.specs.PositionTexts.{ArePositionLines, position_text, position_title, size_line, stones_line, move_line}
-use Rattle.hx_letters.proofs.Masks.{length-hex}
-use Rattle.hx_letters.proofs.WordLengths.{length-colour_word, length-small}
-use Rattle.hx_reader.proofs.WholeReads.{spelled_is_read}
+use Rattle.hx_lex.proofs.Masks.{length-hex}
+use Rattle.hx_lex.proofs.WordLengths.{length-colour_word, length-small}
+use Rattle.hx_parse.proofs.WholeReads.{spelled_is_read}
 use Rattle.hx_app.specs.Positions.{IsPositionText, IsTextWhere}
 
 abbrev found : Board → Colour → Result (Board × Colour) TextFault

@@ -3,9 +3,9 @@ use Rattle.std.proofs.Common.{◌≡◌, ◌⊎◌, ℕ, ◌≤◌, inl, inr, �
 use Rattle.std.specs.Prelude.{Option, None, Some, IfSome}
 use Rattle.std.proofs.lemmas.Bool.{cases_lt}
 use Rattle.hx_lines.specs.Lines.{longest}
-use Rattle.hx_settings.specs.declared.settings.Settings.{Settings}
+use Rattle.hx_limits.specs.declared.settings.Settings.{Settings}
 use Rattle.hx_answers.specs.Endings.{IsUnlessStopped}
-use Rattle.hx_check.proofs.Refusals.{stopped}
+use Rattle.hx_cmd_check.proofs.Refusals.{stopped}
 use Rattle.hx_finish.specs.declared.finishes.Finish.{Finish}
 use Rattle.hx_app.specs.Positions.{IsNoPosition}
 use Rattle.hx_app.specs.Promises.{Answers}

@@ -2,21 +2,21 @@
 use Rattle.std.proofs.Common.{◌≡◌, ℕ, List, sym, subst}
 use Rattle.hx_io.specs.Sources.{Reading}
 use Rattle.hx_io.specs.Sinks.{Writing}
-use Rattle.hx_words.specs.declared.commands.Command.{Command}
-use Rattle.hx_words.specs.declared.commands.Command.TheVariants.{Check, Solve, Htp, Demo, Play, Template, Survey}
-use Rattle.hx_words.specs.Commands.{Asks}
-use Rattle.hx_words.proofs.CommandWords.{Asks-one}
-use Rattle.hx_check.specs.Judgements.{IsCheckRun}
-use Rattle.hx_check.specs.Promises.{KeepsPromises as ChecksAsPromised}
-use Rattle.hx_match.specs.Runs.{IsPlayRun}
-use Rattle.hx_match.specs.Promises.{KeepsPromises as PlaysAsPromised}
-use Rattle.hx_claim.specs.Claims.{IsTemplateRun}
-use Rattle.hx_claim.specs.Promises.{KeepsPromises as DecidesAsPromised}
+use Rattle.hx_cli.specs.declared.commands.Command.{Command}
+use Rattle.hx_cli.specs.declared.commands.Command.TheVariants.{Check, Solve, Htp, Demo, Play, Template, Survey}
+use Rattle.hx_cli.specs.Commands.{Asks}
+use Rattle.hx_cli.proofs.CommandWords.{Asks-one}
+use Rattle.hx_cmd_check.specs.Judgements.{IsCheckRun}
+use Rattle.hx_cmd_check.specs.Promises.{KeepsPromises as ChecksAsPromised}
+use Rattle.hx_cmd_play.specs.Runs.{IsPlayRun}
+use Rattle.hx_cmd_play.specs.Promises.{KeepsPromises as PlaysAsPromised}
+use Rattle.hx_cmd_template.specs.Claims.{IsTemplateRun}
+use Rattle.hx_cmd_template.specs.Promises.{KeepsPromises as DecidesAsPromised}
 use Rattle.hx_finish.specs.declared.finishes.Finish.{Finish}
 use Rattle.hx_app.specs.Promises.{KeepsPromises as SolvesAsPromised}
 use Rattle.hx_app.specs.Sessions.{KeepsPromises as ServesAsPromised}
 use Rattle.hx_app.specs.DemoPromises.{KeepsPromises as DrawsAsPromised}
-use Rattle.hx_chart.specs.Promises.{KeepsPromises as TabulatesAsPromised}
+use Rattle.hx_cmd_survey.specs.Promises.{KeepsPromises as TabulatesAsPromised}
 use Rattle.hx_app.specs.Runs.{IsRun, Checked, Played, Decided, CountsNothing}
 
 module _ (words : List (List ℕ)) (source source_now : Reading) (sink sink_now : Writing) where

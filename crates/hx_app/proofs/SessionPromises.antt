@@ -3,7 +3,7 @@ use Rattle.std.proofs.Common.{◌≡◌, ℕ, ◌<◌, ◌^◌, inl, inr, List, 
 use Rattle.std.specs.Prelude.{Option, IfSome}
 use Rattle.hx_io.specs.Sources.{Reading, SomeReadFailed}
 use Rattle.hx_io.specs.Sinks.{Writing, SomeWriteFailed}
-use Rattle.hx_settings.specs.declared.settings.Settings.{Settings}
+use Rattle.hx_limits.specs.declared.settings.Settings.{Settings}
 use Rattle.hx_solve.specs.Tallies.{Tallied, tallied}
 use Rattle.hx_htp.specs.Accounts.{Account}
 use Rattle.hx_htp.specs.States.{fresh}
@@ -12,8 +12,8 @@ use Rattle.hx_htp.specs.Runs.{Run, SessionRun, until_quit}
 use Rattle.hx_htp.specs.Laws.{IsCounted, NamesWinners}
 use Rattle.hx_lines.specs.declared.ended.Ended.{Ended}
 use Rattle.hx_lines.specs.declared.ended.Ended.TheVariants.{Stopped, Over, ReadFault, WriteFault, TooLong}
-use Rattle.hx_serve.specs.Serving.{Ends, IsDone, IsTooLong, IsWithinLimits}
-use Rattle.hx_check.proofs.KeptPromises.{of_any}
+use Rattle.hx_cmd_htp.specs.Serving.{Ends, IsDone, IsTooLong, IsWithinLimits}
+use Rattle.hx_cmd_check.proofs.KeptPromises.{of_any}
 use Rattle.hx_finish.specs.declared.finishes.Finish.{Finish}
 use Rattle.hx_app.specs.Sessions.{account_of, start_of, status_of_end, EndHasCause, IsSessionRun, EachRunNamesWinners, EachRunIsCounted}
 use Rattle.hx_app.specs.Sessions.{KeepsPromises}

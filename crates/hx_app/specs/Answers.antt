@@ -18,7 +18,7 @@ use Rattle.hx_text.specs.Grammars.{text_of, IsFaultyLine}
 use Rattle.hx_text.specs.PositionTexts.{ArePositionLines}
 use Rattle.hx_text.specs.TreeTexts.{NodeFits, ListsFit, node_lines, written_tree}
 use Rattle.hx_text.specs.Lengths.{most_nodes}
-use Rattle.hx_settings.specs.declared.settings.Settings.{Settings}
+use Rattle.hx_limits.specs.declared.settings.Settings.{Settings}
 use Rattle.hx_solve.specs.Solutions.{IsSolution}
 use Rattle.hx_solve.specs.Tallies.{Tallied}
 use Rattle.hx_answers.specs.Texts.{counted_text, read_fault_line, too_long_line}

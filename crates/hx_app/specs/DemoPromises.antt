@@ -2,7 +2,7 @@
 use Rattle.std.specs.Prelude.{◌≡◌, ◌⊎◌, ℕ, ◌<◌, ◌≤◌, List, Option}
 use Rattle.hx_io.specs.Sinks.{Writing, SomeWriteFailed, append}
 use Rattle.hx_demo.specs.Draws.{first_positions}
-use Rattle.hx_settings.specs.declared.settings.Settings.{Settings}
+use Rattle.hx_limits.specs.declared.settings.Settings.{Settings}
 use Rattle.hx_answers.specs.Texts.{out_of_memory_line}
 use Rattle.hx_app.specs.declared.demo_answers.WinCounts.{WinCounts}
 use Rattle.hx_finish.specs.declared.finishes.Finish.{Finish}

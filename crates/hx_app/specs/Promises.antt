@@ -15,7 +15,7 @@ use Rattle.hx_text.specs.PositionTexts.{ArePositionLines}
 use Rattle.hx_text.specs.TreeTexts.{IsTreeText}
 use Rattle.hx_text.specs.Lengths.{most_nodes}
 use Rattle.hx_proof.specs.Winners.{OnlyWinner}
-use Rattle.hx_settings.specs.declared.settings.Settings.{Settings}
+use Rattle.hx_limits.specs.declared.settings.Settings.{Settings}
 use Rattle.hx_answers.specs.Texts.{counted_text}
 use Rattle.hx_answers.specs.Endings.{IsUnlessStopped, AnswersUnlessStopped, IsReadToEnd}
 use Rattle.hx_finish.specs.declared.finishes.Finish.{Finish}

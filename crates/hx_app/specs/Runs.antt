@@ -3,15 +3,15 @@ use Rattle.std.specs.Prelude.{◌≡◌, ℕ, List, [], ◌∷◌, codes, Bool}
 use Rattle.hx_io.specs.Sources.{Reading}
 use Rattle.hx_io.specs.Sinks.{Writing}
 use Rattle.hx_board.specs.Cells.{Extent}
-use Rattle.hx_settings.specs.declared.settings.Settings.{Settings}
-use Rattle.hx_settings.specs.Settings.{defaults}
-use Rattle.hx_words.specs.declared.commands.Command.{Command}
-use Rattle.hx_words.specs.Commands.{NameAndOptions, IsSolve, IsDemo, IsSurvey, Asks}
+use Rattle.hx_limits.specs.declared.settings.Settings.{Settings}
+use Rattle.hx_limits.specs.Settings.{defaults}
+use Rattle.hx_cli.specs.declared.commands.Command.{Command}
+use Rattle.hx_cli.specs.Commands.{NameAndOptions, IsSolve, IsDemo, IsSurvey, Asks}
 use Rattle.hx_answers.specs.Endings.{IsWritten}
-use Rattle.hx_check.specs.Judgements.{IsCheckRun}
-use Rattle.hx_match.specs.Runs.{IsPlayRun}
-use Rattle.hx_claim.specs.Claims.{IsTemplateRun}
-use Rattle.hx_chart.specs.Answers.{IsSurveyRun}
+use Rattle.hx_cmd_check.specs.Judgements.{IsCheckRun}
+use Rattle.hx_cmd_play.specs.Runs.{IsPlayRun}
+use Rattle.hx_cmd_template.specs.Claims.{IsTemplateRun}
+use Rattle.hx_cmd_survey.specs.Answers.{IsSurveyRun}
 use Rattle.hx_finish.specs.declared.finishes.Finish.{Finish}
 use Rattle.hx_finish.specs.Wants.{no_refusal}
 use Rattle.hx_app.specs.Answers.{IsSolveRun}

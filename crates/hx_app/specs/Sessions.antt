@@ -3,7 +3,7 @@ use Rattle.std.specs.Prelude.{◌≡◌, ◌⊎◌, ℕ, ◌≤◌, List, length
 use Rattle.hx_io.specs.Sources.{Reading, SomeReadFailed}
 use Rattle.hx_io.specs.Sinks.{Writing, SomeWriteFailed}
 use Rattle.hx_board.specs.declared.Memory.{Memory as OutOfMemory}
-use Rattle.hx_settings.specs.declared.settings.Settings.{Settings}
+use Rattle.hx_limits.specs.declared.settings.Settings.{Settings}
 use Rattle.hx_solve.specs.declared.unsolved.Unsolved.{Unsolved}
 use Rattle.hx_solve.specs.declared.unsolved.Unsolved.TheVariants as unsolved
 use Rattle.hx_solve.specs.Tallies.{Tallied, tallied}
@@ -15,7 +15,7 @@ use Rattle.hx_htp.specs.Laws.{IsCounted, NamesWinners}
 use Rattle.hx_lines.specs.declared.ended.Ended.{Ended}
 use Rattle.hx_lines.specs.declared.ended.Ended.TheVariants.{Stopped, Over, ReadFault, WriteFault, TooLong}
 use Rattle.hx_lines.specs.Services.{most_lines}
-use Rattle.hx_serve.specs.Serving.{Ends, IsDone, IsReadFault, IsTooLong, IsWriteFault, IsWithinLimits}
+use Rattle.hx_cmd_htp.specs.Serving.{Ends, IsDone, IsReadFault, IsTooLong, IsWriteFault, IsWithinLimits}
 use Rattle.hx_finish.specs.declared.finishes.Finish.{Finish}
 
 -- what a tally tells of the questions of a session

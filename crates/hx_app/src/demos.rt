@@ -4,7 +4,7 @@ ghost use Rattle.std.specs.Prelude.{◌≡◌, ◌+◌, ◌-◌, ◌≤◌, ◌<
 ghost use Rattle.hx_board.specs.declared.colours.Colour.TheVariants.{Black};
 ghost use Rattle.hx_board.specs.Counts.{IsSmall};
 ghost use Rattle.hx_demo.specs.Draws.{first_positions};
-ghost use Rattle.hx_settings.specs.Settings.{AreSettings};
+ghost use Rattle.hx_limits.specs.Settings.{AreSettings};
 ghost use Rattle.hx_solve.specs.Causes.{HasCause, LacksMemory};
 ghost use Rattle.hx_answers.specs.Endings.{IsWritten};
 ghost use Rattle.hx_app.specs.Roots.{OnlyWins};

@@ -23,10 +23,10 @@ pub use laws::{
 pub use solutions::Solution;
 
 // The commands that make no thread and wait for nobody, each by itself, with what their contracts speak of.
-pub use hx_check::{Fault, Judgement, run_check};
-pub use hx_claim::{Answer as TemplateAnswer, run_template};
-pub use hx_match::{Refusal, run_play};
+pub use hx_cmd_check::{Fault, Judgement, run_check};
+pub use hx_cmd_play::{Refusal, run_play};
+pub use hx_cmd_template::{Answer as TemplateAnswer, run_template};
 
 // The texts of positions and trees, read and written.
-pub use hx_reader::{Fed, TextFault, TreeFault, TreeReader, read_position};
+pub use hx_parse::{Fed, TextFault, TreeFault, TreeReader, read_position};
 pub use hx_text::{Version, version_of, write_end, write_heading, write_node, write_position};

@@ -5,7 +5,7 @@
 //! type parameter.
 
 ghost use Rattle.std.specs.Prelude.{◌≡◌};
-ghost use Rattle.hx_settings.specs.Settings.{AreSettings};
+ghost use Rattle.hx_limits.specs.Settings.{AreSettings};
 ghost use Rattle.hx_solve.specs.Tallies.{tallied, counting, NoCountFalls};
 ghost use Rattle.hx_solve.specs.Causes.{HasCause};
 ghost use Rattle.hx_app.specs.Sessions.{account_of, IsOfSettings, TellsWhy};

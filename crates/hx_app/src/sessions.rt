@@ -1,17 +1,17 @@
 //! The command `htp`: a session over the lines of the input, whose questions a search answers.
 
 ghost use Rattle.std.specs.Prelude.{◌≡◌};
-ghost use Rattle.hx_settings.specs.Settings.{AreSettings};
+ghost use Rattle.hx_limits.specs.Settings.{AreSettings};
 ghost use Rattle.hx_app.specs.Sessions.{IsSessionRun, KeepsPromises, status_of_end};
 
 use crate::searchers::Searcher;
 use hx_answers::{READ_FAULT, TOO_LONG, WRITE_FAULT};
+use hx_cmd_htp::{
+    Ended, only_lines_above_a_limit_are_too_long, only_lines_within_the_limits_are_done, serve,
+};
 use hx_finish::Finish;
 use hx_htp::{named_players_win, open_questions_are_counted};
 use hx_io::{Sink, Source};
-use hx_serve::{
-    Ended, only_lines_above_a_limit_are_too_long, only_lines_within_the_limits_are_done, serve,
-};
 use hx_solve::Settings;
 use std::alloc::Global;
 use std::sync::Wait;

@@ -7,7 +7,7 @@ use Rattle.hx_board.proofs.ListLaws.{get-push, get-push_before, get-push_last, t
 use Rattle.hx_tree.specs.declared.nodes.Line.{Line}
 use Rattle.hx_tree.specs.declared.nodes.Rule.{Rule}
 use Rattle.hx_tree.specs.declared.nodes.Rule.TheVariants.{Chain, Links, Move, All, Fill, Turned}
-use Rattle.hx_entry.specs.Children.{child_of, lines_of}
+use Rattle.hx_packed.specs.Children.{child_of, lines_of}
 use Rattle.hx_book.specs.Trees.{NamesChild, HasLine, Names}
 use Rattle.hx_book.specs.Renaming.{MarksMore}
 

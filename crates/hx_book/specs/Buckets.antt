@@ -9,14 +9,14 @@ use Rattle.std.specs.Prelude.{ℕ, ◌*◌, ◌/◌, ◌^◌, ◌≤◌, List}
 use Rattle.hx_board.specs.declared.colours.Colour.{Colour}
 use Rattle.hx_board.specs.declared.colours.Colour.TheVariants.{Black, White}
 use Rattle.hx_board.specs.Positions.{Board}
-use Rattle.hx_turn.specs.Numbers.{folded_number}
+use Rattle.hx_turn.specs.Keys.{folded_key}
 use Rattle.hx_tree.specs.declared.nodes.Node.{Node}
 use Rattle.hx_book.specs.Entries.{IsBook}
 use Rattle.hx_book.specs.Chains.{Links, AreChains}
 
--- the bucket of a position and mover: as far into the buckets as their number is into the numbers below 2^64
+-- the bucket of a position and mover: as far into the buckets as their key is into the numbers below 2^64
 unfoldable pub bucket_of : ℕ → Board → Colour → ℕ
-bucket_of buckets board mover = folded_number board mover * buckets / 2 ^ 64
+bucket_of buckets board mover = folded_key board mover * buckets / 2 ^ 64
 
 -- the board with the stones of one player alone
 abbrev pub alone_of : Board → Colour → Board

@@ -17,5 +17,5 @@ Puts slots old node (Err refusal) new = IsRefused slots old node refusal.held ne
 pub record PutsLater (slots : ℕ) (seen : List Node) (node : Node) (result : Result ℕ Refusal) (new : List Node)
     : Type 0 where
   pub before : List Node
-  pub more : Extends before seen
+  pub more : Extends seen before
   pub puts : Puts slots before node result new

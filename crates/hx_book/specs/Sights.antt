@@ -15,4 +15,4 @@ pub record Sight : Type 0 where
 pub record Grows (before after : Sight) : Type 0 where
   pub slots : after.slots ≡ before.slots
   pub over : after.over ≡ before.over
-  pub seen : Extends after.list before.list
+  pub seen : Extends before.list after.list

@@ -25,7 +25,7 @@ use crate::refusals::NoSlot;
 use crate::trees::tree_of;
 use crate::wider::{Wider, is_wider};
 use hx_board::{Colour, Memory, Position};
-use hx_entry::{Entry, Offer};
+use hx_packed::{Entry, Offer};
 use hx_tree::{Found, Heading, Node};
 use std::alloc::Global;
 use std::marker::Model;

@@ -5,12 +5,12 @@ ghost use Rattle.hx_board.specs.Positions.{IsPosition};
 ghost use Rattle.hx_book.specs.Buckets.{bucket_of, alone_of, stones_bucket_of};
 
 use hx_board::{Colour, Mask, Position, Size};
-use hx_turn::folded_number;
+use hx_turn::folded_key;
 
 /// 2^64.
 const HALF: u128 = 18446744073709551616;
 
-/// The bucket of a position and mover: as far into the buckets as their number is into all numbers. A product is faster than a
+/// The bucket of a position and mover: as far into the buckets as their key is into all keys. A product is faster than a
 /// remainder by a number that is known only at run time.
 #[tactic(auto, unfolding(crate::specs::Buckets::bucket_of))]
 pub(crate) fn bucket(buckets: usize, position: &Position, mover: Colour) -> usize
@@ -18,7 +18,7 @@ pub(crate) fn bucket(buckets: usize, position: &Position, mover: Colour) -> usiz
     ensures value { result ≡ bucket_of buckets position.now mover }
     ensures below { result < buckets }
 {
-    let product = folded_number(position, mover) as u128 * buckets as u128;
+    let product = folded_key(position, mover) as u128 * buckets as u128;
     (product / HALF) as usize
 }
 

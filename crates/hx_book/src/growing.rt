@@ -19,7 +19,7 @@ use crate::books::Book;
 use crate::refusals::NoSlot;
 use crate::wider::Wider;
 use hx_board::{Colour, Position};
-use hx_entry::Offer;
+use hx_packed::Offer;
 use hx_tree::Found;
 use std::sync::Wait;
 

@@ -13,7 +13,7 @@ use crate::growing::Proofs;
 use crate::refusals::NoSlot;
 use crate::wider::Wider;
 use hx_board::{Colour, Memory, Position};
-use hx_entry::{Entry, Offer};
+use hx_packed::{Entry, Offer};
 use hx_tree::{Found, Node};
 use std::alloc::Global;
 use std::marker::Model;

@@ -2,7 +2,7 @@
 
 ghost use Rattle.std.specs.Prelude.{◌≡◌};
 
-use hx_entry::Offer;
+use hx_packed::Offer;
 use hx_tree::Node;
 use std::marker::Model;
 use thiserror::Error;

@@ -9,7 +9,7 @@ ghost use Rattle.hx_book.specs.Trees.{NamesChild, HasLine, Names, IsTreeOf, rena
 ghost use Rattle.hx_book.specs.Renaming.{AreUnmarked, MarksMore, AreMarkedFrom, IsKept};
 
 use hx_board::Memory;
-use hx_entry::Entry;
+use hx_packed::Entry;
 use hx_tree::{Line, Lines, Node, Rule};
 use std::alloc::Global;
 

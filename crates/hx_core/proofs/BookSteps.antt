@@ -32,7 +32,7 @@ book-begun workers slots = record {
 
 -- the later list begins with the earlier one, and each worker has seen as much or more
 pub record BookGrows (old new : BookState) : Type 0 where
-  pub extends : Extends new.nodes old.nodes
+  pub extends : Extends old.nodes new.nodes
   pub seen : (worker : ℕ) → seen_by old worker ≤ seen_by new worker
 
 abbrev with_nodes : BookState → List Node → BookState
@@ -89,12 +89,12 @@ module _ (workers slots : ℕ) (book : BookState) (kept : IsBook workers slots b
         subst (λ (ns : List Node). IsBook workers slots (with_nodes book ns)) (sym added.grown)
         (node-kept node added.room (right_node-whole book.nodes (seen_by book worker) node right) added.none))
 
-    stored-extends : (place : ℕ) → IsStored book.slots book.nodes node place nodes → Extends nodes book.nodes
+    stored-extends : (place : ℕ) → IsStored book.slots book.nodes node place nodes → Extends book.nodes nodes
     stored-extends place = ⊎_elim
         (λ (there : IsThere book.nodes node place nodes). ([], there.same ∙ sym (append-nil book.nodes)))
         (λ (added : IsAdded book.slots book.nodes node place nodes). (node ∷ [], added.grown))
 
-    longer-grows : Extends nodes book.nodes → BookGrows book (with_all_seen book nodes worker)
+    longer-grows : Extends book.nodes nodes → BookGrows book (with_all_seen book nodes worker)
     longer-grows extends = record {
       extends = extends;
       seen = le-set book.seen worker (length nodes)

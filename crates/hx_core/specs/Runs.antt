@@ -45,7 +45,7 @@ EveryRunGivesATree =
 
 -- the later list begins with the earlier one, and each worker has seen what it had seen, or more
 pub record IsLaterState (old new : MachineState) : Type 0 where
-  pub extends : Extends new.book.nodes old.book.nodes
+  pub extends : Extends old.book.nodes new.book.nodes
   pub seen : (worker : ℕ) → seen_by old.book worker ≤ seen_by new.book worker
 
 -- a state that events lead to, and a state that further events lead to from there

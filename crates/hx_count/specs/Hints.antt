@@ -25,20 +25,20 @@ within_kept number = max 1 (min number HIGHEST_KEPT)
 abbrev pub kept_of : Numbers → Numbers
 kept_of numbers = record { phi = within_kept numbers.phi; delta = within_kept numbers.delta }
 
--- the mark of a position that has this number, and of a word: the upper twenty binary digits
+-- the mark of a position that has this key, and of a word: the upper twenty binary digits
 abbrev pub mark_of : ℕ → ℕ
-mark_of number = number / A_MARK
+mark_of key = key / A_MARK
 
--- the mark of the position that has this number, and the numbers of its hint, in one word
+-- the mark of the position that has this key, and the numbers of its hint, in one word
 abbrev pub word_of : ℕ → Numbers → ℕ
-word_of number numbers = mark_of number * A_MARK + numbers.phi * A_NUMBER + numbers.delta
+word_of key numbers = mark_of key * A_MARK + numbers.phi * A_NUMBER + numbers.delta
 
--- the numbers that a word tells of the position that has this number: those of a position that nobody looked at where the
+-- the numbers that a word tells of the position that has this key: those of a position that nobody looked at where the
 -- word was never written, or for another mark
 abbrev pub numbers_of : ℕ → ℕ → Numbers
-numbers_of number word =
+numbers_of key word =
     if word == 0 then UNSEEN
-    else (if mark_of word == mark_of number
+    else (if mark_of word == mark_of key
     then kept_of (record { phi = word / A_NUMBER % A_NUMBER; delta = word % A_NUMBER })
     else UNSEEN)
 
@@ -48,10 +48,10 @@ pub record LeftAt : Type 0 where
   pub place : ℕ
   pub word : ℕ
 
--- the store of these numbers for the position that has this number
+-- the store of these numbers for the position that has this key
 abbrev pub left : TableId → ℕ → Numbers → LeftAt
-left table number numbers =
-    record { table = table; place = number % table.words; word = word_of number numbers }
+left table key numbers =
+    record { table = table; place = key % table.words; word = word_of key numbers }
 
 -- ---- words for the functions inside the crate alone
 

@@ -71,6 +71,12 @@ pub record AreTotals (made : Origin) (seats : List Seat) (granted held : ℕ) : 
   pub same_granted : granted ≡ granted_to_all (state_after made.limits history)
   pub same_held : held ≡ held_by_all (state_after made.limits history)
 
+-- a seat of the same counts, which holds each word as often as before, and is refused if it was
+pub record KeepsSeat (old new : Seat) : Type 0 where
+  pub same_made : new.made ≡ old.made
+  pub same_held : (own new).held ≡ (own old).held
+  pub still_refused : (own old).refused ≡ true → (own new).refused ≡ true
+
 -- ---- the fields of a seat: words for the functions inside the crate alone
 
 -- one who is no worker, of no table

@@ -2,18 +2,16 @@
 //! numbers of another position, and no proof rests on one.
 //!
 //! A word has the two numbers of a hint, so what is read was left by one worker, and a mark of the position that they are of: the
-//! upper twenty binary digits of its number, whose lower ones find the word. The word of a position with another mark reads as one
+//! upper twenty binary digits of its key, whose lower ones find the word. The word of a position with another mark reads as one
 //! that nobody wrote. Without marks a search fails once it has more units than words: 8 by 8 after d5 takes 70,098 units with a
 //! million words, and is not solved by 400,001 with 65,536; with marks it takes 76,883 with 65,536.
 //!
 //! No search leaves a word of zeros, so a worker can tell that a word was never written. No clause can say what a word holds
 //! later, while others step; so a store answers with a value that no other call makes, and that tells which word got which
-//! numbers. A seat at the hints for each worker would say no more, and would go through every call of hx_moves and hx_worker.
+//! numbers. A seat at the hints for each worker would say no more, and would go through every call of hx_ordering and hx_worker.
 //!
 //! With a million words marks bring little: over the openings of 7 by 7, those of 6 by 6 in one book, and d5, 704,237 units
-//! are taken with them and 722,361 without. But the number of words hardly counts with them: bench/search takes 13,911
-//! units for 7 by 7 after e6 with 65,536 words, and 15,437 to 15,443 with 262,144 to 16,777,216. Marks of ten digits took
-//! as many units, where they were tried.
+//! are taken with them and 722,361 without. Marks of ten digits took as many units, where they were tried.
 
 ghost use Rattle.std.specs.Prelude.{◌≡◌, ◌≢◌, ◌<◌, ◌≤◌, ◌%◌, ℕ, IfOk};
 ghost use Rattle.hx_pn.specs.declared.proof_numbers.Numbers.{Numbers as PlainNumbers};
@@ -104,33 +102,33 @@ pub fn kept(numbers: Numbers) -> Numbers
     }
 }
 
-/// The mark of the position that has this number, or of which a word tells: the upper twenty binary digits.
-fn mark_of(number: u64) -> u64
-    ensures { result ≡ mark_of number }
+/// The mark of the position that has this key, or of which a word tells: the upper twenty binary digits.
+fn mark_of(key: u64) -> u64
+    ensures { result ≡ mark_of key }
 {
-    number / A_MARK
+    key / A_MARK
 }
 
-/// The mark of the position that has this number, and both numbers of its hint, in one word.
-fn word_of(number: u64, numbers: Numbers) -> u64
+/// The mark of the position that has this key, and both numbers of its hint, in one word.
+fn word_of(key: u64, numbers: Numbers) -> u64
     requires { AreKept numbers }
-    ensures { result ≡ word_of number numbers }
+    ensures { result ≡ word_of key numbers }
 {
-    mark_of(number) * A_MARK + u64::from(numbers.phi) * A_NUMBER + u64::from(numbers.delta)
+    mark_of(key) * A_MARK + u64::from(numbers.phi) * A_NUMBER + u64::from(numbers.delta)
 }
 
-/// The numbers that a word tells of the position that has this number: `UNSEEN` where nobody wrote the word, or for a position
+/// The numbers that a word tells of the position that has this key: `UNSEEN` where nobody wrote the word, or for a position
 /// with another mark.
-fn numbers_of(number: u64, word: u64) -> Numbers
-    ensures value { result ≡ numbers_of number word }
+fn numbers_of(key: u64, word: u64) -> Numbers
+    ensures value { result ≡ numbers_of key word }
     ensures open { AreOpen result }
     ensures unwritten { word ≡ 0 → result ≡ UNSEEN }
-    ensures back { (numbers : PlainNumbers) → AreKept numbers → word ≡ word_of number numbers
+    ensures back { (numbers : PlainNumbers) → AreKept numbers → word ≡ word_of key numbers
         → result ≡ numbers }
-    ensures other { (other : ℕ) (numbers : PlainNumbers) → mark_of other ≢ mark_of number
+    ensures other { (other : ℕ) (numbers : PlainNumbers) → mark_of other ≢ mark_of key
         → AreKept numbers → word ≡ word_of other numbers → result ≡ UNSEEN }
 {
-    if word == 0 || mark_of(word) != mark_of(number) {
+    if word == 0 || mark_of(word) != mark_of(key) {
         return UNSEEN;
     }
     kept(Numbers {
@@ -154,22 +152,22 @@ impl Hints {
         Ok(Hints { table, words })
     }
 
-    /// The numbers of the position that has this number. Both are at least 1 and below `INF`. They are `UNSEEN` where nobody wrote
+    /// The numbers of the position that has this key. Both are at least 1 and below `INF`. They are `UNSEEN` where nobody wrote
     /// the word for a position with its mark, and else what `kept` gives for the numbers that were left so last.
-    pub fn get(&self, number: u64) -> Numbers
+    pub fn get(&self, key: u64) -> Numbers
         ensures phi { (1 ≤ result.phi) × (result.phi < INF) }
         ensures delta { (1 ≤ result.delta) × (result.delta < INF) }
     {
-        let place = (number % u64::from(self.words)) as usize;
-        numbers_of(number, self.table.shared.peek(place))
+        let place = (key % u64::from(self.words)) as usize;
+        numbers_of(key, self.table.shared.peek(place))
     }
 
-    /// Leaves the numbers of the position that has this number, as `kept` gives them, with one store.
-    pub fn set(&self, number: u64, numbers: Numbers) -> Left
-        ensures { result ≡ left self.now number (kept_of numbers) }
+    /// Leaves the numbers of the position that has this key, as `kept` gives them, with one store.
+    pub fn set(&self, key: u64, numbers: Numbers) -> Left
+        ensures { result ≡ left self.now key (kept_of numbers) }
     {
-        let place = (number % u64::from(self.words)) as usize;
-        let word = word_of(number, kept(numbers));
+        let place = (key % u64::from(self.words)) as usize;
+        let word = word_of(key, kept(numbers));
         let (_before, seat) = self.table.shared.swap_new_seat::<Storing>(place, word);
         Left { seat }
     }

@@ -2,7 +2,7 @@
 -- tells it.
 use Rattle.std.proofs.Common.{◌≡◌, ◌⊎◌, ℕ, inl, inr, ⊎_elim, List, refl, sym, ◌∙◌, arith}
 use Rattle.hx_io.specs.Sinks.{Writing, SomeWriteFailed, append}
-use Rattle.hx_settings.specs.declared.settings.Settings.{Settings}
+use Rattle.hx_limits.specs.declared.settings.Settings.{Settings}
 use Rattle.hx_answers.specs.Texts.{out_of_memory_line}
 use Rattle.hx_answers.specs.Endings.{IsWritten, Whole, Cut}
 use Rattle.hx_finish.specs.declared.finishes.Finish.{Finish}

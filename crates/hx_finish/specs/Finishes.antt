@@ -1,7 +1,7 @@
 -- What the end of a run that searches is good for.
 use Rattle.std.specs.Prelude.{◌≡◌, ◌⊎◌, ℕ, List, Option}
 use Rattle.hx_io.specs.Sinks.{append}
-use Rattle.hx_settings.specs.declared.settings.Settings.{Settings}
+use Rattle.hx_limits.specs.declared.settings.Settings.{Settings}
 use Rattle.hx_solve.specs.Tallies.{Tallied}
 use Rattle.hx_answers.specs.Texts.{unknown_budget_line, unknown_proofs_line}
 

@@ -1,6 +1,6 @@
 -- What is told where a search came to no answer, and which refusal stands behind it.
 use Rattle.std.specs.Prelude.{◌≡◌, ℕ, List}
-use Rattle.hx_settings.specs.declared.settings.Settings.{Settings}
+use Rattle.hx_limits.specs.declared.settings.Settings.{Settings}
 use Rattle.hx_solve.specs.declared.unsolved.Unsolved.{Unsolved}
 use Rattle.hx_solve.specs.declared.unsolved.Unsolved.TheVariants.{Budget, Slots, Memory}
 use Rattle.hx_solve.specs.Tallies.{Tallied, tallied}

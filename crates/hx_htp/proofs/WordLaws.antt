@@ -8,7 +8,7 @@ use Rattle.std.proofs.lemmas.List.{take_all}
 use Rattle.std.proofs.lemmas.Bool.{eq-eqb, eqb-true, false_from_ne_true}
 use Rattle.arrayvec.specs.ArrayVec.{ArrayVec}
 use Rattle.std.specs.List.{position_or_len, filter}
-use Rattle.hx_letters.specs.Words.{in_first}
+use Rattle.hx_lex.specs.Words.{in_first}
 use Rattle.hx_htp.specs.Words.{is_kept, is_hash, is_space, shown, parts_between, has_bytes, words_in}
 use Rattle.hx_htp.specs.Parts.{BeginsWord}
 

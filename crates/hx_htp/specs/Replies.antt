@@ -9,7 +9,7 @@ use Rattle.hx_board.specs.declared.colours.Colour.{Colour}
 use Rattle.hx_board.specs.declared.colours.Colour.TheVariants.{Black, White}
 use Rattle.hx_board.specs.Cells.{index_of}
 use Rattle.hx_board.specs.Positions.{Board, stone_at}
-use Rattle.hx_letters.specs.Words.{colour_word, cell_word}
+use Rattle.hx_lex.specs.Words.{colour_word, cell_word}
 use Rattle.hx_htp.specs.declared.answers.Refusal.{Refusal}
 use Rattle.hx_htp.specs.declared.answers.Refusal.TheVariants.{UnknownCommand, SyntaxError, UnacceptableSize}
 use Rattle.hx_htp.specs.declared.answers.Refusal.TheVariants.{IllegalMove, CannotUndo, NoEmptyCell, OutOfMemory}

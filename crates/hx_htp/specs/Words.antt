@@ -3,7 +3,7 @@ use Rattle.std.specs.Prelude.{ℕ, Bool, true, false, ◌&&◌, ◌||◌, not, �
 use Rattle.std.specs.Prelude.{List, [], ◌∷◌, length, if◌then◌else◌, filter}
 use Rattle.std.specs.List.{before_first, list_all}
 use Rattle.std.specs.Char.{is_ascii_digit}
-use Rattle.hx_letters.specs.Words.{in_first}
+use Rattle.hx_lex.specs.Words.{in_first}
 
 -- a byte that counts: no control byte but the tabulator
 abbrev pub is_kept : ℕ → Bool

@@ -7,7 +7,7 @@ ghost use Rattle.hx_board.specs.Cells.{index_of};
 ghost use Rattle.hx_htp.specs.Arguments.{colour_of, number_of, column_of, row_of_number, row_of_word, vertex_of};
 
 use hx_board::{Cell, Colour, Size};
-use hx_letters::read_digits;
+use hx_lex::read_digits;
 
 /// The player that a word names, in letters of either case.
 pub(crate) fn colour(word: &[u8]) -> Option<Colour>

@@ -23,7 +23,7 @@ use crate::texts::spelled;
 use crate::words::shown;
 use arrayvec::ArrayVec;
 use hx_board::{CELLS, Cell, Colour, Memory, Position, Size};
-use hx_letters::{Text, size_of};
+use hx_lex::{Text, size_of};
 use std::marker::Model;
 use std::sync::Wait;
 use std::thread::Threads;

@@ -8,7 +8,7 @@ ghost use Rattle.hx_htp.specs.Replies.{stone_byte, columns_line, row_line, board
 use crate::answers::{Answer, Refusal};
 use crate::names::NAMES;
 use hx_board::{Colour, Position};
-use hx_letters::{TEXT_ROOM, Text};
+use hx_lex::{TEXT_ROOM, Text};
 use itoa::Buffer;
 
 /// The text of a reply: the mark, the line's number, and what is said.

@@ -24,7 +24,6 @@ pub mod RenamingLaws
 pub mod ClosedLaws
 pub mod KeptStepLaws
 pub mod NextLaws
-pub mod ChainListLaws
 pub mod LastStoneLaws
 pub mod FullListLaws
 pub mod FullLaws

@@ -4,14 +4,14 @@ ghost use Rattle.std.specs.Prelude.{◌≡◌, ◌↔◌, ◌≤◌, IsTrue, len
 ghost use Rattle.hx_linkset.specs.States.{CanPut, put_all};
 ghost use Rattle.hx_linkset.specs.Plays.{stage_before};
 
-use hx_board::{Cell, Colour, Mask, Position};
+use hx_board::{Cell, Colour, Mask, Position, Size};
 use hx_link::Link;
 
 /// 2^64.
 const HALF: u128 = 18446744073709551616;
 
 /// An odd number with about as many digits 1 as 0.
-const KEY: u64 = 11400714819323198485;
+const SALT: u64 = 11400714819323198485;
 
 /// How a set stood at some time: the position, and how long the lists were.
 #[derive(Clone, Copy)]
@@ -92,33 +92,42 @@ pub(crate) fn can_put(position: &Position, stones: &[(Colour, Cell)]) -> bool
     true
 }
 
-/// A number of a player, of how a set of his stands, and of how it stood before each of its plays.
-pub(crate) fn number_of(player: Colour, now: &Stage, plays: &[Stage]) -> u64 {
-    let mut number = match player {
+/// A key of a player, of the board's size, of how a set of his stands, and of how it stood before each of its plays.
+pub(crate) fn key_of(player: Colour, now: &Stage, plays: &[Stage]) -> u64 {
+    let mut key = with_size(player, now.position.size());
+    for play in plays {
+        key = with_stage(key, play);
+    }
+    with_stage(key, now)
+}
+
+/// A key of a player and a size.
+fn with_size(player: Colour, size: Size) -> u64 {
+    let owner = match player {
         Colour::Black => 0,
         Colour::White => 1,
     };
-    for play in plays {
-        number = with_stage(number, play);
-    }
-    with_stage(number, now)
+    with_word(
+        with_word(owner, u64::from(size.rows())),
+        u64::from(size.cols()),
+    )
 }
 
-/// A number, and a stage mixed into it. How long the log was follows from the stages before it.
-fn with_stage(number: u64, stage: &Stage) -> u64 {
-    let with_black = with_mask(number, stage.position.stones(Colour::Black));
+/// A key, and a stage mixed into it. How long the log was follows from the stages before it.
+fn with_stage(key: u64, stage: &Stage) -> u64 {
+    let with_black = with_mask(key, stage.position.stones(Colour::Black));
     let with_white = with_mask(with_black, stage.position.stones(Colour::White));
     with_word(with_white, stage.count as u64)
 }
 
-/// A number, and the two halves of a set mixed into it.
-fn with_mask(number: u64, mask: Mask) -> u64 {
+/// A key, and the two halves of a set mixed into it.
+fn with_mask(key: u64, mask: Mask) -> u64 {
     let low = (mask.bits() % HALF) as u64;
     let high = (mask.bits() / HALF) as u64;
-    with_word(with_word(number, low), high)
+    with_word(with_word(key, low), high)
 }
 
-/// A number, and a word mixed into it. The product carries each digit up, and the turn brings the upper ones down.
-fn with_word(number: u64, word: u64) -> u64 {
-    (number ^ word).wrapping_mul(KEY).rotate_left(32)
+/// A key, and a word mixed into it. The product carries each digit up, and the turn brings the upper ones down.
+fn with_word(key: u64, word: u64) -> u64 {
+    (key ^ word).wrapping_mul(SALT).rotate_left(32)
 }

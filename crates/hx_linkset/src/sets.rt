@@ -23,7 +23,7 @@ ghost use Rattle.hx_link.specs.declared.links.Link.{Link};
 ghost use Rattle.hx_linkset.specs.States.{IsLive, IsLiveAt, IsRight, IsUntouched, added, played, CanPut, played_all, LeaveAlone};
 ghost use Rattle.hx_linkset.specs.Answers.{Gives, Covers, IsAdded, IsPut};
 ghost use Rattle.hx_linkset.specs.Held.{IsHeadBetween};
-ghost use Rattle.hx_linkset.specs.LiveOf.{IsLiveOf, IsFirstFrom, ChainLists};
+ghost use Rattle.hx_linkset.specs.LiveOf.{IsLiveOf, IsFirstFrom};
 ghost use Rattle.hx_linkset.specs.LivePairs.{AreLivePairs};
 ghost use Rattle.hx_linkset.specs.LastStones.{board_before, AreDropped};
 ghost use Rattle.hx_linkset.specs.Fulls.{AreFullAt, AreFullWithin};
@@ -37,7 +37,7 @@ use crate::limits::MOST_LINKS;
 use crate::liveness::{Liveness, is_live, liveness_of};
 use crate::pairs::{PairIter, in_order};
 use crate::passes::{cut_down, cut_fulls, drop_dead, put_back};
-use crate::plays::{Stage, before_last, can_put, logged_from, number_of, stage_of, with_all};
+use crate::plays::{Stage, before_last, can_put, key_of, logged_from, stage_of, with_all};
 use crate::touches::HeldLinks;
 use hx_board::{CELLS, Cell, Colour, Groups, Mask, Memory, Position, Vertex, VertexSet};
 use hx_link::{Allowed, Kind, Link, Step, result_among};
@@ -230,12 +230,12 @@ impl LinkSet {
         self.steps.as_slice()
     }
 
-    /// A number of how the set came to be: of its player, of its position and how many links it holds, and of the same before
+    /// A key of how the set came to be: of its player, of its position and how many links it holds, and of the same before
     /// each play that stands. Sets that came about otherwise hardly ever share it. It is the key of a hint, so no clause says
-    /// which number it is, and no proof rests on it.
-    pub fn number(&self) -> u64 {
+    /// which key it is, and no proof rests on it.
+    pub fn key(&self) -> u64 {
         let now = stage_of(&self.position, self.links.as_slice(), self.log.as_slice());
-        number_of(self.colour, &now, self.plays.as_slice())
+        key_of(self.colour, &now, self.plays.as_slice())
     }
 
     /// The position before the stones that were put since the last link came, or since the set was made. Where the last
@@ -334,14 +334,6 @@ impl LinkSet {
             return None;
         }
         Some((node - FIRST_NODE) as u32)
-    }
-
-    /// Followed by `first_of` and then by `next_of` until that is None, a chain gives exactly the live links of its kind and
-    /// its ends, in rising order. The call does nothing.
-    pub fn chain_lists(&self, kind: Kind, a: Vertex, b: Vertex)
-        ensures { ChainLists self.now kind a b }
-    {
-        let (_colour, _head) = (self.colour, head_between(kind, &a, &b));
     }
 
     /// What gives the set its memory.

@@ -93,7 +93,7 @@ some-heading old middle new root node last headings (Some place) there same is =
 some-heading old middle new root node last headings None there same is = tt
 
 -- a heading stays where nodes are added behind it
-pub heading-stays : (old new : List Node) (root : ℕ) → Extends new old → root < length old
+pub heading-stays : (old new : List Node) (root : ℕ) → Extends old new → root < length old
     → slice_get (headings_of new) root ≡ slice_get (headings_of old) root
 heading-stays old new root more less =
     ap (λ (nodes : List Node). slice_get (headings_of nodes) root) more.1

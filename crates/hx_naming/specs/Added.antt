@@ -9,14 +9,14 @@ use Rattle.hx_tree.specs.Trees.{AreRight, headings_of}
 
 -- the new list begins with the old one, is right and small enough, and is plain where the old one is
 pub record IsGrown (old new : List Node) : Type 0 where
-  pub after : Extends new old
+  pub after : Extends old new
   pub right : AreRight new
   pub few : length new ≤ MOST_NODES
   pub plain : ArePlain old → ArePlain new
 
 -- it is so, but that it is plain only where the further nodes must be
 pub record IsMore (must_be_plain : Bool) (old new : List Node) : Type 0 where
-  pub after : Extends new old
+  pub after : Extends old new
   pub right : AreRight new
   pub few : length new ≤ MOST_NODES
   pub plain : must_be_plain ≡ true → ArePlain old → ArePlain new

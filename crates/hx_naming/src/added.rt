@@ -7,7 +7,7 @@ ghost use Rattle.hx_tree.specs.Trees.{AreRight, headings_of};
 ghost use Rattle.hx_naming.specs.Added.{IsMore, IsPushed};
 
 use hx_board::Memory;
-use hx_entry::{Entry, Offer};
+use hx_packed::{Entry, Offer};
 use hx_tree::{Heading, MOST_NODES, Node, check_node, plain};
 use std::alloc::Global;
 

@@ -1,6 +1,6 @@
 //! A move after which links decide a position, as they do before it.
 
-ghost use Rattle.hx_search.specs.Decided.{Decides};
+ghost use Rattle.hx_linkset.specs.LiveOf.{Decides};
 
 use crate::cells::linked_cells;
 use crate::sets::set_of;

@@ -9,7 +9,7 @@ ghost use Rattle.hx_naming.specs.Added.{IsGrown, HasHeadingOf};
 use crate::added::{add, add_all, headings_of};
 use crate::paths::path_from;
 use crate::ways_up::found_by;
-use hx_entry::Entry;
+use hx_packed::Entry;
 use hx_tree::{Heading, Node, Rule, plain};
 use std::alloc::Global;
 

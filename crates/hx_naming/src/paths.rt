@@ -4,8 +4,8 @@
 //! wins, the way ends at a node by a move, by links or by a chain.
 
 use hx_board::{Cell, Position};
-use hx_entry::Entry;
 use hx_link::Steps;
+use hx_packed::Entry;
 use hx_tree::{FillSteps, Heading, Node, Rule};
 use std::alloc::Global;
 

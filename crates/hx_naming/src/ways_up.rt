@@ -6,8 +6,8 @@
 use crate::moves::{WinningMove, linked_move};
 use crate::paths::{End, Leads, Passed, Path};
 use hx_board::{Cell, Colour, Position};
-use hx_entry::Entry;
 use hx_link::Steps;
+use hx_packed::Entry;
 use hx_tree::{Heading, Node, Rule};
 use hx_turn::turned;
 use std::alloc::Global;

@@ -116,7 +116,7 @@ module _ (headings : List Heading) (heading : Heading) (cells : ℕ) (under : Li
 
 -- one of the cells does, where it is so of a list that grew
 pub lacking_among : (first old new : List Node) (board : Board) (player : Colour) (cells : ℕ) (under : List Line) (cell : ℕ)
-    → Extends old first
+    → Extends first old
     → has cells cell ≡ true → IsLacking old new board player under cell → HasLacking first new board player cells under
 lacking_among first old new board player cells under cell grown among is = record {
   cell = cell;

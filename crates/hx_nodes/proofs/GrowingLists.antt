@@ -9,7 +9,7 @@ use Rattle.hx_nodes.specs.declared.stored.Stored.{Stored}
 use Rattle.hx_nodes.specs.declared.stored.Stored.TheVariants.{Done, Refused, Missing, Memory}
 use Rattle.hx_nodes.specs.Stored.{MissingFor, IsAnswered}
 
-pub extends-headings : (new old : List Node) → Extends new old → (more : List Heading) × (headings_of new ≡ headings_of old ++ more)
+pub extends-headings : (new old : List Node) → Extends old new → (more : List Heading) × (headings_of new ≡ headings_of old ++ more)
 extends-headings new old grown = (headings_of grown.0, ap headings_of grown.1 ∙ headings_of-append old grown.0)
 
 -- where nothing is missing, any cause will do

@@ -19,7 +19,7 @@ use Rattle.hx_linkset.specs.States.{Standing, IsRight}
 use Rattle.hx_linkset.specs.LiveOf.{IsLiveOf}
 use Rattle.hx_linkset.specs.Derivations.{IsDerived}
 use Rattle.hx_linkset.proofs.NextLaws.{live-is_link}
-use Rattle.hx_search.specs.Decided.{Decides}
+use Rattle.hx_linkset.specs.LiveOf.{Decides}
 use Rattle.hx_nodes.proofs.MoveNodes.{node_of}
 
 -- a link of the two sides has First as its lower end

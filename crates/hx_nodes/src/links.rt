@@ -1,7 +1,7 @@
 //! Proofs by a link between the two sides.
 
 ghost use Rattle.hx_book.specs.Sights.{Grows};
-ghost use Rattle.hx_search.specs.Decided.{Decides};
+ghost use Rattle.hx_linkset.specs.LiveOf.{Decides};
 ghost use Rattle.hx_nodes.specs.Stored.{TellsStored, IsAnswered};
 
 use crate::stored::{Stored, store};

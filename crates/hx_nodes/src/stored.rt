@@ -5,18 +5,18 @@ ghost use Rattle.hx_tree.specs.Plain.{IsPlain};
 ghost use Rattle.hx_tree.specs.Rules.{IsRightNode};
 ghost use Rattle.hx_tree.specs.Trees.{headings_of};
 ghost use Rattle.hx_book.specs.Sights.{Grows};
-ghost use Rattle.hx_entry.specs.Children.{HasNoLinks};
+ghost use Rattle.hx_packed.specs.Children.{HasNoLinks};
 ghost use Rattle.hx_nodes.specs.Stored.{TellsStored, HandsBack, IsAnswered, HadMemory};
 
 use hx_book::{NoSlot, Proofs};
-use hx_entry::Offer;
+use hx_packed::Offer;
 use hx_tree::Node;
 use std::sync::Wait;
 
 /// What became of a proof that was to be stored.
 #[derive(Debug, Drop)]
 pub enum Stored {
-    /// What was to be stored is there: an entry of the position and mover, or for hx_wide one that serves them.
+    /// What was to be stored is there: an entry of the position and mover, or for hx_widen one that serves them.
     Done,
 
     /// No slot was left for the node.

@@ -2,11 +2,11 @@
 use Rattle.std.proofs.Common.{◌≡◌, ℕ, ◌≤◌, List, [], ◌∷◌, sym, ap, ◌∙◌, subst, arith, None}
 use Rattle.hx_board.specs.Cells.{Extent, OnBoard}
 use Rattle.hx_board.specs.Positions.{Board, IsEmpty}
-use Rattle.hx_letters.specs.Words.{cell_word, words_in, spaced, Takes}
-use Rattle.hx_letters.proofs.Splits.{split_at_marks-lacks}
-use Rattle.hx_letters.proofs.Spacing.{spaced-words_in}
-use Rattle.hx_letters.proofs.HighBytes.{IsHigh-cell_word, Lacks-high}
-use Rattle.hx_letters.proofs.Injective.{cell_injective}
+use Rattle.hx_lex.specs.Words.{cell_word, words_in, spaced, Takes}
+use Rattle.hx_lex.proofs.Splits.{split_at_marks-lacks}
+use Rattle.hx_lex.proofs.Spacing.{spaced-words_in}
+use Rattle.hx_lex.proofs.HighBytes.{IsHigh-cell_word, Lacks-high}
+use Rattle.hx_lex.proofs.Injective.{cell_injective}
 use Rattle.hx_play.specs.GameTexts.{NamesEmpty}
 
 -- the word of a cell is a line of one word

@@ -4,7 +4,7 @@ use Rattle.hx_board.specs.declared.colours.Colour.{Colour}
 use Rattle.hx_board.specs.Colours.{other_of}
 use Rattle.hx_board.specs.Positions.{Board, IsEmpty, put}
 use Rattle.hx_board.specs.Graph.{HasChain}
-use Rattle.hx_letters.specs.Words.{cell_word, colour_word}
+use Rattle.hx_lex.specs.Words.{cell_word, colour_word}
 use Rattle.hx_play.specs.Games.{Game, PlaysMove}
 
 -- the first line, which names the player that the tree names

@@ -7,7 +7,7 @@ ghost use Rattle.hx_play.specs.Serving.{IsWaiting};
 
 use crate::players::Player;
 use hx_board::{Cell, Colour, Position};
-use hx_letters::{TEXT_ROOM, Text, Words};
+use hx_lex::{TEXT_ROOM, Text, Words};
 
 /// What is written at once, and whether the game has ended with it.
 #[derive(Drop)]

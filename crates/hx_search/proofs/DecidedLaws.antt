@@ -5,7 +5,7 @@ use Rattle.hx_board.specs.declared.vertices.Vertex.TheVariants.{First, Last}
 use Rattle.hx_link.specs.declared.links.Kind.TheVariants.{Full, Semi}
 use Rattle.hx_linkset.specs.States.{Standing}
 use Rattle.hx_linkset.specs.LiveOf.{IsLiveOf}
-use Rattle.hx_search.specs.Decided.{Decides}
+use Rattle.hx_linkset.specs.LiveOf.{Decides}
 
 -- neither a Full link nor, with the move, a Semi link
 pub not_decided : (set : Standing) (to_move : Colour) → ((place : ℕ) → IsLiveOf set Full First Last place → ⊥)

@@ -15,7 +15,7 @@ ghost use Rattle.hx_search.specs.Progress.{IsTaken};
 
 use crate::candidates::MOST_CELLS;
 use crate::decisions::{Reached, decided};
-use crate::replays::number_of;
+use crate::replays::key_of;
 use crate::workspaces::Workspace;
 use hx_board::{Colour, Memory};
 use hx_link::{Kind, Link};
@@ -165,16 +165,16 @@ fn add_or_replay(
 ) -> Result<(), Memory>
     ensures { IsGrown set.old set.new }
 {
-    let number = number_of(set, to_move);
+    let key = key_of(set, to_move);
     let first = set.count();
-    match workspace.replays.replay(set, number) {
+    match workspace.replays.replay(set, key) {
         Ok(true) => return Ok(()),
         Ok(false) => {}
         Err(Memory) => return Err(Memory),
     }
     let added = add_useful(set, workspace, Until::Decided(to_move));
     if added.is_ok() {
-        workspace.replays.keep(number, set, first);
+        workspace.replays.keep(key, set, first);
     }
     added
 }
@@ -200,7 +200,7 @@ pub fn reach(set: &mut LinkSet, to_move: Colour) -> Result<Reached, Memory>
     }
 }
 
-/// As `reach`, in a workspace of the caller's. Where no two states of sets share a number, what it held before makes no
+/// As `reach`, in a workspace of the caller's. Where no two states of sets share a key, what it held before makes no
 /// difference but for the time.
 pub fn reach_with(
     workspace: &mut Workspace,

@@ -4,8 +4,8 @@
 //! reach adds the same links again. So its steps are kept, and the next reach from that state adds them one after the other,
 //! and looks for no others.
 //!
-//! A state is known by its number alone. Where two states share one, steps may be added that a reach would not have found, and
-//! others left out; the set judges each step as ever, so no claim rests on a number.
+//! A state is known by its key alone. Where two states share one, steps may be added that a reach would not have found, and
+//! others left out; the set judges each step as ever, so no claim rests on a key.
 //!
 //! The steps stand in a ring: once it is full the oldest ones make room. It takes up to 3 MB, a bit at a time, and the list of
 //! records a quarter of a MB. Without memory for it nothing is kept. So 30 in 100 of the reaches after e6 on 7 by 7 are
@@ -41,11 +41,11 @@ enum Kept {
 #[derive(Clone, Copy)]
 struct Unkept;
 
-/// What a reach added: the number of the state that it began with, and its steps, from one place to before another. Places
+/// What a reach added: the key of the state that it began with, and its steps, from one place to before another. Places
 /// count all that was ever kept.
 #[derive(Clone, Copy)]
 struct Record {
-    number: u64,
+    key: u64,
     from: u64,
     end: u64,
 }
@@ -53,7 +53,7 @@ struct Record {
 /// The steps that reaches added.
 #[derive(Drop)]
 pub(crate) struct Replays {
-    /// A record by its number's last digits. None before the first is kept.
+    /// A record by its key's last digits. None before the first is kept.
     records: Vec<Option<Record>>,
     ring: Vec<Kept>,
 
@@ -71,12 +71,12 @@ impl Replays {
         }
     }
 
-    /// Adds the steps that a reach added to a set in the state of this number, where they are kept, until one gives no link.
+    /// Adds the steps that a reach added to a set in the state of this key, where they are kept, until one gives no link.
     /// Whether all were there and gave links.
-    pub(crate) fn replay(&self, set: &mut LinkSet, number: u64) -> Result<bool, Memory>
+    pub(crate) fn replay(&self, set: &mut LinkSet, key: u64) -> Result<bool, Memory>
         ensures { IsGrown set.old set.new }
     {
-        let Some(record) = self.find(number) else {
+        let Some(record) = self.find(key) else {
             return Ok(false);
         };
         for place in record.from..record.end {
@@ -107,8 +107,8 @@ impl Replays {
         }
     }
 
-    /// Keeps the steps of the links that a reach added to a set in the state of this number, those from an index on.
-    pub(crate) fn keep(&mut self, number: u64, set: &LinkSet, first: u32) {
+    /// Keeps the steps of the links that a reach added to a set in the state of this key, those from an index on.
+    pub(crate) fn keep(&mut self, key: u64, set: &LinkSet, first: u32) {
         let from = self.end;
         for step in set.steps().get(first as usize..).unwrap_or(&[]) {
             if self.push_step(step).is_err() {
@@ -116,7 +116,7 @@ impl Replays {
             }
         }
         let record = Record {
-            number,
+            key,
             from,
             end: self.end,
         };
@@ -124,10 +124,10 @@ impl Replays {
     }
 
     /// The record of a state, where all its steps are still there.
-    fn find(&self, number: u64) -> Option<Record> {
-        let place = (number % PLACES) as usize;
+    fn find(&self, key: u64) -> Option<Record> {
+        let place = (key % PLACES) as usize;
         match self.records.get(place).copied() {
-            Some(Some(record)) if record.number == number && self.has_all(&record) => Some(record),
+            Some(Some(record)) if record.key == key && self.has_all(&record) => Some(record),
             _ => None,
         }
     }
@@ -145,7 +145,7 @@ impl Replays {
             };
             self.records = records;
         }
-        let place = (record.number % PLACES) as usize;
+        let place = (record.key % PLACES) as usize;
         if let Some(old) = self.records.get_mut(place) {
             *old = Some(record);
         }
@@ -229,11 +229,11 @@ impl Replays {
     }
 }
 
-/// The number of the state that a reach begins from, with this player to move.
-pub(crate) fn number_of(set: &LinkSet, to_move: Colour) -> u64 {
+/// The key of the state that a reach begins from, with this player to move.
+pub(crate) fn key_of(set: &LinkSet, to_move: Colour) -> u64 {
     match to_move {
-        Colour::Black => set.number(),
-        Colour::White => !set.number(),
+        Colour::Black => set.key(),
+        Colour::White => !set.key(),
     }
 }
 

@@ -17,10 +17,10 @@ use Rattle.hx_share.proofs.PartLaws.{seats-of_seats, holders-of_seats, holders-l
 pub record IsLast (limits : Limits) (seats : List Reader) (held : Option Contents) : Type 0 where
   pub nodes : List Node
   pub book : held ≡ Some (contents limits.slots nodes)
-  pub seen : All (λ (r : Reader). Extends nodes r.seen) seats
+  pub seen : All (λ (r : Reader). Extends r.seen nodes) seats
 
 fronts : (limits : Limits) (nodes : List Node) (seats : List Reader) → AreCurrentParts limits nodes (map part_of seats)
-    → All (λ (r : Reader). Extends nodes r.seen) seats
+    → All (λ (r : Reader). Extends r.seen nodes) seats
 fronts limits nodes [] current k d less = absurd (omega arith)
 fronts limits nodes (r ∷ seats) current zero d less = current.0.front
 fronts limits nodes (r ∷ seats) current (suc k) d less = fronts limits nodes seats current.1 k d (omega arith)

@@ -34,7 +34,7 @@ module _ (board : Board) (mover : Colour) where
     });
   }
 
-  first-later : (stored later : List Node) (place : ℕ) → Extends later stored → IsFirstEntry stored board mover place
+  first-later : (stored later : List Node) (place : ℕ) → Extends stored later → IsFirstEntry stored board mover place
       → IsFirstEntry later board mover place
   first-later stored later place more is =
       subst (λ (l : List Node). IsFirstEntry l board mover place) (sym more.1) (first-append stored more.0 place is)

@@ -9,10 +9,10 @@ use Rattle.hx_tree.specs.Entries.{Extends}
 use Rattle.hx_tree.proofs.EntryLaws.{extends-itself}
 use Rattle.hx_share.specs.Fronts.{AreFronts, longer}
 
-pub extends-nothing : (xs : List Node) → Extends xs []
+pub extends-nothing : (xs : List Node) → Extends [] xs
 extends-nothing xs = (xs, refl)
 
-begins : (xs ys more others : List Node) → xs ++ more ≡ ys ++ others → length xs ≤ length ys → Extends ys xs
+begins : (xs ys more others : List Node) → xs ++ more ≡ ys ++ others → length xs ≤ length ys → Extends xs ys
 begins [] ys more others same short = (ys, refl)
 begins (x ∷ xs) [] more others same short = absurd (omega arith)
 begins (x ∷ xs) (y ∷ ys) more others same short =
@@ -20,15 +20,15 @@ begins (x ∷ xs) (y ∷ ys) more others same short =
     (t.0, (λ i. sym first i ∷ t.1 i))
 
 -- of two fronts of one list, the longer begins with the shorter
-pub extends-shorter : (whole one other : List Node) → Extends whole one → Extends whole other → length one ≤ length other
-    → Extends other one
+pub extends-shorter : (whole one other : List Node) → Extends one whole → Extends other whole → length one ≤ length other
+    → Extends one other
 extends-shorter whole one other first second short = begins one other first.0 second.0 (sym first.1 ∙ second.1) short
 
 -- a front that begins with both
 pub record IsLonger (whole one other long : List Node) : Type 0 where
-  pub front : Extends whole long
-  pub of_one : Extends long one
-  pub of_other : Extends long other
+  pub front : Extends long whole
+  pub of_one : Extends one long
+  pub of_other : Extends other long
 
 le-true : (a b : ℕ) → a ≤ b → nat_le a b ≡ true
 le-true a b le = grind (arith, nat_tests)
@@ -36,7 +36,7 @@ le-true a b le = grind (arith, nat_tests)
 le-false : (a b : ℕ) → ¬ (a ≤ b) → nat_le a b ≡ false
 le-false a b gt = grind (arith, nat_tests)
 
-pub longer-begins : (whole one other : List Node) → Extends whole one → Extends whole other → IsLonger whole one other (longer one other)
+pub longer-begins : (whole one other : List Node) → Extends one whole → Extends other whole → IsLonger whole one other (longer one other)
 longer-begins whole one other first second = dite (dec_le (length one) (length other))
     (λ le. let is : longer one other ≡ other = ap (λ b. if b then other else one) (le-true (length one) (length other) le) in
     subst (IsLonger whole one other) (sym is)

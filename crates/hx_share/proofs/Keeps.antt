@@ -75,7 +75,7 @@ module _ (limits : Limits) (id : ℕ) (seen : List Node) (s : Table) (c : IsOneL
   abbrev acts : View
   acts = view (part limits.slots Acting c.nodes ∷ [])
 
-  front : Extends c.nodes seen
+  front : Extends seen c.nodes
   front = (c.current id waiting there).0.front
 
   more-holders : sum_by holders_of (set s.views id acts) ≡ sum_by holders_of s.views + 1
@@ -164,14 +164,14 @@ module _ (limits : Limits) (id : ℕ) (seen nodes : List Node) (s : Table) (c : 
     count-one seat_part (part limits.slots Acting seen),
   )
 
-  given : (new : ℕ) → Extends nodes seen → length nodes ≤ limits.slots → new ≡ 2 * length nodes
+  given : (new : ℕ) → Extends seen nodes → length nodes ≤ limits.slots → new ≡ 2 * length nodes
       → IsOneList limits (record {
         words = set s.words 0 new;
         homes = set s.homes 0 (some (Some (contents limits.slots nodes)));
         views =
             set s.views id gave_back;
       })
-  given new grown few is = let longer_now : Extends nodes c.nodes = subst (Extends nodes) whole grown in record {
+  given new grown few is = let longer_now : Extends c.nodes nodes = subst (λ (l : List Node). Extends nodes l) whole grown in record {
     nodes = nodes;
     few = few;
     small = c.small;
@@ -194,7 +194,7 @@ module _ (limits : Limits) (id : ℕ) (seen nodes : List Node) (s : Table) (c : 
 same-held : (one other : Contents) → ◌≡◌ {A = List (ℕ × Option Contents)} ((0, Some one) ∷ []) ((0, Some other) ∷ []) → one ≡ other
 same-held one other same = let held : Some one ≡ Some other = ap (λ (l : List (ℕ × Option Contents)). (get_or l 0 (0, None)).1) same in cc
 
-pub gives-keep : (limits : Limits) (slots id : ℕ) (seen nodes : List Node) (new : ℕ) → Extends nodes seen → length nodes ≤ limits.slots
+pub gives-keep : (limits : Limits) (slots id : ℕ) (seen nodes : List Node) (new : ℕ) → Extends seen nodes → length nodes ≤ limits.slots
     → new ≡ 2 * length nodes
     → Allows (IsOneList limits) slots id (acting limits.slots seen (Some (contents limits.slots nodes))) 0 (λ _. new)
     (λ _. gives_back (step slots 0 new 0 none) (acting limits.slots seen (Some (contents limits.slots nodes))) new)

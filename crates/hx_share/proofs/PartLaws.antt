@@ -104,7 +104,7 @@ module _ (limits : Limits) where
   current-rest nodes (p ∷ parts) current = current.1
 
   -- a part without the book, which has seen a front
-  pub current-part : (nodes seen : List Node) (role : Role) → has_book role ≡ false → Extends nodes seen
+  pub current-part : (nodes seen : List Node) (role : Role) → has_book role ≡ false → Extends seen nodes
       → IsCurrent limits nodes (part limits.slots role seen)
   current-part nodes seen role idle front =
       record { same_slots = refl; front = front; whole = λ acts. let never : true ≡ false = sym acts ∙ idle in cc }
@@ -122,7 +122,7 @@ module _ (limits : Limits) where
   current-new (suc n) = (current-part [] [] Waiting refl (extends-nothing []), current-new n)
 
   -- the list grows, while none of these parts has the book
-  pub current-more : (nodes more : List Node) (parts : List Part) → Extends more nodes → count_by holder_part parts ≡ 0
+  pub current-more : (nodes more : List Node) (parts : List Part) → Extends nodes more → count_by holder_part parts ≡ 0
       → AreCurrentParts limits nodes parts → AreCurrentParts limits more parts
   current-more nodes more [] grown none current = tt
   current-more nodes more (p ∷ parts) grown none current =

@@ -28,7 +28,7 @@ module _ (key : Limits) (room : ℕ) (same : room ≡ key.slots) (slots id : ℕ
       (sym (is ∙ λ k. alone (same k) Waiting seen))
       (takes-keep key slots id seen old new even next)
 
-  pub may-give : (seen nodes : List Node) (new : ℕ) → me ≡ acting room seen (Some (contents room nodes)) → Extends nodes seen
+  pub may-give : (seen nodes : List Node) (new : ℕ) → me ≡ acting room seen (Some (contents room nodes)) → Extends seen nodes
       → length nodes ≤ room → new ≡ 2 * length nodes
       → Allows (IsOneList key) slots id me 0 (λ _. new) (λ _. gives_back (step slots 0 new 0 none) me new)
   may-give seen nodes new is grown few twice =

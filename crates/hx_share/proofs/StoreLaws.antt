@@ -13,17 +13,17 @@ use Rattle.hx_book.specs.Entries.{Contents, contents, IsBook}
 use Rattle.hx_book.specs.Puts.{Refusal, Puts}
 
 -- what is right after a list is right after each list that begins with it
-pub right-later : (old new : List Node) (node : Node) → Extends new old → IsRightNode (headings_of old) node
+pub right-later : (old new : List Node) (node : Node) → Extends old new → IsRightNode (headings_of old) node
     → IsRightNode (headings_of new) node
 right-later old new node more right =
     subst (λ (before : List Heading). IsRightNode before node) (sym (ap headings_of more.1 ∙ headings_of-append old more.0))
     (right_node-append (headings_of old) (headings_of more.0) node right)
 
-same-extends : (old new : List Node) → new ≡ old → Extends new old
+same-extends : (old new : List Node) → new ≡ old → Extends old new
 same-extends old new same = ([], same ∙ sym (append-nil old))
 
 module _ (slots : ℕ) (old : List Node) (node : Node) (new : List Node) where
-  pub puts-extend : (result : Result ℕ Refusal) → Puts slots old node result new → Extends new old
+  pub puts-extend : (result : Result ℕ Refusal) → Puts slots old node result new → Extends old new
   puts-extend (Ok place) puts = ⊎_elim
       (λ (there : IsThere old node place new). same-extends old new there.same)
       (λ (added : IsAdded slots old node place new). (node ∷ [], added.grown))

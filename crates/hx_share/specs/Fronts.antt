@@ -6,8 +6,8 @@ use Rattle.hx_tree.specs.Entries.{Extends}
 -- some list begins with either
 pub record AreFronts (one other : List Node) : Type 0 where
   pub whole : List Node
-  pub of_one : Extends whole one
-  pub of_other : Extends whole other
+  pub of_one : Extends one whole
+  pub of_other : Extends other whole
 
 -- the longer of two lists
 abbrev pub longer : List Node → List Node → List Node

@@ -17,7 +17,7 @@ use Rattle.hx_core.specs.BookMachine.{BookState, with_all_seen, LookStep, StoreS
 abbrev pub StoredIsFound : Type 0
 StoredIsFound =
     (slots : ℕ) (seen stored later : List Node) (node : Node) (place : ℕ) (result : Option Found)
-    → PutsLater slots seen node (Ok place) stored → Extends later stored
+    → PutsLater slots seen node (Ok place) stored → Extends stored later
     → FindsFirst later node.heading.position node.heading.to_move result
     → IsSomeAnd result (λ found. found.index ≡ place)
 
@@ -27,12 +27,12 @@ StoredWinnerIsFound =
     (slots : ℕ) (seen stored later : List Node) (node : Node) (place : ℕ) (result : Option Found)
     → AreRight seen → IsRightNode (headings_of seen) node
     → AreRight later → PutsLater slots seen node (Ok place) stored
-    → Extends later stored → FindsFirst later node.heading.position node.heading.to_move result
+    → Extends stored later → FindsFirst later node.heading.position node.heading.to_move result
     → IsSomeAnd result (λ found. found.winner ≡ node.heading.winner)
 
 -- what begins with a later list begins with an earlier one
 abbrev pub ExtendsOn : Type 0
-ExtendsOn = (old between new : List Node) → Extends between old → Extends new between → Extends new old
+ExtendsOn = (old between new : List Node) → Extends old between → Extends between new → Extends old new
 
 -- entries of one position and mover in these lists name one winner
 abbrev pub Agree : List Node → List Node → Type 0

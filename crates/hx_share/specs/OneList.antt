@@ -51,7 +51,7 @@ holders_of v = count_by (λ (p : Part). has_book p.role) v.parts
 -- a part is of this table, and has seen a front of the list, or all of it where it has the book
 pub record IsCurrent (limits : Limits) (nodes : List Node) (p : Part) : Type 0 where
   pub same_slots : p.slots ≡ limits.slots
-  pub front : Extends nodes p.seen
+  pub front : Extends p.seen nodes
   pub whole : has_book p.role ≡ true → p.seen ≡ nodes
 
 abbrev pub AreCurrentParts : Limits → List Node → List Part → Type 0
@@ -103,7 +103,7 @@ second_part v = slice_index_or v.parts 1 no_part
 -- the seat has the book, and has seen all of its nodes
 pub record IsTaken (slots : ℕ) (seen : List Node) (new : Seated) : Type 0 where
   pub nodes : List Node
-  pub more : Extends nodes seen
+  pub more : Extends seen nodes
   pub same : new ≡ acting slots nodes (Some (contents slots nodes))
 
 -- what each step tells the seat that makes it, of itself before, the number found, and itself after

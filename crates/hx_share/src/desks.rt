@@ -6,7 +6,7 @@ use crate::readers::BookSeat;
 use crate::shared::Shared;
 use hx_board::{Colour, Position};
 use hx_book::{NoSlot, Proofs, Wider};
-use hx_entry::Offer;
+use hx_packed::Offer;
 use hx_tree::Found;
 use std::sync::Wait;
 

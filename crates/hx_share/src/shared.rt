@@ -24,7 +24,7 @@ use atomic_table::{Refused, Seat, Table};
 use crossbeam_utils::Backoff;
 use hx_board::{Colour, Memory, Position};
 use hx_book::{Book, NoSlot, Wider};
-use hx_entry::Offer;
+use hx_packed::Offer;
 use hx_tree::Found;
 use std::alloc::Global;
 use std::marker::Model;
@@ -114,7 +114,7 @@ impl Shared {
     ) -> Option<Found>
         requires { seat.old.made ≡ self.now.made }
         ensures made { seat.new.made ≡ seat.old.made }
-        ensures seen { Extends seat.new.seen seat.old.seen }
+        ensures seen { Extends seat.old.seen seat.new.seen }
         ensures found { FindsFirst seat.new.seen position.now to_move result }
     {
         let book = self.take_book(rt, &mut seat.seat);
@@ -138,7 +138,7 @@ impl Shared {
     ) -> Option<Wider>
         requires { seat.old.made ≡ self.now.made }
         ensures made { seat.new.made ≡ seat.old.made }
-        ensures seen { Extends seat.new.seen seat.old.seen }
+        ensures seen { Extends seat.old.seen seat.new.seen }
         ensures found { FindsWider false seat.new.seen position.now to_move winner result }
     {
         let book = self.take_book(rt, &mut seat.seat);
@@ -156,7 +156,7 @@ impl Shared {
         requires seat { seat.old.made ≡ self.now.made }
         requires node { IsRightNode (headings_of seat.old.seen) offer }
         ensures made { seat.new.made ≡ seat.old.made }
-        ensures seen { Extends seat.new.seen seat.old.seen }
+        ensures seen { Extends seat.old.seen seat.new.seen }
         ensures stored { PutsLater self.now.made.slots seat.old.seen offer result seat.new.seen }
         ensures first { IfOk result (λ place. IsFirstEntry seat.new.seen
             offer.heading.position offer.heading.to_move place) }
@@ -193,8 +193,8 @@ impl Shared {
         requires note { note.made ≡ self.now.made }
         ensures made { seat.new.made ≡ seat.old.made }
         ensures longer { seat.new.seen ≡ longer seat.old.seen note.seen }
-        ensures seen { Extends seat.new.seen seat.old.seen }
-        ensures told { Extends seat.new.seen note.seen }
+        ensures seen { Extends seat.old.seen seat.new.seen }
+        ensures told { Extends note.seen seat.new.seen }
     {
         let told = note.seen;
         self.absorb(&mut seat.seat, note.into_seat());
@@ -220,7 +220,7 @@ impl Shared {
         requires all { length seats.items ≡ self.seats }
         requires own { All (λ s. s.made ≡ self.made) seats.items }
         ensures slots { result.slots ≡ self.made.slots }
-        ensures seen { All (λ s. Extends result.nodes s.seen) seats.items }
+        ensures seen { All (λ s. Extends s.seen result.nodes) seats.items }
     {
         let seat = self.gather(seats);
         let Shared { table, limits: _ } = self;
@@ -258,7 +258,7 @@ impl Shared {
         ensures table { seat.new.table_id ≡ seat.old.table_id }
         ensures acts { seat.new.me ≡ acting self.now.made.slots result.nodes None }
         ensures slots { result.slots ≡ self.now.made.slots }
-        ensures seen { Extends result.nodes (first_part seat.old.me.0).seen }
+        ensures seen { Extends (first_part seat.old.me.0).seen result.nodes }
     {
         let table = &self.table.shared;
         let backoff = Backoff::new();
@@ -280,7 +280,7 @@ impl Shared {
         requires acts { seat.old.me
             ≡ acting self.now.made.slots (first_part seat.old.me.0).seen None }
         requires slots { book.slots ≡ self.now.made.slots }
-        requires more { Extends book.nodes (first_part seat.old.me.0).seen }
+        requires more { Extends (first_part seat.old.me.0).seen book.nodes }
         ensures table { seat.new.table_id ≡ seat.old.table_id }
         ensures waits { seat.new.me ≡ alone self.now.made.slots Waiting book.nodes }
     {

@@ -8,9 +8,9 @@ use Rattle.hx_count.specs.Seats.{Seat, own}
 use Rattle.hx_worker.specs.declared.ended.Ended.{Ended}
 use Rattle.hx_worker.specs.declared.ended.Ended.TheVariants.{Proved, Spent, NoSlots, Memory}
 use Rattle.hx_worker.specs.Ends.{IsEnded, EndsSpent}
-use Rattle.hx_settings.specs.declared.settings.Settings.{Settings}
-use Rattle.hx_crew.specs.Seats.{HasTried}
-use Rattle.hx_crew.specs.Searches.{IsClosedEnd}
+use Rattle.hx_limits.specs.declared.settings.Settings.{Settings}
+use Rattle.hx_pool.specs.Seats.{HasTried}
+use Rattle.hx_pool.specs.Searches.{IsClosedEnd}
 use Rattle.hx_solve.specs.Searches.{IsProofOf}
 
 pub lone-closed : (settings : Settings) (board : Board) (mover : Colour) (nodes : List Node) (seat : Seat) (granted : ℕ) (end : Ended)

@@ -7,7 +7,7 @@ use Rattle.hx_tree.specs.declared.nodes.Rule.{Rule}
 use Rattle.hx_tree.specs.declared.nodes.Rule.TheVariants.{Chain, Links, Move, All, Fill, Turned}
 use Rattle.hx_tree.specs.Plain.{IsChildLine, IsPlainRule, ArePlain}
 use Rattle.hx_sweep.specs.Moves.{IsByMoves, AreByMoves}
-use Rattle.hx_crew.proofs.LaterLists.{all-get}
+use Rattle.hx_pool.proofs.LaterLists.{all-get}
 
 line-at : (lines : List Line) → Each IsChildLine lines → (k : ℕ) (found : Option Line) → slice_get lines k ≡ found
     → IfSome found IsChildLine

@@ -7,7 +7,7 @@ use Rattle.hx_count.specs.Seats.{Seat}
 use Rattle.hx_worker.specs.declared.ended.Ended.{Ended}
 use Rattle.hx_worker.specs.declared.ended.Ended.TheVariants.{Proved, Spent, NoSlots, Memory}
 use Rattle.hx_worker.specs.Ends.{IsEnded}
-use Rattle.hx_crew.specs.Seats.{IsEndedBy}
+use Rattle.hx_pool.specs.Seats.{IsEndedBy}
 use Rattle.hx_solve.specs.Searches.{IsProofOf}
 
 pub ended-by : (board : Board) (mover : Colour) (seen : List Node) (slots : ℕ) (seat : Seat) (end : Ended)

@@ -18,11 +18,11 @@ use Rattle.hx_sweep.specs.Sweeps.{IsSweep}
 use Rattle.hx_worker.specs.declared.ended.Ended.{Ended}
 use Rattle.hx_worker.specs.declared.ended.Ended.TheVariants.{Proved, Spent, NoSlots, Memory}
 use Rattle.hx_worker.specs.Ends.{EndsSpent}
-use Rattle.hx_settings.specs.declared.settings.Settings.{Settings}
+use Rattle.hx_limits.specs.declared.settings.Settings.{Settings}
 use Rattle.hx_solve.specs.declared.unsolved.Unsolved.{Unsolved}
 use Rattle.hx_solve.specs.Solutions.{IsSolution}
 use Rattle.hx_solve.specs.Causes.{HasCause, FoundNoRoom, LacksUnit}
-use Rattle.hx_crew.specs.Searches.{IsClosedEnd}
+use Rattle.hx_pool.specs.Searches.{IsClosedEnd}
 use Rattle.hx_solve.specs.Searches.{IsProofOf, HasEntryFor, IsTreeFor, IsTreeFrom, SaysWhy}
 
 -- ---- the tree of an entry, where nodes were added behind the others

@@ -10,8 +10,8 @@ use Rattle.hx_tree.specs.Trees.{headings_of, IsValidTree, IsRoot}
 use Rattle.hx_book.specs.declared.books.TheConstants.{MOST_SLOTS}
 use Rattle.hx_worker.specs.declared.ended.Ended.{Ended}
 use Rattle.hx_worker.specs.declared.ended.Ended.TheVariants.{Proved, Spent, NoSlots, Memory}
-use Rattle.hx_settings.specs.declared.settings.Settings.{Settings}
-use Rattle.hx_crew.specs.Searches.{IsSearchEnd}
+use Rattle.hx_limits.specs.declared.settings.Settings.{Settings}
+use Rattle.hx_pool.specs.Searches.{IsSearchEnd}
 use Rattle.hx_solve.specs.declared.lone_searches.SearchedAlone.{SearchedAlone}
 use Rattle.hx_solve.specs.declared.unsolved.Unsolved.{Unsolved}
 use Rattle.hx_solve.specs.declared.unsolved.Unsolved.TheVariants.{Budget, Slots, Memory as NoMemory}

@@ -15,7 +15,7 @@ mod tallies;
 mod trees;
 mod unsolved;
 
-pub use hx_settings::Settings;
+pub use hx_limits::Settings;
 pub use laws::same_winner;
 pub use plain_solves::solve_plain;
 pub use small_positions::is_small;

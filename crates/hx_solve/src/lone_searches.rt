@@ -3,19 +3,19 @@
 ghost use Rattle.std.specs.Prelude.{◌≡◌, IfOk};
 ghost use Rattle.hx_count.specs.Machine.{HasNothing};
 ghost use Rattle.hx_count.specs.Seats.{own};
-ghost use Rattle.hx_settings.specs.Settings.{AreSettings};
+ghost use Rattle.hx_limits.specs.Settings.{AreSettings};
 ghost use Rattle.hx_worker.specs.Ends.{IsEnded};
 ghost use Rattle.hx_board.specs.Graph.{HasNoChain};
-ghost use Rattle.hx_crew.specs.Seats.{HasTried};
+ghost use Rattle.hx_pool.specs.Seats.{HasTried};
 ghost use Rattle.hx_solve.specs.Searches.{IsSearchedAlone};
 
 use hx_board::{Colour, Memory, Position};
 use hx_book::PlainBook;
 use hx_count::{CountSeat, Counts, Hints, Totals};
-use hx_crew::{hint_words, new_sets};
 use hx_io::Gate;
-use hx_moves::{LOSS_WORDS, Replies};
-use hx_settings::Settings;
+use hx_limits::Settings;
+use hx_ordering::{LOSS_WORDS, Replies};
+use hx_pool::{hint_words, new_sets};
 use hx_worker::{Ended, Job, work};
 use std::alloc::Global;
 use std::sync::Wait;

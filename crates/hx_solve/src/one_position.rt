@@ -4,8 +4,8 @@ ghost use Rattle.hx_board.specs.Graph.{HasNoChain};
 ghost use Rattle.hx_solve.specs.Searches.{IsProofOf};
 
 use hx_board::{Colour, Position};
-use hx_crew::{Bench, Done, Errand, Seats};
 use hx_io::Gate;
+use hx_pool::{Bench, Done, Errand, Seats};
 use std::alloc::Global;
 use std::sync::Wait;
 
@@ -17,7 +17,7 @@ pub(crate) struct OnePosition {
 }
 
 impl Errand for OnePosition {
-    ghost use Rattle.hx_crew.proofs.LaterLists.{found-later};
+    ghost use Rattle.hx_pool.proofs.LaterLists.{found-later};
 
     ghost proved = { λ errand. IsProofOf errand.position errand.to_move };
 

@@ -3,7 +3,7 @@
 ghost use Rattle.std.specs.Prelude.{◌<◌, IfOk, IfErr};
 ghost use Rattle.hx_board.specs.Counts.{IsSmall};
 ghost use Rattle.hx_board.specs.Graph.{HasNoChain};
-ghost use Rattle.hx_settings.specs.Settings.{AreSettings};
+ghost use Rattle.hx_limits.specs.Settings.{AreSettings};
 ghost use Rattle.hx_solve.specs.Solutions.{IsSolution};
 ghost use Rattle.hx_solve.specs.Causes.{HasCause, LacksMemory, LacksUnit};
 
@@ -12,9 +12,9 @@ use crate::small_positions::{by_sweep, is_small};
 use crate::trees::conclude;
 use crate::unsolved::Unsolved;
 use hx_board::{Colour, Memory, Position};
-use hx_crew::run_all;
 use hx_io::Gate;
-use hx_settings::Settings;
+use hx_limits::Settings;
+use hx_pool::run_all;
 use hx_tree::Node;
 use std::alloc::Global;
 use std::sync::Wait;

@@ -10,9 +10,9 @@ ghost use Rattle.hx_solve.specs.Searches.{HasEntryFor, IsTreeFor, IsTreeFrom, Sa
 use crate::unsolved::Unsolved;
 use hx_board::Memory;
 use hx_book::tree_of;
-use hx_crew::Searched;
-use hx_entry::Entry;
 use hx_naming::name_move;
+use hx_packed::Entry;
+use hx_pool::Searched;
 use hx_tree::Node;
 use hx_worker::Ended;
 use std::alloc::Global;

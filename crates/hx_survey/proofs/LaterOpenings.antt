@@ -4,10 +4,10 @@ use Rattle.hx_board.specs.declared.colours.Colour.TheVariants.{White}
 use Rattle.hx_board.specs.Cells.{Extent}
 use Rattle.hx_tree.specs.declared.nodes.Node.{Node}
 use Rattle.hx_tree.specs.Entries.{Extends}
-use Rattle.hx_crew.proofs.LaterLists.{found-later}
+use Rattle.hx_pool.proofs.LaterLists.{found-later}
 use Rattle.hx_survey.specs.Surveys.{HasOpening}
 
-pub opening-later : (old new : List Node) (size : Extent) (cell : ℕ) → Extends new old → HasOpening old size cell → HasOpening new size cell
+pub opening-later : (old new : List Node) (size : Extent) (cell : ℕ) → Extends old new → HasOpening old size cell → HasOpening new size cell
 opening-later old new size cell more has = record {
   board = has.board;
   which = has.which;

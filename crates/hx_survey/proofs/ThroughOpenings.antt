@@ -10,7 +10,7 @@ use Rattle.hx_tree.specs.Entries.{Extends}
 use Rattle.hx_count.specs.Seats.{Seat}
 use Rattle.hx_worker.specs.declared.ended.Ended.{Ended}
 use Rattle.hx_worker.specs.declared.ended.Ended.TheVariants.{Proved, Spent, NoSlots, Memory}
-use Rattle.hx_crew.specs.Seats.{IsEndedBy}
+use Rattle.hx_pool.specs.Seats.{IsEndedBy}
 use Rattle.hx_survey.specs.Ends.{is_proof}
 use Rattle.hx_survey.specs.Surveys.{HasOpening}
 use Rattle.hx_survey.proofs.LaterOpenings.{opening-later}
@@ -38,7 +38,7 @@ end-proof P seen slots seat Memory proof is = absurd (false≢true proof)
 
 module _ (size : Extent) (cells : ℕ) (slots : ℕ) where
   -- one more was gone through, after an end by a proof
-  pub through-next : (old new : List Node) (before after : Seat) (was end : Ended) (left cell : ℕ) → Extends new old → is_proof was ≡ true
+  pub through-next : (old new : List Node) (before after : Seat) (was end : Ended) (left cell : ℕ) → Extends old new → is_proof was ≡ true
       → IsEndedBy (λ nodes index winner. HasOpeningsBut nodes size cells left) old slots before was
       → IsEndedBy (λ nodes index winner. HasOpening nodes size cell) new slots after end
       → IsEndedBy (λ nodes index winner. HasOpeningsBut nodes size cells (remove left cell)) new slots after end

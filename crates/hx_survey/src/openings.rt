@@ -11,7 +11,7 @@ ghost use Rattle.hx_count.specs.Seats.{own};
 ghost use Rattle.hx_tree.specs.Entries.{Extends};
 ghost use Rattle.hx_book.specs.EitherEntry.{FindsEither};
 ghost use Rattle.hx_openings.specs.Openings.{opening};
-ghost use Rattle.hx_crew.specs.Seats.{IsEndedBy};
+ghost use Rattle.hx_pool.specs.Seats.{IsEndedBy};
 ghost use Rattle.hx_survey.specs.Surveys.{HasOpening, HasOpenings, HasOpeningsOf};
 ghost use Rattle.hx_survey.specs.Shares.{IsShare};
 ghost use Rattle.hx_survey.specs.Ends.{is_proof};
@@ -19,9 +19,9 @@ ghost use Rattle.hx_survey.specs.Ends.{is_proof};
 use crate::order::Order;
 use hx_board::{Cell, Colour, Mask, Position, Size};
 use hx_book::{Either, look_either};
-use hx_crew::{Bench, Done, Errand, Seats};
 use hx_io::Gate;
-use hx_moves::LOSS_WORDS;
+use hx_ordering::LOSS_WORDS;
+use hx_pool::{Bench, Done, Errand, Seats};
 use hx_share::{BookSeat, Desk};
 use hx_worker::Ended;
 use std::alloc::Global;
@@ -37,7 +37,7 @@ pub(crate) struct Openings {
 
 impl Errand for Openings {
     ghost use Rattle.hx_survey.specs.Surveys.{HasOpenings};
-    ghost use Rattle.hx_crew.proofs.LaterLists.{found-later};
+    ghost use Rattle.hx_pool.proofs.LaterLists.{found-later};
 
     ghost proved = { λ openings nodes index winner. HasOpenings nodes openings.size };
 
@@ -209,7 +209,7 @@ impl Openings {
         ensures book { result.book.made ≡ bench.now.shared.now.made }
         ensures counts { result.counts.made ≡ bench.now.counts.now }
         ensures nothing_held { held_in_all (own result.counts) ≡ 0 }
-        ensures grew { Extends result.book.seen seats.book.seen }
+        ensures grew { Extends seats.book.seen result.book.seen }
         ensures ended { IsEndedBy (λ nodes index winner. HasOpening nodes self.now.size cell) result.book.seen
             bench.now.shared.now.made.slots result.counts result.ended }
     {
@@ -252,7 +252,7 @@ struct Looked {
 fn look<R: Wait>(rt: &R, bench: &Bench<'_>, book: BookSeat, position: &Position) -> Looked
     requires { book.made ≡ bench.now.shared.now.made }
     ensures book { result.book.made ≡ bench.now.shared.now.made }
-    ensures grew { Extends result.book.seen book.seen }
+    ensures grew { Extends book.seen result.book.seen }
     ensures found { FindsEither book.seen result.book.seen position.now White result.either }
 {
     let mut desk = Desk {

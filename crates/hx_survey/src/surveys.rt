@@ -1,8 +1,8 @@
 //! The survey: all workers go through the openings, and then the table is read.
 
 ghost use Rattle.std.specs.Prelude.{◌≡◌, IfOk, IfErr};
-ghost use Rattle.hx_settings.specs.Settings.{AreSettings};
-ghost use Rattle.hx_crew.specs.Searches.{IsSearchEnd};
+ghost use Rattle.hx_limits.specs.Settings.{AreSettings};
+ghost use Rattle.hx_pool.specs.Searches.{IsSearchEnd};
 ghost use Rattle.hx_solve.specs.Causes.{HasCause, LacksMemory};
 ghost use Rattle.hx_openings.specs.Openings.{OpeningsAreSmall};
 ghost use Rattle.hx_survey.specs.Surveys.{IsSurvey, HasOpenings};
@@ -12,10 +12,10 @@ use crate::openings::Openings;
 use crate::readings::table_of;
 use crate::tables::Table;
 use hx_board::{Memory, Size};
-use hx_crew::{Searched, run_all};
 use hx_io::Gate;
+use hx_limits::Settings;
 use hx_openings::openings_small;
-use hx_settings::Settings;
+use hx_pool::{Searched, run_all};
 use hx_solve::Unsolved;
 use hx_worker::Ended;
 use std::alloc::Global;
@@ -23,7 +23,7 @@ use std::sync::Wait;
 use std::thread::Threads;
 
 /// Who wins after each opening of a board of this size, by workers that share one book and one budget for all openings. Else it is
-/// answered what was wanting, as by `solve`: what the foremost of the workers' ends says (`foremost` of hx_crew). An opening that no
+/// answered what was wanting, as by `solve`: what the foremost of the workers' ends says (`foremost` of hx_pool). An opening that no
 /// worker proved is solved by a full search where it is small.
 ///
 /// It may wait for a worker. Before each of its turns a worker calls the gate.

@@ -8,7 +8,7 @@ use Rattle.hx_board.specs.Cells.{Extent, IsExtent}
 use Rattle.hx_tree.specs.declared.nodes.Node.{Node}
 use Rattle.hx_text.specs.declared.versions.Preamble.{Preamble}
 use Rattle.hx_text.specs.declared.versions.Version.{Version}
-use Rattle.hx_letters.specs.Words.{IsNumber}
+use Rattle.hx_lex.specs.Words.{IsNumber}
 use Rattle.hx_text.specs.PositionTexts.{size_line}
 use Rattle.hx_text.specs.TreeTexts.{AreTreeLinesOf, NodeFits, first_line, node_lines, title_line, front_lines, end_line}
 use Rattle.hx_text.proofs.Injective.{size_injective}

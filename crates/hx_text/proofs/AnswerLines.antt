@@ -6,10 +6,10 @@ use Rattle.hx_inferior.specs.declared.dominations.Kill.TheVariants.{ByDead, ByPa
 use Rattle.hx_tree.specs.declared.nodes.Line.{Line}
 use Rattle.hx_tree.specs.declared.nodes.Line.TheVariants.{Child, Under}
 use Rattle.hx_tree.specs.Answers.{cell_of}
-use Rattle.hx_letters.specs.Words.{cell_word, words_in}
+use Rattle.hx_lex.specs.Words.{cell_word, words_in}
 use Rattle.hx_text.specs.Entries.{reason_words, answer_words, answer_line, ReasonFits, AnswerFits}
-use Rattle.hx_letters.proofs.Spacing.{IsLine, words_in-spaced}
-use Rattle.hx_letters.proofs.HighBytes.{AllHigh, is_high, IsHigh-test, IsHigh-decimal, IsHigh-cell_word, IsLine-high}
+use Rattle.hx_lex.proofs.Spacing.{IsLine, words_in-spaced}
+use Rattle.hx_lex.proofs.HighBytes.{AllHigh, is_high, IsHigh-test, IsHigh-decimal, IsHigh-cell_word, IsLine-high}
 
 AllHigh-reason_words : (size : Extent) (line : Line) → size.rows ≤ 11 → ReasonFits size line → AllHigh (reason_words line)
 unfolding is_high

@@ -2,8 +2,8 @@
 -- into such lines and a rest one goes on where the other ends.
 use Rattle.std.proofs.Common.{◌≡◌, ℕ, ◌≤◌, List, [], ◌∷◌, ◌++◌, length, refl, sym, ap, ◌∙◌, subst, arith, append_assoc, length-append}
 use Rattle.std.proofs.lemmas.List.{append-nil}
-use Rattle.hx_letters.specs.Marks.{Lacks}
-use Rattle.hx_letters.proofs.Cuts.{cut_same, cut_rest}
+use Rattle.hx_lex.specs.Marks.{Lacks}
+use Rattle.hx_lex.proofs.Cuts.{cut_same, cut_rest}
 use Rattle.hx_text.specs.Grammars.{text_of}
 
 pub text_of-push : (before : List (List ℕ)) (line rest : List ℕ)

@@ -16,15 +16,15 @@ use Rattle.hx_tree.specs.Answers.{cell_of}
 use Rattle.hx_text.specs.declared.entries.Entry.{Entry}
 use Rattle.hx_text.specs.declared.entries.Entry.TheVariants.{Step as Step_entry, Threat as Threat_entry, Answer as Answer_entry}
 use Rattle.hx_text.specs.declared.entries.Entry.TheVariants.{Fill as Fill_entry}
-use Rattle.hx_letters.specs.Words.{cell_word, IsNumber, vertex_word}
+use Rattle.hx_lex.specs.Words.{cell_word, IsNumber, vertex_word}
 use Rattle.hx_text.specs.StepTexts.{step_words, step_line, threat_words, threat_line, StepFits}
 use Rattle.hx_text.specs.FillTexts.{fill_words, fill_line, FillFits}
 use Rattle.hx_text.specs.Entries.{reason_words, answer_words, answer_line, ReasonFits, AnswerFits, entry_line, kind_of, EntryFits}
-use Rattle.hx_letters.proofs.Spacing.{spaced_injective}
+use Rattle.hx_lex.proofs.Spacing.{spaced_injective}
 use Rattle.hx_text.proofs.StepWords.{first_letter, IsLine-step_words, words_in-threat_line}
 use Rattle.hx_text.proofs.AnswerLines.{IsLine-answer_words}
 use Rattle.hx_text.proofs.FillLines.{IsLine-fill_words}
-use Rattle.hx_letters.proofs.Injective.{number_injective, cell_injective, vertex_injective}
+use Rattle.hx_lex.proofs.Injective.{number_injective, cell_injective, vertex_injective}
 
 -- ---- steps
 

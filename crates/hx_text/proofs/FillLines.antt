@@ -4,10 +4,10 @@ use Rattle.std.specs.Prelude.{codes}
 use Rattle.hx_board.specs.Cells.{Extent, IsExtent, OnBoard}
 use Rattle.hx_inferior.specs.declared.fills.FillStep.{FillStep}
 use Rattle.hx_inferior.specs.declared.fills.FillStep.TheVariants.{Other, Dead, Pair}
-use Rattle.hx_letters.specs.Words.{cell_word, words_in}
+use Rattle.hx_lex.specs.Words.{cell_word, words_in}
 use Rattle.hx_text.specs.FillTexts.{fill_words, fill_line, FillFits}
-use Rattle.hx_letters.proofs.Spacing.{IsLine, words_in-spaced}
-use Rattle.hx_letters.proofs.HighBytes.{AllHigh, is_high, IsHigh-test, IsHigh-cell_word, IsLine-high}
+use Rattle.hx_lex.proofs.Spacing.{IsLine, words_in-spaced}
+use Rattle.hx_lex.proofs.HighBytes.{AllHigh, is_high, IsHigh-test, IsHigh-cell_word, IsLine-high}
 
 pub AllHigh-fill_words : (size : Extent) (fill : FillStep) → size.rows ≤ 11 → FillFits size fill → AllHigh (fill_words fill)
 unfolding is_high

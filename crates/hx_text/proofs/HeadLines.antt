@@ -8,11 +8,11 @@ use Rattle.hx_text.specs.declared.heads.Opening.{Opening}
 use Rattle.hx_text.specs.declared.heads.Opening.TheVariants.{Chain, Links, Move, All, Fill, Turned}
 use Rattle.hx_text.specs.declared.heads.Head.{Head}
 use Rattle.hx_text.specs.declared.versions.Preamble.{Preamble}
-use Rattle.hx_letters.specs.Words.{mask_word, colour_word, words_in, IsSet}
+use Rattle.hx_lex.specs.Words.{mask_word, colour_word, words_in, IsSet}
 use Rattle.hx_text.specs.TreeTexts.{opening_words, OpeningFits, head_words, head_line, HeadingFits, HeadFits}
-use Rattle.hx_letters.proofs.Spacing.{IsLine, words_in-spaced}
-use Rattle.hx_letters.proofs.HighBytes.{AllHigh, is_high, IsHigh-test, IsHigh-decimal, IsHigh-hex, IsHigh-colour_word, IsHigh-cell_word}
-use Rattle.hx_letters.proofs.HighBytes.{IsLine-high}
+use Rattle.hx_lex.proofs.Spacing.{IsLine, words_in-spaced}
+use Rattle.hx_lex.proofs.HighBytes.{AllHigh, is_high, IsHigh-test, IsHigh-decimal, IsHigh-hex, IsHigh-colour_word, IsHigh-cell_word}
+use Rattle.hx_lex.proofs.HighBytes.{IsLine-high}
 
 AllHigh-opening_words : (preamble : Preamble) (opening : Opening) → preamble.size.rows ≤ 11 → OpeningFits preamble opening
     → AllHigh (opening_words opening)

@@ -3,11 +3,11 @@ use Rattle.std.proofs.Common.{◌≡◌, ℕ, refl, sym, ap, ◌∙◌, arith}
 use Rattle.std.specs.Fmt.{decimal}
 use Rattle.hx_board.specs.declared.colours.Colour.{Colour}
 use Rattle.hx_board.specs.Cells.{Extent, IsExtent}
-use Rattle.hx_letters.specs.Words.{colour_word, IsNumber}
+use Rattle.hx_lex.specs.Words.{colour_word, IsNumber}
 use Rattle.hx_text.specs.PositionTexts.{size_line}
 use Rattle.hx_text.specs.TreeTexts.{end_line}
 use Rattle.hx_text.proofs.LineWords.{size_words, end_words, words_in-size_line, words_in-end_line}
-use Rattle.hx_letters.proofs.Injective.{number_injective, colour_injective}
+use Rattle.hx_lex.proofs.Injective.{number_injective, colour_injective}
 
 abbrev extent_of : ℕ → ℕ → Extent
 extent_of rows cols = record { rows = rows; cols = cols }

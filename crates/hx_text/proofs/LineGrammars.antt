@@ -1,8 +1,8 @@
 -- Texts whose lines have no LF in them: where bytes go wrong as such a text, and that a text of the grammar goes wrong nowhere.
 use Rattle.std.proofs.Common.{◌≡◌, ◌≢◌, ℕ, ◌+◌, List, [], ◌∷◌, ◌++◌, length, sym, ap, ◌∙◌, subst, append_assoc}
 use Rattle.std.proofs.lemmas.List.{append-nil}
-use Rattle.hx_letters.specs.Marks.{Lacks, IsCut}
-use Rattle.hx_letters.proofs.Cuts.{cut_same, Lacks-append_mark}
+use Rattle.hx_lex.specs.Marks.{Lacks, IsCut}
+use Rattle.hx_lex.proofs.Cuts.{cut_same, Lacks-append_mark}
 use Rattle.hx_text.specs.Grammars.{text_of, Begins, IsFaultyLine}
 use Rattle.hx_text.proofs.Cuts.{AllLack, AllLack-front, text_of-push, Lacks-middle, ended-some, Agree, Second_goes_on, First_goes_on, agree}
 

@@ -5,14 +5,14 @@ use Rattle.std.specs.Prelude.{codes}
 use Rattle.std.specs.Fmt.{decimal}
 use Rattle.hx_board.specs.declared.colours.Colour.{Colour}
 use Rattle.hx_board.specs.Cells.{Extent, IsExtent}
-use Rattle.hx_letters.specs.Words.{colour_word, words_in, IsNumber}
+use Rattle.hx_lex.specs.Words.{colour_word, words_in, IsNumber}
 use Rattle.hx_text.specs.PositionTexts.{size_line}
 use Rattle.hx_text.specs.declared.versions.Version.{Version}
 use Rattle.hx_text.specs.declared.versions.Version.TheVariants.{One, Two}
 use Rattle.hx_text.specs.Versions.{version_word}
 use Rattle.hx_text.specs.TreeTexts.{title_line, end_line}
-use Rattle.hx_letters.proofs.Spacing.{IsLine, words_in-spaced, spaced_injective}
-use Rattle.hx_letters.proofs.HighBytes.{AllHigh, is_high, IsHigh-test, IsHigh-decimal, IsHigh-colour_word, IsLine-high}
+use Rattle.hx_lex.proofs.Spacing.{IsLine, words_in-spaced, spaced_injective}
+use Rattle.hx_lex.proofs.HighBytes.{AllHigh, is_high, IsHigh-test, IsHigh-decimal, IsHigh-colour_word, IsLine-high}
 
 abbrev first_byte : List ℕ → ℕ
 first_byte [] = 0

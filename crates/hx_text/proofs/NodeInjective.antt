@@ -22,18 +22,18 @@ use Rattle.hx_text.specs.declared.heads.Opening.TheVariants.{All as All_opening,
 use Rattle.hx_text.specs.declared.heads.Head.{Head}
 use Rattle.hx_text.specs.declared.entries.Entry.{Entry}
 use Rattle.hx_text.specs.declared.versions.Preamble.{Preamble}
-use Rattle.hx_letters.specs.Words.{mask_word, colour_word, cell_word, IsNumber}
+use Rattle.hx_lex.specs.Words.{mask_word, colour_word, cell_word, IsNumber}
 use Rattle.hx_text.specs.StepTexts.{step_line, threat_line, StepFits}
 use Rattle.hx_text.specs.FillTexts.{fill_line, FillFits}
 use Rattle.hx_text.specs.Entries.{answer_line, AnswerFits, entry_line, EntryFits, EachEntryFits, entries_for, entries_of, opening_of}
 use Rattle.hx_text.specs.TreeTexts.{opening_words, OpeningFits, head_of, head_words, head_line, HeadFits, first_line, node_lines, NodeFits}
 use Rattle.hx_text.specs.TreeTexts.{end_line}
-use Rattle.hx_letters.proofs.Spacing.{spaced_injective}
-use Rattle.hx_letters.proofs.Masks.{mask_injective}
+use Rattle.hx_lex.proofs.Spacing.{spaced_injective}
+use Rattle.hx_lex.proofs.Masks.{mask_injective}
 use Rattle.hx_text.proofs.LineWords.{end_words, words_in-end_line}
 use Rattle.hx_text.proofs.StepWords.{first_letter}
 use Rattle.hx_text.proofs.HeadLines.{IsLine-head_words, words_in-head_line, black_small, white_small}
-use Rattle.hx_letters.proofs.Injective.{number_injective, colour_injective, cell_injective}
+use Rattle.hx_lex.proofs.Injective.{number_injective, colour_injective, cell_injective}
 use Rattle.hx_text.proofs.EntryLists.{step_entry, threat_entry, answer_entry, fill_entry, entries_for-parts}
 use Rattle.hx_text.proofs.NodeParts.{node_lines-parts, first_line-head, head_fits, entries_fit}
 use Rattle.hx_text.proofs.EntryInjective.{step_injective, threat_injective, answer_injective, fill_injective}

@@ -11,7 +11,7 @@ use Rattle.hx_tree.specs.declared.nodes.Rule.TheVariants.{Chain, Links, Move, Al
 use Rattle.hx_tree.specs.declared.nodes.Node.{Node}
 use Rattle.hx_text.specs.declared.entries.Entry.{Entry}
 use Rattle.hx_text.specs.declared.versions.Preamble.{Preamble}
-use Rattle.hx_letters.specs.Words.{IsNumber, spaced, mask_word, colour_word}
+use Rattle.hx_lex.specs.Words.{IsNumber, spaced, mask_word, colour_word}
 use Rattle.hx_text.specs.StepTexts.{step_words, threat_words, StepFits}
 use Rattle.hx_text.specs.FillTexts.{fill_words, FillFits}
 use Rattle.hx_text.specs.Entries.{answer_words, AnswerFits, entry_line, EntryFits, EachEntryFits, entries_for, entries_of, opening_of}

@@ -6,13 +6,13 @@ use Rattle.hx_board.specs.declared.colours.Colour.TheVariants.{Black, White}
 use Rattle.hx_board.specs.Cells.{Extent, IsExtent}
 use Rattle.hx_board.specs.Positions.{Board, IsBoard, IsPosition}
 use Rattle.hx_board.proofs.PositionLaws.{board-small}
-use Rattle.hx_letters.specs.Words.{mask_word, colour_word, words_in, IsSet}
+use Rattle.hx_lex.specs.Words.{mask_word, colour_word, words_in, IsSet}
 use Rattle.hx_text.specs.PositionTexts.{stones_line, move_line, position_lines}
-use Rattle.hx_letters.proofs.Spacing.{IsLine, words_in-spaced, spaced_injective}
-use Rattle.hx_letters.proofs.HighBytes.{AllHigh, is_high, IsHigh-test, IsHigh-hex, IsHigh-colour_word, IsLine-high, Lacks-spaced}
-use Rattle.hx_letters.proofs.Masks.{mask_injective}
+use Rattle.hx_lex.proofs.Spacing.{IsLine, words_in-spaced, spaced_injective}
+use Rattle.hx_lex.proofs.HighBytes.{AllHigh, is_high, IsHigh-test, IsHigh-hex, IsHigh-colour_word, IsLine-high, Lacks-spaced}
+use Rattle.hx_lex.proofs.Masks.{mask_injective}
 use Rattle.hx_text.proofs.LineWords.{size_words, AllHigh-size_words}
-use Rattle.hx_letters.proofs.Injective.{colour_injective}
+use Rattle.hx_lex.proofs.Injective.{colour_injective}
 use Rattle.hx_text.proofs.Cuts.{AllLack}
 
 abbrev pub stones_words : Colour → ℕ → List (List ℕ)

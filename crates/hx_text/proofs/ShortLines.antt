@@ -30,15 +30,15 @@ use Rattle.hx_text.specs.declared.heads.Head.{Head}
 use Rattle.hx_text.specs.declared.versions.Version.{Version}
 use Rattle.hx_text.specs.declared.versions.Version.TheVariants.{One, Two}
 use Rattle.hx_text.specs.declared.versions.Preamble.{Preamble}
-use Rattle.hx_letters.specs.Words.{spaced, cell_word, IsNumber, vertex_word}
+use Rattle.hx_lex.specs.Words.{spaced, cell_word, IsNumber, vertex_word}
 use Rattle.hx_text.specs.StepTexts.{step_words, StepFits}
 use Rattle.hx_text.specs.FillTexts.{fill_words, FillFits}
 use Rattle.hx_text.specs.Entries.{reason_words, answer_words, ReasonFits, AnswerFits, entry_line, EntryFits, EachEntryFits, entries_of}
 use Rattle.hx_text.specs.TreeTexts.{AreTreeLines, NodeFits, OpeningFits, head_of, head_words, opening_words, node_lines}
 use Rattle.hx_text.specs.TreeTexts.{front_lines, tree_lines, title_line, end_line}
 use Rattle.hx_text.specs.Lengths.{longest_line, AreShortLines}
-use Rattle.hx_letters.proofs.Masks.{length-hex}
-use Rattle.hx_letters.proofs.WordLengths.{length-colour_word, length-small}
+use Rattle.hx_lex.proofs.Masks.{length-hex}
+use Rattle.hx_lex.proofs.WordLengths.{length-colour_word, length-small}
 use Rattle.hx_text.proofs.NodeParts.{node_lines-parts, head_fits, entries_fit}
 
 -- the bytes of some words, with one more for each

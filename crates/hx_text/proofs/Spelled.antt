@@ -21,7 +21,7 @@ use Rattle.hx_tree.specs.declared.nodes.Node.{Node}
 use Rattle.hx_text.specs.declared.heads.Opening.{Opening}
 use Rattle.hx_text.specs.declared.heads.Opening.TheVariants.{Chain, Links, Move, All, Fill, Turned}
 use Rattle.hx_text.specs.declared.heads.Head.{Head}
-use Rattle.hx_letters.specs.Words.{spaced, colour_word, mask_word, cell_word, vertex_word}
+use Rattle.hx_lex.specs.Words.{spaced, colour_word, mask_word, cell_word, vertex_word}
 use Rattle.hx_text.specs.Grammars.{text_of}
 use Rattle.hx_text.specs.PositionTexts.{size_line, stones_line, move_line, position_text}
 use Rattle.hx_text.specs.StepTexts.{step_line, threat_line}

@@ -10,10 +10,10 @@ use Rattle.hx_board.specs.Cells.{Extent, IsExtent}
 use Rattle.hx_board.specs.Graph.{IsVertex}
 use Rattle.hx_link.specs.declared.steps.Step.{Step}
 use Rattle.hx_link.specs.declared.steps.Step.TheVariants.{Base, AndStone, AndCell, Or}
-use Rattle.hx_letters.specs.Words.{words_in, IsNumber, vertex_word}
+use Rattle.hx_lex.specs.Words.{words_in, IsNumber, vertex_word}
 use Rattle.hx_text.specs.StepTexts.{step_words, step_line, threat_words, threat_line, StepFits}
-use Rattle.hx_letters.proofs.Spacing.{IsLine, words_in-spaced}
-use Rattle.hx_letters.proofs.HighBytes.{IsHigh, AllHigh, is_high, IsHigh-test, IsHigh-decimal, IsHigh-cell_word, IsLine-high}
+use Rattle.hx_lex.proofs.Spacing.{IsLine, words_in-spaced}
+use Rattle.hx_lex.proofs.HighBytes.{IsHigh, AllHigh, is_high, IsHigh-test, IsHigh-decimal, IsHigh-cell_word, IsLine-high}
 
 -- ---- steps
 

@@ -10,8 +10,8 @@ use Rattle.hx_text.specs.declared.entries.Entry.{Entry}
 use Rattle.hx_text.specs.declared.entries.Entry.TheVariants.{Step as Step_entry, Threat as Threat_entry, Answer as Answer_entry}
 use Rattle.hx_text.specs.declared.entries.Entry.TheVariants.{Fill as Fill_entry}
 use Rattle.hx_text.specs.declared.versions.Preamble.{Preamble}
-use Rattle.hx_letters.specs.Words.{IsNumber}
-use Rattle.hx_letters.specs.Marks.{Lacks}
+use Rattle.hx_lex.specs.Words.{IsNumber}
+use Rattle.hx_lex.specs.Marks.{Lacks}
 use Rattle.hx_text.specs.Grammars.{Begins}
 use Rattle.hx_text.specs.StepTexts.{step_words, threat_words}
 use Rattle.hx_text.specs.FillTexts.{fill_words}
@@ -20,7 +20,7 @@ use Rattle.hx_text.specs.TreeTexts.{AreTreeLines, NodeFits, head_of, head_words,
 use Rattle.hx_text.specs.TreeTexts.{end_line}
 use Rattle.hx_text.proofs.Cuts.{AllLack, AllLack-append}
 use Rattle.hx_text.proofs.LineGrammars.{begun_lack}
-use Rattle.hx_letters.proofs.HighBytes.{Lacks-spaced}
+use Rattle.hx_lex.proofs.HighBytes.{Lacks-spaced}
 use Rattle.hx_text.proofs.LineWords.{title_words, AllHigh-title_words, size_words, AllHigh-size_words, end_words, AllHigh-end_words}
 use Rattle.hx_text.proofs.HeadLines.{AllHigh-head_words}
 use Rattle.hx_text.proofs.NodeParts.{node_lines-parts, head_fits, entries_fit}

@@ -43,7 +43,7 @@ use Rattle.hx_board.specs.declared.cells.TheConstants.{CELLS}
 use Rattle.hx_tree.specs.declared.steps.TheConstants.{MOST_STEPS}
 use Rattle.hx_text.specs.declared.versions.Version.TheVariants.{Two}
 use Rattle.hx_text.specs.declared.versions.Preamble.{Preamble}
-use Rattle.hx_letters.specs.Words.{IsNumber}
+use Rattle.hx_lex.specs.Words.{IsNumber}
 use Rattle.hx_text.specs.StepTexts.{StepFits}
 use Rattle.hx_text.specs.Entries.{ReasonFits, AnswerFits, EachEntryFits, entries_of, opening_of}
 use Rattle.hx_text.specs.Versions.{IsTurnedNode, HasTurned}

@@ -6,12 +6,12 @@ use Rattle.hx_board.specs.declared.colours.Colour.{Colour}
 use Rattle.hx_board.specs.Cells.{IsExtent}
 use Rattle.hx_tree.specs.declared.nodes.Node.{Node}
 use Rattle.hx_text.specs.declared.versions.Preamble.{Preamble}
-use Rattle.hx_letters.specs.Words.{IsNumber, spaced}
+use Rattle.hx_lex.specs.Words.{IsNumber, spaced}
 use Rattle.hx_text.specs.Grammars.{text_of}
 use Rattle.hx_text.specs.TreeTexts.{AreTreeLinesOf, IsTreeText, NodeFits, IsRootWinner, list_words, node_lines, front_lines}
 use Rattle.hx_text.specs.TreeTexts.{end_line, tree_lines}
 use Rattle.hx_text.specs.TreeTexts.{written_tree}
-use Rattle.hx_letters.proofs.Ends.{push-some}
+use Rattle.hx_lex.proofs.Ends.{push-some}
 use Rattle.hx_text.proofs.Cuts.{text_injective, text_of-append}
 use Rattle.hx_text.proofs.TreeLacks.{AllLack-tree_lines}
 use Rattle.hx_text.proofs.Alignment.{Aligned, aligned}

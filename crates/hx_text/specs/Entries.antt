@@ -23,7 +23,7 @@ use Rattle.hx_text.specs.declared.heads.Opening.{Opening}
 use Rattle.hx_text.specs.declared.heads.Opening.TheVariants.{Chain as Chain_opening, Links as Links_opening}
 use Rattle.hx_text.specs.declared.heads.Opening.TheVariants.{Move as Move_opening, All as All_opening}
 use Rattle.hx_text.specs.declared.heads.Opening.TheVariants.{Fill as Fill_opening, Turned as Turned_opening}
-use Rattle.hx_letters.specs.Words.{spaced, cell_word, IsNumber}
+use Rattle.hx_lex.specs.Words.{spaced, cell_word, IsNumber}
 use Rattle.hx_text.specs.StepTexts.{step_line, threat_line, StepFits}
 use Rattle.hx_text.specs.FillTexts.{fill_line, FillFits}
 

@@ -3,7 +3,7 @@ use Rattle.std.specs.Prelude.{ℕ, List, [], ◌∷◌, codes}
 use Rattle.hx_board.specs.Cells.{Extent, OnBoard}
 use Rattle.hx_inferior.specs.declared.fills.FillStep.{FillStep}
 use Rattle.hx_inferior.specs.declared.fills.FillStep.TheVariants.{Other, Dead, Pair}
-use Rattle.hx_letters.specs.Words.{spaced, cell_word}
+use Rattle.hx_lex.specs.Words.{spaced, cell_word}
 
 abbrev pub fill_words : FillStep → List (List ℕ)
 fill_words (Other cell) = codes "other" ∷ cell_word cell ∷ []

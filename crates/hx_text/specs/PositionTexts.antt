@@ -5,7 +5,7 @@ use Rattle.hx_board.specs.declared.colours.Colour.{Colour}
 use Rattle.hx_board.specs.declared.colours.Colour.TheVariants.{Black, White}
 use Rattle.hx_board.specs.Cells.{Extent}
 use Rattle.hx_board.specs.Positions.{Board, IsBoard}
-use Rattle.hx_letters.specs.Words.{spaced, mask_word, colour_word}
+use Rattle.hx_lex.specs.Words.{spaced, mask_word, colour_word}
 use Rattle.hx_text.specs.Grammars.{text_of}
 
 abbrev pub size_line : Extent → List ℕ

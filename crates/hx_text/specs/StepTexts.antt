@@ -6,7 +6,7 @@ use Rattle.hx_board.specs.Graph.{IsVertex}
 use Rattle.hx_link.specs.declared.steps.Step.{Step}
 use Rattle.hx_link.specs.declared.steps.Step.TheVariants.{Base, AndStone, AndCell, Or}
 use Rattle.hx_link.specs.declared.parts.TheConstants.{MOST_PARTS}
-use Rattle.hx_letters.specs.Words.{spaced, vertex_word, IsNumber}
+use Rattle.hx_lex.specs.Words.{spaced, vertex_word, IsNumber}
 
 abbrev pub step_words : Step → List (List ℕ)
 step_words (Base a b) = codes "base" ∷ vertex_word a ∷ vertex_word b ∷ []

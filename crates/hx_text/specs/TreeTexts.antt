@@ -19,7 +19,7 @@ use Rattle.hx_text.specs.declared.heads.Head.{Head}
 use Rattle.hx_text.specs.declared.versions.Version.{Version}
 use Rattle.hx_text.specs.declared.versions.Version.TheVariants.{Two}
 use Rattle.hx_text.specs.declared.versions.Preamble.{Preamble}
-use Rattle.hx_letters.specs.Words.{spaced, mask_word, colour_word, cell_word, IsNumber}
+use Rattle.hx_lex.specs.Words.{spaced, mask_word, colour_word, cell_word, IsNumber}
 use Rattle.hx_text.specs.Grammars.{text_of}
 use Rattle.hx_text.specs.Versions.{version_word}
 use Rattle.hx_text.specs.PositionTexts.{size_line}

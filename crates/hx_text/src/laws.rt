@@ -6,7 +6,7 @@ ghost use Rattle.hx_board.specs.Cells.{IsExtent};
 ghost use Rattle.hx_board.specs.Positions.{Board, IsBoard};
 ghost use Rattle.hx_tree.specs.declared.nodes.Node.{Node as TreeNode};
 ghost use Rattle.hx_text.specs.declared.versions.Preamble.{Preamble as Before_nodes};
-ghost use Rattle.hx_letters.specs.Words.{IsNumber};
+ghost use Rattle.hx_lex.specs.Words.{IsNumber};
 ghost use Rattle.hx_text.specs.Grammars.{IsFaultyLine};
 ghost use Rattle.hx_text.specs.PositionTexts.{ArePositionLines, position_text};
 ghost use Rattle.hx_text.specs.TreeTexts.{AreTreeLines, IsTreeText, NodeFits, IsRootWinner, written_tree};

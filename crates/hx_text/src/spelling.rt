@@ -8,7 +8,7 @@ ghost use Rattle.hx_inferior.specs.declared.dominations.Kill.TheVariants.{ByDead
 ghost use Rattle.hx_tree.specs.declared.nodes.Line.TheVariants.{Child, Under};
 ghost use Rattle.hx_link.specs.declared.steps.Step.TheVariants.{Base};
 ghost use Rattle.hx_text.specs.declared.heads.Opening.TheVariants.{Links, Move, All, Fill, Turned};
-ghost use Rattle.hx_letters.specs.Words.{mask_word, colour_word, cell_word, spaced, vertex_word};
+ghost use Rattle.hx_lex.specs.Words.{mask_word, colour_word, cell_word, spaced, vertex_word};
 ghost use Rattle.hx_text.specs.Grammars.{text_of};
 ghost use Rattle.hx_text.specs.PositionTexts.{size_line, stones_line, move_line, position_text};
 ghost use Rattle.hx_text.specs.StepTexts.{IsShortStep, step_line, threat_line};
@@ -20,7 +20,7 @@ ghost use Rattle.hx_text.specs.TreeTexts.{ListsFit, opening_words, head_of, head
 use crate::versions::Version;
 use hx_board::{Cell, Colour, Mask, Position, Size, Vertex};
 use hx_inferior::{FillStep, Kill};
-use hx_letters::{TEXT_ROOM, Text};
+use hx_lex::{TEXT_ROOM, Text};
 use hx_link::Step;
 use hx_tree::{Line, Node, Rule};
 

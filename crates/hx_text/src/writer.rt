@@ -20,7 +20,7 @@ use crate::versions::Version;
 use hx_board::{Colour, Position, Size};
 use hx_inferior::FillStep;
 use hx_io::{Failed, Sink, write_all};
-use hx_letters::{TEXT_ROOM, Text};
+use hx_lex::{TEXT_ROOM, Text};
 use hx_link::Step;
 use hx_tree::{Line, Node, Rule};
 

@@ -16,16 +16,16 @@ use Rattle.hx_tree.specs.Entries.{IsOf, IsEntry, HasNoEntry, AreDistinctEntries,
 pub extends-itself : (list : List Node) → Extends list list
 extends-itself list = ([], sym (append-nil list))
 
-pub extends-on : (first second third : List Node) → Extends second first → Extends third second → Extends third first
+pub extends-on : (first second third : List Node) → Extends first second → Extends second third → Extends first third
 extends-on first second third one two =
     (one.0 ++ two.0, two.1 ∙ ap (λ (nodes : List Node). nodes ++ two.0) one.1 ∙ append_assoc first one.0 two.0)
 
 -- what holds of the new list
-pub seen-now : (Fact : List Node → Type 0) (old new : List Node) → Extends new old → Fact new → WasSeen Fact old new
+pub seen-now : (Fact : List Node → Type 0) (old new : List Node) → Extends old new → Fact new → WasSeen Fact old new
 seen-now Fact old new grown fact = record { seen = new; after_old = grown; before_new = extends-itself new; fact = fact }
 
 -- what was seen is so of an earlier list and a later one too
-pub seen-within : (Fact : List Node → Type 0) (first old new last : List Node) → Extends old first → Extends last new → WasSeen Fact old new
+pub seen-within : (Fact : List Node → Type 0) (first old new last : List Node) → Extends first old → Extends new last → WasSeen Fact old new
     → WasSeen Fact first last
 seen-within Fact first old new last from to was = record {
   seen = was.seen;
@@ -34,12 +34,12 @@ seen-within Fact first old new last from to was = record {
   fact = was.fact;
 }
 
-pub node-later : (new old : List Node) (place : ℕ) (node : Node) → Extends new old → slice_get old place ≡ Some node
+pub node-later : (new old : List Node) (place : ℕ) (node : Node) → Extends old new → slice_get old place ≡ Some node
     → slice_get new place ≡ Some node
 node-later new old place node more there = rw more.1 (get-append old more.0 place node there)
 
 -- an entry stays one
-pub entry-later : (new old : List Node) (board : Board) (mover : Colour) (place : ℕ) → Extends new old → IsEntry old board mover place
+pub entry-later : (new old : List Node) (board : Board) (mover : Colour) (place : ℕ) → Extends old new → IsEntry old board mover place
     → IsEntry new board mover place
 entry-later new old board mover place more entry = record {
   node = entry.node;

@@ -28,15 +28,15 @@ AreDistinctEntries nodes =
     (board : Board) (mover : Colour) (one other : ℕ) → IsEntry nodes board mover one
     → IsEntry nodes board mover other → one ≡ other
 
--- one list begins with another
+-- the new list begins with the old one
 abbrev pub Extends : List Node → List Node → Type 0
-Extends new old = (rest : List Node) × (new ≡ old ++ rest)
+Extends old new = (rest : List Node) × (new ≡ old ++ rest)
 
 -- some list is one of which the fact holds, and begins with the old one, and the new one begins with it
 pub record WasSeen (Fact : List Node → Type 0) (old new : List Node) : Type 0 where
   pub seen : List Node
-  pub after_old : Extends seen old
-  pub before_new : Extends new seen
+  pub after_old : Extends old seen
+  pub before_new : Extends seen new
   pub fact : Fact seen
 
 -- ---- a look

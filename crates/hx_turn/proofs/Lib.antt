@@ -3,6 +3,6 @@ pub mod TurnedCells
 pub mod TurnedSets
 pub mod TurnedBoards
 pub mod TurnedStoneLaws
-pub mod NumberLaws
+pub mod KeyLaws
 pub mod TurnedGraphs
 pub mod TurnedGames

@@ -1,4 +1,4 @@
 pub mod Turned
 pub mod TurnedStones
-pub mod Numbers
+pub mod Keys
 pub mod Reversed

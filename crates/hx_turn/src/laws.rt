@@ -3,7 +3,7 @@
 ghost use Rattle.std.specs.Prelude.{◌≡◌};
 ghost use Rattle.hx_board.specs.Positions.{Board};
 ghost use Rattle.hx_turn.specs.Turned.{IsTurned, KeepsJoined, KeepsWinner};
-ghost use Rattle.hx_turn.specs.Numbers.{number_of};
+ghost use Rattle.hx_turn.specs.Keys.{key_of};
 
 use hx_board::{Colour, Position};
 
@@ -27,10 +27,10 @@ pub fn turned_keeps(position: &Position, to_move: Colour, colour: Colour)
     let _size = position.size();
 }
 
-/// A position and the turned one have one number, with the same player to move.
-pub fn one_number(position: &Position, to_move: Colour)
+/// A position and the turned one have one key, with the same player to move.
+pub fn one_key(position: &Position, to_move: Colour)
     ensures { (turned : Board) → IsTurned position.now turned
-        → number_of turned to_move ≡ number_of position.now to_move }
+        → key_of turned to_move ≡ key_of position.now to_move }
 {
     // The proof takes from here that the position's board is one.
     let _size = position.size();

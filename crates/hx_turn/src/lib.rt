@@ -4,13 +4,13 @@
 //! each player's two sides are exchanged. So who wins a position wins the turned one.
 #![tactic(auto)]
 
+mod keys;
 mod laws;
-mod numbers;
 mod orientations;
 mod reversals;
 mod turns;
 
-pub use laws::{one_number, turned_joins, turned_keeps};
-pub use numbers::folded_number;
-pub use orientations::{Orientations, number};
+pub use keys::folded_key;
+pub use laws::{one_key, turned_joins, turned_keeps};
+pub use orientations::{Orientations, key};
 pub use turns::{is_turned, turned};

@@ -1,18 +1,18 @@
 //! A position beside the turned one.
 //!
-//! Who goes through many positions and asks for a number that turned positions share keeps both: a stone more is then one cell
+//! Who goes through many positions and asks for a key that turned positions share keeps both: a stone more is then one cell
 //! more in each, where to turn a position anew is to reverse two sets.
 //!
-//! A number is folded anew where it is asked for, by a few products, and not kept by exclusive-ors with a table of keys: what
+//! A key is folded anew where it is asked for, by a few products, and not kept by exclusive-ors with a table of keys: what
 //! is kept is the turned position, which a search needs in any case to look for it. `Orientations` is `Copy`, since its fields
 //! come back from the board that contracts see (`turned_of`).
 
 ghost use Rattle.std.specs.Prelude.{◌≡◌};
 ghost use Rattle.hx_board.specs.Positions.{IsEmpty, put};
 ghost use Rattle.hx_turn.specs.Turned.{IsTurned};
-ghost use Rattle.hx_turn.specs.Numbers.{number_of};
+ghost use Rattle.hx_turn.specs.Keys.{key_of};
 
-use crate::numbers::folded_number;
+use crate::keys::folded_key;
 use crate::turns::{turned, turned_cell};
 use hx_board::{Cell, Colour, Position};
 use std::marker::Model;
@@ -91,21 +91,21 @@ impl Orientations {
         self.turned.play(colour, there);
     }
 
-    /// The number of the position and the player to move, which the turned position has too: the lesser of the folded
-    /// numbers of both.
-    pub fn number(&self, to_move: Colour) -> u64
-        ensures { result ≡ number_of self.now to_move }
+    /// The key of the position and the player to move, which the turned position has too: the lesser of the folded
+    /// keys of both.
+    pub fn key(&self, to_move: Colour) -> u64
+        ensures { result ≡ key_of self.now to_move }
     {
-        let here = folded_number(&self.position, to_move);
-        let there = folded_number(&self.turned, to_move);
+        let here = folded_key(&self.position, to_move);
+        let there = folded_key(&self.turned, to_move);
         if here <= there { here } else { there }
     }
 }
 
-/// The number of a position and the player to move, which the turned position has too.
-pub fn number(position: &Position, to_move: Colour) -> u64
-    ensures { result ≡ number_of position.now to_move }
+/// The key of a position and the player to move, which the turned position has too.
+pub fn key(position: &Position, to_move: Colour) -> u64
+    ensures { result ≡ key_of position.now to_move }
 {
     let both = Orientations::of(position);
-    both.number(to_move)
+    both.key(to_move)
 }

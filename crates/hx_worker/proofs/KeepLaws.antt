@@ -12,7 +12,7 @@ use Rattle.hx_linkset.specs.States.{State, Standing, added}
 use Rattle.hx_linkset.specs.Answers.{IsAdded}
 use Rattle.hx_linkset.specs.declared.sets.Added.{Added}
 use Rattle.hx_linkset.specs.declared.sets.Added.TheVariants.{New, Covered, Refused, Limit}
-use Rattle.hx_moves.specs.Keeps.{KeepsSeat}
+use Rattle.hx_count.specs.Seats.{KeepsSeat}
 use Rattle.hx_worker.specs.declared.searches.Search.{Search}
 use Rattle.hx_worker.specs.declared.sets.Before.{Before}
 use Rattle.hx_worker.specs.declared.sets.Before.TheVariants.{Played, Same, Other}

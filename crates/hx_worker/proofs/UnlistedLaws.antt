@@ -8,7 +8,7 @@ use Rattle.hx_tree.proofs.EntryLaws.{seen-now, seen-within}
 use Rattle.hx_nodes.specs.Missing.{LacksEither}
 use Rattle.hx_worker.specs.Ends.{WasUnlisted}
 
-pub neither-unlisted : (plain : Bool) (old new : List Node) (board : Board) (mover : Colour) → Extends new old
+pub neither-unlisted : (plain : Bool) (old new : List Node) (board : Board) (mover : Colour) → Extends old new
     → LacksEither plain old new board mover → WasUnlisted plain old new board mover
 neither-unlisted true old new board mover grown missed = missed
 neither-unlisted false old new board mover grown neither = record {
@@ -18,7 +18,7 @@ neither-unlisted false old new board mover grown neither = record {
   turned_missed = seen-now _ old new grown neither.none;
 }
 
-pub unlisted-wider : (plain : Bool) (first old new last : List Node) (board : Board) (mover : Colour) → Extends old first → Extends last new
+pub unlisted-wider : (plain : Bool) (first old new last : List Node) (board : Board) (mover : Colour) → Extends first old → Extends new last
     → WasUnlisted plain old new board mover → WasUnlisted plain first last board mover
 unlisted-wider true first old new last board mover before after missed = seen-within _ first old new last before after missed
 unlisted-wider false first old new last board mover before after unlisted = record {

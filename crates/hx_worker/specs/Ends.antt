@@ -11,7 +11,7 @@ use Rattle.hx_linkset.specs.States.{Standing}
 use Rattle.hx_linkset.specs.declared.limits.TheConstants.{MOST_LINKS}
 use Rattle.hx_count.specs.Seats.{Seat}
 use Rattle.hx_search.specs.Closed.{IsClosed}
-use Rattle.hx_search.specs.Decided.{Decides}
+use Rattle.hx_linkset.specs.LiveOf.{Decides}
 use Rattle.hx_nodes.specs.Stored.{IsOutOfSlots}
 use Rattle.hx_worker.specs.declared.ended.Ended.{Ended}
 use Rattle.hx_worker.specs.declared.ended.Ended.TheVariants.{Proved, Spent, NoSlots, Memory}

@@ -5,8 +5,8 @@ use Rattle.hx_linkset.specs.States.{Standing}
 use Rattle.hx_count.specs.declared.events.TheConstants.{MOST_HELD}
 use Rattle.hx_count.specs.Machine.{held_in_all}
 use Rattle.hx_count.specs.Seats.{own as own_account}
-use Rattle.hx_moves.specs.declared.losses.TheConstants.{LOSS_WORDS}
-use Rattle.hx_moves.specs.Keeps.{KeepsSeat}
+use Rattle.hx_ordering.specs.declared.losses.TheConstants.{LOSS_WORDS}
+use Rattle.hx_count.specs.Seats.{KeepsSeat}
 use Rattle.hx_worker.specs.declared.outcomes.Outcome.{Outcome}
 use Rattle.hx_worker.specs.declared.searches.Search.{Search}
 use Rattle.hx_worker.specs.Keeps.{StandsAgain}

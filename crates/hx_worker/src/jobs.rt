@@ -5,7 +5,7 @@ ghost use Rattle.hx_count.specs.Machine.{held_in_all};
 ghost use Rattle.hx_count.specs.Seats.{own};
 ghost use Rattle.hx_book.specs.Sights.{Grows};
 ghost use Rattle.hx_search.specs.Closed.{IsGrown};
-ghost use Rattle.hx_moves.specs.Keeps.{KeepsSeat};
+ghost use Rattle.hx_count.specs.Seats.{KeepsSeat};
 ghost use Rattle.hx_worker.specs.Sets.{AreOn};
 ghost use Rattle.hx_worker.specs.Ends.{IsEnded, IsTried, WasUnlisted, EndsSpent};
 
@@ -18,7 +18,7 @@ use hx_book::Proofs;
 use hx_count::{CountSeat, Counts, Hints};
 use hx_io::Gate;
 use hx_linkset::LinkSet;
-use hx_moves::{LOSS_WORDS, Replies};
+use hx_ordering::{LOSS_WORDS, Replies};
 use std::sync::Wait;
 
 /// What a worker works on, and with.

@@ -2,7 +2,7 @@
 //!
 //! The search only says where to look. Whatever it believes, a proof is made from what is certain at that moment: from the
 //! links of a set, and from entries that are looked up among the proofs. So nothing that orders the search is in a proof. The
-//! heuristics that say which move comes next are those of hx_moves; each may be wrong, and stands in a file of its own that says
+//! heuristics that say which move comes next are those of hx_ordering; each may be wrong, and stands in a file of its own that says
 //! what it brings.
 #![tactic(auto)]
 

@@ -11,9 +11,9 @@ use hx_book::Proofs;
 use hx_fill::{Filled, fill_in};
 use hx_io::Gate;
 use hx_linkset::LinkSet;
-use hx_moves::Situation;
+use hx_ordering::Situation;
 use hx_search::{Reached, Workspace, reach_with};
-use hx_wide::{widen_chain, widen_links, widen_turned};
+use hx_widen::{widen_chain, widen_links, widen_turned};
 use std::sync::Wait;
 
 impl<P: Proofs, G: Gate, R: Wait> Search<'_, P, G, R, Workspace, LinkSet> {

@@ -5,7 +5,7 @@ ghost use Rattle.hx_board.specs.declared.colours.Colour.{Colour};
 ghost use Rattle.hx_board.specs.Positions.{Board};
 ghost use Rattle.hx_tree.specs.declared.nodes.Node.{Node as Proof};
 ghost use Rattle.hx_count.specs.Seats.{Seat};
-ghost use Rattle.hx_wide.specs.Wide.{IsStoredWide};
+ghost use Rattle.hx_widen.specs.Wide.{IsStoredWide};
 ghost use Rattle.hx_worker.specs.Outcomes.{IsOutcome};
 
 use hx_book::NoSlot;

@@ -9,14 +9,14 @@ use hx_board::Cell;
 use hx_book::Proofs;
 use hx_io::Gate;
 use hx_linkset::LinkSet;
-use hx_moves::{
+use hx_nodes::Stored;
+use hx_ordering::{
     Child, Down, Moves, Replies, Situation, after, first_numbers, in_focus, is_marked, leave_open,
     open,
 };
-use hx_nodes::Stored;
 use hx_pn::{INF, Numbers};
 use hx_search::Workspace;
-use hx_wide::{widen_all, widen_move, widen_turned};
+use hx_widen::{widen_all, widen_move, widen_turned};
 use std::sync::Wait;
 
 /// The numbers of a turn whose moves all lose.
@@ -43,14 +43,14 @@ impl<P: Proofs, G: Gate, R: Wait> Search<'_, P, G, R, Workspace, LinkSet> {
         ensures outcome { IfSome result (Tells P.sight self.new) }
     {
         let worker = self.worker;
-        let number = situation.filled.number(situation.to_move);
-        if !is_marked(worker.hints, number) {
+        let key = situation.filled.key(situation.to_move);
+        if !is_marked(worker.hints, key) {
             return None;
         }
         let position = situation.filled.position();
         let known = outcome_of(widen_turned(worker.rt, self.proofs, position, situation.to_move));
         if known.is_none() {
-            leave_open(worker.hints, number, first_numbers(position));
+            leave_open(worker.hints, key, first_numbers(position));
         }
         known
     }
@@ -85,7 +85,7 @@ impl<P: Proofs, G: Gate, R: Wait> Search<'_, P, G, R, Workspace, LinkSet> {
         let Some(child) = moves.children.get(place).copied() else {
             return None;
         };
-        if !is_marked(worker.hints, child.number) {
+        if !is_marked(worker.hints, child.key) {
             return None;
         }
         let Some(there) = after(&situation.filled, situation.to_move, child.cell) else {
@@ -97,7 +97,7 @@ impl<P: Proofs, G: Gate, R: Wait> Search<'_, P, G, R, Workspace, LinkSet> {
             Stored::Done => self.by_move(situation, moves, place, &child),
             Stored::Refused(refusal) => Some(Outcome::NoSlots(refusal)),
             Stored::Missing => {
-                leave_open(worker.hints, child.number, child.numbers);
+                leave_open(worker.hints, child.key, child.numbers);
                 None
             }
             Stored::Memory => Some(Outcome::Memory),

@@ -10,7 +10,7 @@ ghost use Rattle.hx_book.specs.Sights.{Grows};
 ghost use Rattle.hx_count.specs.declared.events.TheConstants.{MOST_HELD};
 ghost use Rattle.hx_count.specs.Machine.{held_in_all};
 ghost use Rattle.hx_count.specs.Seats.{own as own_account};
-ghost use Rattle.hx_moves.specs.Keeps.{KeepsSeat};
+ghost use Rattle.hx_count.specs.Seats.{KeepsSeat};
 ghost use Rattle.hx_worker.specs.Ends.{IsEnded};
 ghost use Rattle.hx_worker.specs.Searches.{Keeps, MayHold};
 
@@ -24,12 +24,12 @@ use hx_book::Proofs;
 use hx_count::CountSeat;
 use hx_io::Gate;
 use hx_linkset::LinkSet;
-use hx_moves::{LOSS_WORDS, Start};
 use hx_nodes::Stored;
+use hx_ordering::{LOSS_WORDS, Start};
 use hx_pn::{INF, Numbers};
 use hx_search::Workspace;
 use hx_turn::Orientations;
-use hx_wide::{look_wider_either, store_wider};
+use hx_widen::{look_wider_either, store_wider};
 use std::sync::Wait;
 
 /// No limit.

@@ -9,7 +9,7 @@ ghost use Rattle.hx_worker.specs.Sets.{HasPlay, IsPut, IsBack};
 
 use hx_board::{Colour, Memory};
 use hx_linkset::LinkSet;
-use hx_moves::Situation;
+use hx_ordering::Situation;
 use std::mem::replace;
 
 /// A set with more links is not played on.

@@ -20,9 +20,9 @@ use hx_book::Proofs;
 use hx_fill::Filled;
 use hx_io::Gate;
 use hx_linkset::LinkSet;
-use hx_moves::{Choice, Down, Moves, Situation, Start, choose, loss_word, numbers_of};
+use hx_ordering::{Choice, Down, Moves, Situation, Start, choose, loss_word, numbers_of};
 use hx_search::Workspace;
-use hx_wide::widen_fill;
+use hx_widen::widen_fill;
 use std::mem::swap;
 use std::sync::Wait;
 
@@ -132,8 +132,8 @@ impl<P: Proofs, G: Gate, R: Wait> Search<'_, P, G, R, Workspace, LinkSet> {
         if let Some(outcome) = self.look_at_marked(situation, &mut moves, all) {
             return outcome;
         }
-        let number = situation.filled.number(situation.to_move);
-        self.way.note(depth, number);
+        let key = situation.filled.key(situation.to_move);
+        self.way.note(depth, key);
         // Hints may change at any time, so nothing says how many rounds there are.
         for _ in 0..u64::MAX {
             if let Some(outcome) = self.go_on(situation, &mut moves, depth) {
@@ -180,7 +180,7 @@ impl<P: Proofs, G: Gate, R: Wait> Search<'_, P, G, R, Workspace, LinkSet> {
         if depth == 0 {
             return Outcome::Open(down.child.numbers);
         }
-        let word = loss_word(down.child.number);
+        let word = loss_word(down.child.key);
         // Before the turn below asks for its unit: so other workers see the hold while this one waits at its gate.
         self.worker.counts.hold(self.seat, word);
         swap(&mut self.own, &mut self.others);

@@ -13,7 +13,7 @@ use hx_board::{Cell, Mask};
 use hx_book::Proofs;
 use hx_io::Gate;
 use hx_linkset::LinkSet;
-use hx_moves::{Moves, Situation};
+use hx_ordering::{Moves, Situation};
 use hx_search::Workspace;
 use std::sync::Wait;
 

@@ -2,12 +2,12 @@
 
 ghost use Rattle.std.specs.Prelude.{◌≡◌, IfErr};
 ghost use Rattle.hx_count.specs.Seats.{own, after_spend};
-ghost use Rattle.hx_moves.specs.Keeps.{KeepsSeat};
+ghost use Rattle.hx_count.specs.Seats.{KeepsSeat};
 ghost use Rattle.hx_worker.specs.Keeps.{IsSpent};
 
 use hx_count::{CountSeat, Counts, Hints, Spent};
 use hx_io::Gate;
-use hx_moves::Replies;
+use hx_ordering::Replies;
 use std::alloc::Global;
 
 /// A worker's number, and what it has in common with all other workers.

@@ -1,5 +1,5 @@
 use Rattle.std.proofs.Common.{refl}
-use Rattle.hx_words.specs.declared.commands.Command.TheVariants.{Check, Solve, Htp, Demo, Play, Template, Survey}
+use Rattle.hx_cli.specs.declared.commands.Command.TheVariants.{Check, Solve, Htp, Demo, Play, Template, Survey}
 use Rattle.hx_app.specs.Runs.{Searched, Served, Drew, Tabled}
 use Rattle.hx_app.proofs.RunClauses.{checked_run, played_run, decided_run, kept}
 use Rattle.hx_app.proofs.commands.run.Goals as goal

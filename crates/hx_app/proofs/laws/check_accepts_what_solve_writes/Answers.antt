@@ -1,6 +1,6 @@
 use Rattle.std.proofs.Common.{subst, List, ℕ}
 use Rattle.std.specs.Prelude.{Option, IfSome}
-use Rattle.hx_check.specs.Promises.{Answers}
+use Rattle.hx_cmd_check.specs.Promises.{Answers}
 use Rattle.hx_app.proofs.laws.check_accepts_what_solve_writes.Goals as goal
 
 -- what `solve` wrote is the text of a valid tree with no more nodes than `check` accepts

@@ -21,7 +21,7 @@ returns-clause-seen c =
     c.gather-seat.ensures.parts c.close_with-closed.ensures.values.2
     (c.requires.all ∙ (sym (ap (λ w. w.seats) c.self.view_is) ∙ sym (ap (λ l. l.seats) o.2))) c.take.ensures.value in
     let is : c.unwrap-book.result ≡ contents c.self.inside.table.shared.key.slots last.nodes = cc (c.unwrap-book.ensures, last.book) in
-    λ k d near. subst (λ (l : List Node). Extends l (get_or c.args.seats.items k d).seen) (sym (ap (λ b. b.nodes) is)) (last.seen k d near)
+    λ k d near. subst (λ (l : List Node). Extends (get_or c.args.seats.items k d).seen l) (sym (ap (λ b. b.nodes) is)) (last.seen k d near)
 
 pub returns-clause-slots : goal.returns-clause-slots
 returns-clause-slots c =

@@ -10,13 +10,13 @@ use Rattle.hx_share.proofs.shared.Shared.store.Goals as goal
 pub put-answer-requires : goal.put-answer-requires
 put-answer-requires g c =
     right-later c.args.seat.now.seen c.take_book-book.result.nodes c.args.offer
-    (subst (λ (l : List Node). Extends c.take_book-book.result.nodes l)
+    (subst (λ (l : List Node). Extends l c.take_book-book.result.nodes)
     (ap (λ r. r.seen) c.seat.view_is) c.take_book-book.ensures.seen) c.requires.node
 
 pub give_back-requires-clause-more : goal.give_back-requires-clause-more
 give_back-requires-clause-more g c =
     let nodes = c.put-answer.new.self.nodes in
-    subst (Extends nodes)
+    subst (λ (l : List Node). Extends nodes l)
     (sym (acting-seen c.args.self.now.made.slots c.take_book-book.result.nodes None c.take_book-book.new.seat.me
     c.take_book-book.ensures.acts))
     (puts-extend c.take_book-book.result.slots c.take_book-book.result.nodes c.args.offer nodes c.put-answer.result

@@ -24,7 +24,7 @@ loop-cell-preserved g c =
     let before = c.loop-cell.invariant in
     let proof : is_proof c.loop-cell.done.ended ≡ true = search rules in
     let more =
-    subst (λ (r : Reader). Extends done.book.seen r.seen) {y = c.loop-cell.done.book} c.seats_again-again.ensures.book visit.grew in
+    subst (λ (r : Reader). Extends r.seen done.book.seen) {y = c.loop-cell.done.book} c.seats_again-again.ensures.book visit.grew in
     record {
       book = visit.book;
       counts = visit.counts;

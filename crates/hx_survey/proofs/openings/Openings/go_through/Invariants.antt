@@ -3,7 +3,7 @@ use Rattle.std.proofs.Common.{◌≡◌, ℕ, true}
 use Rattle.hx_board.specs.Sets.{has, count_below}
 use Rattle.hx_count.specs.Machine.{held_in_all}
 use Rattle.hx_count.specs.Seats.{own}
-use Rattle.hx_crew.specs.Seats.{IsEndedBy}
+use Rattle.hx_pool.specs.Seats.{IsEndedBy}
 use Rattle.hx_survey.proofs.ThroughOpenings.{HasOpeningsBut}
 use Rattle.hx_survey.proofs.openings.Openings.go_through.Given as goal
 

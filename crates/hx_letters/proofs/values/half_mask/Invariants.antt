@@ -1,5 +1,0 @@
-use Rattle.hx_letters.proofs.Masks.{ReadHex}
-use Rattle.hx_letters.proofs.values.half_mask.Given as goal
-
-abbrev pub invariant-loop-byte : goal.invariant-loop-byte
-invariant-loop-byte l = ReadHex l.byte-items l.byte-index l.bits l.known

@@ -1,5 +1,0 @@
-use Rattle.hx_letters.proofs.Numbers.{ReadDigits}
-use Rattle.hx_letters.proofs.values.read_digits.Given as goal
-
-abbrev pub invariant-loop-byte : goal.invariant-loop-byte
-invariant-loop-byte l = ReadDigits l.word l.byte-index l.value

@@ -1,5 +1,0 @@
-use Rattle.hx_moves.proofs.OrderLaws.{AreListed}
-use Rattle.hx_moves.proofs.orders.list.Given as goal
-
-abbrev pub invariant-loop : goal.invariant-loop
-invariant-loop l = AreListed l.fn.cells l.left l.found.items l.counter

@@ -1,0 +1,29 @@
+use Rattle.std.proofs.Common.{◌∙◌}
+use Rattle.hx_lex.proofs.Cursors.{rest_same, word_then}
+use Rattle.hx_lex.proofs.Spacing.{line_from_words}
+use Rattle.hx_text.proofs.StepWords.{words_in-threat_line}
+use Rattle.hx_parse.proofs.step_lines.read_threat.Goals as goal
+
+pub returns-in_err-keyword : goal.returns-in_err-keyword
+returns-in_err-keyword c = rw c.from_residual.ensures (λ v fits e.
+    let at_keyword = c.of-words.ensures ∙ words_in-threat_line _ v fits e in
+    c.in_err-keyword.ensures.takes tt _ tt at_keyword)
+
+pub returns-in_err-place : goal.returns-in_err-place
+returns-in_err-place c = rw c.from_residual-in_err-place.ensures (λ v fits e.
+    let at_keyword = c.of-words.ensures ∙ words_in-threat_line _ v fits e in
+    let at_place = rest_same c.in_ok-keyword.ensures.takes.1 at_keyword in
+    c.in_err-place.ensures v _ fits at_place)
+
+pub returns-in_err-end : goal.returns-in_err-end
+returns-in_err-end c = rw c.from_residual-in_err-end.ensures (λ v fits e.
+    let at_keyword = c.of-words.ensures ∙ words_in-threat_line _ v fits e in
+    let at_place = rest_same c.in_ok-keyword.ensures.takes.1 at_keyword in
+    let at_end = rest_same c.in_ok-place.ensures.1 at_place in
+    c.in_err-end.ensures at_end)
+
+pub returns : goal.returns
+returns c = (
+  c.in_ok-place.ensures.0,
+  line_from_words c.of-words.ensures (word_then c.in_ok-keyword.ensures.takes.1 (word_then c.in_ok-place.ensures.1 c.in_ok-end.ensures)),
+)

@@ -1,0 +1,61 @@
+-- What came of the work at a place, and the ends of the workers whose seats stand in two lists, where both lists get one more seat.
+use Rattle.std.proofs.Common.{◌≡◌, ℕ, ◌<◌, List, [], ◌∷◌, ◌++◌, length, refl, sym, subst, All, Some}
+use Rattle.std.specs.Prelude.{slice_get}
+use Rattle.std.proofs.lemmas.List.Elements.{All-pop, All-push, All-weaker}
+use Rattle.hx_board.specs.declared.colours.Colour.{Colour}
+use Rattle.hx_board.proofs.ListLaws.{get-push_before, get-push_last}
+use Rattle.hx_tree.specs.declared.nodes.Node.{Node}
+use Rattle.hx_count.specs.Seats.{Origin, Seat, own}
+use Rattle.hx_share.specs.Readers.{Reader}
+use Rattle.hx_worker.specs.declared.ended.Ended.{Ended}
+use Rattle.hx_worker.specs.Ends.{EndsSpent}
+use Rattle.hx_share.specs.Readers.{Origin as BookOrigin}
+use Rattle.hx_pool.specs.declared.seats.Done.{Done}
+use Rattle.hx_pool.specs.declared.seats.Place.{Place}
+use Rattle.hx_pool.specs.declared.seats.Place.TheVariants.{After}
+use Rattle.hx_pool.specs.Seats.{HasTried, IsAfter, IsDone, IsEndedBy}
+use Rattle.hx_pool.specs.Parts.{IsEndOfSome, HaveAllTried}
+
+-- what came of the work at a place
+pub after-done : (proved : List Node → ℕ → Colour → Type 0) (tried : Type 0) (book : BookOrigin) (counts : Origin) (place : Place)
+    (done : Done) → place ≡ After done
+    → IsAfter proved tried book counts place → IsDone proved tried book counts done
+after-done proved tried book counts place done same is = subst (IsAfter proved tried book counts) same is
+
+module _ (proved : List Node → ℕ → Colour → Type 0) (slots : ℕ) (books : List Reader) (counts : List Seat) (book : Reader)
+    (seat : Seat) where
+  end-more : (end : Ended) → IsEndOfSome proved slots books counts end
+      → IsEndOfSome proved slots (books ++ book ∷ []) (counts ++ seat ∷ []) end
+  end-more end some = record {
+    place = some.place;
+    book = some.book;
+    seat = some.seat;
+    book_there = get-push_before books book some.place some.book some.book_there;
+    seat_there = get-push_before counts seat some.place some.seat some.seat_there;
+    ended = some.ended;
+  }
+
+  end-last : (end : Ended) → length books ≡ length counts → IsEndedBy proved book.seen slots seat end
+      → IsEndOfSome proved slots (books ++ book ∷ []) (counts ++ seat ∷ []) end
+  end-last end same ended = record {
+    place = length books;
+    book = book;
+    seat = seat;
+    book_there = get-push_last books book;
+    seat_there = subst (λ (n : ℕ). slice_get (counts ++ seat ∷ []) n ≡ Some seat) (sym same) (get-push_last counts seat);
+    ended = ended;
+  }
+
+  pub ends-more : (ends : List Ended) (end : Ended) → length books ≡ length counts → All (IsEndOfSome proved slots books counts) ends
+      → IsEndedBy proved book.seen slots seat end
+      → All (IsEndOfSome proved slots (books ++ book ∷ []) (counts ++ seat ∷ [])) (ends ++ end ∷ [])
+  ends-more ends end same all ended = All-push (IsEndOfSome proved slots (books ++ book ∷ []) (counts ++ seat ∷ [])) ends end
+      (All-weaker (IsEndOfSome proved slots books counts)
+      (IsEndOfSome proved slots (books ++ book ∷ []) (counts ++ seat ∷ [])) end-more ends all)
+      (end-last end same ended)
+
+pub tried-more : (tried : Type 0) (counts : List Seat) (seat : Seat) (ends : List Ended) (end : Ended) → HaveAllTried tried counts ends
+    → HasTried tried seat end → HaveAllTried tried (counts ++ seat ∷ []) (ends ++ end ∷ [])
+tried-more tried counts seat ends end before last spent = All-push (λ (s : Seat). 0 < (own s).granted → tried) counts seat
+    (before (All-pop EndsSpent _ ends (Some end) refl spent).0)
+    (last (All-pop EndsSpent _ ends (Some end) refl spent).1)

@@ -1,0 +1,37 @@
+use Rattle.std.proofs.Common.{rules, ap, ◌∙◌, ◌<◌, [], sym, subst, append-nil}
+use Rattle.std.specs.Prelude.{sum}
+use Rattle.hx_count.specs.Seats.{Seat, own}
+use Rattle.hx_share.specs.Readers.{Reader}
+use Rattle.hx_tree.specs.Entries.{Extends}
+use Rattle.hx_worker.specs.Ends.{EndsSpent}
+use Rattle.hx_pool.proofs.benches.Bench.work_at.Goals as goal
+
+pub returns-in_default-clause-grew : goal.returns-in_default-clause-grew
+returns-in_default-clause-grew g c = ([], sym (append-nil c.args.seats.book.seen))
+
+pub returns-clause-book : goal.returns-clause-book
+returns-clause-book g c =
+    let back = c.seats_back.ensures in
+    let same_slots = c.work-ended.ensures.grew.slots in
+    let same_object = c.work-ended.ensures.grew.over in search rules
+
+pub returns-clause-nothing_held : goal.returns-clause-nothing_held
+returns-clause-nothing_held g c =
+    rw c.seats_back.ensures.counts (ap sum c.work-ended.ensures.seat.same_held ∙ c.requires.nothing_held)
+
+pub returns-clause-grew : goal.returns-clause-grew
+returns-clause-grew g c =
+    subst (λ (r : Reader). Extends c.args.seats.book.seen r.seen) (sym c.seats_back.ensures.book) c.work-ended.ensures.grew.seen
+
+pub returns-clause-ended : goal.returns-clause-ended
+returns-clause-ended g c =
+    let back = c.seats_back.ensures in
+    let same_slots = c.work-ended.ensures.grew.slots in
+    let same_object = c.work-ended.ensures.grew.over in search rules
+
+pub returns-clause-no_chain : goal.returns-clause-no_chain
+returns-clause-no_chain g c =
+    let back = c.seats_back.ensures in
+    λ spent some.
+    (c.work-ended.ensures.tried (subst EndsSpent back.ended spent)
+    (subst (λ (s : Seat). (own c.args.seats.counts).granted < (own s).granted) back.counts some)).no_chain

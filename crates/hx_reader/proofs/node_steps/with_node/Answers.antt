@@ -1,7 +1,0 @@
-use Rattle.std.proofs.Common.{arith}
-use Rattle.hx_reader.proofs.Steps.{stands_more}
-use Rattle.hx_reader.proofs.node_steps.with_node.Goals as goal
-
-pub returns : goal.returns
-returns c = λ nodes lines stands under fits.
-    ((λ e. cc), stands_more c.args.so_far c.args.node _ nodes lines stands under (omega (arith, c.saturating_add.ensures)) fits)

@@ -1,4 +1,0 @@
-use Rattle.hx_samples.proofs.games.+wins_by.Given as goal
-
-abbrev pub decreases-wins_by : goal.decreases-wins_by
-decreases-wins_by g l = l.moves

@@ -1,5 +1,0 @@
-use Rattle.hx_serve.proofs.LimitLaws.{done_within}
-use Rattle.hx_serve.proofs.laws.only_lines_within_the_limits_are_done.Goals as goal
-
-pub returns : goal.returns
-returns c = done_within

@@ -1,0 +1,78 @@
+//! The lines that a template's text has besides those of its board, with a reader for each. A line that is not of the kind is
+//! answered with None.
+
+ghost use Rattle.std.specs.Prelude.{◌≡◌, ◌↔◌, IsTrue};
+ghost use Rattle.hx_board.specs.Cells.{IsExtent};
+ghost use Rattle.hx_board.specs.Graph.{IsVertex};
+ghost use Rattle.hx_lex.specs.Words.{Reads, IsSet};
+ghost use Rattle.hx_template_text.specs.Templates.{template_title, owner_line, kind_line, ends_line, carrier_line};
+
+use hx_board::{Colour, Mask, Size, Vertex};
+use hx_lex::Words;
+use hx_link::Kind;
+
+/// The two ends that a line names, in its order.
+#[derive(Clone, Copy)]
+pub(crate) struct Ends {
+    pub a: Vertex,
+    pub b: Vertex,
+}
+
+/// Whether a line is the first one of a template's text.
+#[tactic(auto, unfolding(hx_lex::specs::Words::spaced))]
+pub(crate) fn is_title(line: &[u8]) -> bool
+    ensures { IsTrue result ↔ (line.now ≡ template_title) }
+{
+    match line {
+        b"hextemplate 1" => true,
+        _ => false,
+    }
+}
+
+/// The line `owner COLOUR`.
+pub(crate) fn read_owner(line: &[u8]) -> Option<Colour>
+    ensures { Reads owner_line (λ _. Unit {0}) line.now result }
+{
+    let mut words = Words::of(line);
+    words.keyword(b"owner")?;
+    let owner = words.colour()?;
+    words.end()?;
+    Some(owner)
+}
+
+/// The line `kind full` or `kind semi`.
+#[tactic(auto, unfolding(hx_lex::specs::Words::spaced))]
+pub(crate) fn read_kind(line: &[u8]) -> Option<Kind>
+    ensures { Reads kind_line (λ _. Unit {0}) line.now result }
+{
+    match line {
+        b"kind full" => Some(Kind::Full),
+        b"kind semi" => Some(Kind::Semi),
+        _ => None,
+    }
+}
+
+/// The line `ends VERTEX VERTEX`, of a board of this size.
+pub(crate) fn read_ends(size: Size, line: &[u8]) -> Option<Ends>
+    requires { IsExtent size.rows size.cols }
+    ensures { Reads (λ ends. ends_line ends.a ends.b)
+        (λ ends. IsVertex size ends.a × IsVertex size ends.b) line.now result }
+{
+    let mut words = Words::of(line);
+    words.keyword(b"ends")?;
+    let a = words.vertex(size)?;
+    let b = words.vertex(size)?;
+    words.end()?;
+    Some(Ends { a, b })
+}
+
+/// The line `carrier MASK`.
+pub(crate) fn read_carrier(line: &[u8]) -> Option<Mask>
+    ensures { Reads carrier_line IsSet line.now result }
+{
+    let mut words = Words::of(line);
+    words.keyword(b"carrier")?;
+    let carrier = words.mask()?;
+    words.end()?;
+    Some(carrier)
+}

@@ -1,5 +1,0 @@
-use Rattle.std.proofs.Common.{◌≡◌}
-use Rattle.hx_trials_shares.proofs.counts.spend_many.Given as goal
-
-abbrev pub invariant-loop : goal.invariant-loop
-invariant-loop l = l.seat.made ≡ l.counts

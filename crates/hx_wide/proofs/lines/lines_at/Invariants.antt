@@ -1,9 +1,0 @@
-use Rattle.hx_book.specs.Sights.{Grows}
-use Rattle.hx_wide.specs.Inner.{AreKnown}
-use Rattle.hx_wide.proofs.lines.lines_at.Given as goal
-
-abbrev pub invariant-loop : goal.invariant-loop
-invariant-loop g l = record {
-  grew : Grows (g.P.Proofs.sight l.fn.proofs) (g.P.Proofs.sight l.proofs);
-  known : AreKnown (g.P.Proofs.sight l.proofs).list l.known.headings.items l.known.places.items;
-}

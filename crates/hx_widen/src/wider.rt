@@ -1,0 +1,204 @@
+//! Entries of wider positions: of one that a proof serves, whether any does, and a node of its own for it.
+
+ghost use Rattle.std.specs.Prelude.{◌≡◌, ◌≢◌, ℕ, true, false, [], IfSome, IfNone, IfOk};
+ghost use Rattle.hx_board.specs.Colours.{other_of};
+ghost use Rattle.hx_board.specs.Sets.{has};
+ghost use Rattle.hx_board.specs.Positions.{Board, IsEmpty};
+ghost use Rattle.hx_tree.specs.Fills.{LeadTo};
+ghost use Rattle.hx_book.specs.WiderEntry.{IsWiderFound};
+ghost use Rattle.hx_book.specs.Sights.{Grows};
+ghost use Rattle.hx_widen.specs.Missing.{WasUnserved, WasUnservedByEach};
+ghost use Rattle.hx_nodes.specs.Stored.{TellsStored, IsAnswered, MissingFor, HadMemory};
+ghost use Rattle.hx_widen.specs.Inner.{put_set};
+ghost use Rattle.hx_widen.specs.Wide.{IsTrueRefusal, IsStoredWide};
+
+use crate::known::{Known, store_known};
+use hx_board::{Colour, Mask, Memory, Position};
+use hx_book::{Proofs, Wider};
+use hx_inferior::FillStep;
+use hx_nodes::Stored;
+use hx_tree::{FillSteps, Heading, Node, Rule};
+use std::alloc::Global;
+use std::sync::Wait;
+
+/// An entry that serves the position, whoever wins by it. None only where, for each player, no entry of that winner served it when
+/// it was looked for: the two looks are one after the other.
+pub fn look_wider_either<P: Proofs, R: Wait>(
+    rt: &R,
+    proofs: &mut P,
+    position: &Position,
+    to_move: Colour,
+) -> Option<Wider>
+    ensures grew { Grows (P.sight proofs.old) (P.sight proofs.new) }
+    ensures found { IfSome result (λ wider.
+        IsWiderFound P.is_plain (P.sight proofs.new).list position.now to_move wider.found.winner wider) }
+    ensures none { IfNone result
+        (WasUnservedByEach P.is_plain (P.sight proofs.old).list (P.sight proofs.new).list
+        position.now to_move) }
+{
+    if let Some(wider) = proofs.look_wider(rt, position, to_move, to_move) {
+        return Some(wider);
+    }
+    // The two answers are taken apart for the proof: each has a clause of its own.
+    match proofs.look_wider(rt, position, to_move, to_move.other()) {
+        Some(wider) => Some(wider),
+        None => None,
+    }
+}
+
+/// The end of a try to store a proof at a widened position: a refusal, or Done where the position is served now. None only where
+/// no entry was seen to serve it.
+pub(crate) fn end_of<P: Proofs, R: Wait>(
+    rt: &R,
+    proofs: &mut P,
+    position: &Position,
+    to_move: Colour,
+    tried: Option<Stored>,
+) -> Option<Stored>
+    requires { IfSome tried (IsTrueRefusal (P.sight proofs.old).list (P.sight proofs.old).slots) }
+    ensures grew { Grows (P.sight proofs.old) (P.sight proofs.new) }
+    ensures stored { IfSome result
+        (IsStoredWide P.is_plain (P.sight proofs.new).list (P.sight proofs.new).slots position.now to_move) }
+    ensures answered { IfSome result IsAnswered }
+    ensures memory { IfSome result HadMemory }
+    ensures none { IfNone result
+        (WasUnservedByEach P.is_plain (P.sight proofs.old).list (P.sight proofs.new).list
+        position.now to_move) }
+{
+    if let Some(Stored::Refused(refusal)) = tried {
+        return Some(Stored::Refused(refusal));
+    }
+    match look_wider_either(rt, proofs, position, to_move) {
+        Some(_wider) => Some(Stored::Done),
+        None => None,
+    }
+}
+
+/// Steps that put the opponent's stones on these cells.
+fn others_on(
+    alloc: Global,
+    position: &Position,
+    winner: Colour,
+    cells: Mask,
+) -> Result<Vec<FillStep>, Memory>
+    requires { (cell : ℕ) → has cells cell ≡ true → IsEmpty position.now cell }
+    ensures { IfOk result (λ steps.
+        LeadTo position.now winner steps.items (put_set position.now (other_of winner) cells)) }
+{
+    let size = position.size();
+    let Ok(mut steps) = Vec::with_capacity(alloc, cells.count() as usize) else {
+        return Err(Memory);
+    };
+    let mut left = cells;
+    while let Some(cell) = left.least(size) {
+        if steps.push(FillStep::Other(cell)).is_err() {
+            return Err(Memory);
+        }
+        left = left.without(cell);
+    }
+    Ok(steps)
+}
+
+/// Stores that a player wins a position, where an entry that serves it says so: by a node that fills in each missing stone of the
+/// opponent's. Missing only where no entry of this winner was seen to serve it.
+pub fn store_wider<P: Proofs, R: Wait>(
+    rt: &R,
+    alloc: Global,
+    proofs: &mut P,
+    position: &Position,
+    to_move: Colour,
+    winner: Colour,
+) -> Stored
+    ensures grew { Grows (P.sight proofs.old) (P.sight proofs.new) }
+    ensures stored { TellsStored (P.sight proofs.new).list (P.sight proofs.new).slots
+        position.now to_move result }
+    ensures missing { MissingFor (WasUnserved P.is_plain (P.sight proofs.old).list (P.sight proofs.new).list
+        position.now to_move winner) result }
+{
+    if let Some(_found) = proofs.look(rt, position, to_move) {
+        return Stored::Done;
+    }
+    match proofs.look_wider(rt, position, to_move, winner) {
+        Some(wider) => fill_missing(rt, alloc, proofs, position, &wider, to_move),
+        None => Stored::Missing,
+    }
+}
+
+/// Stores that the winner of an entry that serves a position wins it, by a node that fills in each missing stone of the opponent's.
+pub(crate) fn fill_missing<P: Proofs, R: Wait>(
+    rt: &R,
+    alloc: Global,
+    proofs: &mut P,
+    position: &Position,
+    wider: &Wider,
+    to_move: Colour,
+) -> Stored
+    requires { IsWiderFound P.is_plain (P.sight proofs.old).list position.now to_move
+        wider.now.found.winner wider.now }
+    ensures grew { Grows (P.sight proofs.old) (P.sight proofs.new) }
+    ensures stored { TellsStored (P.sight proofs.new).list (P.sight proofs.new).slots
+        position.now to_move result }
+    ensures answered { IsAnswered result }
+{
+    if proofs.plain() {
+        // The entry is of the position itself.
+        return Stored::Done;
+    }
+    // The proof takes from here that the board of the entry's position is one.
+    let _size = wider.position.size();
+    let missing = position.empties().minus(wider.position.empties());
+    let Ok(steps) = others_on(alloc, position, wider.found.winner, missing) else {
+        return Stored::Memory;
+    };
+    if steps.is_empty() {
+        // The entry is of the position itself. Who else writes to the book has stored it since it was looked for.
+        return Stored::Done;
+    }
+    let steps = FillSteps::new(steps);
+    match fill_to(rt, alloc, proofs, position, wider, to_move, steps) {
+        Some(stored) => stored,
+        None => unreachable!(),
+    }
+}
+
+/// Stores that the winner of an entry wins a position by these steps to the entry's. None only where they do not lead there.
+pub(crate) fn fill_to<P: Proofs, R: Wait>(
+    rt: &R,
+    alloc: Global,
+    proofs: &mut P,
+    position: &Position,
+    wider: &Wider,
+    to_move: Colour,
+    steps: FillSteps,
+) -> Option<Stored>
+    requires found { (board : Board)
+        × IsWiderFound P.is_plain (P.sight proofs.old).list board to_move wider.now.found.winner wider.now }
+    requires some { steps ≢ [] }
+    requires ordinary { P.is_plain ≡ false }
+    ensures grew { Grows (P.sight proofs.old) (P.sight proofs.new) }
+    ensures stored { IfSome result
+        (TellsStored (P.sight proofs.new).list (P.sight proofs.new).slots position.now to_move) }
+    ensures answered { IfSome result IsAnswered }
+    ensures wrong { IfNone result
+        (¬ LeadTo position.now wider.now.found.winner steps wider.now.position) }
+{
+    // The proof takes from here that the position's board is one.
+    let _size = position.size();
+    let winner = wider.found.winner;
+    let mut known = Known::new(alloc);
+    let there = Heading {
+        position: wider.position,
+        to_move,
+        winner,
+    };
+    let Ok(child) = known.add(there, wider.found.index) else {
+        return Some(Stored::Memory);
+    };
+    let heading = Heading {
+        position: *position,
+        to_move,
+        winner,
+    };
+    let rule = Rule::Fill { steps, child };
+    store_known(rt, alloc, proofs, &known, Node { heading, rule })
+}

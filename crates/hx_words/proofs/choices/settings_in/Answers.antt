@@ -1,6 +1,0 @@
-use Rattle.hx_words.specs.Words.{words_of}
-use Rattle.hx_words.proofs.OptionWords.{found_choices}
-use Rattle.hx_words.proofs.choices.settings_in.Goals as goal
-
-pub returns : goal.returns
-returns c = found_choices (words_of c.args.words.now) _ (rw c.nothing.ensures at c.settings_after.ensures)

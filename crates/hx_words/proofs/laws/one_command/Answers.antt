@@ -1,5 +1,0 @@
-use Rattle.hx_words.proofs.CommandWords.{Asks-one}
-use Rattle.hx_words.proofs.laws.one_command.Goals as goal
-
-pub returns : goal.returns
-returns c = λ words a b p q. Asks-one words a b p q
