@@ -18,7 +18,7 @@ use Rattle.hx_text.specs.PositionTexts.{ArePositionLines}
 use Rattle.hx_text.proofs.WholeTrees.{written_with}
 use Rattle.hx_text.proofs.OneFault.{one_position_fault}
 use Rattle.hx_limits.specs.declared.settings.Settings.{Settings}
-use Rattle.hx_solve.specs.Tallies.{Tallied}
+use Rattle.hx_limits.specs.Tallies.{Tallied}
 use Rattle.hx_answers.specs.Texts.{counted_text, unknown_budget_line, unknown_proofs_line}
 use Rattle.hx_answers.specs.Endings.{IsWritten, Whole, Cut, IsUnlessStopped, AnswersUnlessStopped, IsReadToEnd}
 use Rattle.hx_cmd_check.proofs.KeptPromises.{of_any}

@@ -5,16 +5,16 @@ use Rattle.hx_board.specs.Positions.{Board}
 use Rattle.hx_board.specs.Graph.{HasNoChain}
 use Rattle.hx_board.specs.Counts.{IsSmall}
 use Rattle.hx_limits.specs.declared.settings.Settings.{Settings}
-use Rattle.hx_solve.specs.declared.unsolved.Unsolved.{Unsolved}
-use Rattle.hx_solve.specs.declared.unsolved.Unsolved.TheVariants.{Budget, Slots, Memory}
-use Rattle.hx_solve.specs.Causes.{LacksMemory, LacksUnit}
+use Rattle.hx_limits.specs.declared.ran_out.RanOut.{RanOut}
+use Rattle.hx_limits.specs.declared.ran_out.RanOut.TheVariants.{Budget, Slots, Memory}
+use Rattle.hx_limits.specs.Causes.{LacksMemory, LacksUnit}
 use Rattle.hx_finish.specs.declared.wanting.Wanting.{Wanting}
 use Rattle.hx_finish.specs.Wants.{Tells}
 use Rattle.hx_app.specs.declared.answers.Answer.TheVariants.{LeftOpen}
 use Rattle.hx_app.specs.Positions.{IsPositionText}
 use Rattle.hx_app.specs.Answers.{IsFound}
 
-pub left_open_found : (settings : Settings) (plain_tree : Bool) (input : List ℕ) (board : Board) (mover : Colour) (why : Unsolved)
+pub left_open_found : (settings : Settings) (plain_tree : Bool) (input : List ℕ) (board : Board) (mover : Colour) (why : RanOut)
     (wanting : Wanting)
     → IsPositionText input board mover → (IsSmall board settings.budget → LacksMemory why)
     → (LacksUnit why → 0 < settings.budget → HasNoChain board) → Tells settings why wanting

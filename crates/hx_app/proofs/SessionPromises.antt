@@ -4,7 +4,7 @@ use Rattle.std.specs.Prelude.{Option, IfSome}
 use Rattle.hx_io.specs.Sources.{Reading, SomeReadFailed}
 use Rattle.hx_io.specs.Sinks.{Writing, SomeWriteFailed}
 use Rattle.hx_limits.specs.declared.settings.Settings.{Settings}
-use Rattle.hx_solve.specs.Tallies.{Tallied, tallied}
+use Rattle.hx_limits.specs.Tallies.{Tallied, tallied}
 use Rattle.hx_htp.specs.Accounts.{Account}
 use Rattle.hx_htp.specs.States.{fresh}
 use Rattle.hx_htp.specs.Sessions.{Moment, moment}

@@ -20,7 +20,7 @@ use Rattle.hx_text.specs.TreeTexts.{NodeFits, ListsFit, node_lines, written_tree
 use Rattle.hx_text.specs.Lengths.{most_nodes}
 use Rattle.hx_limits.specs.declared.settings.Settings.{Settings}
 use Rattle.hx_solve.specs.Solutions.{IsSolution}
-use Rattle.hx_solve.specs.Tallies.{Tallied}
+use Rattle.hx_limits.specs.Tallies.{Tallied}
 use Rattle.hx_answers.specs.Texts.{counted_text, read_fault_line, too_long_line}
 use Rattle.hx_answers.specs.Endings.{IsWritten, IsReadToEnd}
 use Rattle.hx_app.specs.declared.answers.Answer.{Answer}

@@ -7,7 +7,7 @@ use Rattle.hx_board.specs.Positions.{Board}
 use Rattle.hx_demo.specs.Draws.{first_positions}
 use Rattle.hx_demo.specs.WinCounts.{WinsSoMany}
 use Rattle.hx_limits.specs.declared.settings.Settings.{Settings}
-use Rattle.hx_solve.specs.Tallies.{Tallied}
+use Rattle.hx_limits.specs.Tallies.{Tallied}
 use Rattle.hx_answers.specs.Texts.{numbered_text, counted_text}
 use Rattle.hx_answers.specs.Endings.{IsWritten}
 use Rattle.hx_app.specs.declared.demo_answers.DemoAnswer.{DemoAnswer}

@@ -4,9 +4,9 @@ use Rattle.hx_io.specs.Sources.{Reading, SomeReadFailed}
 use Rattle.hx_io.specs.Sinks.{Writing, SomeWriteFailed}
 use Rattle.hx_board.specs.declared.Memory.{Memory as OutOfMemory}
 use Rattle.hx_limits.specs.declared.settings.Settings.{Settings}
-use Rattle.hx_solve.specs.declared.unsolved.Unsolved.{Unsolved}
-use Rattle.hx_solve.specs.declared.unsolved.Unsolved.TheVariants as unsolved
-use Rattle.hx_solve.specs.Tallies.{Tallied, tallied}
+use Rattle.hx_limits.specs.declared.ran_out.RanOut.{RanOut}
+use Rattle.hx_limits.specs.declared.ran_out.RanOut.TheVariants as unsolved
+use Rattle.hx_limits.specs.Tallies.{Tallied, tallied}
 use Rattle.hx_htp.specs.declared.answerers.Told.{Told}
 use Rattle.hx_htp.specs.declared.answerers.Told.TheVariants as told
 use Rattle.hx_htp.specs.Accounts.{Account}
@@ -105,7 +105,7 @@ pub record IsOfSettings (settings : Settings) (tally : Tallied) : Type 0 where
   pub slots : tally.slots ≡ settings.slots
 
 -- what is told where there is no tree
-abbrev pub TellsWhy : Settings → Unsolved → Result Told OutOfMemory → Type 0
+abbrev pub TellsWhy : Settings → RanOut → Result Told OutOfMemory → Type 0
 TellsWhy settings (unsolved.Budget taken) result = result ≡ Ok (told.Budget settings.budget)
 TellsWhy settings (unsolved.Slots refusal) result = result ≡ Ok (told.Slots settings.slots)
 TellsWhy settings unsolved.Memory result = IsErr result

@@ -27,7 +27,7 @@ use hx_cmd_survey::run_survey;
 use hx_cmd_template::run_template;
 use hx_finish::Finish;
 use hx_io::{Failed, Gate, Sink, Source, write_all};
-use hx_solve::{Settings, Tally};
+use hx_limits::{Settings, Tally};
 use std::alloc::Global;
 use std::sync::Wait;
 use std::thread::Threads;

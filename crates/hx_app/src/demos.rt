@@ -5,7 +5,7 @@ ghost use Rattle.hx_board.specs.declared.colours.Colour.TheVariants.{Black};
 ghost use Rattle.hx_board.specs.Counts.{IsSmall};
 ghost use Rattle.hx_demo.specs.Draws.{first_positions};
 ghost use Rattle.hx_limits.specs.Settings.{AreSettings};
-ghost use Rattle.hx_solve.specs.Causes.{HasCause, LacksMemory};
+ghost use Rattle.hx_limits.specs.Causes.{HasCause, LacksMemory};
 ghost use Rattle.hx_answers.specs.Endings.{IsWritten};
 ghost use Rattle.hx_app.specs.Roots.{OnlyWins};
 ghost use Rattle.hx_app.specs.DemoAnswers.{positions, enough, answer_text, status_of, tally_of, one_win_more, AreCounts, IsDue, IsDemoRun};
@@ -18,7 +18,8 @@ use hx_board::{Colour, Memory, Position};
 use hx_demo::Draw;
 use hx_finish::{Finish, LeftOpen, left_open};
 use hx_io::{Failed, Gate, Sink};
-use hx_solve::{Settings, Tally, Unsolved, solve};
+use hx_limits::{RanOut, Settings, Tally};
+use hx_solve::solve;
 use std::alloc::Global;
 use std::sync::Wait;
 use std::thread::Threads;
@@ -95,7 +96,7 @@ fn count_wins<G: Gate + Sync, R: Threads + Wait + Sync>(
     seed: u64,
     settings: Settings,
     gate: &G,
-) -> Result<WinCounts, Unsolved>
+) -> Result<WinCounts, RanOut>
     requires { AreSettings settings }
     ensures counts { IfOk result (λ wins.
         AreCounts (first_positions positions seed) wins positions) }
@@ -121,7 +122,7 @@ fn checked_winner<G: Gate + Sync, R: Threads + Wait + Sync>(
     position: &Position,
     settings: Settings,
     gate: &G,
-) -> Result<Colour, Unsolved>
+) -> Result<Colour, RanOut>
     requires { AreSettings settings }
     ensures wins { IfOk result (λ winner. OnlyWins winner position.now Black) }
     ensures cause { IfErr result (HasCause settings) }
@@ -135,7 +136,7 @@ fn checked_winner<G: Gate + Sync, R: Threads + Wait + Sync>(
         Ok(Some(winner)) => Ok(winner),
         // A tree that `solve` gives is valid, and the checker accepts exactly the valid trees.
         Ok(None) => unreachable!(),
-        Err(Memory) => Err(Unsolved::Memory),
+        Err(Memory) => Err(RanOut::Memory),
     }
 }
 

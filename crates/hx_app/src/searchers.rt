@@ -6,15 +6,16 @@
 
 ghost use Rattle.std.specs.Prelude.{◌≡◌};
 ghost use Rattle.hx_limits.specs.Settings.{AreSettings};
-ghost use Rattle.hx_solve.specs.Tallies.{tallied, counting, NoCountFalls};
-ghost use Rattle.hx_solve.specs.Causes.{HasCause};
+ghost use Rattle.hx_limits.specs.Tallies.{tallied, counting, NoCountFalls};
+ghost use Rattle.hx_limits.specs.Causes.{HasCause};
 ghost use Rattle.hx_app.specs.Sessions.{account_of, IsOfSettings, TellsWhy};
 
 use crate::roots::root_winner;
 use hx_board::{Colour, Memory, Position};
 use hx_htp::{Answerer, Told};
 use hx_io::RealGate;
-use hx_solve::{Settings, Tally, Unsolved, solve};
+use hx_limits::{RanOut, Settings, Tally};
+use hx_solve::solve;
 use std::alloc::Global;
 use std::sync::Wait;
 use std::thread::Threads;
@@ -72,7 +73,7 @@ impl Answerer for Searcher {
 }
 
 /// What is told of a search that came to no tree. A refusal is counted.
-fn left_open(settings: Settings, tally: &mut Tally, why: Unsolved) -> Result<Told, Memory>
+fn left_open(settings: Settings, tally: &mut Tally, why: RanOut) -> Result<Told, Memory>
     requires cause { HasCause settings why }
     requires of_settings { IsOfSettings settings tally.old }
     ensures told { TellsWhy settings why result }
@@ -80,14 +81,14 @@ fn left_open(settings: Settings, tally: &mut Tally, why: Unsolved) -> Result<Tol
     ensures later { NoCountFalls tally.old tally.new }
 {
     match why {
-        Unsolved::Budget(refusal) => {
-            tally.add(Unsolved::Budget(refusal));
+        RanOut::Budget(refusal) => {
+            tally.add(RanOut::Budget(refusal));
             Ok(Told::Budget(settings.budget))
         }
-        Unsolved::Slots(refusal) => {
-            tally.add(Unsolved::Slots(refusal));
+        RanOut::Slots(refusal) => {
+            tally.add(RanOut::Slots(refusal));
             Ok(Told::Slots(settings.slots))
         }
-        Unsolved::Memory => Err(Memory),
+        RanOut::Memory => Err(Memory),
     }
 }

@@ -12,7 +12,7 @@ use hx_cmd_htp::{
 use hx_finish::Finish;
 use hx_htp::{named_players_win, open_questions_are_counted};
 use hx_io::{Sink, Source};
-use hx_solve::Settings;
+use hx_limits::Settings;
 use std::alloc::Global;
 use std::sync::Wait;
 use std::thread::Threads;

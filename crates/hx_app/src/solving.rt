@@ -10,7 +10,7 @@ ghost use Rattle.hx_tree.specs.Plain.{ArePlain};
 ghost use Rattle.hx_tree.specs.Trees.{IsValidTree, IsRoot};
 ghost use Rattle.hx_limits.specs.Settings.{AreSettings};
 ghost use Rattle.hx_finish.specs.Wants.{no_refusal};
-ghost use Rattle.hx_solve.specs.Causes.{HasCause, LacksMemory, LacksUnit};
+ghost use Rattle.hx_limits.specs.Causes.{HasCause, LacksMemory, LacksUnit};
 ghost use Rattle.hx_solve.specs.Solutions.{IsSolution};
 ghost use Rattle.hx_answers.specs.Endings.{IsReadToEnd, IsWritten};
 ghost use Rattle.hx_app.specs.Answers.{CanBeWritten, IsDue, IsFound, IsSolveRun, IsVersionOf, answer_text, status_of, tally_of};
@@ -23,9 +23,10 @@ use hx_answers::{Unread, WRITE_FAULT, read_all};
 use hx_board::{Colour, Position};
 use hx_finish::{Finish, LeftOpen, Wanting, left_open};
 use hx_io::{Failed, Gate, Sink, Source};
+use hx_limits::{RanOut, Settings, Tally};
 use hx_lines::LONGEST;
 use hx_parse::read_position;
-use hx_solve::{Settings, Tally, Unsolved, solve_naming_move, solve_plain};
+use hx_solve::{solve_naming_move, solve_plain};
 use hx_text::version_of;
 use hx_tree::Node;
 use std::alloc::Global;
@@ -155,7 +156,7 @@ fn search<G: Gate + Sync, R: Threads + Wait + Sync>(
     settings: Settings,
     plain_tree: bool,
     gate: &G,
-) -> Result<Vec<Node>, Unsolved>
+) -> Result<Vec<Node>, RanOut>
     requires { AreSettings settings }
     ensures tree { IfOk result (λ tree. IsSolution position.now to_move tree.items) }
     ensures plain { plain_tree ≡ true → IfOk result (λ tree. ArePlain tree.items) }

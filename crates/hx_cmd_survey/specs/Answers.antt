@@ -3,7 +3,7 @@ use Rattle.std.specs.Prelude.{◌≡◌, ℕ, List}
 use Rattle.hx_io.specs.Sinks.{Writing}
 use Rattle.hx_board.specs.Cells.{Extent}
 use Rattle.hx_limits.specs.declared.settings.Settings.{Settings}
-use Rattle.hx_solve.specs.Tallies.{Tallied}
+use Rattle.hx_limits.specs.Tallies.{Tallied}
 use Rattle.hx_openings.specs.Openings.{OpeningsAreSmall}
 use Rattle.hx_survey.specs.Surveys.{IsSurvey}
 use Rattle.hx_answers.specs.Endings.{IsWritten}

@@ -3,10 +3,10 @@ use Rattle.std.proofs.Common.{◌≡◌, ◌⊎◌, ℕ, inl, inr, ⊎_elim, Lis
 use Rattle.std.specs.Prelude.{Option}
 use Rattle.hx_io.specs.Sinks.{append}
 use Rattle.hx_limits.specs.declared.settings.Settings.{Settings}
-use Rattle.hx_solve.specs.declared.unsolved.Unsolved.{Unsolved}
-use Rattle.hx_solve.specs.declared.unsolved.Unsolved.TheVariants.{Budget, Slots, Memory}
-use Rattle.hx_solve.specs.Causes.{LacksMemory}
-use Rattle.hx_solve.specs.Tallies.{Tallied}
+use Rattle.hx_limits.specs.declared.ran_out.RanOut.{RanOut}
+use Rattle.hx_limits.specs.declared.ran_out.RanOut.TheVariants.{Budget, Slots, Memory}
+use Rattle.hx_limits.specs.Causes.{LacksMemory}
+use Rattle.hx_limits.specs.Tallies.{Tallied}
 use Rattle.hx_answers.specs.Texts.{out_of_memory_line, unknown_budget_line, unknown_proofs_line}
 use Rattle.hx_finish.specs.declared.wanting.Wanting.{Wanting}
 use Rattle.hx_finish.specs.declared.wanting.Wanting.TheVariants.{UnknownBudget, UnknownProofs, OutOfMemory}
@@ -18,7 +18,7 @@ wanting_is : (settings : Settings) (cause : Type 0) (wanting is : Wanting) → w
 wanting_is settings cause wanting is same due = subst (IsWantingWhere settings cause) (sym same) due
 
 -- what was wanting is told, and where it was no memory, this is so
-pub wanting_where : (settings : Settings) (cause : Type 0) (why : Unsolved) (wanting : Wanting) → Tells settings why wanting
+pub wanting_where : (settings : Settings) (cause : Type 0) (why : RanOut) (wanting : Wanting) → Tells settings why wanting
     → ((LacksMemory why → ⊥) → cause) → IsWantingWhere settings cause wanting
 wanting_where settings cause (Budget taken) wanting tells is =
     wanting_is settings cause wanting (UnknownBudget settings.budget) tells (refl, is (λ lacks. lacks))

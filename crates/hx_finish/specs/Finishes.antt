@@ -2,7 +2,7 @@
 use Rattle.std.specs.Prelude.{◌≡◌, ◌⊎◌, ℕ, List, Option}
 use Rattle.hx_io.specs.Sinks.{append}
 use Rattle.hx_limits.specs.declared.settings.Settings.{Settings}
-use Rattle.hx_solve.specs.Tallies.{Tallied}
+use Rattle.hx_limits.specs.Tallies.{Tallied}
 use Rattle.hx_answers.specs.Texts.{unknown_budget_line, unknown_proofs_line}
 
 -- the output names the budget, and the refusal of a unit was counted once; or it names the slots, and the refusal of a

@@ -1,9 +1,9 @@
 -- What is told where a search came to no answer, and which refusal stands behind it.
 use Rattle.std.specs.Prelude.{◌≡◌, ℕ, List}
 use Rattle.hx_limits.specs.declared.settings.Settings.{Settings}
-use Rattle.hx_solve.specs.declared.unsolved.Unsolved.{Unsolved}
-use Rattle.hx_solve.specs.declared.unsolved.Unsolved.TheVariants.{Budget, Slots, Memory}
-use Rattle.hx_solve.specs.Tallies.{Tallied, tallied}
+use Rattle.hx_limits.specs.declared.ran_out.RanOut.{RanOut}
+use Rattle.hx_limits.specs.declared.ran_out.RanOut.TheVariants.{Budget, Slots, Memory}
+use Rattle.hx_limits.specs.Tallies.{Tallied, tallied}
 use Rattle.hx_answers.specs.Texts.{out_of_memory_line, unknown_budget_line, unknown_proofs_line}
 use Rattle.hx_finish.specs.declared.wanting.Wanting.{Wanting}
 use Rattle.hx_finish.specs.declared.wanting.Wanting.TheVariants.{UnknownBudget, UnknownProofs, OutOfMemory}
@@ -37,7 +37,7 @@ IsWantingWhere settings cause (UnknownProofs slots) = (slots ≡ settings.slots)
 IsWantingWhere settings cause OutOfMemory = Unit {0}
 
 -- it tells the refusal of a unit or of a slot, or want of memory
-abbrev pub Tells : Settings → Unsolved → Wanting → Type 0
+abbrev pub Tells : Settings → RanOut → Wanting → Type 0
 Tells settings (Budget taken) wanting = wanting ≡ UnknownBudget settings.budget
 Tells settings (Slots refusal) wanting = wanting ≡ UnknownProofs settings.slots
 Tells settings Memory wanting = wanting ≡ OutOfMemory

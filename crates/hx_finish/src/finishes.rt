@@ -1,6 +1,6 @@
 //! How a run ends.
 
-use hx_solve::Tally;
+use hx_limits::Tally;
 
 /// The exit status of a run, and how many refusals of a unit and of a slot were counted.
 #[derive(Debug, Drop)]

@@ -2,14 +2,14 @@
 
 ghost use Rattle.std.specs.Prelude.{◌≡◌};
 ghost use Rattle.hx_io.specs.Sinks.{WritesAll};
-ghost use Rattle.hx_solve.specs.Causes.{HasCause};
+ghost use Rattle.hx_limits.specs.Causes.{HasCause};
 ghost use Rattle.hx_finish.specs.Wants.{wanting_text, wanting_status, wanting_tally, Tells};
 
 use hx_answers::{
     OUT_OF_MEMORY, UNKNOWN, write_out_of_memory, write_unknown_budget, write_unknown_proofs,
 };
 use hx_io::{Failed, Sink};
-use hx_solve::{Settings, Tally, Unsolved};
+use hx_limits::{RanOut, Settings, Tally};
 
 /// What was wanting where a search came to no answer, as it is told.
 #[derive(Clone, Copy, Debug, Drop, PartialEq, Eq)]
@@ -53,26 +53,26 @@ pub fn write_wanting<K: Sink>(sink: &mut K, wanting: Wanting) -> Result<(), Fail
 }
 
 /// What is told where this was wanting. The refusal is counted.
-pub fn left_open(settings: Settings, why: Unsolved) -> LeftOpen
+pub fn left_open(settings: Settings, why: RanOut) -> LeftOpen
     requires { HasCause settings why }
     ensures tells { Tells settings why result.wanting }
     ensures counted { result.tally ≡ wanting_tally settings result.wanting }
 {
     let mut tally = Tally::new(settings.budget, settings.slots);
     let wanting = match why {
-        Unsolved::Budget(refusal) => {
-            tally.add(Unsolved::Budget(refusal));
+        RanOut::Budget(refusal) => {
+            tally.add(RanOut::Budget(refusal));
             Wanting::UnknownBudget {
                 budget: settings.budget,
             }
         }
-        Unsolved::Slots(refusal) => {
-            tally.add(Unsolved::Slots(refusal));
+        RanOut::Slots(refusal) => {
+            tally.add(RanOut::Slots(refusal));
             Wanting::UnknownProofs {
                 slots: settings.slots,
             }
         }
-        Unsolved::Memory => Wanting::OutOfMemory,
+        RanOut::Memory => Wanting::OutOfMemory,
     };
     LeftOpen { wanting, tally }
 }

@@ -1,1 +1,3 @@
 pub mod Settings
+pub mod Causes
+pub mod Tallies

@@ -1,49 +1,50 @@
 -- What became of a proof that was to be stored in a list of nodes with so many slots.
-use Rattle.std.specs.Prelude.{◌≡◌, ℕ, List}
+use Rattle.std.specs.Prelude.{◌≡◌, ◌⊎◌, ℕ, Bool, true, false, List}
 use Rattle.hx_board.specs.declared.colours.Colour.{Colour}
 use Rattle.hx_board.specs.Positions.{Board}
 use Rattle.hx_tree.specs.declared.nodes.Node.{Node}
-use Rattle.hx_tree.specs.Entries.{IsOf, IsEntry, IsRefused}
-use Rattle.hx_book.specs.Puts.{Refusal}
+use Rattle.hx_tree.specs.Entries.{IsOf, IsEntry}
+use Rattle.hx_book.specs.EitherEntry.{WasMissed, IsNeitherFound}
+use Rattle.hx_limits.specs.declared.ran_out.RanOut.{RanOut}
+use Rattle.hx_limits.specs.declared.ran_out.RanOut.TheVariants.{Budget, Slots, Memory}
+use Rattle.hx_limits.specs.Causes.{IsOutOfSlots}
 use Rattle.hx_nodes.specs.declared.stored.Stored.{Stored}
-use Rattle.hx_nodes.specs.declared.stored.Stored.TheVariants.{Done, Refused, Missing, Memory}
+use Rattle.hx_nodes.specs.declared.stored.Stored.TheVariants.{Done, Missing}
 
 -- some node is of this position and mover
 abbrev pub HasEntry : List Node → Board → Colour → Type 0
 HasEntry list board mover = (place : ℕ) × IsEntry list board mover place
 
--- each slot is taken, the refusal tells how many these are, and no node is of the position and mover of the refused one
-abbrev pub IsOutOfSlots : List Node → ℕ → Refusal → Type 0
-IsOutOfSlots list slots refusal = IsRefused slots list refusal.node refusal.held list
+-- where it is done, the list has an entry of this position and mover
+abbrev pub IsStored : List Node → Board → Colour → Stored → Type 0
+IsStored list board mover Done = HasEntry list board mover
+IsStored list board mover Missing = Unit {0}
 
--- what an answer says of the list, where a node of this position and mover was to be stored
-abbrev pub TellsStored : List Node → ℕ → Board → Colour → Stored → Type 0
-TellsStored list slots board mover Done = HasEntry list board mover
-TellsStored list slots board mover (Refused refusal) = IsOutOfSlots list slots refusal × IsOf board mover refusal.node
-TellsStored list slots board mover Missing = Unit {0}
-TellsStored list slots board mover Memory = Unit {0}
+-- why no node of this position and mover was stored: a slot was refused to one, or memory ran out
+abbrev pub IsNotStored : List Node → ℕ → Board → Colour → RanOut → Type 0
+IsNotStored list slots board mover (Budget taken) = ⊥
+IsNotStored list slots board mover (Slots refusal) = IsOutOfSlots list slots refusal × IsOf board mover refusal.node
+IsNotStored list slots board mover Memory = Unit {0}
 
 -- a refusal hands this node back
-abbrev pub HandsBack : Node → Stored → Type 0
-HandsBack node Done = Unit {0}
-HandsBack node (Refused refusal) = refusal.node ≡ node
-HandsBack node Missing = Unit {0}
+abbrev pub HandsBack : Node → RanOut → Type 0
+HandsBack node (Budget taken) = Unit {0}
+HandsBack node (Slots refusal) = refusal.node ≡ node
 HandsBack node Memory = Unit {0}
+
+-- it is not memory that ran out
+abbrev pub HadMemory : RanOut → Type 0
+HadMemory (Budget taken) = Unit {0}
+HadMemory (Slots refusal) = Unit {0}
+HadMemory Memory = ⊥
 
 -- where something is missing, it is for this cause
 abbrev pub MissingFor : Type 0 → Stored → Type 0
 MissingFor Cause Done = Unit {0}
-MissingFor Cause (Refused refusal) = Unit {0}
 MissingFor Cause Missing = Cause
-MissingFor Cause Memory = Unit {0}
 
--- nothing is missing
-abbrev pub IsAnswered : Stored → Type 0
-IsAnswered stored = MissingFor ⊥ stored
-
--- memory was not wanting
-abbrev pub HadMemory : Stored → Type 0
-HadMemory Done = Unit {0}
-HadMemory (Refused refusal) = Unit {0}
-HadMemory Missing = Unit {0}
-HadMemory Memory = ⊥
+-- neither the position nor the turned one was found, or in a plain list, where the turned one is not looked for, the
+-- position was missed
+abbrev pub LacksEither : Bool → List Node → List Node → Board → Colour → Type 0
+LacksEither true old new board mover = WasMissed old new board mover
+LacksEither false old new board mover = IsNeitherFound old new board mover

@@ -1,12 +1,14 @@
 //! Proofs by a chain.
 
+ghost use Rattle.std.specs.Prelude.{IfOk, IfErr};
 ghost use Rattle.hx_board.specs.Graph.{HasChain};
 ghost use Rattle.hx_book.specs.Sights.{Grows};
-ghost use Rattle.hx_nodes.specs.Stored.{TellsStored, IsAnswered, HadMemory};
+ghost use Rattle.hx_nodes.specs.Stored.{HasEntry, IsNotStored, HadMemory};
 
-use crate::stored::{Stored, store};
+use crate::stored::store;
 use hx_board::{Colour, Position};
 use hx_book::Proofs;
+use hx_limits::RanOut;
 use hx_tree::{Heading, Node, Rule};
 use std::sync::Wait;
 
@@ -17,13 +19,13 @@ pub fn store_chain<P: Proofs, R: Wait>(
     position: &Position,
     to_move: Colour,
     winner: Colour,
-) -> Stored
+) -> Result<(), RanOut>
     requires { HasChain position.now winner }
     ensures grew { Grows (P.sight proofs.old) (P.sight proofs.new) }
-    ensures stored { TellsStored (P.sight proofs.new).list (P.sight proofs.new).slots
-        position.now to_move result }
-    ensures answered { IsAnswered result }
-    ensures memory { HadMemory result }
+    ensures stored { IfOk result (λ _. HasEntry (P.sight proofs.new).list position.now to_move) }
+    ensures stopped { IfErr result (IsNotStored (P.sight proofs.new).list (P.sight proofs.new).slots
+        position.now to_move) }
+    ensures memory { IfErr result HadMemory }
 {
     // The proof takes from here that the position's board is one.
     let _size = position.size();

@@ -1,6 +1,6 @@
 //! Lines that answer the opponent's moves, in cell order.
 
-ghost use Rattle.std.specs.Prelude.{◌≡◌, ℕ, true, Contains, IfOk, MatchOption};
+ghost use Rattle.std.specs.Prelude.{◌≡◌, ℕ, true, Contains, IfOk, IfSome, MatchOption};
 ghost use Rattle.std.specs.List.{All};
 ghost use Rattle.hx_board.specs.Sets.{has};
 ghost use Rattle.hx_board.specs.Positions.{IsEmpty};
@@ -8,7 +8,6 @@ ghost use Rattle.hx_tree.specs.Answers.{cell_of, cells_of};
 ghost use Rattle.hx_tree.specs.Trees.{headings_of};
 ghost use Rattle.hx_book.specs.Sights.{Grows};
 ghost use Rattle.hx_nodes.specs.Lines.{wins_next, NamesBetter, IsLineOf, AreLines};
-ghost use Rattle.hx_nodes.specs.Missing.{IsLacking, HasLacking};
 
 use hx_board::{Cell, Colour, Mask, Memory, Position};
 use hx_book::Proofs;
@@ -16,8 +15,8 @@ use hx_tree::{Line, Lines};
 use std::alloc::Global;
 use std::sync::Wait;
 
-/// A line for each of the cells, in cell order. None only where after the opponent's move to one of them no entry says that the
-/// winner wins.
+/// A line for each of the cells, in cell order. None where after the opponent's move to one of them no entry says that the winner
+/// wins.
 pub(crate) fn lines_for<P: Proofs, R: Wait>(
     rt: &R,
     alloc: Global,
@@ -30,9 +29,7 @@ pub(crate) fn lines_for<P: Proofs, R: Wait>(
     requires inside { (cell : ℕ) → has cells cell ≡ true → IsEmpty position.now cell }
     requires under { All NamesBetter under.now }
     ensures grew { Grows (P.sight proofs.old) (P.sight proofs.new) }
-    ensures lines { IfOk result (λ found. MatchOption found
-        (HasLacking (P.sight proofs.old).list (P.sight proofs.new).list position.now winner
-        cells under.now)
+    ensures lines { IfOk result (λ found. IfSome found
         (AreLines (headings_of (P.sight proofs.new).list) (wins_next position.now winner)
         cells under.now)) }
 {
@@ -66,9 +63,7 @@ fn line_for<P: Proofs, R: Wait>(
     requires empty { IsEmpty position.now cell }
     requires under { All NamesBetter under.now }
     ensures grew { Grows (P.sight proofs.old) (P.sight proofs.new) }
-    ensures line { MatchOption result
-        (IsLacking (P.sight proofs.old).list (P.sight proofs.new).list position.now winner
-        under.now cell)
+    ensures line { IfSome result
         (IsLineOf (headings_of (P.sight proofs.new).list) (wins_next position.now winner)
         under.now cell) }
 {

@@ -1,12 +1,14 @@
 //! Proofs by a link between the two sides.
 
+ghost use Rattle.std.specs.Prelude.{IfOk, IfErr};
 ghost use Rattle.hx_book.specs.Sights.{Grows};
 ghost use Rattle.hx_linkset.specs.LiveOf.{Decides};
-ghost use Rattle.hx_nodes.specs.Stored.{TellsStored, IsAnswered};
+ghost use Rattle.hx_nodes.specs.Stored.{HasEntry, IsNotStored};
 
-use crate::stored::{Stored, store};
+use crate::stored::store;
 use hx_board::Colour;
 use hx_book::Proofs;
+use hx_limits::RanOut;
 use hx_linkset::{Derived, LinkSet};
 use hx_tree::{Heading, Node, Rule};
 use std::sync::Wait;
@@ -18,18 +20,15 @@ pub fn store_links<P: Proofs, R: Wait>(
     set: &LinkSet,
     to_move: Colour,
     index: u32,
-) -> Stored
+) -> Result<(), RanOut>
     requires { Decides set.now to_move index }
     ensures grew { Grows (P.sight proofs.old) (P.sight proofs.new) }
-    ensures stored { TellsStored (P.sight proofs.new).list (P.sight proofs.new).slots
-        set.now.present.board to_move result }
-    ensures answered { IsAnswered result }
+    ensures stored { IfOk result (λ _. HasEntry (P.sight proofs.new).list set.now.present.board to_move) }
+    ensures stopped { IfErr result (IsNotStored (P.sight proofs.new).list (P.sight proofs.new).slots
+        set.now.present.board to_move) }
 {
     set.keeps();
-    let Ok(derived) = set.derivation(&[index]) else {
-        return Stored::Memory;
-    };
-    let Derived { steps, places: _ } = derived;
+    let Derived { steps, places: _ } = set.derivation(&[index])?;
     let heading = Heading {
         position: *set.position(),
         to_move,

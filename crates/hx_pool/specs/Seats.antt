@@ -1,15 +1,12 @@
 -- A worker's seats, before its work and after it.
-use Rattle.std.specs.Prelude.{◌≡◌, ◌<◌, ℕ, List}
-use Rattle.hx_board.specs.declared.colours.Colour.{Colour}
+use Rattle.std.specs.Prelude.{◌≡◌, ◌<◌, ℕ, List, Result, Ok, Err}
 use Rattle.hx_tree.specs.declared.nodes.Node.{Node}
 use Rattle.hx_count.specs.Machine.{HasNothing}
 use Rattle.hx_count.specs.Seats.{Origin, Seat, own}
-use Rattle.hx_nodes.specs.Stored.{IsOutOfSlots}
 use Rattle.hx_share.specs.Readers.{Origin as BookOrigin}
-use Rattle.hx_worker.specs.declared.ended.Ended.{Ended}
-use Rattle.hx_worker.specs.declared.ended.Ended.TheVariants.{Proved, Spent, NoSlots, Memory}
-use Rattle.hx_worker.specs.Ends.{EndsSpent}
-use Rattle.hx_worker.specs.Keeps.{IsSpent}
+use Rattle.hx_limits.specs.declared.ran_out.RanOut.{RanOut}
+use Rattle.hx_limits.specs.Causes.{IsStopped}
+use Rattle.hx_pool.specs.Ends.{EndsSpent}
 use Rattle.hx_pool.specs.declared.seats.Seats.{Seats}
 use Rattle.hx_pool.specs.declared.seats.Done.{Done}
 use Rattle.hx_pool.specs.declared.seats.Place.{Place}
@@ -21,35 +18,33 @@ pub record AreNewSeats (book : BookOrigin) (counts : Origin) (seats : Seats) : T
   pub same_counts : seats.counts.made ≡ counts
   pub nothing : HasNothing (own seats.counts)
 
--- what an end says of the nodes that a worker has seen and of its seat; what it is by a proof, the errand says
-abbrev pub IsEndedBy : (List Node → ℕ → Colour → Type 0) → List Node → ℕ → Seat → Ended → Type 0
-IsEndedBy proved seen slots seat (Proved index winner) = proved seen index winner
-IsEndedBy proved seen slots seat (Spent taken) = IsSpent seat taken
-IsEndedBy proved seen slots seat (NoSlots refusal) = IsOutOfSlots seen slots refusal
-IsEndedBy proved seen slots seat Memory = Unit {0}
+-- what an end says of the nodes that a worker has seen and of its seat; what it is where something was found, the errand says
+abbrev pub IsEndedBy : {F : Type 0} → (List Node → F → Type 0) → List Node → ℕ → Seat → Result F RanOut → Type 0
+IsEndedBy proved seen slots seat (Ok found) = proved seen found
+IsEndedBy proved seen slots seat (Err why) = IsStopped seen slots seat why
 
 -- a worker that was granted a unit and ended for want of another one has found this
-abbrev pub HasTried : Type 0 → Seat → Ended → Type 0
+abbrev pub HasTried : {F : Type 0} → Type 0 → Seat → Result F RanOut → Type 0
 HasTried tried seat end = EndsSpent end → 0 < (own seat).granted → tried
 
 -- seats of this book and of these counts, and what the end says of them
-pub record IsDone (proved : List Node → ℕ → Colour → Type 0) (tried : Type 0) (book : BookOrigin) (counts : Origin)
-    (done : Done) : Type 0 where
+pub record IsDone {F : Type 0} (proved : List Node → F → Type 0) (tried : Type 0) (book : BookOrigin) (counts : Origin)
+    (done : Done F) : Type 0 where
   pub same_book : done.book.made ≡ book
   pub same_counts : done.counts.made ≡ counts
-  pub ended : IsEndedBy proved done.book.seen book.slots done.counts done.ended
-  pub has_tried : HasTried tried done.counts done.ended
+  pub ended : IsEndedBy proved done.book.seen book.slots done.counts done.end
+  pub has_tried : HasTried tried done.counts done.end
 
 -- ---- words for the functions inside the crate alone
 
 -- a worker's place with its seats, before its work
-abbrev pub IsBefore : BookOrigin → Origin → Place → Type 0
+abbrev pub IsBefore : {F : Type 0} → BookOrigin → Origin → Place F → Type 0
 IsBefore book counts (Before seats) = AreNewSeats book counts seats
 IsBefore book counts Meanwhile = ⊥
 IsBefore book counts (After done) = ⊥
 
 -- the place with what came of its work
-abbrev pub IsAfter : (List Node → ℕ → Colour → Type 0) → Type 0 → BookOrigin → Origin → Place → Type 0
+abbrev pub IsAfter : {F : Type 0} → (List Node → F → Type 0) → Type 0 → BookOrigin → Origin → Place F → Type 0
 IsAfter proved tried book counts (Before seats) = ⊥
 IsAfter proved tried book counts Meanwhile = ⊥
 IsAfter proved tried book counts (After done) = IsDone proved tried book counts done

@@ -35,7 +35,7 @@ impl<E: Errand + Sync> Crew<'_, E> {
         rt: &R,
         alloc: Global,
         gate: &G,
-        places: &mut [Place],
+        places: &mut [Place<E::Found>],
     )
         requires words { self.now.bench.now.counts.now.limits.words ≡ LOSS_WORDS }
         requires some { 0 < length places.old }
@@ -51,7 +51,7 @@ impl<E: Errand + Sync> Crew<'_, E> {
             rt,
             places,
             threads,
-            &|_, place: &mut Place|
+            &|_, place: &mut Place<E::Found>|
                 requires { (self.now.bench.now.counts.now.limits.words ≡ LOSS_WORDS)
                     × IsBefore self.now.bench.now.shared.now.made self.now.bench.now.counts.now place.old }
             { self.work_in(rt, alloc, gate, place) },
@@ -59,7 +59,13 @@ impl<E: Errand + Sync> Crew<'_, E> {
     }
 
     /// The work of the worker of this place.
-    fn work_in<G: Gate, R: Wait>(&self, rt: &R, alloc: Global, gate: &G, place: &mut Place)
+    fn work_in<G: Gate, R: Wait>(
+        &self,
+        rt: &R,
+        alloc: Global,
+        gate: &G,
+        place: &mut Place<E::Found>,
+    )
         requires words { self.now.bench.now.counts.now.limits.words ≡ LOSS_WORDS }
         requires before { IsBefore self.now.bench.now.shared.now.made self.now.bench.now.counts.now place.old }
         ensures { IsAfter (E.proved self.now.errand.now) (E.tried self.now.errand.now)

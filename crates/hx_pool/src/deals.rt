@@ -15,12 +15,12 @@ use std::alloc::Global;
 
 impl Bench<'_> {
     /// The places of the workers, with their seats.
-    pub(crate) fn deal(
+    pub(crate) fn deal<F: Drop>(
         &self,
         alloc: Global,
         mut books: Vec<BookSeat>,
         mut counts: Vec<CountSeat>,
-    ) -> Result<Vec<Place>, Memory>
+    ) -> Result<Vec<Place<F>>, Memory>
         requires len { vec_len books ≡ vec_len counts }
         requires few { vec_len books ≤ 64 }
         requires books { All (λ s. s.made ≡ self.now.shared.now.made) books.items }

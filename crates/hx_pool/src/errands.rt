@@ -1,7 +1,6 @@
 //! What workers are sent for.
 
-ghost use Rattle.std.specs.Prelude.{◌≡◌, ℕ, List};
-ghost use Rattle.hx_board.specs.declared.colours.Colour.{Colour as Winner};
+ghost use Rattle.std.specs.Prelude.{◌≡◌, List};
 ghost use Rattle.hx_tree.specs.declared.nodes.Node.{Node};
 ghost use Rattle.hx_tree.specs.Entries.{Extends};
 ghost use Rattle.hx_pool.specs.Seats.{AreNewSeats, IsDone};
@@ -15,10 +14,13 @@ use std::sync::Wait;
 
 /// What all workers are sent for, each with seats of its own.
 pub trait Errand {
-    /// What an end by a proof says of the list of proofs, where it names this place in it and this winner.
-    ghost proved: { Self → List Node → ℕ → Winner → Type 0 };
+    /// What a worker comes back with that found what it was sent for.
+    type Found: Drop + Send;
 
-    /// What a worker has found that was granted a unit and ended for want of another one.
+    /// What this says of the list of proofs.
+    ghost proved: { Self → List Node → Found → Type 0 };
+
+    /// What a worker has found that was granted a unit and came back for want of another one.
     ghost tried: { Self → Type 0 };
 
     /// One worker's part of it.
@@ -29,13 +31,13 @@ pub trait Errand {
         gate: &G,
         bench: &Bench<'_>,
         seats: Seats,
-    ) -> Done
+    ) -> Done<Self::Found>
         requires words { bench.now.counts.now.limits.words ≡ LOSS_WORDS }
         requires seats { AreNewSeats bench.now.shared.now.made bench.now.counts.now seats }
         ensures { IsDone (proved self.now) (tried self.now) bench.now.shared.now.made
             bench.now.counts.now result };
 
     /// What is said of a list of proofs is true of each list that goes on from it.
-    ghost stays: { (errand : Self) (old new : List Node) (index : ℕ) (winner : Winner) → Extends old new
-        → proved errand old index winner → proved errand new index winner };
+    ghost stays: { (errand : Self) (old new : List Node) (found : Found) → Extends old new
+        → proved errand old found → proved errand new found };
 }

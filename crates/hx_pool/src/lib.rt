@@ -14,7 +14,6 @@ mod hints;
 mod parts;
 mod searches;
 mod seats;
-mod sets;
 
 pub use benches::Bench;
 pub use ends::foremost;
@@ -22,4 +21,3 @@ pub use errands::Errand;
 pub use hints::hint_words;
 pub use searches::{Searched, run_all};
 pub use seats::{Done, Seats};
-pub use sets::new_sets;

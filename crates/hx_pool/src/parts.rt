@@ -10,21 +10,21 @@ use crate::errands::Errand;
 use crate::seats::{Done, Place};
 use hx_board::Memory;
 use hx_count::CountSeat;
+use hx_limits::RanOut;
 use hx_share::BookSeat;
-use hx_worker::Ended;
 use std::alloc::Global;
 
 /// The seats of all workers, in one order, and how their work ended.
 #[derive(Drop)]
-pub(crate) struct Parts {
+pub(crate) struct Parts<F> {
     pub(crate) books: Vec<BookSeat>,
     pub(crate) counts: Vec<CountSeat>,
-    pub(crate) ends: Vec<Ended>,
+    pub(crate) ends: Vec<Result<F, RanOut>>,
 }
 
-impl Parts {
+impl<F: Drop> Parts<F> {
     /// Room for the parts of so many workers. It is taken before the work begins, so that no proof is lost for want of it.
-    pub(crate) fn with_room(alloc: Global, workers: u32) -> Result<Parts, Memory>
+    pub(crate) fn with_room(alloc: Global, workers: u32) -> Result<Parts<F>, Memory>
         ensures { IfOk result (HasRoom workers) }
     {
         let Ok(books) = Vec::with_capacity(alloc, workers as usize) else {
@@ -46,7 +46,11 @@ impl Parts {
 
 impl<E: Errand> Crew<'_, E> {
     /// The parts of what these workers gave back.
-    pub(crate) fn take_apart(&self, mut places: Vec<Place>, mut parts: Parts) -> Parts
+    pub(crate) fn take_apart(
+        &self,
+        mut places: Vec<Place<E::Found>>,
+        mut parts: Parts<E::Found>,
+    ) -> Parts<E::Found>
         requires after { All
             (IsAfter (E.proved self.now.errand.now) (E.tried self.now.errand.now)
             self.now.bench.now.shared.now.made self.now.bench.now.counts.now)
@@ -66,14 +70,10 @@ impl<E: Errand> Crew<'_, E> {
             let Place::After(done) = place else {
                 unreachable!()
             };
-            let Done {
-                book,
-                counts,
-                ended,
-            } = done;
+            let Done { book, counts, end } = done;
             parts.books.push_reserved(book);
             parts.counts.push_reserved(counts);
-            parts.ends.push_reserved(ended);
+            parts.ends.push_reserved(end);
         }
         parts
     }

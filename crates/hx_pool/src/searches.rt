@@ -14,24 +14,23 @@ use hx_board::Memory;
 use hx_book::Book;
 use hx_count::{Counts, Hints, Totals};
 use hx_io::Gate;
-use hx_limits::Settings;
+use hx_limits::{RanOut, Settings};
 use hx_ordering::{LOSS_WORDS, Replies};
 use hx_share::Shared;
-use hx_worker::Ended;
 use std::alloc::Global;
 use std::sync::Wait;
 use std::thread::Threads;
 
 /// The book and the sums of the counts after a search, and the end that counts.
 #[derive(Drop)]
-pub struct Searched {
-    pub book: Book,
+pub struct Searched<B, F> {
+    pub book: B,
     pub totals: Totals,
-    pub ended: Ended,
+    pub end: Result<F, RanOut>,
 }
 
-/// Lets all workers run the errand, on positions with at most so many empty cells. An end by a proof counts before all others; then
-/// one for want of memory, of a slot, and of a unit last.
+/// Lets all workers run the errand, on positions with at most so many empty cells. What a worker found counts before all else; then
+/// want of memory, of a slot, and of a unit last.
 ///
 /// It may wait for a worker.
 pub fn run_all<E: Errand + Sync, G: Gate + Sync, R: Threads + Wait + Sync>(
@@ -41,11 +40,11 @@ pub fn run_all<E: Errand + Sync, G: Gate + Sync, R: Threads + Wait + Sync>(
     empties: u32,
     settings: &Settings,
     gate: &G,
-) -> Result<Searched, Memory>
+) -> Result<Searched<Book, E::Found>, Memory>
     requires { AreSettings settings.now }
     ensures { IfOk result
         (λ searched. IsSearchEnd (E.proved errand.now) (E.tried errand.now) settings.now searched.book
-        searched.totals.granted searched.ended) }
+        searched.totals.granted searched.end) }
 {
     let workers = settings.workers;
     let words = hint_words(settings.budget, empties);
@@ -67,13 +66,9 @@ pub fn run_all<E: Errand + Sync, G: Gate + Sync, R: Threads + Wait + Sync>(
     };
     crew.work_all(rt, alloc, gate, &mut places);
     let parts = crew.take_apart(places, room);
-    let ended = foremost(parts.ends);
+    let end = foremost(parts.ends);
     let book = shared.close(parts.books);
     let totals = counts.close(parts.counts);
     book.keeps();
-    Ok(Searched {
-        book,
-        totals,
-        ended,
-    })
+    Ok(Searched { book, totals, end })
 }

@@ -4,8 +4,8 @@
 //! all room for what comes back is there before the work begins.
 
 use hx_count::CountSeat;
+use hx_limits::RanOut;
 use hx_share::BookSeat;
-use hx_worker::Ended;
 
 /// A worker's number and its seats: one at the shared book and one at the counts.
 #[derive(Drop)]
@@ -15,17 +15,17 @@ pub struct Seats {
     pub counts: CountSeat,
 }
 
-/// A worker's seats, and how its work ended.
+/// A worker's seats, and what it comes back with.
 #[derive(Drop)]
-pub struct Done {
+pub struct Done<F> {
     pub book: BookSeat,
     pub counts: CountSeat,
-    pub ended: Ended,
+    pub end: Result<F, RanOut>,
 }
 
 /// What lies at a worker's place.
 #[derive(Drop)]
-pub(crate) enum Place {
+pub(crate) enum Place<F> {
     /// Its seats, before its work.
     Before(Seats),
 
@@ -33,5 +33,5 @@ pub(crate) enum Place {
     Meanwhile,
 
     /// What came of its work.
-    After(Done),
+    After(Done<F>),
 }

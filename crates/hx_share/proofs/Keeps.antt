@@ -171,7 +171,7 @@ module _ (limits : Limits) (id : ℕ) (seen nodes : List Node) (s : Table) (c : 
         views =
             set s.views id gave_back;
       })
-  given new grown few is = let longer_now : Extends c.nodes nodes = subst (λ (l : List Node). Extends nodes l) whole grown in record {
+  given new grown few is = let longer_now : Extends c.nodes nodes = subst (λ (l : List Node). Extends l nodes) whole grown in record {
     nodes = nodes;
     few = few;
     small = c.small;

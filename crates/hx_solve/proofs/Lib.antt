@@ -1,4 +1,3 @@
-pub mod SweepSizes
 pub mod TreeSolutions
 pub mod LoneEnds
 pub mod PlainSweeps

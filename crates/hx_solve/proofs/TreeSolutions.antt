@@ -19,9 +19,9 @@ use Rattle.hx_worker.specs.declared.ended.Ended.{Ended}
 use Rattle.hx_worker.specs.declared.ended.Ended.TheVariants.{Proved, Spent, NoSlots, Memory}
 use Rattle.hx_worker.specs.Ends.{EndsSpent}
 use Rattle.hx_limits.specs.declared.settings.Settings.{Settings}
-use Rattle.hx_solve.specs.declared.unsolved.Unsolved.{Unsolved}
+use Rattle.hx_limits.specs.declared.ran_out.RanOut.{RanOut}
 use Rattle.hx_solve.specs.Solutions.{IsSolution}
-use Rattle.hx_solve.specs.Causes.{HasCause, FoundNoRoom, LacksUnit}
+use Rattle.hx_limits.specs.Causes.{HasCause, FoundNoRoom, LacksUnit}
 use Rattle.hx_pool.specs.Searches.{IsClosedEnd}
 use Rattle.hx_solve.specs.Searches.{IsProofOf, HasEntryFor, IsTreeFor, IsTreeFrom, SaysWhy}
 
@@ -83,7 +83,7 @@ entry-there nodes granted board mover settings (Spent taken) says = tt
 entry-there nodes granted board mover settings (NoSlots refusal) says = tt
 entry-there nodes granted board mover settings Memory says = tt
 
-pub cause-by : (nodes : List Node) (granted : ℕ) (board : Board) (mover : Colour) (settings : Settings) (ended : Ended) (why : Unsolved)
+pub cause-by : (nodes : List Node) (granted : ℕ) (board : Board) (mover : Colour) (settings : Settings) (ended : Ended) (why : RanOut)
     → IsBook (contents settings.slots nodes) → IsClosedEnd (IsProofOf board mover) nodes granted settings ended → SaysWhy ended why
     → HasCause settings why
 cause-by nodes granted board mover settings (Proved index winner) why book says is = subst (HasCause settings) (sym is) tt
@@ -94,7 +94,7 @@ cause-by nodes granted board mover settings (NoSlots refusal) why book says is =
 cause-by nodes granted board mover settings Memory why book says is = subst (HasCause settings) (sym is) tt
 
 -- a unit is wanting where the end says so
-pub spent-by : (ended : Ended) (why : Unsolved) → SaysWhy ended why → LacksUnit why → EndsSpent ended
+pub spent-by : (ended : Ended) (why : RanOut) → SaysWhy ended why → LacksUnit why → EndsSpent ended
 spent-by (Proved index winner) why is lacks = absurd (subst LacksUnit is lacks)
 spent-by (Spent taken) why is lacks = tt
 spent-by (NoSlots refusal) why is lacks = absurd (subst LacksUnit is lacks)

@@ -1,4 +1,4 @@
-//! Many workers on one position: a tree that proves who wins it, or what was wanting.
+//! Many workers on one position: a tree that proves who wins it, or the winner alone, or what ran out.
 //!
 //! The workers search in threads, over one shared book of proofs and one table of counts. When all of them have ended, the proof
 //! that a worker came to is taken out of the book as a tree. A small position is never left open: where no worker came to a proof
@@ -11,14 +11,12 @@ mod one_position;
 mod plain_solves;
 mod small_positions;
 mod solves;
-mod tallies;
 mod trees;
-mod unsolved;
+mod winners;
 
-pub use hx_limits::Settings;
+pub use hx_limits::{RanOut as Unsolved, Settings, Tally};
+pub use hx_sweep::is_small;
 pub use laws::same_winner;
 pub use plain_solves::solve_plain;
-pub use small_positions::is_small;
 pub use solves::{solve, solve_naming_move};
-pub use tallies::Tally;
-pub use unsolved::Unsolved;
+pub use winners::winner;

@@ -1,53 +1,24 @@
-//! A search by one worker over a plain book, in the caller's thread.
+//! A search by one worker over a plain book, in the caller's thread. `run_all` of hx_pool needs a system that makes threads and a gate
+//! that threads may share; who asks for a plain tree need have neither.
 
-ghost use Rattle.std.specs.Prelude.{◌≡◌, IfOk};
-ghost use Rattle.hx_count.specs.Machine.{HasNothing};
-ghost use Rattle.hx_count.specs.Seats.{own};
+ghost use Rattle.std.specs.Prelude.{IfOk};
 ghost use Rattle.hx_limits.specs.Settings.{AreSettings};
-ghost use Rattle.hx_worker.specs.Ends.{IsEnded};
-ghost use Rattle.hx_board.specs.Graph.{HasNoChain};
-ghost use Rattle.hx_pool.specs.Seats.{HasTried};
 ghost use Rattle.hx_solve.specs.Searches.{IsSearchedAlone};
 
 use hx_board::{Colour, Memory, Position};
 use hx_book::PlainBook;
-use hx_count::{CountSeat, Counts, Hints, Totals};
+use hx_count::{Counts, Hints};
 use hx_io::Gate;
 use hx_limits::Settings;
 use hx_ordering::{LOSS_WORDS, Replies};
-use hx_pool::{hint_words, new_sets};
-use hx_worker::{Ended, Job, work};
+use hx_pool::{Searched, hint_words};
+use hx_tree::Found;
+use hx_worker::{Job, new_sets, work};
 use std::alloc::Global;
 use std::sync::Wait;
 
-/// The book and the sums of the counts after a search, and how the work ended.
-#[derive(Drop)]
-pub(crate) struct SearchedAlone {
-    pub(crate) book: PlainBook,
-    pub(crate) totals: Totals,
-    pub(crate) ended: Ended,
-}
-
 /// The number of the only worker.
 const FIRST: u32 = 0;
-
-/// The position that one worker searches, and the counts, hints and replies that it works with.
-#[derive(Drop)]
-struct Alone<'a> {
-    position: Position,
-    to_move: Colour,
-    counts: &'a Counts,
-    hints: &'a Hints,
-    replies: &'a Replies,
-}
-
-/// What the worker gives back.
-#[derive(Drop)]
-struct GivenBack {
-    book: PlainBook,
-    seat: CountSeat,
-    ended: Ended,
-}
 
 /// Lets one worker search, whatever number of workers the settings have.
 pub(crate) fn search_alone<G: Gate, R: Wait>(
@@ -57,7 +28,7 @@ pub(crate) fn search_alone<G: Gate, R: Wait>(
     to_move: Colour,
     settings: &Settings,
     gate: &G,
-) -> Result<SearchedAlone, Memory>
+) -> Result<Searched<PlainBook, Found>, Memory>
     requires { AreSettings settings.now }
     ensures { IfOk result (IsSearchedAlone position.now to_move settings.now) }
 {
@@ -69,77 +40,31 @@ pub(crate) fn search_alone<G: Gate, R: Wait>(
     let Some(seat) = seats.pop() else {
         unreachable!()
     };
-    let alone = Alone {
+    let (black, white) = new_sets(alloc, position)?;
+    let mut job = Job {
+        worker: FIRST,
         position: *position,
         to_move,
+        proofs: book,
         counts: &counts,
+        seat,
         hints: &hints,
         replies: &replies,
+        black,
+        white,
     };
-    let GivenBack { book, seat, ended } = alone.work(rt, alloc, gate, book, seat);
+    let ended = work(rt, &mut job, gate);
+    let Job {
+        proofs: book,
+        seat,
+        ..
+    } = job;
     seats.push_reserved(seat);
     let totals = counts.close(seats);
     book.keeps();
-    Ok(SearchedAlone {
+    Ok(Searched {
         book,
         totals,
-        ended,
+        end: ended.found(),
     })
-}
-
-impl Alone<'_> {
-    /// The work of the worker.
-    fn work<G: Gate, R: Wait>(
-        &self,
-        rt: &R,
-        alloc: Global,
-        gate: &G,
-        book: PlainBook,
-        seat: CountSeat,
-    ) -> GivenBack
-        requires words { self.now.counts.now.limits.words ≡ LOSS_WORDS }
-        requires made { seat.made ≡ self.now.counts.now }
-        requires nothing { HasNothing (own seat) }
-        ensures slots { result.book.slots ≡ book.slots }
-        ensures made { result.seat.made ≡ self.now.counts.now }
-        ensures ended { IsEnded result.book.nodes result.book.slots result.seat self.now.position
-            self.now.to_move result.ended }
-        ensures no_chain { HasTried (HasNoChain self.now.position) result.seat result.ended }
-    {
-        let Ok((black, white)) = new_sets(alloc, &self.position) else {
-            return GivenBack {
-                book,
-                seat,
-                ended: Ended::Memory,
-            };
-        };
-        let mut job = Job {
-            worker: FIRST,
-            position: self.position,
-            to_move: self.to_move,
-            proofs: book,
-            counts: self.counts,
-            seat,
-            hints: self.hints,
-            replies: self.replies,
-            black,
-            white,
-        };
-        let ended = work(rt, &mut job, gate);
-        give_back(job, ended)
-    }
-}
-
-/// The book and the seat of a job that has ended come back.
-fn give_back(job: Job<'_, PlainBook>, ended: Ended) -> GivenBack
-    ensures book { result.book ≡ job.entry.proofs }
-    ensures seat { result.seat ≡ job.entry.seat }
-    ensures ended { result.ended ≡ ended }
-{
-    let Job { proofs, seat, .. } = job;
-    GivenBack {
-        book: proofs,
-        seat,
-        ended,
-    }
 }

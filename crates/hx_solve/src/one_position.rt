@@ -6,6 +6,8 @@ ghost use Rattle.hx_solve.specs.Searches.{IsProofOf};
 use hx_board::{Colour, Position};
 use hx_io::Gate;
 use hx_pool::{Bench, Done, Errand, Seats};
+use hx_tree::Found;
+use hx_worker::work_at;
 use std::alloc::Global;
 use std::sync::Wait;
 
@@ -17,14 +19,16 @@ pub(crate) struct OnePosition {
 }
 
 impl Errand for OnePosition {
+    type Found = Found;
+
     ghost use Rattle.hx_pool.proofs.LaterLists.{found-later};
 
     ghost proved = { λ errand. IsProofOf errand.position errand.to_move };
 
     ghost tried = { λ errand. HasNoChain errand.position };
 
-    ghost stays = { λ errand old new index winner more found.
-        found-later old new errand.position errand.to_move (record { index = index; winner = winner }) more found };
+    ghost stays = { λ errand old new found more first.
+        found-later old new errand.position errand.to_move found more first };
 
     fn run<G: Gate, R: Wait>(
         &self,
@@ -33,7 +37,7 @@ impl Errand for OnePosition {
         gate: &G,
         bench: &Bench<'_>,
         seats: Seats,
-    ) -> Done {
-        bench.work_at(rt, alloc, gate, seats, &self.position, self.to_move)
+    ) -> Done<Found> {
+        work_at(rt, alloc, gate, bench, seats, &self.position, self.to_move)
     }
 }

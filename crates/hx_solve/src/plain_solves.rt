@@ -7,18 +7,19 @@ ghost use Rattle.hx_limits.specs.declared.settings.TheConstants.{MOST_UNITS, MOS
 ghost use Rattle.hx_limits.specs.Settings.{AreSettings};
 ghost use Rattle.hx_tree.specs.Plain.{ArePlain};
 ghost use Rattle.hx_solve.specs.Solutions.{IsSolution};
-ghost use Rattle.hx_solve.specs.Causes.{HasCause, LacksMemory, LacksUnit, lone};
+ghost use Rattle.hx_limits.specs.Causes.{HasCause, LacksMemory, LacksUnit, lone};
 ghost use Rattle.hx_solve.specs.Searches.{HasEntryFor, IsTreeFrom, SaysWhy};
 
-use crate::lone_searches::{SearchedAlone, search_alone};
-use crate::small_positions::{by_sweep, is_small};
+use crate::lone_searches::search_alone;
+use crate::small_positions::by_sweep;
 use crate::trees::tree_at;
-use crate::unsolved::Unsolved;
-use hx_board::{Colour, Memory, Position};
+use hx_board::{Colour, Position};
+use hx_book::PlainBook;
 use hx_io::Gate;
-use hx_limits::Settings;
-use hx_tree::Node;
-use hx_worker::Ended;
+use hx_limits::{RanOut, Settings};
+use hx_pool::Searched;
+use hx_sweep::is_small;
+use hx_tree::{Found, Node};
 use std::alloc::Global;
 use std::sync::Wait;
 
@@ -34,7 +35,7 @@ pub fn solve_plain<G: Gate, R: Wait>(
     budget: u64,
     slots: u32,
     gate: &G,
-) -> Result<Vec<Node>, Unsolved>
+) -> Result<Vec<Node>, RanOut>
     requires budget { budget ≤ MOST_UNITS }
     requires slots { slots ≤ MOST_PROOFS }
     ensures tree { IfOk result (λ tree. IsSolution position.now to_move tree.items) }
@@ -65,7 +66,7 @@ fn by_one_worker<G: Gate, R: Wait>(
     to_move: Colour,
     settings: &Settings,
     gate: &G,
-) -> Result<Vec<Node>, Unsolved>
+) -> Result<Vec<Node>, RanOut>
     requires { AreSettings settings.now }
     ensures tree { IfOk result (λ tree. IsSolution position.now to_move tree.items) }
     ensures plain { IfOk result (λ tree. ArePlain tree.items) }
@@ -73,31 +74,23 @@ fn by_one_worker<G: Gate, R: Wait>(
     ensures no_chain { IfErr result
         (λ why. LacksUnit why → 0 < settings.now.budget → HasNoChain position.now) }
 {
-    match search_alone(rt, alloc, position, to_move, settings, gate) {
-        Ok(searched) => conclude(alloc, searched),
-        Err(Memory) => Err(Unsolved::Memory),
-    }
+    let searched = search_alone(rt, alloc, position, to_move, settings, gate)?;
+    conclude(alloc, searched)
 }
 
-/// The tree that the book has, whose root names a move if one is found, where the end is a proof, and else what was wanting.
-fn conclude(alloc: Global, searched: SearchedAlone) -> Result<Vec<Node>, Unsolved>
-    requires { HasEntryFor searched.book.nodes searched.ended }
-    ensures tree { IfOk result (λ tree. IsTreeFrom searched.book.nodes searched.ended tree.items) }
+/// The tree that the book has, whose root names a move if one is found, and else what ran out.
+fn conclude(alloc: Global, searched: Searched<PlainBook, Found>) -> Result<Vec<Node>, RanOut>
+    requires { HasEntryFor searched.book.nodes searched.end }
+    ensures tree { IfOk result (λ tree. IsTreeFrom searched.book.nodes searched.end tree.items) }
     ensures plain { IfOk result (λ tree. ArePlain tree.items) }
-    ensures cause { IfErr result (SaysWhy searched.ended) }
+    ensures cause { IfErr result (SaysWhy searched.end) }
 {
-    let SearchedAlone {
+    let Searched {
         book,
         totals: _,
-        ended,
+        end,
     } = searched;
-    match ended {
-        Ended::Proved { index, winner: _ } => {
-            book.keeps();
-            tree_at(alloc, book.into_entries(), index, true)
-        }
-        Ended::Memory => Err(Unsolved::Memory),
-        Ended::NoSlots(refusal) => Err(Unsolved::Slots(refusal)),
-        Ended::Spent(refusal) => Err(Unsolved::Budget(refusal)),
-    }
+    let found = end?;
+    book.keeps();
+    tree_at(alloc, book.into_entries(), found.index, true)
 }

@@ -5,16 +5,16 @@ ghost use Rattle.hx_board.specs.Counts.{IsSmall};
 ghost use Rattle.hx_board.specs.Graph.{HasNoChain};
 ghost use Rattle.hx_limits.specs.Settings.{AreSettings};
 ghost use Rattle.hx_solve.specs.Solutions.{IsSolution};
-ghost use Rattle.hx_solve.specs.Causes.{HasCause, LacksMemory, LacksUnit};
+ghost use Rattle.hx_limits.specs.Causes.{HasCause, LacksMemory, LacksUnit};
 
 use crate::one_position::OnePosition;
-use crate::small_positions::{by_sweep, is_small};
+use crate::small_positions::by_sweep;
 use crate::trees::conclude;
-use crate::unsolved::Unsolved;
-use hx_board::{Colour, Memory, Position};
+use hx_board::{Colour, Position};
 use hx_io::Gate;
-use hx_limits::Settings;
+use hx_limits::{RanOut, Settings};
 use hx_pool::run_all;
+use hx_sweep::is_small;
 use hx_tree::Node;
 use std::alloc::Global;
 use std::sync::Wait;
@@ -32,7 +32,7 @@ pub fn solve<G: Gate + Sync, R: Threads + Wait + Sync>(
     to_move: Colour,
     settings: Settings,
     gate: &G,
-) -> Result<Vec<Node>, Unsolved>
+) -> Result<Vec<Node>, RanOut>
     requires { AreSettings settings }
     ensures tree { IfOk result (λ tree. IsSolution position.now to_move tree.items) }
     // A refusal carries the budget or the slots of the settings.
@@ -54,7 +54,7 @@ pub fn solve_naming_move<G: Gate + Sync, R: Threads + Wait + Sync>(
     to_move: Colour,
     settings: Settings,
     gate: &G,
-) -> Result<Vec<Node>, Unsolved>
+) -> Result<Vec<Node>, RanOut>
     requires { AreSettings settings }
     ensures tree { IfOk result (λ tree. IsSolution position.now to_move tree.items) }
     ensures cause { IfErr result (HasCause settings) }
@@ -74,7 +74,7 @@ fn by_workers_or_sweep<G: Gate + Sync, R: Threads + Wait + Sync>(
     settings: Settings,
     gate: &G,
     names_move: bool,
-) -> Result<Vec<Node>, Unsolved>
+) -> Result<Vec<Node>, RanOut>
     requires { AreSettings settings }
     ensures tree { IfOk result (λ tree. IsSolution position.now to_move tree.items) }
     ensures cause { IfErr result (HasCause settings) }
@@ -98,7 +98,7 @@ fn by_workers<G: Gate + Sync, R: Threads + Wait + Sync>(
     settings: &Settings,
     gate: &G,
     names_move: bool,
-) -> Result<Vec<Node>, Unsolved>
+) -> Result<Vec<Node>, RanOut>
     requires { AreSettings settings.now }
     ensures tree { IfOk result (λ tree. IsSolution position.now to_move tree.items) }
     ensures cause { IfErr result (HasCause settings.now) }
@@ -110,8 +110,6 @@ fn by_workers<G: Gate + Sync, R: Threads + Wait + Sync>(
         to_move,
     };
     let empties = position.empty_count();
-    match run_all(rt, alloc, &errand, empties, settings, gate) {
-        Ok(searched) => conclude(alloc, searched, names_move),
-        Err(Memory) => Err(Unsolved::Memory),
-    }
+    let searched = run_all(rt, alloc, &errand, empties, settings, gate)?;
+    conclude(alloc, searched, names_move)
 }

@@ -4,44 +4,36 @@ ghost use Rattle.std.specs.Prelude.{◌≡◌, ◌<◌, ◌≤◌, length, slice
 ghost use Rattle.hx_book.specs.declared.books.TheConstants.{MOST_SLOTS};
 ghost use Rattle.hx_tree.specs.Plain.{ArePlain};
 ghost use Rattle.hx_tree.specs.Trees.{AreRight, headings_of};
-ghost use Rattle.hx_solve.specs.Causes.{LacksMemory};
+ghost use Rattle.hx_limits.specs.Causes.{LacksMemory};
 ghost use Rattle.hx_solve.specs.Searches.{HasEntryFor, IsTreeFor, IsTreeFrom, SaysWhy};
 
-use crate::unsolved::Unsolved;
-use hx_board::Memory;
-use hx_book::tree_of;
+use hx_book::{Book, tree_of};
+use hx_limits::RanOut;
 use hx_naming::name_move;
 use hx_packed::Entry;
 use hx_pool::Searched;
-use hx_tree::Node;
-use hx_worker::Ended;
+use hx_tree::{Found, Node};
 use std::alloc::Global;
 
 /// The tree that the book has, where the end is a proof, and else what was wanting. Where a move is to be named, the root names one if
 /// one is found.
 pub(crate) fn conclude(
     alloc: Global,
-    searched: Searched,
+    searched: Searched<Book, Found>,
     names_move: bool,
-) -> Result<Vec<Node>, Unsolved>
-    requires { HasEntryFor searched.book.nodes searched.ended }
-    ensures tree { IfOk result (λ tree. IsTreeFrom searched.book.nodes searched.ended tree.items) }
-    ensures cause { IfErr result (SaysWhy searched.ended) }
+) -> Result<Vec<Node>, RanOut>
+    requires { HasEntryFor searched.book.nodes searched.end }
+    ensures tree { IfOk result (λ tree. IsTreeFrom searched.book.nodes searched.end tree.items) }
+    ensures cause { IfErr result (SaysWhy searched.end) }
 {
     let Searched {
         book,
         totals: _,
-        ended,
+        end,
     } = searched;
-    match ended {
-        Ended::Proved { index, winner: _ } => {
-            book.keeps();
-            tree_at(alloc, book.into_entries(), index, names_move)
-        }
-        Ended::Memory => Err(Unsolved::Memory),
-        Ended::NoSlots(refusal) => Err(Unsolved::Slots(refusal)),
-        Ended::Spent(refusal) => Err(Unsolved::Budget(refusal)),
-    }
+    let found = end?;
+    book.keeps();
+    tree_at(alloc, book.into_entries(), found.index, names_move)
 }
 
 /// The tree of the entry at a place. Where a move is to be named, further nodes may be added for it first.
@@ -50,7 +42,7 @@ pub(crate) fn tree_at(
     nodes: Vec<Entry>,
     place: u32,
     names_move: bool,
-) -> Result<Vec<Node>, Unsolved>
+) -> Result<Vec<Node>, RanOut>
     requires right { AreRight nodes.items }
     requires few { length nodes.items ≤ MOST_SLOTS }
     requires inside { place < length nodes.items }
@@ -60,10 +52,7 @@ pub(crate) fn tree_at(
 {
     let mut nodes = nodes;
     let root = root_for(alloc, &mut nodes, place, names_move);
-    match tree_of(alloc, nodes, root) {
-        Ok(tree) => Ok(tree),
-        Err(Memory) => Err(Unsolved::Memory),
-    }
+    Ok(tree_of(alloc, nodes, root)?)
 }
 
 /// The place of the tree's root: of the entry itself, or where a move is to be named and one is found of a node that is added for it.

@@ -1,6 +1,5 @@
 pub mod Surveys
 -- ---- words for the functions inside the crate alone
-pub mod Ends
 pub mod Readings
 pub mod Orders
 pub mod Shares

@@ -11,5 +11,6 @@ mod shares;
 mod surveys;
 mod tables;
 
+pub use hx_limits::RanOut as Unfinished;
 pub use surveys::survey;
 pub use tables::Table;

@@ -1,9 +1,9 @@
 //! The table, read from a closed book. What the book has no entry of, a full search solves where it is small.
 
-ghost use Rattle.std.specs.Prelude.{◌≡◌, ◌≤◌, IfOk, MatchOption};
+ghost use Rattle.std.specs.Prelude.{◌≡◌, MatchOption};
 ghost use Rattle.hx_board.specs.declared.colours.Colour.TheVariants.{White};
 ghost use Rattle.hx_board.specs.Cells.{OnBoard};
-ghost use Rattle.hx_board.specs.Counts.{empty_count, IsSmall};
+ghost use Rattle.hx_board.specs.Counts.{IsSmall};
 ghost use Rattle.hx_board.specs.Game.{Wins};
 ghost use Rattle.hx_tree.specs.Entries.{HasNoEntry};
 ghost use Rattle.hx_openings.specs.Openings.{WinsOpening};
@@ -11,34 +11,26 @@ ghost use Rattle.hx_survey.specs.Readings.{marked, IsUnlisted, IsOpen, HasOpen, 
 
 use crate::openings::opening;
 use crate::tables::Table;
-use hx_board::{Cell, Colour, Mask, Memory, Position, Size};
+use hx_board::{Cell, Colour, Mask, Position, Size};
 use hx_book::Book;
-use hx_proof::tree_sound;
 use hx_share::book_names_winners;
-use hx_solve::is_small;
-use hx_sweep::sweep;
+use hx_sweep::{is_small, winner};
 use hx_turn::{turned, turned_keeps};
-use std::alloc::Global;
 
 /// The table of all openings. None where one of them has no entry, nor has the turned one, and it is not small.
-pub(crate) fn table_of(
-    alloc: Global,
-    size: Size,
-    budget: u64,
-    book: &Book,
-) -> Result<Option<Table>, Memory>
-    ensures { IfOk result (λ read. MatchOption read (HasOpen book.now.nodes size budget) (IsTable size)) }
+pub(crate) fn table_of(size: Size, budget: u64, book: &Book) -> Option<Table>
+    ensures { MatchOption result (HasOpen book.now.nodes size budget) (IsTable size) }
 {
     let mut black = Mask::empty();
     let mut left = size.all();
     while let Some(cell) = left.least(size) {
-        let Some(winner) = winner_after(alloc, size, budget, book, cell)? else {
-            return Ok(None);
+        let Some(winner) = winner_after(size, budget, book, cell) else {
+            return None;
         };
         black = marked(black, cell, winner);
         left = left.without(cell);
     }
-    Ok(Some(Table::new(size, black)))
+    Some(Table::new(size, black))
 }
 
 /// The set with the cell of an opening in it where Black wins after it.
@@ -52,20 +44,14 @@ fn marked(black: Mask, cell: Cell, winner: Colour) -> Mask
 }
 
 /// Who wins after an opening, by the book or by a full search.
-fn winner_after(
-    alloc: Global,
-    size: Size,
-    budget: u64,
-    book: &Book,
-    cell: Cell,
-) -> Result<Option<Colour>, Memory>
+fn winner_after(size: Size, budget: u64, book: &Book, cell: Cell) -> Option<Colour>
     requires { OnBoard size cell }
-    ensures { IfOk result (λ found. MatchOption found (IsOpen book.now.nodes size budget cell) (WinsOpening size cell)) }
+    ensures { MatchOption result (IsOpen book.now.nodes size budget cell) (WinsOpening size cell) }
 {
     let position = opening(size, cell);
     match winner_in(book, &position) {
-        Some(winner) => Ok(Some(winner)),
-        None => winner_if_small(alloc, budget, &position),
+        Some(winner) => Some(winner),
+        None => winner_if_small(budget, &position),
     }
 }
 
@@ -97,30 +83,12 @@ fn winner_by_turned(book: &Book, position: &Position) -> Option<Colour>
 }
 
 /// Who wins a position with White to move by a full search, where it is small.
-fn winner_if_small(
-    alloc: Global,
-    budget: u64,
-    position: &Position,
-) -> Result<Option<Colour>, Memory>
-    ensures { IfOk result
-        (λ found. MatchOption found (¬ IsSmall position.now budget) (λ winner. Wins winner position.now White)) }
+fn winner_if_small(budget: u64, position: &Position) -> Option<Colour>
+    ensures { MatchOption result (¬ IsSmall position.now budget) (λ winner. Wins winner position.now White) }
 {
     if is_small(position, budget) {
-        let winner = winner_by_sweep(alloc, position)?;
-        return Ok(Some(winner));
+        let mut tried = *position;
+        return Some(winner(&mut tried, Colour::White));
     }
-    Ok(None)
-}
-
-/// Who wins a position with White to move, by a full search.
-fn winner_by_sweep(alloc: Global, position: &Position) -> Result<Colour, Memory>
-    requires { empty_count position.now ≤ 9 }
-    ensures { IfOk result (λ winner. Wins winner position.now White) }
-{
-    let tree = sweep(alloc, position, Colour::White)?;
-    tree_sound(&tree);
-    match tree.last() {
-        Some(root) => Ok(root.heading.winner),
-        None => unreachable!(),
-    }
+    None
 }

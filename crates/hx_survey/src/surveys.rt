@@ -3,21 +3,19 @@
 ghost use Rattle.std.specs.Prelude.{◌≡◌, IfOk, IfErr};
 ghost use Rattle.hx_limits.specs.Settings.{AreSettings};
 ghost use Rattle.hx_pool.specs.Searches.{IsSearchEnd};
-ghost use Rattle.hx_solve.specs.Causes.{HasCause, LacksMemory};
+ghost use Rattle.hx_limits.specs.Causes.{HasCause, LacksMemory};
 ghost use Rattle.hx_openings.specs.Openings.{OpeningsAreSmall};
 ghost use Rattle.hx_survey.specs.Surveys.{IsSurvey, HasOpenings};
-ghost use Rattle.hx_survey.specs.Ends.{IsNoProof, SaysWanting};
 
 use crate::openings::Openings;
 use crate::readings::table_of;
 use crate::tables::Table;
 use hx_board::{Memory, Size};
+use hx_book::Book;
 use hx_io::Gate;
-use hx_limits::Settings;
+use hx_limits::{RanOut, Settings};
 use hx_openings::openings_small;
 use hx_pool::{Searched, run_all};
-use hx_solve::Unsolved;
-use hx_worker::Ended;
 use std::alloc::Global;
 use std::sync::Wait;
 use std::thread::Threads;
@@ -33,7 +31,7 @@ pub fn survey<G: Gate + Sync, R: Threads + Wait + Sync>(
     size: Size,
     settings: Settings,
     gate: &G,
-) -> Result<Table, Unsolved>
+) -> Result<Table, RanOut>
     requires { AreSettings settings }
     ensures size { IfOk result (λ table. table.size ≡ size) }
     ensures table { IfOk result (λ table. IsSurvey size table.cells_of_black) }
@@ -47,20 +45,15 @@ pub fn survey<G: Gate + Sync, R: Threads + Wait + Sync>(
     };
     let empties = size.all().count().saturating_sub(1);
     match run_all(rt, alloc, &openings, empties, &settings, gate) {
-        Ok(searched) => conclude(alloc, size, &settings, searched),
-        Err(Memory) => Err(Unsolved::Memory),
+        Ok(searched) => conclude(size, &settings, searched),
+        Err(Memory) => Err(RanOut::Memory),
     }
 }
 
 /// The table, read from the closed book, or what was wanting.
-fn conclude(
-    alloc: Global,
-    size: Size,
-    settings: &Settings,
-    searched: Searched,
-) -> Result<Table, Unsolved>
-    requires { IsSearchEnd (λ nodes index winner. HasOpenings nodes size) (Unit {0}) settings.now searched.book
-        searched.totals.granted searched.ended }
+fn conclude(size: Size, settings: &Settings, searched: Searched<Book, ()>) -> Result<Table, RanOut>
+    requires { IsSearchEnd (λ nodes found. HasOpenings nodes size) (Unit {0}) settings.now searched.book
+        searched.totals.granted searched.end }
     ensures size { IfOk result (λ table. table.size ≡ size) }
     ensures table { IfOk result (λ table. IsSurvey size table.cells_of_black) }
     ensures cause { IfErr result (HasCause settings.now) }
@@ -69,27 +62,14 @@ fn conclude(
     let Searched {
         book,
         totals: _,
-        ended,
+        end,
     } = searched;
-    match table_of(alloc, size, settings.budget, &book) {
-        Ok(Some(table)) => Ok(table),
-        Ok(None) => {
-            openings_small(size, settings.budget);
-            Err(wanting(ended))
-        }
-        Err(Memory) => Err(Unsolved::Memory),
+    if let Some(table) = table_of(size, settings.budget, &book) {
+        return Ok(table);
     }
-}
-
-/// What was wanting, by an end without a proof.
-fn wanting(ended: Ended) -> Unsolved
-    requires { IsNoProof ended }
-    ensures { SaysWanting ended result }
-{
-    match ended {
-        Ended::Proved { .. } => unreachable!(),
-        Ended::Memory => Unsolved::Memory,
-        Ended::NoSlots(refusal) => Unsolved::Slots(refusal),
-        Ended::Spent(refusal) => Unsolved::Budget(refusal),
+    openings_small(size, settings.budget);
+    match end {
+        Ok(()) => unreachable!(),
+        Err(why) => Err(why),
     }
 }

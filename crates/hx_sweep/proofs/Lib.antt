@@ -1,3 +1,4 @@
 pub mod WinCases
 pub mod NodeGrowth
 pub mod AnswerOrder
+pub mod SweepSizes

@@ -2,7 +2,10 @@
 #![tactic(auto)]
 
 mod nodes;
+mod small_positions;
 mod sweeps;
 mod winners;
 
+pub use small_positions::is_small;
 pub use sweeps::sweep;
+pub use winners::winner;

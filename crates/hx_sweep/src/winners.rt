@@ -11,9 +11,10 @@ ghost use Rattle.hx_sweep.specs.Tries.{IsRefuted, IsFirstWinningMove};
 
 use hx_board::{Cell, Colour, Position, chain};
 
-/// Who wins the position with this mover.
+/// Who wins the position with this mover, by trying all moves. It takes no memory, and as long as a full search. The position is as
+/// it was.
 #[cycle(winners)]
-pub(crate) fn winner(position: &mut Position, to_move: Colour) -> Colour
+pub fn winner(position: &mut Position, to_move: Colour) -> Colour
     ensures kept { position.new ≡ position.old }
     ensures wins { Wins result position.old to_move }
 {

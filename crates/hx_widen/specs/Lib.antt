@@ -1,3 +1,3 @@
-pub mod Missing
 pub mod Wide
+-- ---- words for the functions inside the crate alone
 pub mod Inner

@@ -5,25 +5,24 @@
 //! The functions have no struct as a worker's have: each needs others of the list of proofs, the position and the set of links,
 //! and what they promise is the one clause `grew`.
 
-ghost use Rattle.std.specs.Prelude.{◌≡◌, ℕ, true, IfSome, IfNone};
+ghost use Rattle.std.specs.Prelude.{◌≡◌, ℕ, true, IfOk, IfErr};
 ghost use Rattle.hx_board.specs.Colours.{other_of};
-ghost use Rattle.hx_board.specs.Positions.{IsEmpty, put};
-ghost use Rattle.hx_board.specs.Sets.{has, IsSubset};
+ghost use Rattle.hx_board.specs.Positions.{IsEmpty};
+ghost use Rattle.hx_board.specs.Sets.{has};
 ghost use Rattle.hx_fill.specs.Musts.{IsMust};
 ghost use Rattle.hx_fill.specs.Unders.{HasLineFor};
 ghost use Rattle.hx_book.specs.Sights.{Grows};
-ghost use Rattle.hx_nodes.specs.Stored.{MissingFor};
-ghost use Rattle.hx_widen.specs.Inner.{IsListedOrUnserved, EndsStores};
-ghost use Rattle.hx_widen.specs.Missing.{LacksServedAnswers};
-ghost use Rattle.hx_widen.specs.Wide.{IsTrueRefusal, IsStoredWide};
+ghost use Rattle.hx_limits.specs.Causes.{IsUnstored};
+ghost use Rattle.hx_widen.specs.Wide.{IsServedIf};
 
 use crate::known::{Known, store_known};
 use crate::lines::{lines_at, needed_by};
 use crate::widened::widened;
 use crate::wider::{end_of, store_wider};
-use hx_board::{CELLS, Cell, Colour, Mask, Memory, Position};
+use hx_board::{CELLS, Cell, Colour, Mask, Position};
 use hx_book::Proofs;
 use hx_fill::{Must, must_for, without_lines};
+use hx_limits::RanOut;
 use hx_linkset::LinkSet;
 use hx_nodes::{Stored, store_answers};
 use hx_tree::{Heading, Line, Lines, Node, Rule, Threats};
@@ -122,30 +121,27 @@ fn all_wide<P: Proofs, R: Wait>(
     proofs: &mut P,
     set: &LinkSet,
     found: &Must,
-) -> Option<Stored>
+) -> Result<(), RanOut>
     requires { IsMust set.now found.now.threats found.now.cells found.now.under }
     ensures grew { Grows (P.sight proofs.old) (P.sight proofs.new) }
-    ensures refusal { IfSome result
-        (IsTrueRefusal (P.sight proofs.new).list (P.sight proofs.new).slots) }
+    ensures stopped { IfErr result (IsUnstored (P.sight proofs.new).list (P.sight proofs.new).slots) }
 {
     if proofs.plain() {
-        return None;
+        return Ok(());
     }
     let alloc = set.allocator();
     let winner = set.colour();
     let Some(position) = position_for(rt, proofs, set, found) else {
-        return None;
+        return Ok(());
     };
     let (cells, under) = (found.cells, found.under.items());
     let mut known = Known::new(alloc);
     let Some(lines) = lines_at(
         rt, alloc, proofs, &mut known, &position, winner, cells, under,
     ) else {
-        return None;
+        return Ok(());
     };
-    let Ok(derived) = set.derivation(found.threats.items()) else {
-        return None;
-    };
+    let derived = set.derivation(found.threats.items())?;
     let heading = Heading {
         position,
         to_move: winner.other(),
@@ -156,11 +152,12 @@ fn all_wide<P: Proofs, R: Wait>(
         threats: Threats::new(derived.places),
         lines: Lines::new(lines),
     };
-    store_known(rt, alloc, proofs, &known, Node { heading, rule })
+    store_known(rt, alloc, proofs, &known, Node { heading, rule })?;
+    Ok(())
 }
 
 /// Stores an entry of each position after a move of the opponent's to one of these cells, where an entry that serves it names the
-/// winner. Some only where no slot is left for one, or memory is wanting.
+/// winner.
 fn store_each<P: Proofs, R: Wait>(
     rt: &R,
     alloc: Global,
@@ -168,74 +165,42 @@ fn store_each<P: Proofs, R: Wait>(
     position: &Position,
     winner: Colour,
     cells: Mask,
-) -> Option<Stored>
+) -> Result<(), RanOut>
     requires { (cell : ℕ) → has cells cell ≡ true → IsEmpty position.now cell }
     ensures grew { Grows (P.sight proofs.old) (P.sight proofs.new) }
-    ensures end { IfSome result (EndsStores (P.sight proofs.new).list (P.sight proofs.new).slots) }
-    ensures tried { IfNone result ((cell : ℕ) → has cells cell ≡ true →
-        IsListedOrUnserved P.is_plain (P.sight proofs.old).list (P.sight proofs.new).list
-        (put position.now (other_of winner) cell) winner) }
+    ensures stopped { IfErr result (IsUnstored (P.sight proofs.new).list (P.sight proofs.new).slots) }
 {
     let size = position.size();
     let mut left = cells;
     while let Some(cell) = left.least(size) {
         let next = position.with(winner.other(), cell);
-        if let Some(end) = store_next(rt, alloc, proofs, &next, winner) {
-            return Some(end);
-        }
+        store_wider(rt, alloc, proofs, &next, winner, winner)?;
         left = left.without(cell);
     }
-    None
-}
-
-/// Stores an entry of a position with the winner to move, where an entry that serves it names the winner. Some only where no slot is
-/// left for it, or memory is wanting.
-fn store_next<P: Proofs, R: Wait>(
-    rt: &R,
-    alloc: Global,
-    proofs: &mut P,
-    next: &Position,
-    winner: Colour,
-) -> Option<Stored>
-    ensures grew { Grows (P.sight proofs.old) (P.sight proofs.new) }
-    ensures end { IfSome result (EndsStores (P.sight proofs.new).list (P.sight proofs.new).slots) }
-    ensures tried { IfNone result
-        (IsListedOrUnserved P.is_plain (P.sight proofs.old).list (P.sight proofs.new).list next.now winner) }
-{
-    match store_wider(rt, alloc, proofs, next, winner, winner) {
-        Stored::Refused(refusal) => Some(Stored::Refused(refusal)),
-        Stored::Memory => Some(Stored::Memory),
-        Stored::Done | Stored::Missing => None,
-    }
+    Ok(())
 }
 
 /// Stores that a set's player wins with the opponent to move, where entries say so of the positions after the moves that have to be
-/// tried: a proof that serves the position, or one of the position itself. Missing only where the board is full, or after one of the
-/// moves that are to be tried no entry was seen to say so, or one of the position itself names the opponent.
+/// tried: a proof that serves the position, or one of the position itself. It is Missing where the board is full, or after one of the
+/// moves that are to be tried no entry says so, or one of the position itself names the opponent.
 pub fn widen_all<P: Proofs, R: Wait>(
     rt: &R,
     proofs: &mut P,
     set: &LinkSet,
     order: &[Cell],
-) -> Stored
+) -> Result<Stored, RanOut>
     ensures grew { Grows (P.sight proofs.old) (P.sight proofs.new) }
-    ensures stored { IsStoredWide P.is_plain (P.sight proofs.new).list (P.sight proofs.new).slots
-        set.now.present.board (other_of set.now.player) result }
-    ensures missing { MissingFor (LacksServedAnswers P.is_plain (P.sight proofs.old).list
-        (P.sight proofs.new).list set.now order.now) result }
+    ensures served { IfOk result (IsServedIf P.is_plain (P.sight proofs.new).list set.now.present.board (other_of set.now.player)) }
+    ensures stopped { IfErr result (IsUnstored (P.sight proofs.new).list (P.sight proofs.new).slots) }
 {
-    let Ok(found) = must_for(set, order, proofs.plain()) else {
-        return Stored::Memory;
-    };
+    let found = must_for(set, order, proofs.plain())?;
     let tried = all_wide(rt, proofs, set, &found);
     let to_move = set.colour().other();
-    if let Some(stored) = end_of(rt, proofs, set.position(), to_move, tried) {
-        return stored;
+    if let Stored::Done = end_of(rt, proofs, set.position(), to_move, tried)? {
+        return Ok(Stored::Done);
     }
     let alloc = set.allocator();
     let cells = without_lines(found.cells, found.under.items());
-    if let Some(stored) = store_each(rt, alloc, proofs, set.position(), set.colour(), cells) {
-        return stored;
-    }
+    store_each(rt, alloc, proofs, set.position(), set.colour(), cells)?;
     store_answers(rt, proofs, set, found)
 }

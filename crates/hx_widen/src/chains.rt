@@ -1,15 +1,17 @@
 //! Proofs by a chain, which needs no empty cell.
 
-ghost use Rattle.std.specs.Prelude.{IfSome};
+ghost use Rattle.std.specs.Prelude.{IfOk, IfErr};
 ghost use Rattle.hx_board.specs.Graph.{HasChain};
 ghost use Rattle.hx_book.specs.Sights.{Grows};
-ghost use Rattle.hx_nodes.specs.Stored.{IsAnswered, HadMemory};
-ghost use Rattle.hx_widen.specs.Wide.{IsTrueRefusal, IsStoredWide};
+ghost use Rattle.hx_limits.specs.Causes.{IsUnstored};
+ghost use Rattle.hx_nodes.specs.Stored.{HadMemory};
+ghost use Rattle.hx_widen.specs.Wide.{IsServed};
 
 use crate::widened::widened;
 use crate::wider::end_of;
 use hx_board::{Colour, Mask, Position, chain};
 use hx_book::Proofs;
+use hx_limits::RanOut;
 use hx_nodes::{Stored, store_chain};
 use std::sync::Wait;
 
@@ -20,22 +22,21 @@ fn chain_wide<P: Proofs, R: Wait>(
     position: &Position,
     to_move: Colour,
     winner: Colour,
-) -> Option<Stored>
+) -> Result<(), RanOut>
     ensures grew { Grows (P.sight proofs.old) (P.sight proofs.new) }
-    ensures refusal { IfSome result
-        (IsTrueRefusal (P.sight proofs.new).list (P.sight proofs.new).slots) }
+    ensures stopped { IfErr result (IsUnstored (P.sight proofs.new).list (P.sight proofs.new).slots) }
 {
     if proofs.plain() {
-        return None;
+        return Ok(());
     }
     let Some(wide) = widened(position, winner, Mask::empty()) else {
-        return None;
+        return Ok(());
     };
     let has_chain = chain(&wide, winner);
     if !has_chain {
-        return None;
+        return Ok(());
     }
-    Some(store_chain(rt, proofs, &wide, to_move, winner))
+    store_chain(rt, proofs, &wide, to_move, winner)
 }
 
 /// Stores that a player wins by a chain: a proof that serves the position, or one of the position itself.
@@ -45,17 +46,16 @@ pub fn widen_chain<P: Proofs, R: Wait>(
     position: &Position,
     to_move: Colour,
     winner: Colour,
-) -> Stored
+) -> Result<(), RanOut>
     requires { HasChain position.now winner }
     ensures grew { Grows (P.sight proofs.old) (P.sight proofs.new) }
-    ensures stored { IsStoredWide P.is_plain (P.sight proofs.new).list (P.sight proofs.new).slots
-        position.now to_move result }
-    ensures answered { IsAnswered result }
-    ensures memory { HadMemory result }
+    ensures served { IfOk result (λ _. IsServed P.is_plain (P.sight proofs.new).list position.now to_move) }
+    ensures stopped { IfErr result (IsUnstored (P.sight proofs.new).list (P.sight proofs.new).slots) }
+    ensures memory { IfErr result HadMemory }
 {
     let tried = chain_wide(rt, proofs, position, to_move, winner);
-    if let Some(stored) = end_of(rt, proofs, position, to_move, tried) {
-        return stored;
+    if let Stored::Done = end_of(rt, proofs, position, to_move, tried)? {
+        return Ok(());
     }
     store_chain(rt, proofs, position, to_move, winner)
 }

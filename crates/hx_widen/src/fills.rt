@@ -1,14 +1,13 @@
 //! Proofs by what fill-in leaves, which need the cells that were filled for the winner, and what the proof after it needs. The
 //! opponent's stones of fill-in stay.
 
-ghost use Rattle.std.specs.Prelude.{IfSome};
+ghost use Rattle.std.specs.Prelude.{IfOk, IfErr};
 ghost use Rattle.hx_board.specs.Positions.{Board};
 ghost use Rattle.hx_fill.specs.Fills.{IsFillIn};
 ghost use Rattle.hx_book.specs.WiderEntry.{IsWiderFound};
 ghost use Rattle.hx_book.specs.Sights.{Grows};
-ghost use Rattle.hx_nodes.specs.Stored.{MissingFor};
-ghost use Rattle.hx_widen.specs.Missing.{LacksServedFill};
-ghost use Rattle.hx_widen.specs.Wide.{IsTrueRefusal, IsStoredWide};
+ghost use Rattle.hx_limits.specs.Causes.{IsUnstored};
+ghost use Rattle.hx_widen.specs.Wide.{IsServedIf};
 
 use crate::widened::lifted;
 use crate::wider::{end_of, fill_missing, fill_to, look_wider_either};
@@ -16,6 +15,7 @@ use hx_board::{Colour, Mask, Memory, Position};
 use hx_book::{Proofs, Wider};
 use hx_fill::{Fill, Filled};
 use hx_inferior::FillStep;
+use hx_limits::RanOut;
 use hx_nodes::{Stored, store_fill};
 use hx_tree::FillSteps;
 use std::alloc::Global;
@@ -57,33 +57,31 @@ fn fill_wide<P: Proofs, R: Wait>(
     to_move: Colour,
     fills: &[Fill],
     wider: &Wider,
-) -> Option<Stored>
+) -> Result<(), RanOut>
     requires { (board : Board)
         × IsWiderFound P.is_plain (P.sight proofs.old).list board to_move wider.now.found.winner wider.now }
     ensures grew { Grows (P.sight proofs.old) (P.sight proofs.new) }
-    ensures refusal { IfSome result
-        (IsTrueRefusal (P.sight proofs.new).list (P.sight proofs.new).slots) }
+    ensures stopped { IfErr result (IsUnstored (P.sight proofs.new).list (P.sight proofs.new).slots) }
 {
     if proofs.plain() {
-        return None;
+        return Ok(());
     }
     let winner = wider.found.winner;
-    let Ok(steps) = own_steps(alloc, fills, winner) else {
-        return None;
-    };
+    let steps = own_steps(alloc, fills, winner)?;
     if steps.is_empty() {
-        return None;
+        return Ok(());
     }
     let Some(wide) = lifted(&wider.position, winner, all_cells(steps.as_slice())) else {
-        return None;
+        return Ok(());
     };
     let steps = FillSteps::new(steps);
-    fill_to(rt, alloc, proofs, &wide, wider, to_move, steps)
+    fill_to(rt, alloc, proofs, &wide, wider, to_move, steps)?;
+    Ok(())
 }
 
 /// Stores who wins a position, where an entry that serves the position after fill-in says who wins that: a proof that serves the
-/// position, or one of the position itself. Missing only where no entry was seen to serve the filled position, where nothing was
-/// filled, or where the list is plain.
+/// position, or one of the position itself. It is Missing where no entry serves the filled position, where nothing was filled, or
+/// where the list is plain.
 pub fn widen_fill<P: Proofs, R: Wait>(
     rt: &R,
     alloc: Global,
@@ -91,26 +89,20 @@ pub fn widen_fill<P: Proofs, R: Wait>(
     position: &Position,
     to_move: Colour,
     filled: &Filled,
-) -> Stored
+) -> Result<Stored, RanOut>
     requires { IsFillIn position.now filled.now.steps.items filled.now.position }
     ensures grew { Grows (P.sight proofs.old) (P.sight proofs.new) }
-    ensures stored { IsStoredWide P.is_plain (P.sight proofs.new).list (P.sight proofs.new).slots
-        position.now to_move result }
-    ensures missing { MissingFor (LacksServedFill P.is_plain (P.sight proofs.old).list
-        (P.sight proofs.new).list filled.now.steps.items filled.now.position to_move) result }
+    ensures served { IfOk result (IsServedIf P.is_plain (P.sight proofs.new).list position.now to_move) }
+    ensures stopped { IfErr result (IsUnstored (P.sight proofs.new).list (P.sight proofs.new).slots) }
 {
     let Some(wider) = look_wider_either(rt, proofs, &filled.position, to_move) else {
-        return Stored::Missing;
+        return Ok(Stored::Missing);
     };
     let fills = filled.steps.as_slice();
     let tried = fill_wide(rt, alloc, proofs, to_move, fills, &wider);
-    if let Some(stored) = end_of(rt, proofs, position, to_move, tried) {
-        return stored;
+    if let Stored::Done = end_of(rt, proofs, position, to_move, tried)? {
+        return Ok(Stored::Done);
     }
-    match fill_missing(rt, alloc, proofs, &filled.position, &wider, to_move) {
-        Stored::Done => store_fill(rt, alloc, proofs, position, to_move, filled),
-        Stored::Refused(refusal) => Stored::Refused(refusal),
-        Stored::Memory => Stored::Memory,
-        Stored::Missing => unreachable!(),
-    }
+    fill_missing(rt, alloc, proofs, &filled.position, &wider, to_move)?;
+    store_fill(rt, alloc, proofs, position, to_move, filled)
 }

@@ -3,17 +3,18 @@
 //! What a node at a widened position needs is a guess. So such a node names its children by their places in a short list of
 //! entries, is judged by the checker over their headings, and is stored only where the checker says that it is right.
 
-ghost use Rattle.std.specs.Prelude.{◌≡◌, false, List, [], slice_get, OnOk, OnErr, IfOk, IfSome, IfNone};
+ghost use Rattle.std.specs.Prelude.{◌≡◌, false, List, [], slice_get, OnOk, OnErr, IfOk, IfErr};
 ghost use Rattle.std.specs.declared.option.Option.TheVariants.{Some};
 ghost use Rattle.hx_tree.specs.declared.nodes.Node.{Node as Proof};
 ghost use Rattle.hx_tree.specs.Rules.{IsRightNode};
 ghost use Rattle.hx_tree.specs.Trees.{headings_of};
 ghost use Rattle.hx_book.specs.Sights.{Grows};
-ghost use Rattle.hx_nodes.specs.Stored.{TellsStored, IsAnswered};
+ghost use Rattle.hx_nodes.specs.Stored.{IsStored, IsNotStored, MissingFor};
 ghost use Rattle.hx_widen.specs.Inner.{AreKnown};
 
 use hx_board::Memory;
 use hx_book::{Proofs, renamed};
+use hx_limits::RanOut;
 use hx_nodes::{Stored, store};
 use hx_tree::{Heading, Node, check_node};
 use std::alloc::Global;
@@ -61,7 +62,7 @@ impl Known {
     }
 }
 
-/// Stores a node in a list that is not plain, where the checker says that it is right after the known entries. None only where it is
+/// Stores a node in a list that is not plain, where the checker says that it is right after the known entries. Missing only where it is
 /// not.
 pub(crate) fn store_known<P: Proofs, R: Wait>(
     rt: &R,
@@ -69,22 +70,22 @@ pub(crate) fn store_known<P: Proofs, R: Wait>(
     proofs: &mut P,
     known: &Known,
     node: Node,
-) -> Option<Stored>
+) -> Result<Stored, RanOut>
     requires known { AreKnown (P.sight proofs.old).list known.now.headings.items
         known.now.places.items }
     requires ordinary { P.is_plain ≡ false }
     ensures grew { Grows (P.sight proofs.old) (P.sight proofs.new) }
-    ensures stored { IfSome result (TellsStored (P.sight proofs.new).list (P.sight proofs.new).slots
+    ensures stored { IfOk result (IsStored (P.sight proofs.new).list node.heading.position
+        node.heading.to_move) }
+    ensures stopped { IfErr result (IsNotStored (P.sight proofs.new).list (P.sight proofs.new).slots
         node.heading.position node.heading.to_move) }
-    ensures answered { IfSome result IsAnswered }
-    ensures wrong { IfNone result (¬ IsRightNode known.now.headings.items node) }
+    ensures wrong { IfOk result (MissingFor (¬ IsRightNode known.now.headings.items node)) }
 {
-    match check_node(alloc, known.headings.as_slice(), &node) {
-        Ok(true) => {
-            let named = renamed(node, known.places.as_slice());
-            Some(store(rt, proofs, named))
-        }
-        Ok(false) => None,
-        Err(Memory) => Some(Stored::Memory),
+    let is_right = check_node(alloc, known.headings.as_slice(), &node)?;
+    if !is_right {
+        return Ok(Stored::Missing);
     }
+    let named = renamed(node, known.places.as_slice());
+    store(rt, proofs, named)?;
+    Ok(Stored::Done)
 }

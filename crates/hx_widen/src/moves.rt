@@ -1,16 +1,16 @@
 //! Proofs by a move, which need the move's cell and what the proof after it needs.
 
-ghost use Rattle.std.specs.Prelude.{IfSome};
+ghost use Rattle.std.specs.Prelude.{IfOk, IfErr};
 ghost use Rattle.hx_board.specs.Positions.{IsEmpty};
 ghost use Rattle.hx_book.specs.Sights.{Grows};
-ghost use Rattle.hx_widen.specs.Missing.{LacksServedMove};
-ghost use Rattle.hx_nodes.specs.Stored.{MissingFor};
-ghost use Rattle.hx_widen.specs.Wide.{IsTrueRefusal, IsStoredWide};
+ghost use Rattle.hx_limits.specs.Causes.{IsUnstored};
+ghost use Rattle.hx_widen.specs.Wide.{IsServedIf};
 
 use crate::widened::lifted;
 use crate::wider::{end_of, store_wider};
 use hx_board::{Cell, Colour, Mask, Position};
 use hx_book::Proofs;
+use hx_limits::RanOut;
 use hx_nodes::{Stored, store_move};
 use std::alloc::Global;
 use std::sync::Wait;
@@ -22,31 +22,31 @@ fn move_wide<P: Proofs, R: Wait>(
     next: &Position,
     to_move: Colour,
     cell: Cell,
-) -> Option<Stored>
+) -> Result<(), RanOut>
     ensures grew { Grows (P.sight proofs.old) (P.sight proofs.new) }
-    ensures refusal { IfSome result
-        (IsTrueRefusal (P.sight proofs.new).list (P.sight proofs.new).slots) }
+    ensures stopped { IfErr result (IsUnstored (P.sight proofs.new).list (P.sight proofs.new).slots) }
 {
     if proofs.plain() {
-        return None;
+        return Ok(());
     }
     let Some(wider) = proofs.look_wider(rt, next, to_move.other(), to_move) else {
-        return None;
+        return Ok(());
     };
     let moved = Mask::empty().with(cell);
     let Some(wide) = lifted(&wider.position, to_move, moved) else {
-        return None;
+        return Ok(());
     };
     let is_empty = wide.empties().has(cell);
     if !is_empty {
-        return None;
+        return Ok(());
     }
-    Some(store_move(rt, proofs, &wide, to_move, cell))
+    store_move(rt, proofs, &wide, to_move, cell)?;
+    Ok(())
 }
 
 /// Stores that the player to move wins by a move to the cell, where an entry that serves the position after it says so: a proof
-/// that serves the position, or one of the position itself. Missing only where no entry that says so was seen to serve the
-/// position after the move, or an entry of that position names the opponent.
+/// that serves the position, or one of the position itself. It is Missing where no entry that says so serves the position after the
+/// move, or an entry of that position names the opponent.
 pub fn widen_move<P: Proofs, R: Wait>(
     rt: &R,
     alloc: Global,
@@ -54,24 +54,19 @@ pub fn widen_move<P: Proofs, R: Wait>(
     position: &Position,
     to_move: Colour,
     cell: Cell,
-) -> Stored
+) -> Result<Stored, RanOut>
     requires { IsEmpty position.now cell }
     ensures grew { Grows (P.sight proofs.old) (P.sight proofs.new) }
-    ensures stored { IsStoredWide P.is_plain (P.sight proofs.new).list (P.sight proofs.new).slots
-        position.now to_move result }
-    ensures missing { MissingFor (LacksServedMove P.is_plain (P.sight proofs.old).list
-        (P.sight proofs.new).list position.now to_move cell) result }
+    ensures served { IfOk result (IsServedIf P.is_plain (P.sight proofs.new).list position.now to_move) }
+    ensures stopped { IfErr result (IsUnstored (P.sight proofs.new).list (P.sight proofs.new).slots) }
 {
     let next = position.with(to_move, cell);
     let tried = move_wide(rt, proofs, &next, to_move, cell);
-    if let Some(stored) = end_of(rt, proofs, position, to_move, tried) {
-        return stored;
+    if let Stored::Done = end_of(rt, proofs, position, to_move, tried)? {
+        return Ok(Stored::Done);
     }
-    // Each answer has a clause of its own, so each is taken apart for the proof.
-    match store_wider(rt, alloc, proofs, &next, to_move.other(), to_move) {
+    match store_wider(rt, alloc, proofs, &next, to_move.other(), to_move)? {
         Stored::Done => store_move(rt, proofs, position, to_move, cell),
-        Stored::Refused(refusal) => Stored::Refused(refusal),
-        Stored::Missing => Stored::Missing,
-        Stored::Memory => Stored::Memory,
+        Stored::Missing => Ok(Stored::Missing),
     }
 }

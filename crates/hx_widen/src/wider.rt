@@ -1,28 +1,28 @@
 //! Entries of wider positions: of one that a proof serves, whether any does, and a node of its own for it.
 
-ghost use Rattle.std.specs.Prelude.{◌≡◌, ◌≢◌, ℕ, true, false, [], IfSome, IfNone, IfOk};
+ghost use Rattle.std.specs.Prelude.{◌≡◌, ◌≢◌, ℕ, true, false, [], IfSome, IfOk, IfErr};
 ghost use Rattle.hx_board.specs.Colours.{other_of};
 ghost use Rattle.hx_board.specs.Sets.{has};
 ghost use Rattle.hx_board.specs.Positions.{Board, IsEmpty};
 ghost use Rattle.hx_tree.specs.Fills.{LeadTo};
 ghost use Rattle.hx_book.specs.WiderEntry.{IsWiderFound};
 ghost use Rattle.hx_book.specs.Sights.{Grows};
-ghost use Rattle.hx_widen.specs.Missing.{WasUnserved, WasUnservedByEach};
-ghost use Rattle.hx_nodes.specs.Stored.{TellsStored, IsAnswered, MissingFor, HadMemory};
+ghost use Rattle.hx_limits.specs.Causes.{IsUnstored};
+ghost use Rattle.hx_nodes.specs.Stored.{HasEntry, IsStored, IsNotStored, MissingFor, HadMemory};
 ghost use Rattle.hx_widen.specs.Inner.{put_set};
-ghost use Rattle.hx_widen.specs.Wide.{IsTrueRefusal, IsStoredWide};
+ghost use Rattle.hx_widen.specs.Wide.{IsServedIf};
 
 use crate::known::{Known, store_known};
 use hx_board::{Colour, Mask, Memory, Position};
 use hx_book::{Proofs, Wider};
 use hx_inferior::FillStep;
+use hx_limits::RanOut;
 use hx_nodes::Stored;
 use hx_tree::{FillSteps, Heading, Node, Rule};
 use std::alloc::Global;
 use std::sync::Wait;
 
-/// An entry that serves the position, whoever wins by it. None only where, for each player, no entry of that winner served it when
-/// it was looked for: the two looks are one after the other.
+/// An entry that serves the position, whoever wins by it. One for each winner is looked for, one after the other.
 pub fn look_wider_either<P: Proofs, R: Wait>(
     rt: &R,
     proofs: &mut P,
@@ -32,9 +32,6 @@ pub fn look_wider_either<P: Proofs, R: Wait>(
     ensures grew { Grows (P.sight proofs.old) (P.sight proofs.new) }
     ensures found { IfSome result (λ wider.
         IsWiderFound P.is_plain (P.sight proofs.new).list position.now to_move wider.found.winner wider) }
-    ensures none { IfNone result
-        (WasUnservedByEach P.is_plain (P.sight proofs.old).list (P.sight proofs.new).list
-        position.now to_move) }
 {
     if let Some(wider) = proofs.look_wider(rt, position, to_move, to_move) {
         return Some(wider);
@@ -46,32 +43,41 @@ pub fn look_wider_either<P: Proofs, R: Wait>(
     }
 }
 
-/// The end of a try to store a proof at a widened position: a refusal, or Done where the position is served now. None only where
-/// no entry was seen to serve it.
+/// Done where an entry serves the position, and else Missing.
+pub(crate) fn served<P: Proofs, R: Wait>(
+    rt: &R,
+    proofs: &mut P,
+    position: &Position,
+    to_move: Colour,
+) -> Stored
+    ensures grew { Grows (P.sight proofs.old) (P.sight proofs.new) }
+    ensures served { IsServedIf P.is_plain (P.sight proofs.new).list position.now to_move result }
+{
+    match look_wider_either(rt, proofs, position, to_move) {
+        Some(_wider) => Stored::Done,
+        None => Stored::Missing,
+    }
+}
+
+/// The end of a try to store a proof at a widened position: Done where the position is served now, and else Missing. Where memory ran
+/// out there, a proof of the position itself may still find some.
 pub(crate) fn end_of<P: Proofs, R: Wait>(
     rt: &R,
     proofs: &mut P,
     position: &Position,
     to_move: Colour,
-    tried: Option<Stored>,
-) -> Option<Stored>
-    requires { IfSome tried (IsTrueRefusal (P.sight proofs.old).list (P.sight proofs.old).slots) }
+    tried: Result<(), RanOut>,
+) -> Result<Stored, RanOut>
+    requires { IfErr tried (IsUnstored (P.sight proofs.old).list (P.sight proofs.old).slots) }
     ensures grew { Grows (P.sight proofs.old) (P.sight proofs.new) }
-    ensures stored { IfSome result
-        (IsStoredWide P.is_plain (P.sight proofs.new).list (P.sight proofs.new).slots position.now to_move) }
-    ensures answered { IfSome result IsAnswered }
-    ensures memory { IfSome result HadMemory }
-    ensures none { IfNone result
-        (WasUnservedByEach P.is_plain (P.sight proofs.old).list (P.sight proofs.new).list
-        position.now to_move) }
+    ensures served { IfOk result (IsServedIf P.is_plain (P.sight proofs.new).list position.now to_move) }
+    ensures stopped { IfErr result (IsUnstored (P.sight proofs.new).list (P.sight proofs.new).slots) }
+    ensures memory { IfErr result HadMemory }
 {
-    if let Some(Stored::Refused(refusal)) = tried {
-        return Some(Stored::Refused(refusal));
+    if let Err(RanOut::Slots(refusal)) = tried {
+        return Err(RanOut::Slots(refusal));
     }
-    match look_wider_either(rt, proofs, position, to_move) {
-        Some(_wider) => Some(Stored::Done),
-        None => None,
-    }
+    Ok(served(rt, proofs, position, to_move))
 }
 
 /// Steps that put the opponent's stones on these cells.
@@ -100,7 +106,7 @@ fn others_on(
 }
 
 /// Stores that a player wins a position, where an entry that serves it says so: by a node that fills in each missing stone of the
-/// opponent's. Missing only where no entry of this winner was seen to serve it.
+/// opponent's. It is Missing where no entry of this winner serves it.
 pub fn store_wider<P: Proofs, R: Wait>(
     rt: &R,
     alloc: Global,
@@ -108,20 +114,20 @@ pub fn store_wider<P: Proofs, R: Wait>(
     position: &Position,
     to_move: Colour,
     winner: Colour,
-) -> Stored
+) -> Result<Stored, RanOut>
     ensures grew { Grows (P.sight proofs.old) (P.sight proofs.new) }
-    ensures stored { TellsStored (P.sight proofs.new).list (P.sight proofs.new).slots
-        position.now to_move result }
-    ensures missing { MissingFor (WasUnserved P.is_plain (P.sight proofs.old).list (P.sight proofs.new).list
-        position.now to_move winner) result }
+    ensures stored { IfOk result (IsStored (P.sight proofs.new).list position.now to_move) }
+    ensures stopped { IfErr result (IsNotStored (P.sight proofs.new).list (P.sight proofs.new).slots
+        position.now to_move) }
 {
     if let Some(_found) = proofs.look(rt, position, to_move) {
-        return Stored::Done;
+        return Ok(Stored::Done);
     }
-    match proofs.look_wider(rt, position, to_move, winner) {
-        Some(wider) => fill_missing(rt, alloc, proofs, position, &wider, to_move),
-        None => Stored::Missing,
-    }
+    let Some(wider) = proofs.look_wider(rt, position, to_move, winner) else {
+        return Ok(Stored::Missing);
+    };
+    fill_missing(rt, alloc, proofs, position, &wider, to_move)?;
+    Ok(Stored::Done)
 }
 
 /// Stores that the winner of an entry that serves a position wins it, by a node that fills in each missing stone of the opponent's.
@@ -132,36 +138,34 @@ pub(crate) fn fill_missing<P: Proofs, R: Wait>(
     position: &Position,
     wider: &Wider,
     to_move: Colour,
-) -> Stored
+) -> Result<(), RanOut>
     requires { IsWiderFound P.is_plain (P.sight proofs.old).list position.now to_move
         wider.now.found.winner wider.now }
     ensures grew { Grows (P.sight proofs.old) (P.sight proofs.new) }
-    ensures stored { TellsStored (P.sight proofs.new).list (P.sight proofs.new).slots
-        position.now to_move result }
-    ensures answered { IsAnswered result }
+    ensures stored { IfOk result (λ _. HasEntry (P.sight proofs.new).list position.now to_move) }
+    ensures stopped { IfErr result (IsNotStored (P.sight proofs.new).list (P.sight proofs.new).slots
+        position.now to_move) }
 {
     if proofs.plain() {
         // The entry is of the position itself.
-        return Stored::Done;
+        return Ok(());
     }
     // The proof takes from here that the board of the entry's position is one.
     let _size = wider.position.size();
     let missing = position.empties().minus(wider.position.empties());
-    let Ok(steps) = others_on(alloc, position, wider.found.winner, missing) else {
-        return Stored::Memory;
-    };
+    let steps = others_on(alloc, position, wider.found.winner, missing)?;
     if steps.is_empty() {
         // The entry is of the position itself. Who else writes to the book has stored it since it was looked for.
-        return Stored::Done;
+        return Ok(());
     }
     let steps = FillSteps::new(steps);
-    match fill_to(rt, alloc, proofs, position, wider, to_move, steps) {
-        Some(stored) => stored,
-        None => unreachable!(),
+    match fill_to(rt, alloc, proofs, position, wider, to_move, steps)? {
+        Stored::Done => Ok(()),
+        Stored::Missing => unreachable!(),
     }
 }
 
-/// Stores that the winner of an entry wins a position by these steps to the entry's. None only where they do not lead there.
+/// Stores that the winner of an entry wins a position by these steps to the entry's. Missing only where they do not lead there.
 pub(crate) fn fill_to<P: Proofs, R: Wait>(
     rt: &R,
     alloc: Global,
@@ -170,17 +174,17 @@ pub(crate) fn fill_to<P: Proofs, R: Wait>(
     wider: &Wider,
     to_move: Colour,
     steps: FillSteps,
-) -> Option<Stored>
+) -> Result<Stored, RanOut>
     requires found { (board : Board)
         × IsWiderFound P.is_plain (P.sight proofs.old).list board to_move wider.now.found.winner wider.now }
     requires some { steps ≢ [] }
     requires ordinary { P.is_plain ≡ false }
     ensures grew { Grows (P.sight proofs.old) (P.sight proofs.new) }
-    ensures stored { IfSome result
-        (TellsStored (P.sight proofs.new).list (P.sight proofs.new).slots position.now to_move) }
-    ensures answered { IfSome result IsAnswered }
-    ensures wrong { IfNone result
-        (¬ LeadTo position.now wider.now.found.winner steps wider.now.position) }
+    ensures stored { IfOk result (IsStored (P.sight proofs.new).list position.now to_move) }
+    ensures stopped { IfErr result (IsNotStored (P.sight proofs.new).list (P.sight proofs.new).slots
+        position.now to_move) }
+    ensures wrong { IfOk result
+        (MissingFor (¬ LeadTo position.now wider.now.found.winner steps wider.now.position)) }
 {
     // The proof takes from here that the position's board is one.
     let _size = position.size();
@@ -191,9 +195,7 @@ pub(crate) fn fill_to<P: Proofs, R: Wait>(
         to_move,
         winner,
     };
-    let Ok(child) = known.add(there, wider.found.index) else {
-        return Some(Stored::Memory);
-    };
+    let child = known.add(there, wider.found.index)?;
     let heading = Heading {
         position: *position,
         to_move,

@@ -1,10 +1,11 @@
 -- How a worker's work ends.
-use Rattle.std.specs.Prelude.{◌≡◌, ℕ, Bool, true, false, List, length, ◌⊎◌}
+use Rattle.std.specs.Prelude.{◌≡◌, ℕ, Bool, true, false, List, length, ◌⊎◌, Result, Ok, Err}
 use Rattle.hx_board.specs.declared.colours.Colour.{Colour}
 use Rattle.hx_board.specs.Positions.{Board}
 use Rattle.hx_board.specs.Graph.{HasNoChain}
 use Rattle.hx_tree.specs.declared.nodes.Node.{Node}
 use Rattle.hx_tree.specs.Entries.{IsFirstFound}
+use Rattle.hx_tree.specs.declared.entries.Found.{Found}
 use Rattle.hx_turn.specs.Turned.{IsTurned}
 use Rattle.hx_book.specs.EitherEntry.{WasMissed}
 use Rattle.hx_linkset.specs.States.{Standing}
@@ -12,10 +13,11 @@ use Rattle.hx_linkset.specs.declared.limits.TheConstants.{MOST_LINKS}
 use Rattle.hx_count.specs.Seats.{Seat}
 use Rattle.hx_search.specs.Closed.{IsClosed}
 use Rattle.hx_linkset.specs.LiveOf.{Decides}
-use Rattle.hx_nodes.specs.Stored.{IsOutOfSlots}
+use Rattle.hx_limits.specs.declared.ran_out.RanOut.{RanOut}
+use Rattle.hx_limits.specs.declared.ran_out.RanOut.TheVariants.{Budget, Slots, Memory as NoMemory}
+use Rattle.hx_limits.specs.Causes.{IsOutOfSlots, IsSpent}
 use Rattle.hx_worker.specs.declared.ended.Ended.{Ended}
 use Rattle.hx_worker.specs.declared.ended.Ended.TheVariants.{Proved, Spent, NoSlots, Memory}
-use Rattle.hx_worker.specs.Keeps.{IsSpent}
 
 -- what an end says of the list of proofs and the seat, where the work was on this position and mover
 abbrev pub IsEnded : List Node → ℕ → Seat → Board → Colour → Ended → Type 0
@@ -24,6 +26,20 @@ IsEnded list slots seat board mover (Proved index winner) =
 IsEnded list slots seat board mover (Spent taken) = IsSpent seat taken
 IsEnded list slots seat board mover (NoSlots refusal) = IsOutOfSlots list slots refusal
 IsEnded list slots seat board mover Memory = Unit {0}
+
+-- the entry that was found, or what ran out, by the end of the work
+abbrev pub found_of : Ended → Result Found RanOut
+found_of (Proved index winner) = Ok (record { index = index; winner = winner })
+found_of (Spent taken) = Err (Budget taken)
+found_of (NoSlots refusal) = Err (Slots refusal)
+found_of Memory = Err NoMemory
+
+-- the end of the work, by the entry that was found or what ran out
+abbrev pub ended_of : Result Found RanOut → Ended
+ended_of (Ok found) = Proved found.index found.winner
+ended_of (Err (Budget taken)) = Spent taken
+ended_of (Err (Slots refusal)) = NoSlots refusal
+ended_of (Err NoMemory) = Memory
 
 -- the work ended for want of a unit
 abbrev pub EndsSpent : Ended → Type 0

@@ -1,14 +1,6 @@
--- What a worker's seat and its sets of links are after its calls.
-use Rattle.std.specs.Prelude.{◌≡◌, ℕ, true}
-use Rattle.hx_count.specs.Seats.{Seat, own}
+-- What a set of links is after the calls of a search: words for the functions inside the crate alone.
+use Rattle.std.specs.Prelude.{◌≡◌}
 use Rattle.hx_linkset.specs.States.{Standing}
-
--- the seat's worker was refused a unit, and the refusal carries the budget
-pub record IsSpent (seat : Seat) (taken : ℕ) : Type 0 where
-  pub refused : (own seat).refused ≡ true
-  pub budget : taken ≡ seat.made.limits.budget
-
--- ---- words for the functions inside the crate alone
 
 -- links may have come; the player, the board and the plays that stand are as before
 pub record StandsAgain (old new : Standing) : Type 0 where

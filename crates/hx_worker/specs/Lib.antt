@@ -1,6 +1,6 @@
 pub mod Keeps
 pub mod Sets
 pub mod Ends
+pub mod Jobs
 -- ---- words for the functions inside the crate alone
-pub mod Outcomes
 pub mod Searches

@@ -7,10 +7,10 @@ use Rattle.hx_count.specs.Machine.{held_in_all}
 use Rattle.hx_count.specs.Seats.{own as own_account}
 use Rattle.hx_ordering.specs.declared.losses.TheConstants.{LOSS_WORDS}
 use Rattle.hx_count.specs.Seats.{KeepsSeat}
-use Rattle.hx_worker.specs.declared.outcomes.Outcome.{Outcome}
 use Rattle.hx_worker.specs.declared.searches.Search.{Search}
 use Rattle.hx_worker.specs.Keeps.{StandsAgain}
-use Rattle.hx_worker.specs.Outcomes.{IsOutcome}
+use Rattle.hx_limits.specs.declared.ran_out.RanOut.{RanOut}
+use Rattle.hx_limits.specs.Causes.{IsStopped}
 
 module _ {P G R W : Type 0} where
   -- the proofs only grow, the seat holds what it held, and both sets stand as they stood; the first argument is a
@@ -30,7 +30,7 @@ module _ {P G R W : Type 0} where
     pub words : search.worker.now.counts.now.limits.words ≡ LOSS_WORDS
     pub room : held_in_all (own_account search.seat.now) + count < MOST_HELD
 
-  -- what the answer of a turn says of the search
-  abbrev pub Tells : (P → Sight) → Search P G R W Standing → Outcome → Type 0
-  Tells sight search outcome =
-      IsOutcome (sight search.proofs.now).list (sight search.proofs.now).slots search.seat.now outcome
+  -- why the search stopped, where something ran out
+  abbrev pub Stops : (P → Sight) → Search P G R W Standing → RanOut → Type 0
+  Stops sight search why =
+      IsStopped (sight search.proofs.now).list (sight search.proofs.now).slots search.seat.now why

@@ -3,22 +3,25 @@
 //! To close a set takes tens of milliseconds on a large board, and a search has no use for it, since it makes the useful links on
 //! sets of its own. So work that ends by a proof closes none.
 
-ghost use Rattle.std.specs.Prelude.{◌≡◌, ℕ, IfOk, IfSome};
+ghost use Rattle.std.specs.Prelude.{◌≡◌, IfOk, IfErr, IfSome, IfNone};
 ghost use Rattle.hx_board.specs.Graph.{HasChain};
 ghost use Rattle.hx_book.specs.Sights.{Grows};
 ghost use Rattle.hx_count.specs.Seats.{Seat};
 ghost use Rattle.hx_search.specs.Closed.{IsGrown};
 ghost use Rattle.hx_worker.specs.Sets.{AreOn};
-ghost use Rattle.hx_worker.specs.Keeps.{IsSpent};
-ghost use Rattle.hx_worker.specs.Ends.{IsEnded, IsTried, IsThrough, IsOpenSet, WasUnlisted, EndsSpent};
+ghost use Rattle.hx_tree.specs.Entries.{IsFirstFound};
+ghost use Rattle.hx_limits.specs.Causes.{IsSpent, IsUnstored, IsStopped, LacksUnit};
+ghost use Rattle.hx_worker.specs.Ends.{IsTried, IsThrough, IsOpenSet, WasUnlisted};
 
-use crate::ended::{Ended, ended_by, found_by};
+use crate::listed::entry_of;
 use hx_board::{Colour, Memory, Position, chain};
 use hx_book::Proofs;
 use hx_count::Spent;
+use hx_limits::RanOut;
 use hx_linkset::LinkSet;
 use hx_nodes::{Stored, store_chain, store_links, store_turned};
 use hx_search::{Reached, close, decided};
+use hx_tree::Found;
 use std::sync::Wait;
 
 /// Closes a set, as far as there is room.
@@ -38,20 +41,18 @@ fn by_entry<P: Proofs, R: Wait>(
     proofs: &mut P,
     position: &Position,
     to_move: Colour,
-) -> Option<Ended>
+) -> Result<Option<Found>, RanOut>
     ensures grew { Grows (P.sight proofs.old) (P.sight proofs.new) }
-    ensures ended { (seat : Seat)
-        → IfSome result
-        (IsEnded (P.sight proofs.new).list (P.sight proofs.new).slots seat position.now to_move) }
-    ensures not_spent { IfSome result (λ ended. ¬ EndsSpent ended) }
-    ensures unlisted { result ≡ None
-        → WasUnlisted P.is_plain (P.sight proofs.old).list (P.sight proofs.new).list position.now to_move }
+    ensures found { IfOk result (λ found. IfSome found
+        (IsFirstFound (P.sight proofs.new).list position.now to_move)) }
+    ensures stopped { IfErr result (IsUnstored (P.sight proofs.new).list (P.sight proofs.new).slots) }
+    ensures unlisted { IfOk result (λ found. IfNone found
+        (WasUnlisted P.is_plain (P.sight proofs.old).list (P.sight proofs.new).list position.now
+        to_move)) }
 {
-    match store_turned(rt, proofs, position, to_move) {
-        Stored::Done => found_by(rt, proofs, position, to_move),
-        Stored::Refused(refusal) => Some(Ended::NoSlots(refusal)),
-        Stored::Missing => None,
-        Stored::Memory => Some(Ended::Memory),
+    match store_turned(rt, proofs, position, to_move)? {
+        Stored::Done => Ok(Some(entry_of(rt, proofs, position, to_move))),
+        Stored::Missing => Ok(None),
     }
 }
 
@@ -62,20 +63,19 @@ fn by_chain<P: Proofs, R: Wait>(
     position: &Position,
     to_move: Colour,
     player: Colour,
-) -> Option<Ended>
+) -> Result<Option<Found>, RanOut>
     ensures grew { Grows (P.sight proofs.old) (P.sight proofs.new) }
-    ensures ended { (seat : Seat)
-        → IfSome result
-        (IsEnded (P.sight proofs.new).list (P.sight proofs.new).slots seat position.now to_move) }
-    ensures not_spent { IfSome result (λ ended. ¬ EndsSpent ended) }
-    ensures no_chain { result ≡ None → HasChain position.now player → ⊥ }
+    ensures found { IfOk result (λ found. IfSome found
+        (IsFirstFound (P.sight proofs.new).list position.now to_move)) }
+    ensures stopped { IfErr result (IsUnstored (P.sight proofs.new).list (P.sight proofs.new).slots) }
+    ensures no_chain { IfOk result (λ found. IfNone found (HasChain position.now player → ⊥)) }
 {
     let has_chain = chain(position, player);
     if !has_chain {
-        return None;
+        return Ok(None);
     }
-    let stored = store_chain(rt, proofs, position, to_move, player);
-    Some(ended_by(rt, proofs, position, to_move, stored))
+    store_chain(rt, proofs, position, to_move, player)?;
+    Ok(Some(entry_of(rt, proofs, position, to_move)))
 }
 
 /// Closes a set, and stores the proof by a link that decides the position.
@@ -85,24 +85,21 @@ fn by_closed<P: Proofs, R: Wait>(
     position: &Position,
     to_move: Colour,
     set: &mut LinkSet,
-) -> Option<Ended>
+) -> Result<Option<Found>, RanOut>
     requires { set.old.present.board ≡ position.now }
     ensures grew { Grows (P.sight proofs.old) (P.sight proofs.new) }
     ensures set { IsGrown set.old set.new }
-    ensures ended { (seat : Seat)
-        → IfSome result
-        (IsEnded (P.sight proofs.new).list (P.sight proofs.new).slots seat position.now to_move) }
-    ensures not_spent { IfSome result (λ ended. ¬ EndsSpent ended) }
-    ensures open_set { result ≡ None → IsOpenSet set.new to_move }
+    ensures found { IfOk result (λ found. IfSome found
+        (IsFirstFound (P.sight proofs.new).list position.now to_move)) }
+    ensures stopped { IfErr result (IsUnstored (P.sight proofs.new).list (P.sight proofs.new).slots) }
+    ensures open_set { IfOk result (λ found. IfNone found (IsOpenSet set.new to_move)) }
 {
-    if close_one(set).is_err() {
-        return Some(Ended::Memory);
-    }
+    close_one(set)?;
     match decided(set, to_move) {
-        Reached::Open => None,
+        Reached::Open => Ok(None),
         Reached::Decided(index) => {
-            let stored = store_links(rt, proofs, set, to_move, index);
-            Some(ended_by(rt, proofs, position, to_move, stored))
+            store_links(rt, proofs, set, to_move, index)?;
+            Ok(Some(entry_of(rt, proofs, position, to_move)))
         }
     }
 }
@@ -115,30 +112,31 @@ fn decide<P: Proofs, R: Wait>(
     to_move: Colour,
     black: &mut LinkSet,
     white: &mut LinkSet,
-) -> Option<Ended>
+) -> Result<Option<Found>, RanOut>
     requires { AreOn position.now black.old white.old }
     ensures grew { Grows (P.sight proofs.old) (P.sight proofs.new) }
     ensures black { IsGrown black.old black.new }
     ensures white { IsGrown white.old white.new }
-    ensures ended { (seat : Seat)
-        → IfSome result
-        (IsEnded (P.sight proofs.new).list (P.sight proofs.new).slots seat position.now to_move) }
-    ensures not_spent { IfSome result (λ ended. ¬ EndsSpent ended) }
-    ensures tried { result ≡ None → IsTried position.now to_move black.new white.new }
-    ensures unlisted { result ≡ None
-        → WasUnlisted P.is_plain (P.sight proofs.old).list (P.sight proofs.new).list position.now to_move }
+    ensures found { IfOk result (λ found. IfSome found
+        (IsFirstFound (P.sight proofs.new).list position.now to_move)) }
+    ensures stopped { IfErr result (IsUnstored (P.sight proofs.new).list (P.sight proofs.new).slots) }
+    ensures tried { IfOk result (λ found. IfNone found
+        (IsTried position.now to_move black.new white.new)) }
+    ensures unlisted { IfOk result (λ found. IfNone found
+        (WasUnlisted P.is_plain (P.sight proofs.old).list (P.sight proofs.new).list position.now
+        to_move)) }
 {
-    if let Some(ended) = by_entry(rt, proofs, position, to_move) {
-        return Some(ended);
+    if let Some(found) = by_entry(rt, proofs, position, to_move)? {
+        return Ok(Some(found));
     }
-    if let Some(ended) = by_chain(rt, proofs, position, to_move, Colour::Black) {
-        return Some(ended);
+    if let Some(found) = by_chain(rt, proofs, position, to_move, Colour::Black)? {
+        return Ok(Some(found));
     }
-    if let Some(ended) = by_chain(rt, proofs, position, to_move, Colour::White) {
-        return Some(ended);
+    if let Some(found) = by_chain(rt, proofs, position, to_move, Colour::White)? {
+        return Ok(Some(found));
     }
-    if let Some(ended) = by_closed(rt, proofs, position, to_move, black) {
-        return Some(ended);
+    if let Some(found) = by_closed(rt, proofs, position, to_move, black)? {
+        return Ok(Some(found));
     }
     by_closed(rt, proofs, position, to_move, white)
 }
@@ -152,20 +150,22 @@ pub(crate) fn close_and_end<P: Proofs, R: Wait>(
     black: &mut LinkSet,
     white: &mut LinkSet,
     spent: Spent,
-) -> Ended
+) -> Result<Found, RanOut>
     requires { AreOn position.now black.old white.old }
     ensures grew { Grows (P.sight proofs.old) (P.sight proofs.new) }
     ensures black { IsGrown black.old black.new }
     ensures white { IsGrown white.old white.new }
-    ensures ended { (seat : Seat) → IsSpent seat spent
-        → IsEnded (P.sight proofs.new).list (P.sight proofs.new).slots seat position.now to_move
-        result }
-    ensures tried { EndsSpent result → IsTried position.now to_move black.new white.new }
-    ensures unlisted { EndsSpent result
-        → WasUnlisted P.is_plain (P.sight proofs.old).list (P.sight proofs.new).list position.now to_move }
+    ensures found { IfOk result (IsFirstFound (P.sight proofs.new).list position.now to_move) }
+    ensures stopped { (seat : Seat) → IsSpent seat spent
+        → IfErr result (IsStopped (P.sight proofs.new).list (P.sight proofs.new).slots seat) }
+    ensures tried { IfErr result (λ why. LacksUnit why
+        → IsTried position.now to_move black.new white.new) }
+    ensures unlisted { IfErr result (λ why. LacksUnit why
+        → WasUnlisted P.is_plain (P.sight proofs.old).list (P.sight proofs.new).list position.now
+        to_move) }
 {
-    match decide(rt, proofs, position, to_move, black, white) {
-        Some(ended) => ended,
-        None => Ended::Spent(spent),
+    match decide(rt, proofs, position, to_move, black, white)? {
+        Some(found) => Ok(found),
+        None => Err(RanOut::Budget(spent)),
     }
 }

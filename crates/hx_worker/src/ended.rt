@@ -1,16 +1,13 @@
 //! How a worker's work ends.
 
-ghost use Rattle.std.specs.Prelude.{IfSome, IsSome};
-ghost use Rattle.hx_book.specs.Sights.{Grows};
-ghost use Rattle.hx_count.specs.Seats.{Seat};
-ghost use Rattle.hx_nodes.specs.Stored.{HasEntry, TellsStored, IsAnswered};
-ghost use Rattle.hx_worker.specs.Ends.{IsEnded, EndsSpent};
+ghost use Rattle.std.specs.Prelude.{◌≡◌};
+ghost use Rattle.hx_worker.specs.Ends.{found_of, ended_of};
 
-use hx_board::{Colour, Position};
-use hx_book::{NoSlot, Proofs};
+use hx_board::Colour;
+use hx_book::NoSlot;
 use hx_count::Spent;
-use hx_nodes::Stored;
-use std::sync::Wait;
+use hx_limits::RanOut;
+use hx_tree::Found;
 
 /// How a worker's work ends.
 #[derive(Debug, Drop)]
@@ -28,55 +25,28 @@ pub enum Ended {
     Memory,
 }
 
-/// The end of the work where the list of proofs has the position.
-pub(crate) fn found_by<P: Proofs, R: Wait>(
-    rt: &R,
-    proofs: &mut P,
-    position: &Position,
-    to_move: Colour,
-) -> Option<Ended>
-    ensures grew { Grows (P.sight proofs.old) (P.sight proofs.new) }
-    ensures ended { (seat : Seat)
-        → IfSome result
-        (IsEnded (P.sight proofs.new).list (P.sight proofs.new).slots seat position.now to_move) }
-    ensures not_spent { IfSome result (λ ended. ¬ EndsSpent ended) }
-    ensures found { HasEntry (P.sight proofs.old).list position.now to_move → IsSome result }
-{
-    match proofs.look(rt, position, to_move) {
-        Some(found) => Some(Ended::Proved {
-            index: found.index,
-            winner: found.winner,
-        }),
-        None => None,
+impl Ended {
+    /// The same as an entry that was found, or what ran out.
+    pub fn found(self) -> Result<Found, RanOut>
+        ensures { result ≡ found_of self }
+    {
+        match self {
+            Ended::Proved { index, winner } => Ok(Found { index, winner }),
+            Ended::Spent(refusal) => Err(RanOut::Budget(refusal)),
+            Ended::NoSlots(refusal) => Err(RanOut::Slots(refusal)),
+            Ended::Memory => Err(RanOut::Memory),
+        }
     }
-}
 
-/// The end of the work by what became of the position's proof.
-pub(crate) fn ended_by<P: Proofs, R: Wait>(
-    rt: &R,
-    proofs: &mut P,
-    position: &Position,
-    to_move: Colour,
-    stored: Stored,
-) -> Ended
-    requires stored { TellsStored (P.sight proofs.old).list (P.sight proofs.old).slots position.now
-        to_move stored }
-    requires answered { IsAnswered stored }
-    ensures grew { Grows (P.sight proofs.old) (P.sight proofs.new) }
-    ensures ended { (seat : Seat)
-        → IsEnded (P.sight proofs.new).list (P.sight proofs.new).slots seat position.now to_move
-        result }
-    ensures not_spent { ¬ EndsSpent result }
-{
-    match stored {
-        Stored::Done => match found_by(rt, proofs, position, to_move) {
-            Some(ended) => ended,
-            // An entry that was seen is found.
-            None => unreachable!(),
-        },
-        Stored::Refused(refusal) => Ended::NoSlots(refusal),
-        // What is proved without an entry is never missing.
-        Stored::Missing => unreachable!(),
-        Stored::Memory => Ended::Memory,
+    /// The end by an entry that was found, or by what ran out.
+    pub(crate) fn of(found: Result<Found, RanOut>) -> Ended
+        ensures { result ≡ ended_of found }
+    {
+        match found {
+            Ok(Found { index, winner }) => Ended::Proved { index, winner },
+            Err(RanOut::Budget(refusal)) => Ended::Spent(refusal),
+            Err(RanOut::Slots(refusal)) => Ended::NoSlots(refusal),
+            Err(RanOut::Memory) => Ended::Memory,
+        }
     }
 }

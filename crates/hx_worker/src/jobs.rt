@@ -17,6 +17,7 @@ use hx_board::{Colour, Position};
 use hx_book::Proofs;
 use hx_count::{CountSeat, Counts, Hints};
 use hx_io::Gate;
+use hx_limits::RanOut;
 use hx_linkset::LinkSet;
 use hx_ordering::{LOSS_WORDS, Replies};
 use std::sync::Wait;
@@ -85,15 +86,15 @@ pub fn work<P: Proofs, G: Gate, R: Wait>(rt: &R, job: &mut Job<'_, P>, gate: &G)
     if let Err(spent) = ask(&worker, &mut job.seat) {
         return Ended::Spent(spent);
     }
-    let ended = search_position(
+    let found = search_position(
         &worker,
         &mut job.proofs,
         &mut job.seat,
         &job.position,
         job.to_move,
     );
-    match ended {
-        Ended::Spent(spent) => close_and_end(
+    match found {
+        Err(RanOut::Budget(spent)) => Ended::of(close_and_end(
             rt,
             &mut job.proofs,
             &job.position,
@@ -101,7 +102,7 @@ pub fn work<P: Proofs, G: Gate, R: Wait>(rt: &R, job: &mut Job<'_, P>, gate: &G)
             &mut job.black,
             &mut job.white,
             spent,
-        ),
-        other => other,
+        )),
+        other => Ended::of(other),
     }
 }

@@ -8,16 +8,15 @@ use hx_ordering::{leave_mark, leave_open};
 use hx_turn::Orientations;
 
 /// Leaves what a turn at a position came to.
-pub(crate) fn leave(hints: &Hints, here: &Orientations, to_move: Colour, outcome: &Outcome) {
+pub(crate) fn leave(hints: &Hints, here: &Orientations, to_move: Colour, outcome: Outcome) {
     match outcome {
         Outcome::Proved => leave_mark(hints, here.key(to_move)),
-        Outcome::Open(numbers) => leave_open(hints, here.key(to_move), *numbers),
-        _ => {}
+        Outcome::Open(numbers) => leave_open(hints, here.key(to_move), numbers),
     }
 }
 
 /// Leaves a mark at a position, where a turn came to a proof of it.
-pub(crate) fn leave_proved(hints: &Hints, here: &Orientations, to_move: Colour, outcome: &Outcome) {
+pub(crate) fn leave_proved(hints: &Hints, here: &Orientations, to_move: Colour, outcome: Outcome) {
     if let Outcome::Proved = outcome {
         leave_mark(hints, here.key(to_move));
     }

@@ -6,20 +6,23 @@
 //! what it brings.
 #![tactic(auto)]
 
+mod benches;
 mod closing;
 mod ended;
 mod jobs;
 mod left_hints;
+mod listed;
 mod looks;
 mod outcomes;
 mod proved_moves;
 mod rounds;
 mod searches;
 mod sets;
-mod turns;
+mod visits;
 mod ways;
 mod wide_moves;
 mod workers;
 
+pub use benches::{done_of, job_of, new_sets, work_at};
 pub use ended::Ended;
 pub use jobs::{Job, work};

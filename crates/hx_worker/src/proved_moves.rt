@@ -1,13 +1,14 @@
 //! What is known of a turn's moves, once some are proved: by the turn after a move, or by marks.
 
-ghost use Rattle.std.specs.Prelude.{◌≡◌, IfSome};
-ghost use Rattle.hx_worker.specs.Searches.{Keeps, Tells};
+ghost use Rattle.std.specs.Prelude.{IfErr};
+ghost use Rattle.hx_worker.specs.Searches.{Keeps, Stops};
 
 use crate::outcomes::{Outcome, outcome_of};
 use crate::searches::Search;
 use hx_board::Cell;
 use hx_book::Proofs;
 use hx_io::Gate;
+use hx_limits::RanOut;
 use hx_linkset::LinkSet;
 use hx_nodes::Stored;
 use hx_ordering::{
@@ -25,12 +26,16 @@ const LOST: Numbers = Numbers { phi: INF, delta: 0 };
 impl<P: Proofs, G: Gate, R: Wait> Search<'_, P, G, R, Workspace, LinkSet> {
     /// Looks for the turn's own position, where it is marked, and then for the marked moves in focus: another worker may have
     /// proved them since. Some where that ends the turn.
-    pub(crate) fn look_again(&mut self, situation: &Situation, moves: &mut Moves) -> Option<Outcome>
+    pub(crate) fn look_again(
+        &mut self,
+        situation: &Situation,
+        moves: &mut Moves,
+    ) -> Result<Option<Outcome>, RanOut>
         ensures keeps { Keeps P.sight self.old self.new }
-        ensures outcome { IfSome result (Tells P.sight self.new) }
+        ensures stopped { IfErr result (Stops P.sight self.new) }
     {
-        if let Some(outcome) = self.look_at_own(situation) {
-            return Some(outcome);
+        if let Some(outcome) = self.look_at_own(situation)? {
+            return Ok(Some(outcome));
         }
         let count = in_focus(moves).len();
         self.look_at_marked(situation, moves, count)
@@ -38,21 +43,23 @@ impl<P: Proofs, G: Gate, R: Wait> Search<'_, P, G, R, Workspace, LinkSet> {
 
     /// Looks for the turn's own position, where it is marked. A mark of which the proofs know nothing was another position's, and
     /// is written anew.
-    fn look_at_own(&mut self, situation: &Situation) -> Option<Outcome>
+    fn look_at_own(&mut self, situation: &Situation) -> Result<Option<Outcome>, RanOut>
         ensures keeps { Keeps P.sight self.old self.new }
-        ensures outcome { IfSome result (Tells P.sight self.new) }
+        ensures stopped { IfErr result (Stops P.sight self.new) }
     {
         let worker = self.worker;
         let key = situation.filled.key(situation.to_move);
         if !is_marked(worker.hints, key) {
-            return None;
+            return Ok(None);
         }
         let position = situation.filled.position();
-        let known = outcome_of(widen_turned(worker.rt, self.proofs, position, situation.to_move));
-        if known.is_none() {
-            leave_open(worker.hints, key, first_numbers(position));
+        match widen_turned(worker.rt, self.proofs, position, situation.to_move)? {
+            Stored::Done => Ok(Some(Outcome::Proved)),
+            Stored::Missing => {
+                leave_open(worker.hints, key, first_numbers(position));
+                Ok(None)
+            }
         }
-        known
     }
 
     /// Looks for the marked ones among the first so many moves, the last one first. Some where that ends the turn.
@@ -61,46 +68,49 @@ impl<P: Proofs, G: Gate, R: Wait> Search<'_, P, G, R, Workspace, LinkSet> {
         situation: &Situation,
         moves: &mut Moves,
         count: usize,
-    ) -> Option<Outcome>
+    ) -> Result<Option<Outcome>, RanOut>
         ensures keeps { Keeps P.sight self.old self.new }
-        ensures outcome { IfSome result (Tells P.sight self.new) }
+        ensures stopped { IfErr result (Stops P.sight self.new) }
     {
         let mut left = count;
         while left > 0 {
             left -= 1;
-            if let Some(outcome) = self.look_at(situation, moves, left) {
-                return Some(outcome);
+            if let Some(outcome) = self.look_at(situation, moves, left)? {
+                return Ok(Some(outcome));
             }
         }
-        None
+        Ok(None)
     }
 
     /// Looks for the move at a place, where it is marked. A mark of which the proofs know nothing was another position's, and is
     /// written anew.
-    fn look_at(&mut self, situation: &Situation, moves: &mut Moves, place: usize) -> Option<Outcome>
+    fn look_at(
+        &mut self,
+        situation: &Situation,
+        moves: &mut Moves,
+        place: usize,
+    ) -> Result<Option<Outcome>, RanOut>
         ensures keeps { Keeps P.sight self.old self.new }
-        ensures outcome { IfSome result (Tells P.sight self.new) }
+        ensures stopped { IfErr result (Stops P.sight self.new) }
     {
         let worker = self.worker;
         let Some(child) = moves.children.get(place).copied() else {
-            return None;
+            return Ok(None);
         };
         if !is_marked(worker.hints, child.key) {
-            return None;
+            return Ok(None);
         }
         let Some(there) = after(&situation.filled, situation.to_move, child.cell) else {
-            return None;
+            return Ok(None);
         };
         let other = situation.to_move.other();
         // Where the entry is of the turned position alone, the turned node is stored at once: a node of all moves looks for it.
-        match widen_turned(worker.rt, self.proofs, there.position(), other) {
+        match widen_turned(worker.rt, self.proofs, there.position(), other)? {
             Stored::Done => self.by_move(situation, moves, place, &child),
-            Stored::Refused(refusal) => Some(Outcome::NoSlots(refusal)),
             Stored::Missing => {
                 leave_open(worker.hints, child.key, child.numbers);
-                None
+                Ok(None)
             }
-            Stored::Memory => Some(Outcome::Memory),
         }
     }
 
@@ -111,70 +121,73 @@ impl<P: Proofs, G: Gate, R: Wait> Search<'_, P, G, R, Workspace, LinkSet> {
         moves: &mut Moves,
         place: usize,
         child: &Child,
-    ) -> Option<Outcome>
+    ) -> Result<Option<Outcome>, RanOut>
         ensures keeps { Keeps P.sight self.old self.new }
-        ensures outcome { IfSome result (Tells P.sight self.new) }
+        ensures stopped { IfErr result (Stops P.sight self.new) }
     {
-        if let Some(outcome) = self.win_by(situation, child.cell) {
-            return Some(outcome);
+        if let Some(outcome) = self.win_by(situation, child.cell)? {
+            return Ok(Some(outcome));
         }
         moves.leave_out(place);
         self.leave_out_siblings(situation, moves, child.cell);
-        None
+        Ok(None)
     }
 
     /// Stores the proof that the mover wins by a move, where the proofs say so.
-    pub(crate) fn win_by(&mut self, situation: &Situation, cell: Cell) -> Option<Outcome>
+    pub(crate) fn win_by(
+        &mut self,
+        situation: &Situation,
+        cell: Cell,
+    ) -> Result<Option<Outcome>, RanOut>
         ensures keeps { Keeps P.sight self.old self.new }
-        ensures outcome { IfSome result (Tells P.sight self.new) }
+        ensures stopped { IfErr result (Stops P.sight self.new) }
     {
         let position = situation.filled.position();
         let is_empty = position.empties().has(cell);
         if !is_empty {
-            return None;
+            return Ok(None);
         }
         let rt = self.worker.rt;
         let alloc = self.worker.alloc;
-        outcome_of(widen_move(rt, alloc, self.proofs, position, situation.to_move, cell))
+        let stored = widen_move(rt, alloc, self.proofs, position, situation.to_move, cell)?;
+        Ok(outcome_of(stored))
     }
 
-    /// What the turn after a move tells of the turn itself. None where it goes on.
+    /// What the visit after a move tells of the visit itself. None where it goes on.
     pub(crate) fn take_in(
         &mut self,
         situation: &Situation,
         moves: &mut Moves,
         down: &Down,
         outcome: Outcome,
-    ) -> Option<Outcome>
-        requires { Tells P.sight self.old outcome }
+    ) -> Result<Option<Outcome>, RanOut>
         ensures keeps { Keeps P.sight self.old self.new }
-        ensures outcome { IfSome result (Tells P.sight self.new) }
+        ensures stopped { IfErr result (Stops P.sight self.new) }
     {
         match outcome {
             Outcome::Proved => {
-                let known = self.by_move(situation, moves, down.place, &down.child);
+                let known = self.by_move(situation, moves, down.place, &down.child)?;
                 note_reply(self.worker.replies, situation, down.child.cell, &known);
-                known
+                Ok(known)
             }
             Outcome::Open(numbers) => {
-                // The turn left them as a hint too, but by now the hint's word may be another position's. Without this three of
+                // The visit left them as a hint too, but by now the hint's word may be another position's. Without this three of
                 // the eight boards of `.ci/units` take another number of units.
                 moves.note(down.place, open(numbers));
-                None
+                Ok(None)
             }
-            other => Some(other),
         }
     }
 
-    /// Ends a turn whose moves all lose.
-    pub(crate) fn all_lose(&mut self, moves: &Moves) -> Outcome
+    /// Ends a visit whose moves all lose.
+    pub(crate) fn all_lose(&mut self, moves: &Moves) -> Result<Outcome, RanOut>
         ensures keeps { Keeps P.sight self.old self.new }
-        ensures outcome { Tells P.sight self.new result }
+        ensures stopped { IfErr result (Stops P.sight self.new) }
     {
         let order = moves.order.as_slice();
-        match outcome_of(widen_all(self.worker.rt, self.proofs, &self.others, order)) {
-            Some(outcome) => outcome,
-            None => Outcome::Open(LOST),
+        match widen_all(self.worker.rt, self.proofs, &self.others, order)? {
+            Stored::Done => Ok(Outcome::Proved),
+            Stored::Missing => Ok(Outcome::Open(LOST)),
         }
     }
 }

@@ -4,14 +4,15 @@
 //! turn goes down, and once a move is refuted the moves that its proof does not need are left out with it. In a hard search these
 //! are 2,000 to 40,000 moves.
 
-ghost use Rattle.std.specs.Prelude.{◌≡◌, IfSome};
-ghost use Rattle.hx_worker.specs.Searches.{Keeps, Tells};
+ghost use Rattle.std.specs.Prelude.{IfErr};
+ghost use Rattle.hx_worker.specs.Searches.{Keeps, Stops};
 
 use crate::outcomes::Outcome;
 use crate::searches::Search;
 use hx_board::{Cell, Mask};
 use hx_book::Proofs;
 use hx_io::Gate;
+use hx_limits::RanOut;
 use hx_linkset::LinkSet;
 use hx_ordering::{Moves, Situation};
 use hx_search::Workspace;
@@ -46,20 +47,20 @@ impl<P: Proofs, G: Gate, R: Wait> Search<'_, P, G, R, Workspace, LinkSet> {
     }
 
     /// The end of the turn by a move after which an entry says that the mover wins.
-    fn won_by(&mut self, situation: &Situation, cell: Cell) -> Option<Outcome>
+    fn won_by(&mut self, situation: &Situation, cell: Cell) -> Result<Option<Outcome>, RanOut>
         ensures keeps { Keeps P.sight self.old self.new }
-        ensures outcome { IfSome result (Tells P.sight self.new) }
+        ensures stopped { IfErr result (Stops P.sight self.new) }
     {
         let position = situation.filled.position();
         let is_empty = position.empties().has(cell);
         if !is_empty {
-            return None;
+            return Ok(None);
         }
         let next = position.with(situation.to_move, cell);
         let other = situation.to_move.other();
         let rt = self.worker.rt;
         let Some(_wider) = self.proofs.look_wider(rt, &next, other, situation.to_move) else {
-            return None;
+            return Ok(None);
         };
         self.win_by(situation, cell)
     }
@@ -69,26 +70,26 @@ impl<P: Proofs, G: Gate, R: Wait> Search<'_, P, G, R, Workspace, LinkSet> {
         &mut self,
         situation: &Situation,
         moves: &mut Moves,
-    ) -> Option<Outcome>
+    ) -> Result<Option<Outcome>, RanOut>
         ensures keeps { Keeps P.sight self.old self.new }
-        ensures outcome { IfSome result (Tells P.sight self.new) }
+        ensures stopped { IfErr result (Stops P.sight self.new) }
     {
         let mut refuted = Mask::empty();
         let mut left = moves.children.len();
         while left > 0 {
             left -= 1;
             let Some(child) = moves.children.get(left).copied() else {
-                return None;
+                return Ok(None);
             };
-            if let Some(outcome) = self.won_by(situation, child.cell) {
-                return Some(outcome);
+            if let Some(outcome) = self.won_by(situation, child.cell)? {
+                return Ok(Some(outcome));
             }
             refuted = self.with_refuted(situation, child.cell, refuted);
             if refuted.has(child.cell) {
                 moves.leave_out(left);
             }
         }
-        None
+        Ok(None)
     }
 
     /// Leaves out the moves that the proof against a move refutes too.

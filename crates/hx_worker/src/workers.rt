@@ -3,7 +3,7 @@
 ghost use Rattle.std.specs.Prelude.{◌≡◌, IfErr};
 ghost use Rattle.hx_count.specs.Seats.{own, after_spend};
 ghost use Rattle.hx_count.specs.Seats.{KeepsSeat};
-ghost use Rattle.hx_worker.specs.Keeps.{IsSpent};
+ghost use Rattle.hx_limits.specs.Causes.{IsSpent};
 
 use hx_count::{CountSeat, Counts, Hints, Spent};
 use hx_io::Gate;

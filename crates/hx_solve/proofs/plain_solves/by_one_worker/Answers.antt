@@ -2,7 +2,7 @@ use Rattle.std.proofs.Common.{◌<◌}
 use Rattle.std.proofs.lemmas.Result.{IfErr-weaker, IfOk-weaker}
 use Rattle.hx_board.specs.Graph.{HasNoChain}
 use Rattle.hx_solve.specs.Solutions.{IsSolution}
-use Rattle.hx_solve.specs.Causes.{LacksUnit}
+use Rattle.hx_limits.specs.Causes.{LacksUnit}
 use Rattle.hx_solve.specs.Searches.{IsTreeFrom, SaysWhy}
 use Rattle.hx_solve.proofs.TreeSolutions.{spent-by, tree-solves}
 use Rattle.hx_solve.proofs.plain_solves.by_one_worker.Goals as goal

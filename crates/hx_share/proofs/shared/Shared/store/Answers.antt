@@ -16,7 +16,7 @@ put-answer-requires g c =
 pub give_back-requires-clause-more : goal.give_back-requires-clause-more
 give_back-requires-clause-more g c =
     let nodes = c.put-answer.new.self.nodes in
-    subst (λ (l : List Node). Extends nodes l)
+    subst (λ (l : List Node). Extends l nodes)
     (sym (acting-seen c.args.self.now.made.slots c.take_book-book.result.nodes None c.take_book-book.new.seat.me
     c.take_book-book.ensures.acts))
     (puts-extend c.take_book-book.result.slots c.take_book-book.result.nodes c.args.offer nodes c.put-answer.result

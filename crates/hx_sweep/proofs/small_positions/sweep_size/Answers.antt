@@ -1,7 +1,7 @@
 use Rattle.std.proofs.Common.{refl, arith}
 use Rattle.hx_board.specs.Counts.{sweep_size}
-use Rattle.hx_solve.proofs.SweepSizes.{size-more, size-small}
-use Rattle.hx_solve.proofs.small_positions.sweep_size.Goals as goal
+use Rattle.hx_sweep.proofs.SweepSizes.{size-more, size-small}
+use Rattle.hx_sweep.proofs.small_positions.sweep_size.Goals as goal
 
 pub loop-fewer-init : goal.loop-fewer-init
 unfolding sweep_size

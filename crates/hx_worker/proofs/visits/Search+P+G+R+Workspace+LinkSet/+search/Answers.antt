@@ -1,7 +1,7 @@
 use Rattle.std.proofs.Common.{rules, ◌-◌, ◌<◌, arith}
 use Rattle.hx_worker.proofs.KeepLaws.{keeps-seat, keeps-own, keeps-others, keeps-way, keeps-on, put-own-keeps, put-others-keeps, has-play}
 use Rattle.hx_worker.proofs.KeepLaws.{kept-may-hold, own-may-hold, others-may-hold, held-may-hold, release-keeps, stands-same, stands-moved}
-use Rattle.hx_worker.proofs.turns.Search+P+G+R+Workspace+LinkSet.+search.Goals as goal
+use Rattle.hx_worker.proofs.visits.Search+P+G+R+Workspace+LinkSet.+search.Goals as goal
 
 pub descend-turn-outcome-requires : goal.descend-turn-outcome-requires
 descend-turn-outcome-requires g t c κs within =

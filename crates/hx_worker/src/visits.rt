@@ -7,19 +7,21 @@
 //! A turn ends open, too, where another worker proved a position further up on its way (`ways.rt`): the turn there will look that
 //! proof up, and has no use for what is below. So a worker goes back up to that position at once.
 
-ghost use Rattle.std.specs.Prelude.{◌≡◌, IfSome};
+ghost use Rattle.std.specs.Prelude.{IfErr};
 ghost use Rattle.hx_fill.specs.Fills.{IsFillIn};
-ghost use Rattle.hx_worker.specs.Searches.{Keeps, MayHold, Tells};
+ghost use Rattle.hx_worker.specs.Searches.{Keeps, MayHold, Stops};
 
 use crate::left_hints::{leave, leave_proved};
-use crate::outcomes::{Outcome, outcome_of};
+use crate::outcomes::Outcome;
 use crate::searches::Search;
 use crate::sets::{put, take_back};
 use crate::workers::ask;
 use hx_book::Proofs;
 use hx_fill::Filled;
 use hx_io::Gate;
+use hx_limits::RanOut;
 use hx_linkset::LinkSet;
+use hx_nodes::Stored;
 use hx_ordering::{Choice, Down, Moves, Situation, Start, choose, loss_word, numbers_of};
 use hx_search::Workspace;
 use hx_widen::widen_fill;
@@ -29,58 +31,50 @@ use std::sync::Wait;
 impl<P: Proofs, G: Gate, R: Wait> Search<'_, P, G, R, Workspace, LinkSet> {
     /// A turn. No more than `depth` moves are made.
     #[cycle(search)]
-    fn turn(&mut self, start: &Start, depth: u32) -> Outcome
+    fn visit(&mut self, start: &Start, depth: u32) -> Result<Outcome, RanOut>
         requires { MayHold self.old depth }
         ensures keeps { Keeps P.sight self.old self.new }
-        ensures outcome { Tells P.sight self.new result }
+        ensures stopped { IfErr result (Stops P.sight self.new) }
     {
-        if let Err(spent) = ask(self.worker, self.seat) {
-            return Outcome::Spent(spent);
-        }
-        self.visit(start, depth)
+        ask(self.worker, self.seat)?;
+        self.visit_granted(start, depth)
     }
 
     /// A turn whose unit was granted.
     #[cycle(search)]
-    pub(crate) fn visit(&mut self, start: &Start, depth: u32) -> Outcome
+    pub(crate) fn visit_granted(&mut self, start: &Start, depth: u32) -> Result<Outcome, RanOut>
         requires { MayHold self.old depth }
         ensures keeps { Keeps P.sight self.old self.new }
-        ensures outcome { Tells P.sight self.new result }
+        ensures stopped { IfErr result (Stops P.sight self.new) }
     {
         let position = start.here.position();
-        if let Some(outcome) = self.look_up(position, start.to_move) {
-            leave(self.worker.hints, &start.here, start.to_move, &outcome);
-            return outcome;
+        if let Some(outcome) = self.look_up(position, start.to_move)? {
+            leave(self.worker.hints, &start.here, start.to_move, outcome);
+            return Ok(outcome);
         }
-        let Ok(filled) = self.fill(position) else {
-            return Outcome::Memory;
-        };
-        let Ok(situation) = Situation::of(self.worker.alloc, start, &filled) else {
-            return Outcome::Memory;
-        };
-        let outcome = self.with_own(&situation, depth);
+        let filled = self.fill(position)?;
+        let situation = Situation::of(self.worker.alloc, start, &filled)?;
+        let outcome = self.with_own(&situation, depth)?;
         leave_proved(
             self.worker.hints,
             &situation.filled,
             situation.to_move,
-            &outcome,
+            outcome,
         );
         self.conclude(start, &filled, outcome)
     }
 
     /// Goes on with the turn's stones on the mover's set, or with a new set.
     #[cycle(search)]
-    fn with_own(&mut self, situation: &Situation, depth: u32) -> Outcome
+    fn with_own(&mut self, situation: &Situation, depth: u32) -> Result<Outcome, RanOut>
         requires { MayHold self.old depth }
         ensures keeps { Keeps P.sight self.old self.new }
-        ensures outcome { Tells P.sight self.new result }
+        ensures stopped { IfErr result (Stops P.sight self.new) }
     {
-        if let Some(outcome) = self.look_up_filled(situation) {
-            return outcome;
+        if let Some(outcome) = self.look_up_filled(situation)? {
+            return Ok(outcome);
         }
-        let Ok(before) = put(&mut self.own, situation, situation.to_move) else {
-            return Outcome::Memory;
-        };
+        let before = put(&mut self.own, situation, situation.to_move)?;
         let outcome = self.with_others(situation, depth);
         take_back(&mut self.own, before);
         outcome
@@ -88,17 +82,15 @@ impl<P: Proofs, G: Gate, R: Wait> Search<'_, P, G, R, Workspace, LinkSet> {
 
     /// Brings the mover's links up to date, and goes on with the turn's stones on the other player's set, or with a new set.
     #[cycle(search)]
-    fn with_others(&mut self, situation: &Situation, depth: u32) -> Outcome
+    fn with_others(&mut self, situation: &Situation, depth: u32) -> Result<Outcome, RanOut>
         requires { MayHold self.old depth }
         ensures keeps { Keeps P.sight self.old self.new }
-        ensures outcome { Tells P.sight self.new result }
+        ensures stopped { IfErr result (Stops P.sight self.new) }
     {
-        if let Some(outcome) = self.by_own_links(situation) {
-            return outcome;
+        if let Some(outcome) = self.by_own_links(situation)? {
+            return Ok(outcome);
         }
-        let Ok(before) = put(&mut self.others, situation, situation.to_move.other()) else {
-            return Outcome::Memory;
-        };
+        let before = put(&mut self.others, situation, situation.to_move.other())?;
         let outcome = self.expand(situation, depth);
         take_back(&mut self.others, before);
         outcome
@@ -106,128 +98,124 @@ impl<P: Proofs, G: Gate, R: Wait> Search<'_, P, G, R, Workspace, LinkSet> {
 
     /// Brings the other player's links up to date, and goes down to one move after the other.
     #[cycle(search)]
-    fn expand(&mut self, situation: &Situation, depth: u32) -> Outcome
+    fn expand(&mut self, situation: &Situation, depth: u32) -> Result<Outcome, RanOut>
         requires { MayHold self.old depth }
         ensures keeps { Keeps P.sight self.old self.new }
-        ensures outcome { Tells P.sight self.new result }
+        ensures stopped { IfErr result (Stops P.sight self.new) }
     {
-        if let Some(outcome) = self.by_others_links(situation) {
-            return outcome;
+        if let Some(outcome) = self.by_others_links(situation)? {
+            return Ok(outcome);
         }
         let worker = self.worker;
-        let Ok(mut moves) = Moves::of(
+        let mut moves = Moves::of(
             worker.hints,
             worker.replies,
             &self.own,
             &self.others,
             situation,
             self.proofs.plain(),
-        ) else {
-            return Outcome::Memory;
-        };
-        if let Some(outcome) = self.look_at_all(situation, &mut moves) {
-            return outcome;
+        )?;
+        if let Some(outcome) = self.look_at_all(situation, &mut moves)? {
+            return Ok(outcome);
         }
         let all = moves.children.len();
-        if let Some(outcome) = self.look_at_marked(situation, &mut moves, all) {
-            return outcome;
+        if let Some(outcome) = self.look_at_marked(situation, &mut moves, all)? {
+            return Ok(outcome);
         }
         let key = situation.filled.key(situation.to_move);
         self.way.note(depth, key);
         // Hints may change at any time, so nothing says how many rounds there are.
         for _ in 0..u64::MAX {
-            if let Some(outcome) = self.go_on(situation, &mut moves, depth) {
-                return outcome;
+            if let Some(outcome) = self.go_on(situation, &mut moves, depth)? {
+                return Ok(outcome);
             }
         }
-        Outcome::Open(situation.limit)
+        Ok(Outcome::Open(situation.limit))
     }
 
     /// Looks for what others proved, and goes down to the move that the numbers choose, or ends the turn where nobody waits for it.
     /// None where the turn goes on after that.
     #[cycle(search)]
-    fn go_on(&mut self, situation: &Situation, moves: &mut Moves, depth: u32) -> Option<Outcome>
+    fn go_on(
+        &mut self,
+        situation: &Situation,
+        moves: &mut Moves,
+        depth: u32,
+    ) -> Result<Option<Outcome>, RanOut>
         requires { MayHold self.old depth }
         ensures keeps { Keeps P.sight self.old self.new }
-        ensures outcome { IfSome result (Tells P.sight self.new) }
+        ensures stopped { IfErr result (Stops P.sight self.new) }
     {
-        if let Some(outcome) = self.look_again(situation, moves) {
-            return Some(outcome);
+        if let Some(outcome) = self.look_again(situation, moves)? {
+            return Ok(Some(outcome));
         }
         let worker = self.worker;
         // Where all moves lose the proof is at hand, so it is stored even if nobody waits for it.
         let is_open = !moves.children.is_empty();
         if is_open && self.way.is_marked_above(worker.hints, depth) {
             let numbers = numbers_of(worker.counts, worker.hints, self.seat, moves);
-            return Some(Outcome::Open(numbers));
+            return Ok(Some(Outcome::Open(numbers)));
         }
         let down = match choose(worker.counts, worker.hints, self.seat, situation, moves) {
             Choice::Down(down) => down,
-            Choice::Limit(numbers) => return Some(Outcome::Open(numbers)),
-            Choice::AllLose => return Some(self.all_lose(moves)),
+            Choice::Limit(numbers) => return Ok(Some(Outcome::Open(numbers))),
+            Choice::AllLose => return Ok(Some(self.all_lose(moves)?)),
         };
-        let outcome = self.descend(&down, depth);
+        let outcome = self.descend(&down, depth)?;
         self.take_in(situation, moves, &down, outcome)
     }
 
     /// Goes down to the position after a move, whose mover is the other player, and comes back.
     #[cycle(search)]
-    fn descend(&mut self, down: &Down, depth: u32) -> Outcome
+    fn descend(&mut self, down: &Down, depth: u32) -> Result<Outcome, RanOut>
         requires { MayHold self.old depth }
         ensures keeps { Keeps P.sight self.old self.new }
-        ensures outcome { Tells P.sight self.new result }
+        ensures stopped { IfErr result (Stops P.sight self.new) }
     {
         if depth == 0 {
-            return Outcome::Open(down.child.numbers);
+            return Ok(Outcome::Open(down.child.numbers));
         }
         let word = loss_word(down.child.key);
         // Before the turn below asks for its unit: so other workers see the hold while this one waits at its gate.
         self.worker.counts.hold(self.seat, word);
         swap(&mut self.own, &mut self.others);
-        let outcome = self.turn(&down.start, depth - 1);
+        let outcome = self.visit(&down.start, depth - 1);
         swap(&mut self.own, &mut self.others);
         self.worker.counts.release(self.seat, word);
         outcome
     }
 
-    /// Ends a turn: where the position after fill-in was proved, the proof of the position before it is stored; and a hint is
+    /// Ends a visit: where the position after fill-in was proved, the proof of the position before it is stored; and a hint is
     /// left.
-    fn conclude(&mut self, start: &Start, filled: &Filled, outcome: Outcome) -> Outcome
-        requires filled { IsFillIn start.now.here filled.now.steps.items filled.now.position }
-        requires outcome { Tells P.sight self.old outcome }
+    fn conclude(
+        &mut self,
+        start: &Start,
+        filled: &Filled,
+        outcome: Outcome,
+    ) -> Result<Outcome, RanOut>
+        requires { IsFillIn start.now.here filled.now.steps.items filled.now.position }
         ensures keeps { Keeps P.sight self.old self.new }
-        ensures outcome { Tells P.sight self.new result }
+        ensures stopped { IfErr result (Stops P.sight self.new) }
     {
-        let concluded = self.after_fill(start, filled, outcome);
-        leave(self.worker.hints, &start.here, start.to_move, &concluded);
-        concluded
+        let concluded = match outcome {
+            Outcome::Proved => self.by_fill(start, filled)?,
+            Outcome::Open(_) => outcome,
+        };
+        leave(self.worker.hints, &start.here, start.to_move, concluded);
+        Ok(concluded)
     }
 
-    /// Where the position after fill-in was proved, stores the proof of the position before it.
-    fn after_fill(&mut self, start: &Start, filled: &Filled, outcome: Outcome) -> Outcome
-        requires filled { IsFillIn start.now.here filled.now.steps.items filled.now.position }
-        requires outcome { Tells P.sight self.old outcome }
+    /// Stores the proof of the position before fill-in, where the one after it was proved.
+    fn by_fill(&mut self, start: &Start, filled: &Filled) -> Result<Outcome, RanOut>
+        requires { IsFillIn start.now.here filled.now.steps.items filled.now.position }
         ensures keeps { Keeps P.sight self.old self.new }
-        ensures outcome { Tells P.sight self.new result }
+        ensures stopped { IfErr result (Stops P.sight self.new) }
     {
-        match outcome {
-            Outcome::Proved => {
-                let position = start.here.position();
-                let worker = self.worker;
-                let stored = widen_fill(
-                    worker.rt,
-                    worker.alloc,
-                    self.proofs,
-                    position,
-                    start.to_move,
-                    filled,
-                );
-                match outcome_of(stored) {
-                    Some(outcome) => outcome,
-                    None => Outcome::Open(start.limit),
-                }
-            }
-            other => other,
+        let (rt, alloc) = (self.worker.rt, self.worker.alloc);
+        let position = start.here.position();
+        match widen_fill(rt, alloc, self.proofs, position, start.to_move, filled)? {
+            Stored::Done => Ok(Outcome::Proved),
+            Stored::Missing => Ok(Outcome::Open(start.limit)),
         }
     }
 }

@@ -1,7 +1,7 @@
 -- At each position the functions call one another in this order, and each move that is made leaves a depth of one less.
 use Rattle.std.proofs.Common.{◌+◌, ◌*◌}
 use Rattle.hx_worker.specs.Searches.{Keeps}
-use Rattle.hx_worker.proofs.turns.Search+P+G+R+Workspace+LinkSet.+search.Given as goal
+use Rattle.hx_worker.proofs.visits.Search+P+G+R+Workspace+LinkSet.+search.Given as goal
 
 abbrev pub decreases-turn : goal.decreases-turn
 decreases-turn g l = 7 * l.depth + 6

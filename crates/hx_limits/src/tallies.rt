@@ -4,9 +4,9 @@
 //! that it counts, so each is counted once.
 
 ghost use Rattle.std.specs.Prelude.{◌≡◌};
-ghost use Rattle.hx_solve.specs.Tallies.{tallied, counting, IsCountedBy, NoCountFalls};
+ghost use Rattle.hx_limits.specs.Tallies.{tallied, counting, IsCountedBy, NoCountFalls};
 
-use crate::unsolved::Unsolved;
+use crate::ran_out::RanOut;
 use std::marker::Model;
 
 /// The counts of refusals by one budget and by so many slots. A count stays at its highest number, 2^64 - 1.
@@ -19,7 +19,7 @@ pub struct Tally {
 }
 
 impl Model for Tally {
-    ghost use Rattle.hx_solve.specs.Tallies.{Tallied, tallied};
+    ghost use Rattle.hx_limits.specs.Tallies.{Tallied, tallied};
 
     ghost Value = { Tallied };
 
@@ -40,15 +40,15 @@ impl Tally {
     }
 
     /// Counts the refusal of a unit of this budget, or of one of these slots.
-    pub fn add(&mut self, refusal: Unsolved)
+    pub fn add(&mut self, refusal: RanOut)
         requires { IsCountedBy self.old refusal }
         ensures counted { self.new ≡ counting refusal self.old }
         ensures later { NoCountFalls self.old self.new }
     {
         match refusal {
-            Unsolved::Budget(_) => self.budgets = self.budgets.saturating_add(1),
-            Unsolved::Slots(_) => self.proofs = self.proofs.saturating_add(1),
-            Unsolved::Memory => unreachable!(),
+            RanOut::Budget(_) => self.budgets = self.budgets.saturating_add(1),
+            RanOut::Slots(_) => self.proofs = self.proofs.saturating_add(1),
+            RanOut::Memory => unreachable!(),
         }
     }
 

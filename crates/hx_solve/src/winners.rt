@@ -1,0 +1,74 @@
+//! Who wins a position, without a tree.
+
+ghost use Rattle.std.specs.Prelude.{◌<◌, IfOk, IfErr, IsOk};
+ghost use Rattle.hx_board.specs.Counts.{IsSmall};
+ghost use Rattle.hx_board.specs.Game.{Wins};
+ghost use Rattle.hx_board.specs.Graph.{HasNoChain};
+ghost use Rattle.hx_limits.specs.Settings.{AreSettings};
+ghost use Rattle.hx_limits.specs.Causes.{HasCause, LacksMemory, LacksUnit};
+
+use crate::one_position::OnePosition;
+use hx_board::{Colour, Position};
+use hx_io::Gate;
+use hx_limits::{RanOut, Settings};
+use hx_pool::run_all;
+use hx_share::book_names_winners;
+use hx_sweep::{is_small, winner as winner_of_small};
+use std::alloc::Global;
+use std::sync::Wait;
+use std::thread::Threads;
+
+/// Who wins a position with this mover, by workers in threads as by `solve`, and where they come to no proof of a small position by a
+/// full search, so that one is never left open. No tree is made, so memory is wanted for the search alone.
+///
+/// It may wait for a worker. Before each of its visits a worker calls the gate.
+pub fn winner<G: Gate + Sync, R: Threads + Wait + Sync>(
+    rt: &R,
+    alloc: Global,
+    position: &Position,
+    to_move: Colour,
+    settings: Settings,
+    gate: &G,
+) -> Result<Colour, RanOut>
+    requires { AreSettings settings }
+    ensures winner { IfOk result (λ winner. Wins winner position.now to_move) }
+    // A refusal carries the budget or the slots of the settings.
+    ensures cause { IfErr result (HasCause settings) }
+    // Where units are wanting though there were some, neither player has a chain.
+    ensures no_chain { IfErr result
+        (λ why. LacksUnit why → 0 < settings.budget → HasNoChain position.now) }
+    ensures small { IsSmall position.now settings.budget → IsOk result }
+{
+    let answer = winner_by_workers(rt, alloc, position, to_move, &settings, gate);
+    if answer.is_err() && is_small(position, settings.budget) {
+        let mut tried = *position;
+        return Ok(winner_of_small(&mut tried, to_move));
+    }
+    answer
+}
+
+/// Who wins by the workers alone, or what ran out.
+fn winner_by_workers<G: Gate + Sync, R: Threads + Wait + Sync>(
+    rt: &R,
+    alloc: Global,
+    position: &Position,
+    to_move: Colour,
+    settings: &Settings,
+    gate: &G,
+) -> Result<Colour, RanOut>
+    requires { AreSettings settings.now }
+    ensures winner { IfOk result (λ winner. Wins winner position.now to_move) }
+    ensures cause { IfErr result (HasCause settings.now) }
+    ensures no_chain { IfErr result
+        (λ why. LacksUnit why → 0 < settings.now.budget → HasNoChain position.now) }
+{
+    let errand = OnePosition {
+        position: *position,
+        to_move,
+    };
+    let empties = position.empty_count();
+    let searched = run_all(rt, alloc, &errand, empties, settings, gate)?;
+    book_names_winners(&searched.book);
+    let found = searched.end?;
+    Ok(found.winner)
+}
