@@ -7,7 +7,7 @@ ghost use Rattle.std.specs.Prelude.{◌≡◌, ℕ, IfOk, IfSome};
 ghost use Rattle.hx_board.specs.Graph.{HasChain};
 ghost use Rattle.hx_book.specs.Sights.{Grows};
 ghost use Rattle.hx_count.specs.Seats.{Seat};
-ghost use Rattle.hx_search.specs.Closed.{IsGrown};
+ghost use Rattle.hx_reach.specs.Growth.{IsGrown};
 ghost use Rattle.hx_worker.specs.Sets.{AreOn};
 ghost use Rattle.hx_worker.specs.Keeps.{IsSpent};
 ghost use Rattle.hx_worker.specs.Ends.{IsEnded, IsTried, IsThrough, IsOpenSet, WasUnlisted, EndsSpent};
@@ -18,7 +18,8 @@ use hx_book::Proofs;
 use hx_count::Spent;
 use hx_linkset::LinkSet;
 use hx_nodes::{Stored, store_chain, store_links, store_turned};
-use hx_search::{Reached, close, decided};
+use hx_reach::{Reached, decided};
+use hx_search::close;
 use std::sync::Wait;
 
 /// Closes a set, as far as there is room.
