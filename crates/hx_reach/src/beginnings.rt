@@ -1,4 +1,4 @@
-//! What is new when a closure by useful links begins.
+//! What is new when a reach begins.
 //!
 //! Where a set was brought to its end before and only stones came since, the stones tell what is
 //! new: ends that lost a Full link may have another Or; what an own stone joins has Bases; a stone

@@ -1,8 +1,8 @@
-//! The closure of a set by useful links alone, for positions inside a search.
+//! Useful links are added to a set, for positions inside a search.
 //!
-//! A closed set holds very many links, and most of them are of no use. Here links are made only between vertices that stand
-//! for their groups, and few of each pair of ends; the smallest come first, and the first one that decides the position may
-//! end it.
+//! A set that is closed under the rules holds very many links, and most of them are of no use. Here links are made only between
+//! vertices that stand for their groups, and few of each pair of ends; the smallest come first, and the first one that decides
+//! the position may end it.
 //!
 //! A set that a call has left Open can be played on, and taken back, with nothing kept beside it. Of one that is decided not
 //! all links were tried, and a later call does not catch up with what was left.

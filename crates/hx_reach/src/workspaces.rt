@@ -1,4 +1,4 @@
-//! What a closure by useful links works with, and keeps for the next one.
+//! What a reach works with, and keeps for the next one.
 
 use crate::candidates::Candidates;
 use crate::covers::Caps;
