@@ -10,8 +10,8 @@ use crate::positions::after_stones;
 use hx_board::{CELLS, Cell, Colour, Memory, Position, Size};
 use hx_fill::{Filled, Must, fill_in, must};
 use hx_linkset::LinkSet;
+use hx_reach::reach;
 use hx_test_support::Draws;
-use hx_search::reach;
 use std::io;
 use std::time::Instant;
 

@@ -10,8 +10,9 @@ use crate::positions::after_stones;
 use hx_board::{CELLS, Cell, Colour, Position, Size, Vertex};
 use hx_link::Kind;
 use hx_linkset::LinkSet;
+use hx_reach::{Reached, reach};
+use hx_search::{Closure, close};
 use hx_test_support::Draws;
-use hx_search::{Closure, Reached, close, reach};
 use std::io;
 use std::time::Instant;
 

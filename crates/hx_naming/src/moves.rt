@@ -7,7 +7,7 @@ use crate::sets::set_of;
 use hx_board::{CELLS, Cell, Colour, Memory, Vertex};
 use hx_link::{Kind, Step, Steps};
 use hx_linkset::{Derived, LinkSet};
-use hx_search::{Reached, Workspace, decided, reach_with};
+use hx_reach::{Reached, Workspace, decided, reach_with};
 use hx_tree::{Heading, Node, Rule};
 use std::alloc::Global;
 

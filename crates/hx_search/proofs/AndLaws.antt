@@ -20,10 +20,11 @@ use Rattle.hx_link.specs.Steps.{HasEnds, GoesOver, GivesAndStone, GivesAndCell}
 use Rattle.hx_linkset.specs.States.{Standing, IsLive, IsLiveAt, Names}
 use Rattle.hx_linkset.specs.LiveOf.{IsLiveOf, IsFirstFrom}
 use Rattle.hx_board.proofs.VertexSetLaws.{some-vertex, code-small}
-use Rattle.hx_search.specs.Closed.{IsSettled, IsGrown, IsStuck}
+use Rattle.hx_reach.specs.Growth.{IsGrown}
+use Rattle.hx_search.specs.Closed.{IsSettled, IsStuck}
 use Rattle.hx_search.specs.Progress.{IsUnsettled, IsPairSettled, AreRowsSettled, and_at, IsChainSettled}
 use Rattle.hx_search.specs.Progress.{IsChainSettledTo, IsEndSettledBelow, IsEndSettled}
-use Rattle.hx_search.proofs.GrowthLaws.{settled-on, live_of-back}
+use Rattle.hx_search.proofs.SettledLaws.{settled-on, live_of-back}
 use Rattle.hx_search.proofs.VertexLaws.{below-more, below-skip, swapped, live_of-swapped, live_of-vertex, empty-not_own}
 
 pub stuck-and : (set : Standing) (own : Bool) (left right : ℕ) → IsUnsettled set (and_at own left right) → IsStuck set

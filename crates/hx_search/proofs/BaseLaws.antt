@@ -13,9 +13,10 @@ use Rattle.hx_link.specs.Steps.{HasEnds, GivesBase}
 use Rattle.hx_link.proofs.LinkLaws.{end-vertex}
 use Rattle.hx_linkset.specs.States.{Standing}
 use Rattle.hx_linkset.specs.Answers.{Gives}
-use Rattle.hx_search.specs.Closed.{IsSettled, IsGrown, IsStuck}
+use Rattle.hx_reach.specs.Growth.{IsGrown}
+use Rattle.hx_search.specs.Closed.{IsSettled, IsStuck}
 use Rattle.hx_search.specs.Progress.{IsUnsettled, AreBasesOf, AreBasesBelow}
-use Rattle.hx_search.proofs.GrowthLaws.{settled-on}
+use Rattle.hx_search.proofs.SettledLaws.{settled-on}
 use Rattle.hx_search.proofs.VertexLaws.{below-more, below-skip}
 
 pub stuck-base : (set : Standing) (a b : Vertex) → IsUnsettled set (Base a b) → IsStuck set

@@ -1,9 +1,8 @@
-pub mod GrowthLaws
+pub mod SettledLaws
 pub mod VertexLaws
 pub mod BaseLaws
 pub mod AndLaws
 pub mod SwappedAnds
 pub mod ForkLaws
 pub mod OrLaws
-pub mod DecidedLaws
 pub mod ClosedLaws

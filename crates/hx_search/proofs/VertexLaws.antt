@@ -17,7 +17,7 @@ use Rattle.hx_link.proofs.LinkLaws.{end-vertex}
 use Rattle.hx_linkset.specs.States.{Standing}
 use Rattle.hx_linkset.specs.LiveOf.{IsLiveOf}
 use Rattle.hx_board.specs.Positions.{IsBoard}
-use Rattle.hx_search.specs.Closed.{IsGrown}
+use Rattle.hx_reach.specs.Growth.{IsGrown}
 
 module _ (size : Extent) (P : Vertex → Type 0) (code : ℕ) (below : (w : Vertex) → IsVertex size w → code_of w < code → P w) where
   pub below-more : IsExtent size.rows size.cols → (v : Vertex) → IsVertexAt size code v → P v → (w : Vertex) → IsVertex size w

@@ -1,6 +1,5 @@
--- When a set of links is closed, and what may change while it is being closed.
-use Rattle.std.specs.Prelude.{◌≡◌, ◌≢◌, ℕ, ◌≤◌, false, length, slice_get}
-use Rattle.std.specs.declared.option.Option.TheVariants.{Some}
+-- When a set of links is closed, and what `close` answers of it.
+use Rattle.std.specs.Prelude.{◌≡◌, ◌≢◌, ℕ, false, length}
 use Rattle.hx_board.specs.declared.vertices.Vertex.{Vertex}
 use Rattle.hx_board.specs.Sets.{has}
 use Rattle.hx_link.specs.declared.links.Kind.TheVariants.{Full, Semi}
@@ -43,17 +42,6 @@ pub record IsClosed (set : Standing) : Type 0 where
   pub and_stones : (left right : ℕ) → IsSettled set (AndStone left right)
   pub and_cells : (left right : ℕ) → IsSettled set (AndCell left right)
   pub ors : (a b : Vertex) → IsForked set a b → HasFull set a b
-
--- links with their steps were added at the end, and nothing else changed
-pub record IsGrown (old new : Standing) : Type 0 where
-  pub same_player : new.player ≡ old.player
-  pub same_board : new.present.board ≡ old.present.board
-  pub same_past : new.past ≡ old.past
-  pub longer : length old.present.links ≤ length new.present.links
-  pub links_stay : (place : ℕ) (link : Link) → slice_get old.present.links place ≡ Some link
-      → slice_get new.present.links place ≡ Some link
-  pub steps_stay : (place : ℕ) (step : Step) → slice_get old.present.steps place ≡ Some step
-      → slice_get new.present.steps place ≡ Some step
 
 -- the set holds all the links that it can, and is not closed
 pub record IsStuck (set : Standing) : Type 0 where

@@ -21,8 +21,6 @@ use Rattle.hx_search.specs.declared.tries.Tried.{Tried}
 use Rattle.hx_search.specs.declared.tries.Tried.TheVariants.{Settled, Stopped}
 use Rattle.hx_search.specs.declared.ors.Passed.{Passed}
 use Rattle.hx_search.specs.declared.ors.Passed.TheVariants.{Same, More, Full as AtLimit}
-use Rattle.hx_search.specs.declared.reaches.Taken.{Taken}
-use Rattle.hx_search.specs.declared.reaches.Taken.TheVariants.{New, NoMore, Full as NoRoom}
 use Rattle.hx_search.specs.Closed.{IsSettled, IsForked, HasFull, IsStuck}
 
 -- ---- tries
@@ -47,15 +45,6 @@ abbrev pub IsPassed : Standing → Standing → Type 0 → Passed → Type 0
 IsPassed old new Fact Same = (new ≡ old) × Fact
 IsPassed old new Fact More = length old.present.links < length new.present.links
 IsPassed old new Fact AtLimit = IsStuck new
-
--- ---- candidates
-
--- what became of candidates: where one was added there are more links, and no more than there may be
-abbrev pub IsTaken : Standing → Standing → Taken → Type 0
-IsTaken old new (New index is_shared) = (length old.present.links < length new.present.links)
-    × (length new.present.links ≤ MOST_LINKS)
-IsTaken old new NoMore = Unit {0}
-IsTaken old new NoRoom = Unit {0}
 
 -- ---- bases
 

@@ -5,7 +5,7 @@
 //! tried with this one when it is looked at.
 
 ghost use Rattle.std.specs.Prelude.{◌≡◌, ℕ, ◌<◌, length, IfOk};
-ghost use Rattle.hx_search.specs.Closed.{IsGrown};
+ghost use Rattle.hx_reach.specs.Growth.{IsGrown};
 ghost use Rattle.hx_search.specs.Progress.{AreTried, and_at, IsChainSettled, IsEndSettled, IsPairSettled, AreRowsSettled};
 
 use crate::tries::{Tried, settle};

@@ -1,7 +1,7 @@
 //! The links that need no cell: those of any two vertices that are joined already.
 
 ghost use Rattle.std.specs.Prelude.{◌≡◌, ◌<◌, IfOk};
-ghost use Rattle.hx_search.specs.Closed.{IsGrown};
+ghost use Rattle.hx_reach.specs.Growth.{IsGrown};
 ghost use Rattle.hx_search.specs.Progress.{AreTried, AreBasesOf, AreBasesBelow};
 
 use crate::tries::{Tried, settle};

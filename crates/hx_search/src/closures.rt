@@ -3,17 +3,17 @@
 
 ghost use Rattle.std.specs.Prelude.{IfOk};
 ghost use Rattle.hx_linkset.specs.States.{IsRight};
-ghost use Rattle.hx_search.specs.Closed.{IsClosed, IsGrown, IsAnswer};
+ghost use Rattle.hx_reach.specs.Growth.{IsGrown};
+ghost use Rattle.hx_search.specs.Closed.{IsClosed, IsAnswer};
 ghost use Rattle.hx_search.specs.Progress.{AreTried};
 
 use crate::ands::settle_ands;
 use crate::bases::settle_bases;
 use crate::ors::{Passed, join_all};
-use crate::reaches::{Until, add_useful};
 use crate::tries::Tried;
-use crate::workspaces::Workspace;
 use hx_board::Memory;
 use hx_linkset::{LinkSet, MOST_LINKS};
+use hx_reach::add_all_useful;
 
 /// How the closing of a set ended.
 #[derive(Clone, Copy, PartialEq, Eq, Debug)]
@@ -54,7 +54,7 @@ fn add_all(set: &mut LinkSet) -> Result<Tried, Memory>
     ensures grown { IsGrown set.old set.new }
     ensures tried { IfOk result (AreTried set.new (IsClosed set.new)) }
 {
-    match begin_with_useful(set) {
+    match add_all_useful(set) {
         Ok(()) => {}
         Err(Memory) => return Err(Memory),
     }
@@ -79,15 +79,5 @@ fn add_all(set: &mut LinkSet) -> Result<Tried, Memory>
             Ok(Passed::Full) => return Ok(Tried::Stopped),
             Err(Memory) => return Err(Memory),
         }
-    }
-}
-
-/// Adds useful links, in a workspace that is let go before the others come.
-fn begin_with_useful(set: &mut LinkSet) -> Result<(), Memory>
-    ensures { IsGrown set.old set.new }
-{
-    match Workspace::new(set.allocator()) {
-        Ok(mut workspace) => add_useful(set, &mut workspace, Until::Through),
-        Err(Memory) => Err(Memory),
     }
 }

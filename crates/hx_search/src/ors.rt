@@ -1,7 +1,7 @@
 //! The Or rule, for any two vertices that no Full link joins yet.
 
 ghost use Rattle.std.specs.Prelude.{◌≡◌, IfOk};
-ghost use Rattle.hx_search.specs.Closed.{IsGrown};
+ghost use Rattle.hx_reach.specs.Growth.{IsGrown};
 ghost use Rattle.hx_search.specs.Progress.{IsPassed, IsJoinedWhereForked, AreForksOf, AreForksBelow};
 
 use crate::parts::parts_of;

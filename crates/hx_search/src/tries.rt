@@ -2,7 +2,7 @@
 //! there has to be tried a second time.
 
 ghost use Rattle.std.specs.Prelude.{IfOk};
-ghost use Rattle.hx_search.specs.Closed.{IsGrown};
+ghost use Rattle.hx_reach.specs.Growth.{IsGrown};
 ghost use Rattle.hx_search.specs.Progress.{IsTriedStep};
 
 use hx_board::Memory;

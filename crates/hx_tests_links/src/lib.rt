@@ -4,8 +4,8 @@
 //! definition stands a program here that works it out in the slowest obvious way, and a test holds the call against it on a
 //! table. The tests stand in a crate of their own, so that no crate below is proved again for a change of them.
 //!
-//! The tests of hx_linkset, hx_search and hx_fill stand here and in hx_tests_reaches, since a crate is proved a second time with
-//! its tests.
+//! The tests of hx_linkset, hx_reach, hx_search and hx_fill stand here and in hx_tests_reaches, since a crate is proved a second
+//! time with its tests.
 #![tactic(auto)]
 
 #[cfg(test)]

@@ -3,7 +3,7 @@
 //!
 //! No clause says which links `reach` adds. That it leaves none out which it looks for shows in two ways: it answers the
 //! same on both sets, and the numbers of links over a whole table are what they were. With a part of it taken out of
-//! hx_search these numbers change, among others:
+//! hx_reach these numbers change, among others:
 //!
 //! | part left out | row | number | with it | without it |
 //! |---|---|---|---|---|
@@ -31,7 +31,8 @@ use hx_board::{CELLS, Cell, Colour, Position, Size, Vertex};
 use hx_fill::fill_in;
 use hx_link::{Kind, Link, Step};
 use hx_linkset::{Added, LinkSet};
-use hx_search::{Reached, Workspace, close, decided, reach, reach_with};
+use hx_reach::{Reached, Workspace, decided, reach, reach_with};
+use hx_search::close;
 use hx_test_support::Draws;
 use std::alloc::Global;
 use std::test::Fail;

@@ -7,7 +7,7 @@ ghost use Rattle.std.specs.Prelude.{◌≡◌, IfOk, IfErr, IfSome, IfNone};
 ghost use Rattle.hx_board.specs.Graph.{HasChain};
 ghost use Rattle.hx_book.specs.Sights.{Grows};
 ghost use Rattle.hx_count.specs.Seats.{Seat};
-ghost use Rattle.hx_search.specs.Closed.{IsGrown};
+ghost use Rattle.hx_reach.specs.Growth.{IsGrown};
 ghost use Rattle.hx_worker.specs.Sets.{AreOn};
 ghost use Rattle.hx_tree.specs.Entries.{IsFirstFound};
 ghost use Rattle.hx_limits.specs.Causes.{IsSpent, IsUnstored, IsStopped, LacksUnit};
@@ -20,7 +20,8 @@ use hx_count::Spent;
 use hx_limits::RanOut;
 use hx_linkset::LinkSet;
 use hx_nodes::{Stored, store_chain, store_links, store_turned};
-use hx_search::{Reached, close, decided};
+use hx_reach::{Reached, decided};
+use hx_search::close;
 use hx_tree::Found;
 use std::sync::Wait;
 

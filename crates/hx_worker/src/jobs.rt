@@ -4,7 +4,7 @@ ghost use Rattle.std.specs.Prelude.{◌≡◌, ◌<◌};
 ghost use Rattle.hx_count.specs.Machine.{held_in_all};
 ghost use Rattle.hx_count.specs.Seats.{own};
 ghost use Rattle.hx_book.specs.Sights.{Grows};
-ghost use Rattle.hx_search.specs.Closed.{IsGrown};
+ghost use Rattle.hx_reach.specs.Growth.{IsGrown};
 ghost use Rattle.hx_count.specs.Seats.{KeepsSeat};
 ghost use Rattle.hx_worker.specs.Sets.{AreOn};
 ghost use Rattle.hx_worker.specs.Ends.{IsEnded, IsTried, WasUnlisted, EndsSpent};

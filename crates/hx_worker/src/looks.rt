@@ -14,7 +14,7 @@ use hx_limits::RanOut;
 use hx_linkset::LinkSet;
 use hx_nodes::Stored;
 use hx_ordering::Situation;
-use hx_search::{Reached, Workspace, reach_with};
+use hx_reach::{Reached, Workspace, reach_with};
 use hx_widen::{widen_chain, widen_links, widen_turned};
 use std::sync::Wait;
 

@@ -16,7 +16,7 @@ use hx_ordering::{
     open,
 };
 use hx_pn::{INF, Numbers};
-use hx_search::Workspace;
+use hx_reach::Workspace;
 use hx_widen::{widen_all, widen_move, widen_turned};
 use std::sync::Wait;
 

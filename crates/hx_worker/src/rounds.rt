@@ -28,7 +28,7 @@ use hx_linkset::LinkSet;
 use hx_nodes::Stored;
 use hx_ordering::{LOSS_WORDS, Start};
 use hx_pn::{INF, Numbers};
-use hx_search::Workspace;
+use hx_reach::Workspace;
 use hx_tree::Found;
 use hx_turn::Orientations;
 use hx_widen::{look_wider_either, store_wider};

@@ -23,7 +23,7 @@ use hx_limits::RanOut;
 use hx_linkset::LinkSet;
 use hx_nodes::Stored;
 use hx_ordering::{Choice, Down, Moves, Situation, Start, choose, loss_word, numbers_of};
-use hx_search::Workspace;
+use hx_reach::Workspace;
 use hx_widen::widen_fill;
 use std::mem::swap;
 use std::sync::Wait;

@@ -15,7 +15,7 @@ use hx_io::Gate;
 use hx_limits::RanOut;
 use hx_linkset::LinkSet;
 use hx_ordering::{Moves, Situation};
-use hx_search::Workspace;
+use hx_reach::Workspace;
 use std::sync::Wait;
 
 impl<P: Proofs, G: Gate, R: Wait> Search<'_, P, G, R, Workspace, LinkSet> {

@@ -1,5 +1,5 @@
 use Rattle.std.proofs.Common.{◌<◌, length, arith}
-use Rattle.hx_search.proofs.GrowthLaws.{grown-itself, grown-on}
+use Rattle.hx_reach.proofs.GrowthLaws.{grown-itself, grown-on}
 use Rattle.hx_search.proofs.AndLaws.{rows-all, rows-more}
 use Rattle.hx_search.proofs.ands.settle_ands.Goals as goal
 

@@ -1,5 +1,5 @@
 use Rattle.std.proofs.Common.{◌-◌}
-use Rattle.hx_search.specs.Closed.{IsGrown}
+use Rattle.hx_reach.specs.Growth.{IsGrown}
 use Rattle.hx_search.specs.Progress.{AreRowsSettled}
 use Rattle.hx_search.proofs.ands.settle_ands.Given as goal
 

@@ -5,7 +5,8 @@ use Rattle.hx_link.specs.declared.steps.Step.{Step}
 use Rattle.hx_link.specs.declared.links.Kind.TheVariants.{Full}
 use Rattle.hx_search.specs.Closed.{IsSettled}
 use Rattle.hx_search.specs.Progress.{IsUnsettled, and_at, IsChainSettledTo}
-use Rattle.hx_search.proofs.GrowthLaws.{grown-itself, grown-on, live_of-on}
+use Rattle.hx_reach.proofs.GrowthLaws.{grown-itself, grown-on}
+use Rattle.hx_search.proofs.SettledLaws.{live_of-on}
 use Rattle.hx_search.proofs.AndLaws.{stuck-and, chain_left, chain-start, chain-falls, chain-next, chain-past}
 use Rattle.hx_search.proofs.ands.settle_chain.Goals as goal
 

@@ -1,4 +1,4 @@
-use Rattle.hx_search.specs.Closed.{IsGrown}
+use Rattle.hx_reach.specs.Growth.{IsGrown}
 use Rattle.hx_search.specs.Progress.{IsChainSettledTo}
 use Rattle.hx_search.proofs.AndLaws.{chain_left}
 use Rattle.hx_search.proofs.ands.settle_chain.Given as goal

@@ -1,6 +1,6 @@
 use Rattle.std.proofs.Common.{◌≡◌, ◌<◌, length, arith}
-use Rattle.hx_search.specs.Closed.{IsGrown}
-use Rattle.hx_search.proofs.GrowthLaws.{grown-itself, grown-on}
+use Rattle.hx_reach.specs.Growth.{IsGrown}
+use Rattle.hx_reach.proofs.GrowthLaws.{grown-itself, grown-on}
 use Rattle.hx_search.proofs.VertexLaws.{size-extent, size-on, set-extent}
 use Rattle.hx_search.proofs.AndLaws.{end-more, end-skip, end-done, own-is, own-on}
 use Rattle.hx_search.proofs.ands.settle_end.Goals as goal

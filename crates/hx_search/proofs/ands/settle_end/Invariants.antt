@@ -1,4 +1,4 @@
-use Rattle.hx_search.specs.Closed.{IsGrown}
+use Rattle.hx_reach.specs.Growth.{IsGrown}
 use Rattle.hx_search.specs.Progress.{IsEndSettledBelow}
 use Rattle.hx_search.proofs.ands.settle_end.Given as goal
 

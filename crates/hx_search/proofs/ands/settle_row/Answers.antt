@@ -1,5 +1,5 @@
 use Rattle.std.proofs.Common.{◌<◌, true, length, arith}
-use Rattle.hx_search.proofs.GrowthLaws.{grown-itself, grown-on}
+use Rattle.hx_reach.proofs.GrowthLaws.{grown-itself, grown-on}
 use Rattle.hx_search.proofs.AndLaws.{end-on, row-dead, row-full}
 use Rattle.hx_search.proofs.ands.settle_row.Goals as goal
 

@@ -1,4 +1,4 @@
-use Rattle.hx_search.specs.Closed.{IsGrown}
+use Rattle.hx_reach.specs.Growth.{IsGrown}
 use Rattle.hx_search.specs.Progress.{AreBasesBelow}
 use Rattle.hx_search.proofs.bases.settle_bases.Given as goal
 

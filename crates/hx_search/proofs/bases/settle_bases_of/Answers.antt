@@ -1,6 +1,6 @@
 use Rattle.std.proofs.Common.{◌≡◌, arith}
-use Rattle.hx_search.specs.Closed.{IsGrown}
-use Rattle.hx_search.proofs.GrowthLaws.{grown-itself, grown-on}
+use Rattle.hx_reach.specs.Growth.{IsGrown}
+use Rattle.hx_reach.proofs.GrowthLaws.{grown-itself, grown-on}
 use Rattle.hx_search.proofs.VertexLaws.{size-extent, size-on}
 use Rattle.hx_search.proofs.BaseLaws.{stuck-base, bases-more, bases-skip}
 use Rattle.hx_search.proofs.bases.settle_bases_of.Goals as goal

@@ -1,7 +1,7 @@
 use Rattle.std.proofs.Common.{ℕ, ◌≤◌, length, sym, subst, arith}
 use Rattle.hx_linkset.specs.States.{Standing, IsRight}
 use Rattle.hx_search.specs.Progress.{AreBasesBelow, AreRowsSettled}
-use Rattle.hx_search.proofs.GrowthLaws.{grown-itself, grown-on}
+use Rattle.hx_reach.proofs.GrowthLaws.{grown-itself, grown-on}
 use Rattle.hx_search.proofs.BaseLaws.{below-on}
 use Rattle.hx_search.proofs.AndLaws.{rows-on}
 use Rattle.hx_search.proofs.ClosedLaws.{closed-by}
@@ -36,16 +36,16 @@ loop-set-preserved c =
     }
 
 pub returns-in-Err-clause-grown : goal.returns-in-Err-clause-grown
-returns-in-Err-clause-grown c = c.begin_with_useful.ensures
+returns-in-Err-clause-grown c = c.add_all_useful.ensures
 
 pub returns-in-Ok-Stopped-clause-grown : goal.returns-in-Ok-Stopped-clause-grown
-returns-in-Ok-Stopped-clause-grown c = grown-on _ _ _ c.begin_with_useful.ensures c.settle_bases.ensures.grown
+returns-in-Ok-Stopped-clause-grown c = grown-on _ _ _ c.add_all_useful.ensures c.settle_bases.ensures.grown
 
 pub returns-in-Ok-Stopped-clause-tried : goal.returns-in-Ok-Stopped-clause-tried
 returns-in-Ok-Stopped-clause-tried c = rw c.in-Ok-Stopped.field-0-is at c.in-Ok-Stopped.ensures.tried
 
 pub returns-in-Err-settle_bases-clause-grown : goal.returns-in-Err-settle_bases-clause-grown
-returns-in-Err-settle_bases-clause-grown c = grown-on _ _ _ c.begin_with_useful.ensures c.settle_bases.ensures.grown
+returns-in-Err-settle_bases-clause-grown c = grown-on _ _ _ c.add_all_useful.ensures c.settle_bases.ensures.grown
 
 pub loop-set-init : goal.loop-set-init
 loop-set-init c =
@@ -57,7 +57,7 @@ loop-set-init c =
 
 pub returns-in-Ok-Stopped-settle_ands-clause-grown : goal.returns-in-Ok-Stopped-settle_ands-clause-grown
 returns-in-Ok-Stopped-settle_ands-clause-grown c =
-    let before = grown-on _ _ _ c.begin_with_useful.ensures c.settle_bases.ensures.grown in
+    let before = grown-on _ _ _ c.add_all_useful.ensures c.settle_bases.ensures.grown in
     grown-on _ _ _ before (grown-on _ _ _ c.loop-set.invariant.grown c.settle_ands.ensures.grown)
 
 pub returns-in-Ok-Stopped-settle_ands-clause-tried : goal.returns-in-Ok-Stopped-settle_ands-clause-tried
@@ -65,12 +65,12 @@ returns-in-Ok-Stopped-settle_ands-clause-tried c = rw c.in-Ok-Stopped-settle_and
 
 pub returns-in-Err-settle_ands-clause-grown : goal.returns-in-Err-settle_ands-clause-grown
 returns-in-Err-settle_ands-clause-grown c =
-    let before = grown-on _ _ _ c.begin_with_useful.ensures c.settle_bases.ensures.grown in
+    let before = grown-on _ _ _ c.add_all_useful.ensures c.settle_bases.ensures.grown in
     grown-on _ _ _ before (grown-on _ _ _ c.loop-set.invariant.grown c.settle_ands.ensures.grown)
 
 pub returns-in-Ok-Same-clause-grown : goal.returns-in-Ok-Same-clause-grown
 returns-in-Ok-Same-clause-grown c =
-    let before = grown-on _ _ _ c.begin_with_useful.ensures c.settle_bases.ensures.grown in
+    let before = grown-on _ _ _ c.add_all_useful.ensures c.settle_bases.ensures.grown in
     grown-on _ _ _ before (grown-on _ _ _ c.loop-set.invariant.grown (grown-on _ _ _ c.settle_ands.ensures.grown c.join_all.ensures.grown))
 
 pub loop-set-smaller : goal.loop-set-smaller
@@ -80,7 +80,7 @@ loop-set-smaller c =
 
 pub returns-in-Ok-Full-clause-grown : goal.returns-in-Ok-Full-clause-grown
 returns-in-Ok-Full-clause-grown c =
-    let before = grown-on _ _ _ c.begin_with_useful.ensures c.settle_bases.ensures.grown in
+    let before = grown-on _ _ _ c.add_all_useful.ensures c.settle_bases.ensures.grown in
     grown-on _ _ _ before (grown-on _ _ _ c.loop-set.invariant.grown (grown-on _ _ _ c.settle_ands.ensures.grown c.join_all.ensures.grown))
 
 pub returns-in-Ok-Full-clause-tried : goal.returns-in-Ok-Full-clause-tried
@@ -88,5 +88,5 @@ returns-in-Ok-Full-clause-tried c = rw c.in-Ok-Full.field-0-is at c.in-Ok-Full.e
 
 pub returns-in-Err-join_all-clause-grown : goal.returns-in-Err-join_all-clause-grown
 returns-in-Err-join_all-clause-grown c =
-    let before = grown-on _ _ _ c.begin_with_useful.ensures c.settle_bases.ensures.grown in
+    let before = grown-on _ _ _ c.add_all_useful.ensures c.settle_bases.ensures.grown in
     grown-on _ _ _ before (grown-on _ _ _ c.loop-set.invariant.grown (grown-on _ _ _ c.settle_ands.ensures.grown c.join_all.ensures.grown))

@@ -1,5 +1,6 @@
 use Rattle.std.proofs.Common.{arith}
-use Rattle.hx_search.proofs.GrowthLaws.{grown-itself, grown-same, new-grown, new-longer}
+use Rattle.hx_reach.proofs.GrowthLaws.{grown-itself, grown-same}
+use Rattle.hx_search.proofs.SettledLaws.{new-grown, new-longer}
 use Rattle.hx_search.proofs.OrLaws.{or-covered, or-full}
 use Rattle.hx_search.proofs.ors.join.Goals as goal
 

@@ -1,9 +1,9 @@
 use Rattle.std.proofs.Common.{◌≡◌, refl, sym, ◌∙◌, subst, arith}
 use Rattle.std.proofs.lemmas.Bool.{true≢false, false≢true}
-use Rattle.hx_search.specs.Closed.{IsGrown}
+use Rattle.hx_reach.specs.Growth.{IsGrown}
 use Rattle.hx_search.specs.Progress.{AreForksBelow}
 use Rattle.hx_linkset.specs.States.{Standing}
-use Rattle.hx_search.proofs.GrowthLaws.{grown-itself, grown-on}
+use Rattle.hx_reach.proofs.GrowthLaws.{grown-itself, grown-on}
 use Rattle.hx_search.proofs.VertexLaws.{size-extent, size-on}
 use Rattle.hx_search.proofs.OrLaws.{forks-next, forks-none}
 use Rattle.hx_search.proofs.ors.join_all.Goals as goal

@@ -1,4 +1,5 @@
-use Rattle.hx_search.proofs.GrowthLaws.{grown-same, new-grown, new-settled, covered-settled, full-unsettled}
+use Rattle.hx_reach.proofs.GrowthLaws.{grown-same}
+use Rattle.hx_search.proofs.SettledLaws.{new-grown, new-settled, covered-settled, full-unsettled}
 use Rattle.hx_search.proofs.tries.settle.Goals as goal
 
 pub returns-in-Ok-New-clause-tried : goal.returns-in-Ok-New-clause-tried

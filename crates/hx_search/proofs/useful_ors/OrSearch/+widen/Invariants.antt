@@ -1,4 +1,0 @@
-use Rattle.hx_search.proofs.useful_ors.OrSearch.+widen.Given as goal
-
-abbrev pub decreases-widen : goal.decreases-widen
-decreases-widen l = l.left
