@@ -19,6 +19,8 @@ use std::thread::Threads;
 
 /// Answers the lines of the input, each before the next read. Where an answer asks who wins a position, it is searched with
 /// these settings.
+///
+/// It may wait for a worker.
 pub fn run_session<S: Source, K: Sink, R: Threads + Wait + Sync>(
     rt: &R,
     alloc: Global,
@@ -27,9 +29,13 @@ pub fn run_session<S: Source, K: Sink, R: Threads + Wait + Sync>(
     sink: &mut K,
 ) -> Finish
     requires { AreSettings settings }
+    // A session answered the lines of the input, and came to an end.
     ensures run { IsSessionRun settings
         (S.reading source.old) (S.reading source.new)
         (K.writing sink.old) (K.writing sink.new) result }
+
+    // With status 0 the output is the replies of a session to the lines of the input, up to `quit` or its end; a player that a reply
+    // names wins and the other one does not; and each reply that names a limit was counted.
     ensures promises { KeepsPromises settings
         (S.reading source.old) (S.reading source.new)
         (K.writing sink.old) (K.writing sink.new) result }

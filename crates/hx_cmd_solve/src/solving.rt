@@ -40,6 +40,8 @@ struct Finding {
 
 /// Reads the text of a position, solves it with these settings, and writes the text of a tree that proves who wins it, or why
 /// there is none.
+///
+/// It may wait for a worker. Before each of its turns a worker calls the gate.
 pub fn run_solve<S: Source, K: Sink, G: Gate + Sync, R: Threads + Wait + Sync>(
     rt: &R,
     alloc: Global,
@@ -50,9 +52,13 @@ pub fn run_solve<S: Source, K: Sink, G: Gate + Sync, R: Threads + Wait + Sync>(
     gate: &G,
 ) -> Finish
     requires { AreSettings settings }
+    // Some answer is due, and it was written whole, or the sink failed before it took all of it.
     ensures run { IsSolveRun settings plain_tree
         (S.reading source.old) (S.reading source.new)
         (K.writing sink.old) (K.writing sink.new) result }
+
+    // The tree that is written is a valid one of the input's position, and its winner alone wins; a small position is not left open,
+    // unless a fault or want of memory comes in its place; and a refusal that is told was counted.
     ensures promises { KeepsPromises settings plain_tree
         (S.reading source.old) (S.reading source.new)
         (K.writing sink.old) (K.writing sink.new) result }
