@@ -1,12 +1,3 @@
-pub mod NodesOut
-pub mod Positions
-pub mod SolvedTrees
-pub mod OpenPositions
 pub mod PlainTexts
-pub mod KeptPromises
 pub mod Refusals
-pub mod SearcherLaws
-pub mod SessionPromises
-pub mod DrawnWins
-pub mod DemoPromises
 pub mod RunClauses

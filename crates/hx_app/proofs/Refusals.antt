@@ -7,8 +7,8 @@ use Rattle.hx_limits.specs.declared.settings.Settings.{Settings}
 use Rattle.hx_answers.specs.Endings.{IsUnlessStopped}
 use Rattle.hx_cmd_check.proofs.Refusals.{stopped}
 use Rattle.hx_finish.specs.declared.finishes.Finish.{Finish}
-use Rattle.hx_app.specs.Positions.{IsNoPosition}
-use Rattle.hx_app.specs.Promises.{Answers}
+use Rattle.hx_cmd_solve.specs.Positions.{IsNoPosition}
+use Rattle.hx_cmd_solve.specs.Promises.{Answers}
 
 pub no_position_refused : (settings : Settings) (plain_tree : Bool) (left before now : Option (List ℕ)) (finish : Finish)
     → IfSome left (λ input. Answers settings plain_tree input before now finish)

@@ -13,9 +13,9 @@ use Rattle.hx_cmd_play.specs.Promises.{KeepsPromises as PlaysAsPromised}
 use Rattle.hx_cmd_template.specs.Claims.{IsTemplateRun}
 use Rattle.hx_cmd_template.specs.Promises.{KeepsPromises as DecidesAsPromised}
 use Rattle.hx_finish.specs.declared.finishes.Finish.{Finish}
-use Rattle.hx_app.specs.Promises.{KeepsPromises as SolvesAsPromised}
-use Rattle.hx_app.specs.Sessions.{KeepsPromises as ServesAsPromised}
-use Rattle.hx_app.specs.DemoPromises.{KeepsPromises as DrawsAsPromised}
+use Rattle.hx_cmd_solve.specs.Promises.{KeepsPromises as SolvesAsPromised}
+use Rattle.hx_cmd_htp.specs.Sessions.{KeepsPromises as ServesAsPromised}
+use Rattle.hx_cmd_demo.specs.Promises.{KeepsPromises as DrawsAsPromised}
 use Rattle.hx_cmd_survey.specs.Promises.{KeepsPromises as TabulatesAsPromised}
 use Rattle.hx_app.specs.Runs.{IsRun, Checked, Played, Decided, CountsNothing}
 

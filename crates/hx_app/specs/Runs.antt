@@ -14,9 +14,9 @@ use Rattle.hx_cmd_template.specs.Claims.{IsTemplateRun}
 use Rattle.hx_cmd_survey.specs.Answers.{IsSurveyRun}
 use Rattle.hx_finish.specs.declared.finishes.Finish.{Finish}
 use Rattle.hx_finish.specs.Wants.{no_refusal}
-use Rattle.hx_app.specs.Answers.{IsSolveRun}
-use Rattle.hx_app.specs.Sessions.{IsSessionRun}
-use Rattle.hx_app.specs.DemoAnswers.{IsDemoRun}
+use Rattle.hx_cmd_solve.specs.Answers.{IsSolveRun}
+use Rattle.hx_cmd_htp.specs.Sessions.{IsSessionRun}
+use Rattle.hx_cmd_demo.specs.Answers.{IsDemoRun}
 
 -- the words are a command
 abbrev pub IsCommand : List (List ℕ) → Type 0

@@ -10,19 +10,19 @@ ghost use Rattle.hx_answers.specs.Endings.{IsWritten};
 ghost use Rattle.hx_cmd_check.specs.Promises.{KeepsPromises as ChecksAsPromised};
 ghost use Rattle.hx_cmd_play.specs.Promises.{KeepsPromises as PlaysAsPromised};
 ghost use Rattle.hx_cmd_template.specs.Promises.{KeepsPromises as DecidesAsPromised};
-ghost use Rattle.hx_app.specs.Promises.{KeepsPromises as SolvesAsPromised};
-ghost use Rattle.hx_app.specs.Sessions.{KeepsPromises as ServesAsPromised};
-ghost use Rattle.hx_app.specs.DemoPromises.{KeepsPromises as DrawsAsPromised};
+ghost use Rattle.hx_cmd_solve.specs.Promises.{KeepsPromises as SolvesAsPromised};
+ghost use Rattle.hx_cmd_htp.specs.Sessions.{KeepsPromises as ServesAsPromised};
+ghost use Rattle.hx_cmd_demo.specs.Promises.{KeepsPromises as DrawsAsPromised};
 ghost use Rattle.hx_cmd_survey.specs.Promises.{KeepsPromises as TabulatesAsPromised};
 ghost use Rattle.hx_app.specs.Runs.{IsCommand, IsRun, CountsNothing, bad_words_line};
 
-use crate::demos::run_demo;
-use crate::sessions::run_session;
-use crate::solving::run_solve;
 use hx_answers::WRITE_FAULT;
 use hx_cli::{Command, command_of};
 use hx_cmd_check::run_check;
+use hx_cmd_demo::run_demo;
+use hx_cmd_htp::run_session;
 use hx_cmd_play::run_play;
+use hx_cmd_solve::run_solve;
 use hx_cmd_survey::run_survey;
 use hx_cmd_template::run_template;
 use hx_finish::Finish;
@@ -101,7 +101,8 @@ pub fn run<S: Source, K: Sink, G: Gate + Sync, R: Threads + Wait + Sync>(
         (K.writing sink.old) (K.writing sink.new) result.status }
 
     // `survey` keeps its promises: with status 0 the output is the table of who wins after each opening; `unknown` comes only where
-    // not each opening is small, and only where a refusal of a unit or of a slot was counted.
+    // no opening is small, and only where a refusal of a unit or of a slot was counted. An opening is small by its number of empty
+    // cells and the budget, so either all openings of a board are small or none is.
     ensures survey { (size : Extent) (settings : Bounds) → IsSurvey size settings (words_of words.now)
         → TabulatesAsPromised size settings
         (K.writing sink.old) (K.writing sink.new) result }

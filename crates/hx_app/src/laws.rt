@@ -22,8 +22,8 @@ ghost use Rattle.hx_finish.specs.declared.finishes.Finish.{Finish as FinishValue
 ghost use Rattle.hx_lines.specs.Lines.{longest};
 ghost use Rattle.hx_limits.specs.declared.settings.Settings.{Settings as Bounds};
 ghost use Rattle.hx_text.specs.declared.versions.Version.TheVariants.{One};
-ghost use Rattle.hx_app.specs.Positions.{IsNoPosition};
-ghost use Rattle.hx_app.specs.Promises.{SaysSolved, KeepsPromises as SolvesAsPromised};
+ghost use Rattle.hx_cmd_solve.specs.Positions.{IsNoPosition};
+ghost use Rattle.hx_cmd_solve.specs.Promises.{SaysSolved, KeepsPromises as SolvesAsPromised};
 
 /// `check` answers 0 to each tree that `solve` wrote with status 0, however long it is, unless a fault or want of memory comes in
 /// its place.

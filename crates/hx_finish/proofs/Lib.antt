@@ -1,2 +1,3 @@
 pub mod WantingEnds
 pub mod SearchEnds
+pub mod ToldInputs

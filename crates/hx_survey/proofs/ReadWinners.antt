@@ -1,6 +1,6 @@
 -- What it is to have no entry of an opening.
 use Rattle.std.proofs.Common.{◌≡◌, ℕ, List, sym, subst, ⊎_elim, Option, None, Some}
-use Rattle.std.specs.Prelude.{IfOk, MatchOption, Result, Ok, Err}
+use Rattle.std.specs.Prelude.{MatchOption}
 use Rattle.hx_board.specs.declared.colours.Colour.{Colour}
 use Rattle.hx_board.specs.declared.colours.Colour.TheVariants.{White}
 use Rattle.hx_board.specs.Cells.{Extent}
@@ -36,10 +36,8 @@ unlisted-open nodes size budget cell unlisted large = record { none = none; not_
         has.which
 
 -- and so it is with what a full search answers, or does not
-pub open-or-won : {E : Type 0} (nodes : List Node) (size : Extent) (budget cell : ℕ) (read : Result (Option Colour) E)
-    → IsUnlisted nodes (opening size cell)
-    → IfOk read (λ found. MatchOption found (¬ IsSmall (opening size cell) budget) (λ winner. Wins winner (opening size cell) White))
-    → IfOk read (λ found. MatchOption found (IsOpen nodes size budget cell) (WinsOpening size cell))
-open-or-won nodes size budget cell (Ok None) unlisted is = unlisted-open nodes size budget cell unlisted is
-open-or-won nodes size budget cell (Ok (Some winner)) unlisted is = is
-open-or-won nodes size budget cell (Err why) unlisted is = tt
+pub open-or-won : (nodes : List Node) (size : Extent) (budget cell : ℕ) (read : Option Colour) → IsUnlisted nodes (opening size cell)
+    → MatchOption read (¬ IsSmall (opening size cell) budget) (λ winner. Wins winner (opening size cell) White)
+    → MatchOption read (IsOpen nodes size budget cell) (WinsOpening size cell)
+open-or-won nodes size budget cell None unlisted is = unlisted-open nodes size budget cell unlisted is
+open-or-won nodes size budget cell (Some winner) unlisted is = is

@@ -10,6 +10,7 @@ ghost use Rattle.hx_openings.specs.Openings.{opening};
 ghost use Rattle.hx_limits.specs.Causes.{IsStopped};
 ghost use Rattle.hx_worker.specs.Jobs.{IsReady, IsSameWorker};
 ghost use Rattle.hx_survey.specs.Surveys.{HasOpening, HasOpenings, HasOpeningsOf};
+ghost use Rattle.hx_survey.specs.Shares.{IsShare};
 
 use crate::order::Order;
 use hx_board::{Cell, Colour, Mask, Position, Size};
@@ -90,7 +91,7 @@ impl Openings {
         share: Mask,
     ) -> Result<(), RanOut>
         requires ready { IsReady job.old }
-        requires inside { (cell : ℕ) → has share cell ≡ true → OnBoard self.now.size cell }
+        requires share { IsShare self.now.size self.now.workers job.old.worker share }
         ensures ready { IsReady job.new }
         ensures same { IsSameWorker job.old job.new }
         ensures found { IfOk result (λ _. HasOpenings job.new.proofs.seat.seen self.now.size) }

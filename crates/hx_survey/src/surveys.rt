@@ -1,6 +1,6 @@
 //! The survey: all workers go through the openings, and then the table is read.
 
-ghost use Rattle.std.specs.Prelude.{◌≡◌, IfOk, IfErr};
+ghost use Rattle.std.specs.Prelude.{◌≡◌, IfOk, IfErr, IsErr, Err};
 ghost use Rattle.hx_limits.specs.Settings.{AreSettings};
 ghost use Rattle.hx_pool.specs.Searches.{IsSearchEnd};
 ghost use Rattle.hx_limits.specs.Causes.{HasCause, LacksMemory};
@@ -68,8 +68,16 @@ fn conclude(size: Size, settings: &Settings, searched: Searched<Book, ()>) -> Re
         return Ok(table);
     }
     openings_small(size, settings.budget);
+    Err(ran_out(end))
+}
+
+/// What ran out, by an end that found nothing.
+fn ran_out(end: Result<(), RanOut>) -> RanOut
+    requires { IsErr end }
+    ensures { end ≡ Err result }
+{
     match end {
         Ok(()) => unreachable!(),
-        Err(why) => Err(why),
+        Err(why) => why,
     }
 }

@@ -42,6 +42,7 @@ pub fn job_of<'a>(
     sets: (LinkSet, LinkSet),
 ) -> Job<'a, Desk<'a>>
     requires book { seats.book.made ≡ bench.now.shared.now.made }
+    ensures worker { result.worker ≡ seats.worker }
     ensures seat { result.seat ≡ seats.counts }
     ensures book { result.proofs.seat ≡ seats.book }
     ensures shared { result.proofs.shared.now ≡ bench.now.shared.now }

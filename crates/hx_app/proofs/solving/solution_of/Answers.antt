@@ -1,4 +1,0 @@
-use Rattle.hx_app.proofs.solving.solution_of.Goals as goal
-
-pub returns-clause-winner : goal.returns-clause-winner
-returns-clause-winner c = rw c.deref-2.ensures.value at c.root_winner.ensures.named

@@ -1,0 +1,2 @@
+pub mod DrawnWins
+pub mod KeptPromises
