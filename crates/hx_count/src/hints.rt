@@ -1,17 +1,14 @@
-//! Proof numbers that workers leave for one another. They are hints: a word may be overwritten at any time, also by the
-//! numbers of another position, and no proof rests on one.
+//! Proof numbers that workers leave for one another, as a search depth first by proof numbers keeps them in a table of positions
+//! (Nagai, 2002). They are hints: a word may be overwritten at any time, also by the numbers of another position, and no proof rests
+//! on one.
 //!
 //! A word has the two numbers of a hint, so what is read was left by one worker, and a mark of the position that they are of: the
 //! upper twenty binary digits of its key, whose lower ones find the word. The word of a position with another mark reads as one
-//! that nobody wrote. Without marks a search fails once it has more units than words: 8 by 8 after d5 takes 70,098 units with a
-//! million words, and is not solved by 400,001 with 65,536; with marks it takes 76,883 with 65,536.
+//! that nobody wrote. Without marks a search fails once it has more units than words (docs/tried.md).
 //!
 //! No search leaves a word of zeros, so a worker can tell that a word was never written. No clause can say what a word holds
 //! later, while others step; so a store answers with a value that no other call makes, and that tells which word got which
 //! numbers. A seat at the hints for each worker would say no more, and would go through every call of hx_ordering and hx_worker.
-//!
-//! With a million words marks bring little: over the openings of 7 by 7, those of 6 by 6 in one book, and d5, 704,237 units
-//! are taken with them and 722,361 without. Marks of ten digits took as many units, where they were tried.
 
 ghost use Rattle.std.specs.Prelude.{◌≡◌, ◌≢◌, ◌<◌, ◌≤◌, ◌%◌, ℕ, IfOk};
 ghost use Rattle.hx_pn.specs.declared.proof_numbers.Numbers.{Numbers as PlainNumbers};

@@ -3,11 +3,8 @@
 //! A turn at a position spends one unit and leaves its numbers in one word. Where it leaves them in the word of another position those
 //! are lost. So there are eight words for each unit, up to a number of words that depends on the budget, and 16 at the least. More
 //! words than positions that can come are of no use. Where one of the two is few the table is small, too, and takes no longer to make
-//! than the search takes.
-//!
-//! A table is made of a list of zeros, so for a moment it takes twice its memory. A run without a search took 1.3
-//! milliseconds of a processor with 8,192 words or fewer, 9 with 8 megabytes and 39 with 32. With as many words as units a
-//! budget of 12,000 did not solve 7 by 7 after e6, and now it does.
+//! than the search takes. It is made of a list of zeros, so for a moment it takes twice its memory. docs/performance.md has how long
+//! that takes, and docs/tried.md why there are eight words.
 
 ghost use Rattle.std.specs.Prelude.{◌≡◌, ◌<◌, ◌≤◌, ◌/◌, ◌^◌, ℕ, max};
 ghost use Rattle.hx_pool.specs.HintWords.{words_of_use, most_words_of};
