@@ -17,5 +17,5 @@ loop-cell-smaller c =
 pub loop-cell-preserved : goal.loop-cell-preserved
 loop-cell-preserved c =
     rw (c.without-left.ensures.set, c.marked-black.ensures)
-    (table-more c.args.size c.loop-cell.left c.loop-cell.black c.in-Some.cell c.in-Some.ensures c.loop-cell.invariant c.in-Some-2.winner
-    (rw c.in-Some-2.is at c.in_ok-winner.ensures))
+    (table-more c.args.size c.loop-cell.left c.loop-cell.black c.in-Some.cell c.in-Some.ensures c.loop-cell.invariant
+    c.in-Some-winner_after.winner c.in-Some-winner_after.ensures)
