@@ -18,7 +18,7 @@ pub trait Errand {
     type Found: Drop + Send;
 
     /// What this says of the list of proofs.
-    ghost proved: { Self → List Node → Found → Type 0 };
+    ghost proved: { Self → List Node → Self.Found → Type 0 };
 
     /// What a worker has found that was granted a unit and came back for want of another one.
     ghost tried: { Self → Type 0 };
@@ -38,6 +38,6 @@ pub trait Errand {
             bench.now.counts.now result };
 
     /// What is said of a list of proofs is true of each list that goes on from it.
-    ghost stays: { (errand : Self) (old new : List Node) (found : Found) → Extends old new
+    ghost stays: { (errand : Self) (old new : List Node) (found : Self.Found) → Extends old new
         → proved errand old found → proved errand new found };
 }
