@@ -2,20 +2,20 @@
 use Rattle.std.proofs.Common.{◌≡◌, ℕ, ◌<◌, ◌≤◌, List, [], ◌∷◌, length, sym, ap, ◌∙◌, subst, All, Any, Contains, true, arith}
 use mathlib.Core.Logic.{dite}
 use native.Mathlib.Decide.{dec_lt}
+use Rattle.std.specs.Prelude.{Result, Ok, Err}
 use Rattle.std.specs.List.{sum_by}
 use Rattle.std.proofs.lemmas.List.Sums.{sum_by-cons}
 use Rattle.std.proofs.lemmas.List.Elements.{All-head, All-tail, All-weaker, All-contains}
-use Rattle.hx_board.specs.declared.colours.Colour.{Colour}
 use Rattle.hx_tree.specs.declared.nodes.Node.{Node}
 use Rattle.hx_tree.specs.Entries.{Extends}
 use Rattle.hx_book.specs.Entries.{Contents, IsBook}
 use Rattle.hx_count.specs.Seats.{Origin, Seat, own}
 use Rattle.hx_share.specs.Readers.{Reader}
-use Rattle.hx_nodes.specs.Stored.{IsOutOfSlots}
-use Rattle.hx_worker.specs.declared.ended.Ended.{Ended}
-use Rattle.hx_worker.specs.declared.ended.Ended.TheVariants.{Proved, Spent, NoSlots, Memory}
-use Rattle.hx_worker.specs.Ends.{EndsSpent}
+use Rattle.hx_limits.specs.declared.ran_out.RanOut.{RanOut}
+use Rattle.hx_limits.specs.declared.ran_out.RanOut.TheVariants.{Budget, Slots, Memory}
 use Rattle.hx_limits.specs.declared.settings.Settings.{Settings}
+use Rattle.hx_limits.specs.Causes.{IsOutOfSlots}
+use Rattle.hx_pool.specs.Ends.{EndsSpent}
 use Rattle.hx_pool.specs.Seats.{IsEndedBy}
 use Rattle.hx_pool.specs.Parts.{IsEndOfSome, HaveAllTried}
 use Rattle.hx_pool.specs.Searches.{IsClosedEnd}
@@ -30,35 +30,35 @@ pub record AreClosed (settings : Settings) (books : List Reader) (counts : List 
   pub full : Any (λ (s : Seat). (own s).refused ≡ true) counts → granted ≡ settings.budget
 
 -- what is said of a list of proofs is true of each list that goes on from it
-abbrev pub Stays : (List Node → ℕ → Colour → Type 0) → Type 0
-Stays proved = (old new : List Node) (index : ℕ) (winner : Colour) → Extends old new → proved old index winner → proved new index winner
+abbrev pub Stays : (F : Type 0) → (List Node → F → Type 0) → Type 0
+Stays F proved = (old new : List Node) (found : F) → Extends old new → proved old found → proved new found
 
-module _ (proved : List Node → ℕ → Colour → Type 0) (stays : Stays proved) (settings : Settings) (books : List Reader) (counts : List Seat)
-    (nodes : List Node) (granted : ℕ) where
-  closed : AreClosed settings books counts nodes granted → (end : Ended) (some : IsEndOfSome proved settings.slots books counts end)
+module _ {F : Type 0} (proved : List Node → F → Type 0) (stays : Stays F proved) (settings : Settings) (books : List Reader)
+    (counts : List Seat) (nodes : List Node) (granted : ℕ) where
+  closed : AreClosed settings books counts nodes granted → (end : Result F RanOut) (some : IsEndOfSome proved settings.slots books counts end)
       → IsEndedBy proved some.book.seen settings.slots some.seat end → IsClosedEnd proved nodes granted settings end
-  closed are (Proved index winner) some is =
-      stays some.book.seen nodes index winner
+  closed are (Ok found) some is =
+      stays some.book.seen nodes found
       (all-get (λ (s : Reader). Extends s.seen nodes) books some.place some.book are.seen some.book_there) is
-  closed are (Spent taken) some is = (
+  closed are (Err (Budget taken)) some is = (
     is.budget ∙ all-get (λ (s : Seat). s.made.limits.budget ≡ settings.budget) counts some.place some.seat are.budgets some.seat_there,
     are.full (any-get (λ (s : Seat). (own s).refused ≡ true) counts some.place some.seat some.seat_there is.refused),
   )
-  closed are (NoSlots refusal) some is =
+  closed are (Err (Slots refusal)) some is =
       subst (λ (list : List Node). IsOutOfSlots list settings.slots refusal)
       (sym (no_longer some.book.seen nodes
       (all-get (λ (s : Reader). Extends s.seen nodes) books some.place some.book are.seen some.book_there)
       (omega (arith, are.few, is.full))))
       is
-  closed are Memory some is = tt
+  closed are (Err Memory) some is = tt
 
-  pub end-closed : AreClosed settings books counts nodes granted → (end : Ended) → IsEndOfSome proved settings.slots books counts end
+  pub end-closed : AreClosed settings books counts nodes granted → (end : Result F RanOut) → IsEndOfSome proved settings.slots books counts end
       → IsClosedEnd proved nodes granted settings end
   end-closed are end some = closed are end some some.ended
 
 -- one of the ends, when the book and the counts are closed with all seats
-pub contained-closed : (proved : List Node → ℕ → Colour → Type 0) → Stays proved → (settings : Settings) (slots : ℕ) (made : Origin)
-    (books : List Reader) (counts : List Seat) (ends : List Ended) (end : Ended)
+pub contained-closed : {F : Type 0} (proved : List Node → F → Type 0) → Stays F proved → (settings : Settings) (slots : ℕ) (made : Origin)
+    (books : List Reader) (counts : List Seat) (ends : List (Result F RanOut)) (end : Result F RanOut)
     (book : Contents) (granted : ℕ) → slots ≡ settings.slots → made.limits.budget ≡ settings.budget
     → All (λ (s : Seat). s.made ≡ made) counts
     → All (IsEndOfSome proved slots books counts) ends → Contains ends end
@@ -92,17 +92,17 @@ some-seat Claim (s ∷ seats) each some = dite (dec_lt 0 (granted_to s))
     (λ none. some-seat Claim seats (All-tail (λ (t : Seat). 0 < granted_to t → Claim) s seats each)
     (omega (arith, none, some, sum_by-cons granted_to s seats)))
 
-all-granted : (proved : List Node → ℕ → Colour → Type 0) (nodes : List Node) (granted : ℕ) (settings : Settings) (end : Ended)
-    → IsClosedEnd proved nodes granted settings end
+all-granted : {F : Type 0} (proved : List Node → F → Type 0) (nodes : List Node) (granted : ℕ) (settings : Settings)
+    (end : Result F RanOut) → IsClosedEnd proved nodes granted settings end
     → EndsSpent end → granted ≡ settings.budget
-all-granted proved nodes granted settings (Proved index winner) is spent = absurd spent
-all-granted proved nodes granted settings (Spent taken) is spent = is.1
-all-granted proved nodes granted settings (NoSlots refusal) is spent = absurd spent
-all-granted proved nodes granted settings Memory is spent = absurd spent
+all-granted proved nodes granted settings (Ok found) is spent = absurd spent
+all-granted proved nodes granted settings (Err (Budget taken)) is spent = is.1
+all-granted proved nodes granted settings (Err (Slots refusal)) is spent = absurd spent
+all-granted proved nodes granted settings (Err Memory) is spent = absurd spent
 
 -- where units are wanting though there were some, a worker that had one has found what it was to find
-pub tried-closed : (proved : List Node → ℕ → Colour → Type 0) (tried : Type 0) (settings : Settings) (counts : List Seat)
-    (ends : List Ended) (end : Ended) (nodes : List Node) (granted : ℕ)
+pub tried-closed : {F : Type 0} (proved : List Node → F → Type 0) (tried : Type 0) (settings : Settings) (counts : List Seat)
+    (ends : List (Result F RanOut)) (end : Result F RanOut) (nodes : List Node) (granted : ℕ)
     → HaveAllTried tried counts ends → IsBeforeAll end ends → IsClosedEnd proved nodes granted settings end
     → granted ≡ sum_by granted_to counts
     → EndsSpent end → 0 < settings.budget → tried

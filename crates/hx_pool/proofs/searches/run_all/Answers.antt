@@ -1,4 +1,5 @@
-use Rattle.std.proofs.Common.{arith, ap, ◌∙◌, [], length}
+use Rattle.std.proofs.Common.{arith, ap, ◌≡◌, ◌∙◌, [], ◌++◌, drop, length, take}
+use Rattle.std.proofs.Math.Seq.{take-append_seam}
 use Rattle.std.proofs.lemmas.List.{length-replicate}
 use Rattle.hx_count.specs.declared.views.Limits.{Limits}
 use Rattle.hx_count.proofs.DealLaws.{length-new}
@@ -19,6 +20,13 @@ deal-requires-clause-len g c =
       length-new c.in_ok-counts.counts 0 c.args.settings.now.workers,
     )
 
+pub take_apart-parts-requires-clause-after : goal.take_apart-parts-requires-clause-after
+take_apart-parts-requires-clause-after g c κs within =
+    let dealt = c.in_ok-places.places in let worked = c.work_all.new.places in let rest = drop (length worked) dealt.items in
+    let as_many : dealt.len ≡ length worked = omega (arith, c.work_all.ensures.len, c.deref_mut.ensures.len) in
+    let same : take dealt.len (worked ++ rest) ≡ worked = rw as_many (take-append_seam worked rest) in
+    rw same c.work_all.ensures.after
+
 pub returns : goal.returns
 returns g c =
     let parts = c.take_apart-parts.result in let book = c.close-book.ensures in
@@ -26,14 +34,14 @@ returns g c =
     let settings = c.args.settings.now in
     let laws = g.met.E.Errand g.world.𝓛 g.world.𝓜 g.world.𝓡 ((λ s x. x), (λ x. x), (λ x. x), λ x. x) in
     let ended = contained-closed proved (laws.stays errand) settings c.in_ok-shared.shared.made.slots c.in_ok-counts.counts
-    parts.books.items parts.counts.items parts.ends.items c.foremost-ended.result c.close-book.result c.close-totals.result.granted
+    parts.books.items parts.counts.items parts.ends.items c.foremost-end.result c.close-book.result c.close-totals.result.granted
     c.in_ok-shared.ensures.limits.0 (ap (λ (l : Limits). l.budget) c.in_ok-counts.ensures.limits) c.take_apart-parts.ensures.counts
-    c.take_apart-parts.ensures.ends c.foremost-ended.ensures.one
+    c.take_apart-parts.ensures.ends c.foremost-end.ensures.one
     c.keeps.ensures.book book.slots book.seen c.close-totals.ensures.refused in record {
       is_book = c.keeps.ensures.book;
       slots = book.slots ∙ c.in_ok-shared.ensures.limits.0;
       ended = ended;
-      has_tried = tried-closed proved tried settings parts.counts.items parts.ends.items c.foremost-ended.result
-          c.close-book.result.nodes c.close-totals.result.granted c.take_apart-parts.ensures.tried c.foremost-ended.ensures.first ended
+      has_tried = tried-closed proved tried settings parts.counts.items parts.ends.items c.foremost-end.result
+          c.close-book.result.nodes c.close-totals.result.granted c.take_apart-parts.ensures.tried c.foremost-end.ensures.first ended
           c.close-totals.ensures.granted.0;
     }

@@ -7,7 +7,7 @@ use Rattle.hx_pool.specs.Seats.{IsBefore}
 use Rattle.hx_pool.proofs.benches.Bench.deal.Goals as goal
 
 pub loop-book-preserved : goal.loop-book-preserved
-loop-book-preserved c =
+loop-book-preserved g c =
     let i = c.loop-book.invariant in let b = c.in-Some.ensures in let s = c.in-Some-pop.ensures in let p = c.push_reserved.ensures in
     let same_book = (All-pop (λ (s : Reader). s.made ≡ c.args.self.now.shared.now.made) _ _ (Some c.in-Some.book) b.items i.books).1 in
     let same_counts = (All-pop (λ (s : Seat). s.made ≡ c.args.self.now.counts.now) _ _ (Some c.in-Some-pop.seat) s.items i.counts).1 in

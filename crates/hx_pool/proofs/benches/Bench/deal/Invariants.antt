@@ -5,7 +5,7 @@ use Rattle.hx_pool.specs.Seats.{IsBefore}
 use Rattle.hx_pool.proofs.benches.Bench.deal.Given as goal
 
 abbrev pub invariant-loop-book : goal.invariant-loop-book
-invariant-loop-book l = record {
+invariant-loop-book g l = record {
   same : vec_len l.books ≡ vec_len l.counts;
   dealt : vec_len l.books + vec_len l.dealt ≡ vec_len l.fn.books;
   room : vec_len l.fn.books ≤ vec_capacity l.dealt;
@@ -16,4 +16,4 @@ invariant-loop-book l = record {
 }
 
 abbrev pub decreases-loop-book : goal.decreases-loop-book
-decreases-loop-book l = vec_len l.books
+decreases-loop-book g l = vec_len l.books
