@@ -1,9 +1,7 @@
--- What a look finds is a heading with the winner that was found. Where none or the other winner was found, the player was not seen to
--- win.
-use Rattle.std.proofs.Common.{◌≢◌, List, sym, ap, ◌∙◌, Some, inr, ⊎_elim}
+-- What a look finds is a heading with the winner that was found.
+use Rattle.std.proofs.Common.{List, sym, ap, ◌∙◌, Some}
 use Rattle.hx_board.specs.declared.colours.Colour.{Colour}
 use Rattle.hx_board.specs.Positions.{Board}
-use Rattle.hx_board.proofs.ColourLaws.{one_or_other}
 use Rattle.hx_board.proofs.ListLaws.{get-map}
 use Rattle.hx_tree.specs.declared.entries.Found.{Found}
 use Rattle.hx_tree.specs.declared.nodes.Node.{Node}
@@ -11,7 +9,6 @@ use Rattle.hx_tree.specs.Headings.{Leads}
 use Rattle.hx_tree.proofs.HeadingLaws.{same_heading}
 use Rattle.hx_tree.specs.Entries.{IsFirstFound}
 use Rattle.hx_tree.specs.Trees.{headings_of}
-use Rattle.hx_nodes.specs.Missing.{NamesNoWin}
 
 pub found-heading : (nodes : List Node) (board : Board) (mover : Colour) (found : Found) → IsFirstFound nodes board mover found
     → Leads (headings_of nodes) found.index board mover found.winner
@@ -22,16 +19,3 @@ found-heading nodes board mover found is =
       same_mover = is.first.entry.is_of.same_mover;
       same_winner = sym is.same_winner;
     }))
-
--- ---- no win
-
-pub other-no_win : (nodes : List Node) (board : Board) (mover player : Colour) (found : Found) → IsFirstFound nodes board mover found
-    → found.winner ≢ player
-    → NamesNoWin nodes board mover player
-other-no_win nodes board mover player found is differs =
-    inr (record {
-      found = found;
-      first = is;
-      other =
-          ⊎_elim (λ same. absurd (differs same)) (λ other. other) (one_or_other found.winner player);
-    })

@@ -5,22 +5,16 @@ use Rattle.std.specs.Prelude.{slice_get, IfSome}
 use Rattle.std.proofs.lemmas.Bool.{false≢true, cases_lt}
 use Rattle.std.proofs.lemmas.List.{map-append}
 use Rattle.std.proofs.lemmas.List.Elements.{All-weaker, Contains-append_left, Contains-append_right}
-use Rattle.hx_board.specs.declared.colours.Colour.{Colour}
-use Rattle.hx_board.specs.Positions.{Board}
 use Rattle.hx_board.specs.Sets.{has, remove}
 use Rattle.hx_board.specs.Cells.{Extent, OnBoard, IsLeastOn}
 use Rattle.hx_board.proofs.SetLaws.{has-remove_before, removed, removed_cases, removed_still}
 use Rattle.hx_tree.specs.declared.nodes.Heading.{Heading}
-use Rattle.hx_tree.specs.declared.nodes.Node.{Node}
 use Rattle.hx_tree.specs.declared.nodes.Line.{Line}
 use Rattle.hx_tree.specs.declared.nodes.Line.TheVariants.{Child, Under}
 use Rattle.hx_tree.specs.Answers.{HasChild, cell_of, cells_of}
-use Rattle.hx_tree.specs.Entries.{Extends}
 use Rattle.hx_tree.proofs.LinesInOrder.{in_order_more}
 use Rattle.hx_board.proofs.ListLaws.{get-append}
-use Rattle.hx_tree.proofs.EntryLaws.{seen-within, extends-itself}
 use Rattle.hx_nodes.specs.Lines.{IsGathered, IsLineOf, IsDone, AreGathered, AreLines}
-use Rattle.hx_nodes.specs.Missing.{IsLacking, HasLacking}
 
 module _ (headings : List Heading) (heading : Heading) (cells : ℕ) (under : List Line) where
   not_done : (cell : ℕ) → IsDone cells cells cell → ⊥
@@ -111,18 +105,3 @@ module _ (headings : List Heading) (heading : Heading) (cells : ℕ) (under : Li
           (λ least_too. let same : n ≡ cell = omega arith in absurd (false≢true (sym (removed left cell) ∙ rw same at member)))
           (cases_lt cell n))
           (cases_lt n cell)
-
--- ---- a cell that lacks an answer
-
--- one of the cells does, where it is so of a list that grew
-pub lacking_among : (first old new : List Node) (board : Board) (player : Colour) (cells : ℕ) (under : List Line) (cell : ℕ)
-    → Extends first old
-    → has cells cell ≡ true → IsLacking old new board player under cell → HasLacking first new board player cells under
-lacking_among first old new board player cells under cell grown among is = record {
-  cell = cell;
-  among = among;
-  is = record {
-    no_line = is.no_line;
-    lacks = seen-within _ first old new new grown (extends-itself new) is.lacks;
-  };
-}

@@ -1,6 +1,5 @@
 pub mod GrowingLists
 pub mod FoundEntries
-pub mod RefusedNodes
 pub mod CellLines
 pub mod GatheredLines
 pub mod MoveNodes

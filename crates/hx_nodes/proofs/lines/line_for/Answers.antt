@@ -1,33 +1,13 @@
-use Rattle.std.proofs.Common.{rules, ◌≡◌, ◌≢◌, inl}
+use Rattle.std.proofs.Common.{rules, ◌≡◌}
 use Rattle.hx_board.specs.Colours.{other_of}
 use Rattle.hx_board.specs.Positions.{put}
-use Rattle.hx_tree.specs.Entries.{HasNoEntry, IsFirstFound}
+use Rattle.hx_tree.specs.Entries.{IsFirstFound}
 use Rattle.hx_nodes.proofs.CellLines.{line_by_better, line_by_child}
-use Rattle.hx_nodes.proofs.FoundEntries.{found-heading, other-no_win}
+use Rattle.hx_nodes.proofs.FoundEntries.{found-heading}
 use Rattle.hx_nodes.proofs.lines.line_for.Goals as goal
-use Rattle.hx_tree.proofs.EntryLaws.{seen-now}
 
 pub returns-in-Some-clause-line : goal.returns-in-Some-clause-line
 returns-in-Some-clause-line g c = line_by_better _ _ _ _ _ c.requires.under c.in-Some.ensures.0 c.in-Some.ensures.1
-
-pub returns-in_default-look-clause-line : goal.returns-in_default-look-clause-line
-returns-in_default-look-clause-line g c =
-    let none : HasNoEntry (g.P.Proofs.sight c.look.new.self).list c.with-next.result c.args.winner = c.in_default-look.ensures.found in
-    record {
-      no_line = c.in_default.ensures;
-      lacks = seen-now _ _ _ c.look.ensures.grew.seen (inl (rw (c.with-next.ensures, c.other.ensures) at none));
-    }
-
-pub returns-then-ne-clause-line : goal.returns-then-ne-clause-line
-returns-then-ne-clause-line g c =
-    let is : IsFirstFound (g.P.Proofs.sight c.look.new.self).list c.with-next.result c.args.winner c.in-Some-look.found =
-    c.in-Some-look.ensures.found in
-    let differs : c.in-Some-look.found.winner ≢ c.args.winner = search rules in
-    record {
-      no_line = c.in_default.ensures;
-      lacks = seen-now _ _ _ c.look.ensures.grew.seen
-          (other-no_win _ _ _ _ c.in-Some-look.found (rw (c.with-next.ensures, c.other.ensures) at is) differs);
-    }
 
 pub returns-clause-line : goal.returns-clause-line
 returns-clause-line g c =

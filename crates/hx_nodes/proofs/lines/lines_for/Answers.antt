@@ -5,7 +5,7 @@ use Rattle.hx_board.proofs.Tallies.{count_below-remove}
 use Rattle.hx_tree.specs.declared.nodes.Line.{Line}
 use Rattle.hx_book.proofs.SightLaws.{grows-on}
 use Rattle.hx_nodes.proofs.GrowingLists.{extends-headings}
-use Rattle.hx_nodes.proofs.GatheredLines.{one_more_gathered, all_gathered, lacking_among}
+use Rattle.hx_nodes.proofs.GatheredLines.{one_more_gathered, all_gathered}
 use Rattle.hx_nodes.proofs.lines.lines_for.Goals as goal
 
 pub loop-cell-smaller : goal.loop-cell-smaller
@@ -30,12 +30,6 @@ loop-cell-preserved g c =
           (λ n member. (c.requires.inside n member).on_board) least
           (rw grown.1 at c.in-Some-line_for.ensures.line));
     }
-
-pub returns-in_default-line_for-clause-lines : goal.returns-in_default-line_for-clause-lines
-returns-in_default-line_for-clause-lines g c =
-    let before = c.loop-cell.invariant in
-    lacking_among _ _ _ _ _ _ _ c.in-Some.cell before.grew.seen
-    (before.gathered.inside c.in-Some.cell c.in-Some.ensures.member) c.in_default-line_for.ensures.line
 
 pub returns-clause-lines : goal.returns-clause-lines
 returns-clause-lines g c =

@@ -1,7 +1,7 @@
 use Rattle.std.proofs.Common.{rules, ◌≡◌, sym, ◌∙◌, subst, Bool, true}
 use Rattle.hx_tree.proofs.EntryLaws.{seen-now}
 use Rattle.hx_book.specs.EitherEntry.{WasMissed, FoundAs}
-use Rattle.hx_nodes.specs.Missing.{LacksEither}
+use Rattle.hx_nodes.specs.Stored.{LacksEither}
 use Rattle.hx_nodes.proofs.TurnedNodes.{turned_right}
 use Rattle.hx_nodes.proofs.turns.store_turned.Goals as goal
 
