@@ -58,7 +58,8 @@ class Element {
   }
 }
 
-const attributesIn = (tag) => Object.fromEntries([...tag.matchAll(/ ([a-zA-Z-]+)="([^"]*)"/g)].map(([, name, value]) => [name, value]));
+const attributesIn = (tag) => Object.fromEntries(
+  [...tag.matchAll(/ ([a-zA-Z-]+)="([^"]*)"/g)].map(([, name, value]) => [name, value]));
 
 // The elements of the page that have a name of their own, the cells of the board and its chain.
 class Page {

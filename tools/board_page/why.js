@@ -16,7 +16,8 @@ export class Why {
   constructor(page, tree, { wide, edge }) {
     document.getElementById("tree").textContent = tree;
     Object.assign(this, { page, start: page.position, said: "", marked: {} });
-    const hooks = { cells: page.board.cells, cellWide: wide, cellEdge: edge, linkTo: (number, word) => this.linkTo(number, word) };
+    const linkTo = (number, word) => this.linkTo(number, word);
+    const hooks = { cells: page.board.cells, cellWide: wide, cellEdge: edge, linkTo };
     this.readers = [readTree(hooks, false), readTree(hooks, true)];
     this.path = [this.arrived(this.readers[0].root, false, this.start, "Start", new Map())];
   }

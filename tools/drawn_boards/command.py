@@ -101,7 +101,8 @@ def moves_of(content, size, first):
 
 
 def position_in(content, size=None):
-    """The position in any form that is read here: its text, which begins with its name, a drawn board or a list of moves."""
+    """The position in any form that is read here: its text, which begins with its name, a drawn board or a list of
+    moves."""
     if not size and content.startswith(b"hex"):
         found = read_text(content)
         if not isinstance(found, Position):

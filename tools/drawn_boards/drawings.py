@@ -1,8 +1,8 @@
 """A drawn board, read as the position or the template that it shows.
 
-Blanks and empty lines count for nothing, and small and capital letters are the same. Two forms of rows are read: the cells, with the
-number of the row before them or not; and, as the programs MoHex and Wolve print a board, the number, a backslash, the cells, a backslash and
-the number again.
+Blanks and empty lines count for nothing, and small and capital letters are the same. Two forms of rows are read: the
+cells, with the number of the row before them or not; and, as the programs MoHex and Wolve print a board, the number,
+a backslash, the cells, a backslash and the number again.
 """
 import re
 import string
@@ -141,17 +141,18 @@ class DrawnPosition(Drawing):
             super().take_squeezed(line)
 
     def is_no_row(self, line):
-        """Whether a line below the rows is neither a row nor the letters of the columns: no row is due below a whole board, and none has a
-        word of letters that are no stones."""
+        """Whether a line below the rows is neither a row nor the letters of the columns: no row is due below a whole
+        board, and none has a word of letters that are no stones."""
         is_row = line[0].isdigit() or "\\" in line or all(cell in self.stones for cell in line)
         if not self.rows or is_row or LETTERS.startswith(line):
             return False
         is_whole = self.is_closed or len(self.rows) >= self.columns
-        return is_whole or len(line) != self.columns and any(re.search("[A-Za-z]{2}", word) for word in self.line.split())
+        return is_whole or len(line) != self.columns and any(re.search("[A-Za-z]{2}", word)
+                                                             for word in self.line.split())
 
     def mover_by_stones(self):
-        """Who is to move in a game that Black began. Other numbers of stones come only of positions that are made up, and a guess would be
-        wrong half the time."""
+        """Who is to move in a game that Black began. Other numbers of stones come only of positions that are made up,
+        and a guess would be wrong half the time."""
         black, white = (sum(cells.count(stone) for cells in self.rows) for stone in "bw")
         if black - white not in (0, 1):
             raise self.wrong(f"black to move, or white to move, since {black} black and {white} white stones do not tell it", "nothing")

@@ -1,11 +1,11 @@
 """A list of moves as players write it, read as the position behind the last one.
 
-Words are parted by blanks, commas and ends of lines, and moves may stand in one word, as HexWorld packs them: `b2c2b3c3`. A number with a
-dot may stand before a move, where it counts the moves, or each two of them: `1. c4 b2 2. d3` is read, and so is `1. c4 2. b2 3. d3`.
-Another number is refused, since a move may be missing there.
+Words are parted by blanks, commas and ends of lines, and moves may stand in one word, as HexWorld packs them:
+`b2c2b3c3`. A number with a dot may stand before a move, where it counts the moves, or each two of them: `1. c4 b2 2.
+d3` is read, and so is `1. c4 2. b2 3. d3`. Another number is refused, since a move may be missing there.
 
-In front of the moves may stand what tells the board in an address of HexWorld, or the whole address: `#4,` or `#11nc1,`, a number of rows
-and columns and how the board is shown. HexWorld's Red is Black here.
+In front of the moves may stand what tells the board in an address of HexWorld, or the whole address: `#4,` or
+`#11nc1,`, a number of rows and columns and how the board is shown. HexWorld's Red is Black here.
 """
 import re
 
@@ -102,7 +102,8 @@ def read_head(content, size):
         raise WrongLine(number, f"{told} tells {rows} rows and columns, and --size {size.rows} {size.columns}")
     behind = content[len(front):]
     if b"," in behind.partition(b"\n")[0]:
-        raise WrongLine(number, "expected one comma in an address, came two: behind the second may stand moves that were taken back")
+        told = "expected one comma in an address, came two: behind the second may stand moves that were taken back"
+        raise WrongLine(number, told)
     return check.Size(int(rows), int(rows)), b"\n" * (number - 1) + behind
 
 

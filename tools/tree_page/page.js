@@ -24,7 +24,9 @@ function setClicks(record, children) {
 
 // ---- What a node says
 
-const linkTo = (number, word = "node") => make("a", [`${word} ${number}`], { href: `#${number}`, className: number === wrong ? "wrong" : "" });
+const wrongClass = (number) => (number === wrong ? "wrong" : "");
+const linkMade = (number, told) => make("a", [told], { href: `#${number}`, className: wrongClass(number) });
+const linkTo = (number, word = "node") => linkMade(number, `${word} ${number}`);
 
 // The node that is wrong, or none. It is told at the top of the page, and marked where it is named.
 const wrong = fault ? fault.number : -1;
@@ -70,9 +72,10 @@ function parentTold(parent, number) {
 function told(number, record) {
   const [winner, opponent] = [colour[record.winner], colour[other[record.winner]]];
   const fills = (record.fills || []).map(([kind, named]) => fillTold[kind](named, winner, opponent));
+  const marked = make("p", ["This node is wrong, as the top of the page says."], { className: "fault" });
   return [
     make("h2", [`Node ${number}${number === root ? ", the root" : ""}`]),
-    ...(number === wrong ? [make("p", ["This node is wrong, as the top of the page says."], { className: "fault" })] : []),
+    ...(number === wrong ? [marked] : []),
     paragraph(`${colour[record.mover]} is to move. ${winner} is said to win, by the rule `, code(record.rule), "."),
     paragraph(...meaning[record.rule](record, winner, opponent)),
     ...(record.threats ? answersTold(record, opponent) : []),
@@ -119,7 +122,7 @@ function pathMade(number) {
   const path = pathTo(number);
   return path.map((place, at) => {
     const told = at ? stepTold(path[at - 1], place) : place === root ? "root" : `node ${place}`;
-    const link = make("a", [told], { href: `#${place}`, className: place === wrong ? "wrong" : "" });
+    const link = linkMade(place, told);
     if (place === number) link.setAttribute("aria-current", "step");
     return make("li", [link]);
   });

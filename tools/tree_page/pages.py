@@ -28,8 +28,8 @@ def key_drawn():
 
 
 def page(title, content, heading, fault=None):
-    """The page of these bytes, which are the text of a tree. The heading is its root's, and its board stands in the page. The fault is that
-    of its first wrong node, where it has one."""
+    """The page of these bytes, which are the text of a tree. The heading is its root's, and its board stands in the
+    page. The fault is that of its first wrong node, where it has one."""
     board = heading.board
     record = {"black": names(board.black), "white": names(board.white), "mover": heading.mover, "chain": ""}
     told = fault and {"number": fault.number, "words": fault.reason.words, "condition": fault.reason.condition}

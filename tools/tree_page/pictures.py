@@ -79,7 +79,8 @@ def cell_drawn(cell, marks, sign=""):
 def cells(size, record, signs):
     named = {mark: set(record.get(mark, "").split()) for mark in (*MARKS, *SIGNS.values())}
     for cell in size.cells:
-        yield cell_drawn(cell, [mark for mark in (*MARKS, *SIGNS.values()) if name(cell) in named[mark]], signs.get(name(cell), ""))
+        yield cell_drawn(cell, [mark for mark in (*MARKS, *SIGNS.values()) if name(cell) in named[mark]],
+                         signs.get(name(cell), ""))
 
 
 def chain_drawn(record):
@@ -137,8 +138,8 @@ def label_of(size, record):
 
 
 def picture(size, record, chosen_sides=(), caption=(), key=(), signs=None):
-    """The board of a record, as a picture that needs no other file. A key and the lines of a caption stand under it. The signs are texts on
-    cells, by their names."""
+    """The board of a record, as a picture that needs no other file. A key and the lines of a caption stand under it.
+    The signs are texts on cells, by their names."""
     caption = [piece for line in caption for piece in wrapped(line)]
     style = STYLE.read_text() + (SIGN_STYLE.read_text() if signs else "")
     board_wide = MARGIN + WIDE * (size.columns + (size.rows - 1) / 2) + NARROW

@@ -14,7 +14,8 @@ class NoSize(NoPosition):
 
 
 def read_position(content, size=None):
-    """The board, the mover and the text of a position, in any form that tools/hexpos reads. A list of moves is one on a board of this size."""
+    """The board, the mover and the text of a position, in any form that tools/hexpos reads. A list of moves is one on a
+    board of this size."""
     try:
         board, mover = position_in(content, size)
     except BadWords as wrong:

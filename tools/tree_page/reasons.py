@@ -1,7 +1,7 @@
 """Why a node is wrong: the first condition that fails, by its name in conformance/conditions.md, in a sentence.
 
-Whether a node is right checkers/check.py says, and its parts say what fails; here its conditions are looked at one by one. A text that is no
-tree's has a reason too, where its wrong line passes a limit that is a condition.
+Whether a node is right checkers/check.py says, and its parts say what fails; here its conditions are looked at one by
+one. A text that is no tree's has a reason too, where its wrong line passes a limit that is a condition.
 """
 import io
 import os
@@ -49,7 +49,8 @@ def no_chain(heading):
 
 
 def reaches(board, player, own, first=0, last=0, near=check.WAYS, row_ends=False):
-    """Whether cells of these join the two sides, where the lines of a side may be so many more, and cells touch in these ways."""
+    """Whether cells of these join the two sides, where the lines of a side may be so many more, and cells touch in
+    these ways."""
     size = board.size
     place = (lambda cell: cell // check.WIDTH) if player == "black" else (lambda cell: cell % check.WIDTH)
     end = (size.rows if player == "black" else size.columns) - 1
@@ -76,8 +77,10 @@ def next_row_ends(size, row, column):
 
 ALL_WAYS = (*check.WAYS, (1, 1), (-1, -1))
 NEAR_CHAINS = [
-    ("Touches, CellsTouch", "two cells of it do not touch", lambda board, player: reaches(board, player, board.of(player), near=ALL_WAYS)),
-    ("Touches, OnBoard", "the ends of two rows do not touch", lambda board, player: reaches(board, player, board.of(player), row_ends=True)),
+    ("Touches, CellsTouch", "two cells of it do not touch",
+     lambda board, player: reaches(board, player, board.of(player), near=ALL_WAYS)),
+    ("Touches, OnBoard", "the ends of two rows do not touch",
+     lambda board, player: reaches(board, player, board.of(player), row_ends=True)),
     ("Touches, IsFirstLine for {}", "it begins one line behind its first side",
      lambda board, player: reaches(board, player, board.of(player), first=1)),
     ("Touches, IsLastLine for {}", "it ends one line before its last side",
@@ -124,11 +127,14 @@ def no_and(graph, player, links, kind, values):
         return Reason(f"GoesOver.apart, by {kind}", f"the carriers of its links share {names_listed(both)}", both)
     (between,) = shared
     if kind == "stone" and not check.has(graph.own, between):
-        return Reason("GivesAndStone.own", f"its links meet at {name(between)}, which has no stone of {whose(player)}", (between,))
+        return Reason("GivesAndStone.own", f"its links meet at {name(between)}, which has no stone of {whose(player)}",
+                      (between,))
     if kind == "cell" and not check.has(graph.empty, between):
-        return Reason("GivesAndCell.empty", f"its links meet at {end_told(between, player)}, which is no empty cell", cells_in([between]))
+        return Reason("GivesAndCell.empty", f"its links meet at {end_told(between, player)}, which is no empty cell",
+                      cells_in([between]))
     if kind == "cell" and check.has(one.carrier | other.carrier, between):
-        return Reason("GivesAndCell.outside_first, outside_second", f"its links meet at {name(between)}, which is in a carrier", (between,))
+        return Reason("GivesAndCell.outside_first, outside_second",
+                      f"its links meet at {name(between)}, which is in a carrier", (between,))
     carrier = one.carrier | other.carrier | (check.only(between) if kind == "cell" else 0)
     return no_link_at(graph, check.Link(kind == "stone", one.ends ^ other.ends, carrier), player)
 
@@ -161,10 +167,12 @@ def no_link_at(graph, link, player):
     ends = sorted(link.ends)
     closed = [end for end in ends if not check.has(graph.open, end)]
     if closed:
-        return Reason("StepGives.link_ok, IsLink.a_end, b_end", f"its end {name(closed[0])} has a stone of the opponent's", (closed[0],))
+        return Reason("StepGives.link_ok, IsLink.a_end, b_end",
+                      f"its end {name(closed[0])} has a stone of the opponent's", (closed[0],))
     inside = [end for end in ends if check.has(graph.empty & link.carrier, end)]
     if inside:
-        return Reason("StepGives.link_ok, IsLink.outside", f"its end {name(inside[0])} is an empty cell of its carrier", (inside[0],))
+        return Reason("StepGives.link_ok, IsLink.outside", f"its end {name(inside[0])} is an empty cell of its carrier",
+                      (inside[0],))
     return None
 
 
@@ -184,8 +192,8 @@ def needed(steps, places):
 
 
 def wrong_step(heading, steps, places, unneeded):
-    """Why the first step that gives no link does not. Where the links at these places do not rest on it, the condition is named too by which
-    it is wrong all the same."""
+    """Why the first step that gives no link does not. Where the links at these places do not rest on it, the
+    condition is named too by which it is wrong all the same."""
     graph, links = check.Graph(heading.board, heading.winner), []
     for number, (kind, values) in enumerate(steps):
         link = check.link_of(graph, links, kind, values)
@@ -193,7 +201,8 @@ def wrong_step(heading, steps, places, unneeded):
             reason = no_link(graph, heading.winner, links, kind, values)
             told = f"step {number}, {step_told(kind, values)}, gives no link: {reason.words}"
             is_needed = number in needed(steps, places)
-            return reason._replace(words=told, condition=reason.condition if is_needed else f"{unneeded}; {reason.condition}"), links
+            named = reason.condition if is_needed else f"{unneeded}; {reason.condition}"
+            return reason._replace(words=told, condition=named), links
         links.append(link)
     return None, links
 
@@ -205,7 +214,8 @@ def step_told(kind, values):
 # ---- Nodes
 
 class Reasons(check.Judge):
-    """The first condition of a node that fails after the headings of those before it: each rule is a method of its name."""
+    """The first condition of a node that fails after the headings of those before it: each rule is a method of its
+    name."""
 
     def no_child(self, definition, child, *heading):
         """Why the node with this number is not there, or not this one."""
@@ -227,9 +237,11 @@ class Reasons(check.Judge):
         if mover != winner:
             return Reason("IsRightMove.mover", f"{winner.capitalize()} moves, who is not to move", (cell,))
         if check.has(board.of(winner), cell):
-            return Reason("IsRightMove.empty: no own stone", f"the cell {name(cell)} has a stone of {whose(winner)}", (cell,))
+            return Reason("IsRightMove.empty: no own stone", f"the cell {name(cell)} has a stone of {whose(winner)}",
+                          (cell,))
         if not board.is_empty(cell):
-            return Reason("IsRightMove.empty: no stone of the opponent", f"the cell {name(cell)} has a stone of the opponent's", (cell,))
+            return Reason("IsRightMove.empty: no stone of the opponent",
+                          f"the cell {name(cell)} has a stone of the opponent's", (cell,))
         return self.no_child("IsRightMove.leads", child, board.put(winner, cell), check.OTHER[winner], winner)
 
     def links(self, heading, values, steps):
@@ -243,13 +255,15 @@ class Reasons(check.Judge):
         if reason:
             return reason
         if not last.is_full and heading.mover != heading.winner:
-            return Reason("AreRightLinks.in_time", f"the last link is Semi, and {heading.winner.capitalize()} is not to move")
+            return Reason("AreRightLinks.in_time",
+                          f"the last link is Semi, and {heading.winner.capitalize()} is not to move")
         return None
 
     def all(self, heading, values, steps, threats, answers):
         empty = heading.board.empty()
         if heading.mover == heading.winner:
-            return Reason("IsRightAll.mover", f"{heading.winner.capitalize()} is to move, and so the opponent has no move to answer")
+            return Reason("IsRightAll.mover",
+                          f"{heading.winner.capitalize()} is to move, and so the opponent has no move to answer")
         if not empty:
             return Reason("IsRightAll.some_empty", "there is no empty cell, and so no move to answer")
         places = [place for _, (place,) in threats]
@@ -276,7 +290,8 @@ class Reasons(check.Judge):
         if not board.is_empty(better):
             return Reason("IsDominated.better_empty", f"the better cell {name(better)} is not empty", (better,))
         if not check.has(better_cells, better):
-            return Reason("IsRightLine, Under", f"the better cell {name(better)} has no line with a child, and all threats have it", (better,))
+            told = f"the better cell {name(better)} has no line with a child, and all threats have it"
+            return Reason("IsRightLine, Under", told, (better,))
         if check.is_dominated(board, mover, cell, kind, *values):
             return None
         if kind == "dead":
@@ -284,7 +299,8 @@ class Reasons(check.Judge):
                           f"after {name(better)} it is not dead for {winner.capitalize()}", (better,))
         third = values[1]
         reason = no_pair(board.put(mover, better), mover, cell, third)
-        return Reason(f"IsKilled by a captured pair, IsPair; {reason.condition}", f"after {name(better)}, {reason.words}", (better, third))
+        return Reason(f"IsKilled by a captured pair, IsPair; {reason.condition}",
+                      f"after {name(better)}, {reason.words}", (better, third))
 
     def fill(self, heading, values, fills):
         board, mover, winner = heading
@@ -294,15 +310,17 @@ class Reasons(check.Judge):
             after = check.filled(board, winner, kind, cells)
             if after is None:
                 reason = no_fill(board, winner, kind, cells)
-                return reason._replace(words=f"fill step {number}, {kind} {names_listed(cells)}: {reason.words}", cells=tuple(cells))
+                return reason._replace(words=f"fill step {number}, {kind} {names_listed(cells)}: {reason.words}",
+                                       cells=tuple(cells))
             board = after
         return self.no_child("IsRightFill.leads", values[-1], board, mover, winner)
 
     def turned(self, heading, values):
         size, black, white = heading.board
-        reason = self.no_child("", values[0], check.Board(size, size.turned(black), size.turned(white)), heading.mover, heading.winner)
-        named = {"there": "IsRightTurn: slice_get before child", "position": "IsTurned.stones", "to_move": "IsTurnedHeading.same_mover",
-                 "winner": "IsTurnedHeading.same_winner"}
+        reason = self.no_child("", values[0], check.Board(size, size.turned(black), size.turned(white)), heading.mover,
+                               heading.winner)
+        named = {"there": "IsRightTurn: slice_get before child", "position": "IsTurned.stones",
+                 "to_move": "IsTurnedHeading.same_mover", "winner": "IsTurnedHeading.same_winner"}
         return reason and reason._replace(condition=named[reason.condition.rpartition(" ")[2]])
 
 
@@ -329,17 +347,21 @@ def no_order(answers, empty, to_answer):
     cells = [cell for cell, *_ in answers]
     missing = [cell for cell in check.members_of(to_answer) if cell not in cells]
     if missing:
-        return Reason("AreInOrder.each", f"the cell {name(missing[0])} is to be answered and has no line", (missing[0],))
+        return Reason("AreInOrder.each", f"the cell {name(missing[0])} is to be answered and has no line",
+                      (missing[0],))
     for cell in cells:
         if not check.has(empty, cell):
-            return Reason("AreInOrder.only, IsToAnswer.empty", f"the cell {name(cell)} has a line and is not empty", (cell,))
+            return Reason("AreInOrder.only, IsToAnswer.empty", f"the cell {name(cell)} has a line and is not empty",
+                          (cell,))
         if not check.has(to_answer, cell):
-            return Reason("AreInOrder.only, IsToAnswer.shared", f"the cell {name(cell)} has a line and is outside a threat", (cell,))
+            return Reason("AreInOrder.only, IsToAnswer.shared",
+                          f"the cell {name(cell)} has a line and is outside a threat", (cell,))
     for before, cell in zip(cells, cells[1:]):
         if cells.count(cell) > 1:
             return Reason("AreInOrder.in_order: once", f"the cell {name(cell)} has two lines", (cell,))
         if cell < before:
-            return Reason("AreInOrder.in_order: order", f"the line of {name(cell)} stands behind that of {name(before)}", (cell,))
+            return Reason("AreInOrder.in_order: order",
+                          f"the line of {name(cell)} stands behind that of {name(before)}", (cell,))
     return None
 
 
@@ -370,9 +392,10 @@ def limit_passed(words):
     size = re.fullmatch("size ([0-9]{1,9}) ([0-9]{1,9})", line)
     if size:
         rows, columns = map(int, size.groups())
-        return (Reason("IsBoard, IsExtent: 1 ≤ rows, 1 ≤ cols", "a board has a row and a column") if 0 in (rows, columns) else
-                Reason("IsBoard, IsExtent: rows ≤ 11", "a board has at most eleven rows") if rows > 11 else
-                Reason("IsBoard, IsExtent: cols ≤ 11", "a board has at most eleven columns"))
+        if 0 in (rows, columns):
+            return Reason("IsBoard, IsExtent: 1 ≤ rows, 1 ≤ cols", "a board has a row and a column")
+        part, told = ("rows", "rows") if rows > 11 else ("cols", "columns")
+        return Reason(f"IsBoard, IsExtent: {part} ≤ 11", f"a board has at most eleven {told}")
     return Reason("GivesOr.few", "an Or has at most 128 parts") if words[0] == "or" and len(words) > 129 else None
 
 
@@ -436,7 +459,8 @@ def first_fault(content, number=None):
 
 
 def fault_by_program(content):
-    """The same, where the built program says which node it is, in less time. Without the program all nodes are judged here."""
+    """The same, where the built program says which node it is, in less time. Without the program all nodes are judged
+    here."""
     if not os.access(PROGRAM, os.X_OK):
         return first_fault(content)
     answer = subprocess.run([PROGRAM, "check"], input=content, stdout=subprocess.PIPE).stdout
