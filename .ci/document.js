@@ -58,7 +58,8 @@ class Element {
   }
 }
 
-const attributesIn = (tag) => Object.fromEntries([...tag.matchAll(/ ([a-z-]+)="([^"]*)"/g)].map(([, name, value]) => [name, value]));
+const attributesIn = (tag) => Object.fromEntries(
+  [...tag.matchAll(/ ([a-zA-Z-]+)="([^"]*)"/g)].map(([, name, value]) => [name, value]));
 
 // The elements of the page that have a name of their own, the cells of the board and its chain.
 class Page {
@@ -66,11 +67,12 @@ class Page {
     const begin = source.indexOf('id="tree">') + 'id="tree">'.length;
     this.tree = source.slice(begin, source.indexOf("</script>", begin));
     this.scripts = source.slice(begin + this.tree.length).matchAll(/<script>\n([^]*?)<\/script>/g);
-    const tags = [...source.slice(0, begin).matchAll(/<([a-z]+)((?: [a-z-]+="[^"]*")+)\/?>/g)].map(
+    const tags = [...source.slice(0, begin).matchAll(/<([a-z]+)((?: [a-zA-Z-]+="[^"]*")+)\/?>/g)].map(
       ([, tag, attributes]) => new Element(tag, attributesIn(attributes)));
     this.byId = new Map(tags.filter((one) => "id" in one.attributes).map((one) => [one.attributes.id, one]));
     this.byId.get("tree").textContent = this.tree;
     this.cells = tags.filter((one) => "cell" in one.dataset);
+    this.board = tags.find((one) => one.tag === "svg");
     this.chain = tags.findLast((one) => one.attributes.class === "chain" && one.attributes.points === "");
   }
 
@@ -83,7 +85,7 @@ class Page {
   }
 
   querySelector(wanted) {
-    return wanted === ".chain" ? this.chain : null;
+    return { ".chain": this.chain, "figure > svg": this.board }[wanted] || null;
   }
 
   createElement(tag) {

@@ -31,6 +31,8 @@
     return {
       record: recordOf(number),
       parents: parentsOf(number),
+      path: document.getElementById("path").textContent,
+      label: document.querySelector("figure > svg").getAttribute("aria-label"),
       text: document.getElementById("node").textContent,
       classes: Object.fromEntries(cells.map((cell) => [cell.dataset.cell, [...cell.classList].sort().join(" ")])),
       points: document.querySelector(".chain").getAttribute("points"),
@@ -45,5 +47,6 @@
   await goTo(root);
   const reached = [];
   for (const key of task.keys) reached.push(await pressed(key));
-  report({ opened, shown, reached });
+  const { textContent: top } = document.getElementById("fault") || { textContent: "" };
+  report({ opened, shown, reached, fault: top });
 })();

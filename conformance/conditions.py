@@ -22,6 +22,8 @@ HEAD = """# Conditions and their cases
 Each condition of a right node (`IsRightNode` of hx_tree and what it rests on, in the `specs/` of hx_tree, hx_link, hx_inferior, hx_turn and
 hx_board), and a tree that fails by this condition alone: [checkers/check.py](../checkers/check.py) accepts it where this one condition
 is left out. Where there is none it is said why. `conformance/conditions.py` makes this table and tries each row; `.ci/conformance` runs it.
+[tools/why-wrong](../tools/README.md#why-a-tree-is-wrong) says of a wrong tree which of these its first
+wrong node fails by.
 
 | condition | in words | case |
 |---|---|---|

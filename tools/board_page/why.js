@@ -16,7 +16,8 @@ export class Why {
   constructor(page, tree, { wide, edge }) {
     document.getElementById("tree").textContent = tree;
     Object.assign(this, { page, start: page.position, said: "", marked: {} });
-    const hooks = { cells: page.board.cells, cellWide: wide, cellEdge: edge, linkTo: (number) => this.linkTo(number) };
+    const linkTo = (number, word) => this.linkTo(number, word);
+    const hooks = { cells: page.board.cells, cellWide: wide, cellEdge: edge, linkTo };
     this.readers = [readTree(hooks, false), readTree(hooks, true)];
     this.path = [this.arrived(this.readers[0].root, false, this.start, "Start", new Map())];
   }
@@ -121,8 +122,8 @@ export class Why {
   }
 
   // A node in the text of the page: it is gone to by the move that leads there.
-  linkTo(number) {
-    return button(`node ${number}`, () => {
+  linkTo(number, word = "node") {
+    return button(`${word} ${number}`, () => {
       const record = this.record();
       const [cell] = (record.lines || []).find(([, kind, child]) => kind === "child" && child === number) || [record.chosen];
       this.click(cell);

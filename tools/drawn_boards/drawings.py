@@ -1,8 +1,8 @@
 """A drawn board, read as the position or the template that it shows.
 
-Blanks and empty lines count for nothing, and small and capital letters are the same. Two forms of rows are read: the cells, with the
-number of the row before them or not; and, as the programs MoHex and Wolve print a board, the number, a backslash, the cells, a backslash and
-the number again.
+Blanks and empty lines count for nothing, and small and capital letters are the same. Two forms of rows are read: the
+cells, with the number of the row before them or not; and, as the programs MoHex and Wolve print a board, the number,
+a backslash, the cells, a backslash and the number again.
 """
 import re
 import string
@@ -11,11 +11,13 @@ from drawn_boards.boards import MOST, Position, Template, WrongLine, cell_of, li
 from tree_page.records import LETTERS, check
 
 # How a cell may be written, by how `hexpos --draw` draws it.
-SPELLINGS = {".": ".+_", "b": "bx\u25cf", "w": "wo\u25cb"}
+SPELLINGS = {".": ".+_-", "b": "bxr\u25cf", "w": "wo\u25cb"}
 STONES = {spelling: stone for stone, spellings in SPELLINGS.items() for spelling in spellings}
 # Of ASCII alone: other capital letters are no spelling of anything.
 SMALL = str.maketrans(string.ascii_uppercase, string.ascii_lowercase)
-MOVER = re.compile("(black|white)to(?:move|play)")
+MOVER = re.compile("(black|white|red|blue)to(?:move|play)")
+NAMES = {"red": "black", "blue": "white"}  # of the players, as HexWorld has them
+TEXT = re.compile(rb"hex(pos|template) ")
 HASH = re.compile("(?:0x)?(?=[a-f]*[0-9])[0-9a-f]{16}")  # no row is as long
 
 TERMS = {
@@ -31,11 +33,15 @@ class Drawing:
     def __init__(self, stones, told):
         self.stones, self.told = stones, told
         self.number, self.line, self.columns, self.rows, self.is_closed = 0, "", 0, [], False
+        self.spelled = set()  # how the cells so far are written
 
     def wrong(self, expected, came=None):
         return WrongLine(self.number, f"expected {expected}, came {shown(self.line) if came is None else came}")
 
     def take_all(self, content):
+        text = TEXT.match(content)
+        if text:
+            raise WrongLine(1, f"this is a {'position' if text[1] == b'pos' else 'template'}'s text already")
         for self.number, self.line in enumerate(lines_of(content), 1):
             self.take(self.line.translate(SMALL).replace("\r", ""))
         self.number += 1
@@ -82,6 +88,9 @@ class Drawing:
             cells = self.between_marks(number, cells, row)
         self.want_cells(cells, row)
         self.columns = len(cells)
+        self.spelled |= set(cells)
+        if {"r", "b"} <= self.spelled:
+            raise self.wrong("no b beside r, since b may be Blue's stone, which is w here", "both")
         self.rows.append([self.stones[cell] for cell in cells])
 
     def between_marks(self, number, cells, row):
@@ -122,16 +131,28 @@ class DrawnPosition(Drawing):
         if self.mover:
             raise self.wrong("nothing behind who is to move")
         found = MOVER.fullmatch(line)
-        if not found:
-            super().take_squeezed(line)
-        elif not self.rows:
+        if found and self.rows:
+            self.mover = NAMES.get(found[1], found[1])
+        elif found:
             raise self.wrong("a row of the board")
+        elif self.is_no_row(line):
+            raise self.wrong("black to move or white to move")
         else:
-            self.mover = found[1]
+            super().take_squeezed(line)
+
+    def is_no_row(self, line):
+        """Whether a line below the rows is neither a row nor the letters of the columns: no row is due below a whole
+        board, and none has a word of letters that are no stones."""
+        is_row = line[0].isdigit() or "\\" in line or all(cell in self.stones for cell in line)
+        if not self.rows or is_row or LETTERS.startswith(line):
+            return False
+        is_whole = self.is_closed or len(self.rows) >= self.columns
+        return is_whole or len(line) != self.columns and any(re.search("[A-Za-z]{2}", word)
+                                                             for word in self.line.split())
 
     def mover_by_stones(self):
-        """Who is to move in a game that Black began. Other numbers of stones come only of positions that are made up, and a guess would be
-        wrong half the time."""
+        """Who is to move in a game that Black began. Other numbers of stones come only of positions that are made up,
+        and a guess would be wrong half the time."""
         black, white = (sum(cells.count(stone) for cells in self.rows) for stone in "bw")
         if black - white not in (0, 1):
             raise self.wrong(f"black to move, or white to move, since {black} black and {white} white stones do not tell it", "nothing")

@@ -7,6 +7,12 @@ const MOST_PARENTS = 100; // that are listed
 
 // ---- The board
 
+// What the picture shows, for who does not see it.
+function labelOf({ black, white, mover }) {
+  const stones = [["Black", black], ["White", white]].map(([player, cells]) => `${player} on ${cells || "no cell"}`);
+  return `A board of ${rows} by ${columns}: ${stones.join("; ")}. ${colour[mover]} is to move.`;
+}
+
 // A click on a cell goes to the child that answers it, or to which the winner moves by it.
 function setClicks(record, children) {
   const leads = new Map(children.map(([cell, child]) => [cell || record.chosen, child]));
@@ -18,7 +24,12 @@ function setClicks(record, children) {
 
 // ---- What a node says
 
-const linkTo = (number) => make("a", [`node ${number}`], { href: `#${number}` });
+const wrongClass = (number) => (number === wrong ? "wrong" : "");
+const linkMade = (number, told) => make("a", [told], { href: `#${number}`, className: wrongClass(number) });
+const linkTo = (number, word = "node") => linkMade(number, `${word} ${number}`);
+
+// The node that is wrong, or none. It is told at the top of the page, and marked where it is named.
+const wrong = fault ? fault.number : -1;
 
 function answersTold(record, opponent) {
   const threats = record.threats.map(([step, ...link]) => linkShown(record, `threat ${step}`, link));
@@ -61,16 +72,60 @@ function parentTold(parent, number) {
 function told(number, record) {
   const [winner, opponent] = [colour[record.winner], colour[other[record.winner]]];
   const fills = (record.fills || []).map(([kind, named]) => fillTold[kind](named, winner, opponent));
-  const steps = (record.steps || []).map(([name, ...link]) => linkShown(record, name, link));
+  const marked = make("p", ["This node is wrong, as the top of the page says."], { className: "fault" });
   return [
     make("h2", [`Node ${number}${number === root ? ", the root" : ""}`]),
+    ...(number === wrong ? [marked] : []),
     paragraph(`${colour[record.mover]} is to move. ${winner} is said to win, by the rule `, code(record.rule), "."),
     paragraph(...meaning[record.rule](record, winner, opponent)),
     ...(record.threats ? answersTold(record, opponent) : []),
     ...(record.fills ? listed("Fill steps", "ol", asLines(fills)) : []),
     ...parentsTold(number),
-    ...(record.steps ? listed("Steps", "ol", asLines(steps), { start: 0 }) : []),
+    ...(record.steps?.length ? [stepsFolded(record)] : []),
   ];
+}
+
+// In a fold, since there may be thousands.
+function stepsFolded(record) {
+  const steps = record.steps.map(([name, ...link]) => linkShown(record, name, link));
+  return make("details", [make("summary", [counted(steps.length, "step")]), make("ol", asLines(steps), { start: 0 })]);
+}
+
+// ---- The path from the root
+
+// The parent from which this node was gone to, or else the first one.
+function parentOf(number) {
+  if (!cameFrom.has(number)) cameFrom.set(number, parentsOf(number)[0]);
+  return cameFrom.get(number);
+}
+
+// The nodes from the root to this one. In a wrong tree they may lead in a circle, or not from the root.
+function pathTo(number) {
+  const path = [number];
+  while (path[0] !== root) {
+    const parent = parentOf(path[0]);
+    if (parent === undefined || path.includes(parent)) break;
+    path.unshift(parent);
+  }
+  return path;
+}
+
+// What leads from a node to its child: a move, or what the rule does.
+function stepTold(parent, child) {
+  const { rule, mover } = headOf(parent);
+  if (rule === "fill" || rule === "turned") return rule === "fill" ? "fill-in" : "turned";
+  const [cell] = rule === "move" ? headOf(parent).values : childrenOf(parent).find(([, number]) => number === child);
+  return `${colour[mover]} ${cell}`;
+}
+
+function pathMade(number) {
+  const path = pathTo(number);
+  return path.map((place, at) => {
+    const told = at ? stepTold(path[at - 1], place) : place === root ? "root" : `node ${place}`;
+    const link = linkMade(place, told);
+    if (place === number) link.setAttribute("aria-current", "step");
+    return make("li", [link]);
+  });
 }
 
 // ---- Going from node to node
@@ -121,7 +176,9 @@ function show() {
   noteWay(number);
   [answers, shownLink] = [new Map(), null];
   panel.replaceChildren(...told(number, record));
+  byId("path").replaceChildren(...pathMade(number));
   draw(record);
+  document.querySelector("figure > svg").setAttribute("aria-label", labelOf(record));
   setClicks(record, children.filter(([, child]) => isThere(child)));
   pickFirst(number, children);
   byId("number").value = number;
@@ -135,17 +192,12 @@ function goDown() {
 }
 
 function goUp() {
-  const number = way.at(-1);
-  const parent = cameFrom.has(number) ? cameFrom.get(number) : parentsOf(number)[0];
+  const [parent] = pathTo(way.at(-1)).slice(-2, -1);
   if (parent !== undefined) go(parent);
 }
 
-// Never out of the page.
-function goBack() {
-  if (way.length > 1) history.back();
-}
-
-const keys = { ArrowRight: goDown, ArrowDown: goDown, ArrowUp: goUp, ArrowLeft: goBack };
+// Up and down scroll the page.
+const keys = { ArrowRight: goDown, ArrowLeft: goUp };
 
 function press(event) {
   const isForPage = event.key in keys && !(event.altKey || event.ctrlKey || event.metaKey || event.shiftKey);
@@ -155,6 +207,7 @@ function press(event) {
 }
 
 byId("to-root").href = `#${root}`;
+if (fault) byId("fault").replaceChildren(linkTo(wrong, "Node"), ` is wrong: ${fault.words} (${fault.condition}).`);
 byId("number").max = root;
 byId("number").onchange = (event) => go(event.target.value);
 byId("count").textContent = `of ${root + 1}`;

@@ -5,16 +5,20 @@ A mark of a cell is a class of it, and board.css says how it looks.
 import html
 import math
 import pathlib
+import textwrap
 
 from tree_page.records import LETTERS, cell_of, check, name
 
 STYLE = pathlib.Path(__file__).with_name("board.css")
 MARKS = ("black", "white", "carrier", "chosen", "black-fill", "white-fill")
+# What is written on a cell, and the mark that comes with it: the move wins, loses, or was left open.
+SIGNS = {"+": "wins", "\u2212": "loses", "?": "left-open"}
+SIGN_STYLE = pathlib.Path(__file__).resolve().parent.parent / "board_page" / "marks.css"
 WIDE = 42.0  # of a cell
 EDGE = WIDE / math.sqrt(3)
 MARGIN = 38.0  # above and on the left, where the coordinates stand
 NARROW = 14.0  # the other two margins
-LETTER_WIDE, LINE_HIGH = 8.0, 20.0  # of a caption
+LETTER_WIDE, LINE_HIGH, MOST_LETTERS = 8.0, 20.0, 56  # of a caption
 KEY_HIGH, KEY_SCALE, KEY_TEXT = 24.0, 0.4, 26.0  # of a line of the key; of its cell; how far to the right its words begin
 # The corners of a cell from its middle, clockwise from the top.
 CORNERS = [(0, -EDGE), (WIDE / 2, -EDGE / 2), (WIDE / 2, EDGE / 2), (0, EDGE), (-WIDE / 2, EDGE / 2),
@@ -65,16 +69,18 @@ def coordinates(size):
 HEXAGON = f'<polygon points="{spelled(CORNERS)}"/><circle r="{EDGE * 0.62:.1f}"/>'
 
 
-def cell_drawn(cell, marks):
+def cell_drawn(cell, marks, sign=""):
     x, y = middle(cell)
+    drawn = f'<text class="mark" y="7">{sign}</text>' if sign else ""
     return (f'<g class="{" ".join(["cell", *marks])}" data-cell="{name(cell)}" transform="translate({x:.1f},{y:.1f})">'
-            f'<title>{name(cell)}</title>{HEXAGON}</g>')
+            f'<title>{name(cell)}</title>{HEXAGON}{drawn}</g>')
 
 
-def cells(size, record):
-    named = {mark: set(record.get(mark, "").split()) for mark in MARKS}
+def cells(size, record, signs):
+    named = {mark: set(record.get(mark, "").split()) for mark in (*MARKS, *SIGNS.values())}
     for cell in size.cells:
-        yield cell_drawn(cell, [mark for mark in MARKS if name(cell) in named[mark]])
+        yield cell_drawn(cell, [mark for mark in (*MARKS, *SIGNS.values()) if name(cell) in named[mark]],
+                         signs.get(name(cell), ""))
 
 
 def chain_drawn(record):
@@ -114,13 +120,28 @@ def key_of(record):
     return [(mark, words) for mark, words in said.items() if record.get(mark)]
 
 
+def wrapped(line):
+    """A line of a caption, in pieces that are not much wider than a board."""
+    return textwrap.wrap(line, MOST_LETTERS) or [""]
+
+
 def caption_drawn(lines, wide, high):
     for place, line in enumerate(lines):
         yield f'<text x="{wide / 2:.1f}" y="{high + LINE_HIGH * (place + 0.5):.1f}">{html.escape(line)}</text>'
 
 
-def picture(size, record, chosen_sides=(), caption=(), key=()):
-    """The board of a record, as a picture that needs no other file. A key and the lines of a caption stand under it."""
+def label_of(size, record):
+    """What the picture shows, for who does not see it."""
+    stones = "; ".join(f"{player.capitalize()} on {record.get(player) or 'no cell'}" for player in check.OTHER)
+    mover = record.get("mover")
+    return f"A board of {size.rows} by {size.columns}: {stones}.{f' {mover.capitalize()} is to move.' if mover else ''}"
+
+
+def picture(size, record, chosen_sides=(), caption=(), key=(), signs=None):
+    """The board of a record, as a picture that needs no other file. A key and the lines of a caption stand under it.
+    The signs are texts on cells, by their names."""
+    caption = [piece for line in caption for piece in wrapped(line)]
+    style = STYLE.read_text() + (SIGN_STYLE.read_text() if signs else "")
     board_wide = MARGIN + WIDE * (size.columns + (size.rows - 1) / 2) + NARROW
     board_high = MARGIN + EDGE * (1.5 * size.rows + 0.5) + NARROW
     wide = max([board_wide, *(2 * NARROW + LETTER_WIDE * len(line) for line in caption),
@@ -129,7 +150,7 @@ def picture(size, record, chosen_sides=(), caption=(), key=()):
     high = board_high + key_high + LINE_HIGH * len(caption)
     return "\n".join([
         f'<svg xmlns="http://www.w3.org/2000/svg" viewBox="0 0 {wide:.0f} {high:.0f}" width="{wide:.0f}" '
-        f'height="{high:.0f}" role="img" aria-label="the board">',
-        f"<style>\n{STYLE.read_text()}</style>", '<rect class="ground" width="100%" height="100%" rx="8"/>',
-        *sides(size, chosen_sides), *coordinates(size), *cells(size, record), *chain_drawn(record),
+        f'height="{high:.0f}" role="img" aria-label="{label_of(size, record)}">',
+        f"<style>\n{style}</style>", '<rect class="ground" width="100%" height="100%" rx="8"/>',
+        *sides(size, chosen_sides), *coordinates(size), *cells(size, record, signs or {}), *chain_drawn(record),
         *key_drawn(key, board_high), *caption_drawn(caption, wide, board_high + key_high), "</svg>\n"])

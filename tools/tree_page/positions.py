@@ -1,33 +1,28 @@
 """Positions as the scripts read them, and the texts of those that come after them."""
-import pathlib
-import re
-import subprocess
+from drawn_boards.boards import WrongLine
+from drawn_boards.command import BadWords, position_in
 
 from .records import check
-
-TOP = pathlib.Path(__file__).resolve().parents[2]
 
 
 class NoPosition(Exception):
     """The input is no position."""
 
 
-def hexpos(words, content):
-    """What tools/hexpos makes of this."""
-    ended = subprocess.run([TOP / "tools" / "hexpos", *words], input=content, capture_output=True)
-    if ended.returncode != 0:
-        raise NoPosition(ended.stderr.decode().strip().replace("hexpos: ", "", 1))
-    return ended.stdout
+class NoSize(NoPosition):
+    """The input is a list of moves, and nothing tells its board."""
 
 
-def read_position(content):
-    """The board, the mover and the text of a drawn board, or of the text of a position, which begins with its name."""
-    if content.startswith(b"hexpos"):
-        hexpos(["--draw"], content)
-    else:
-        content = hexpos([], content)
-    rows, columns, black, white, mover = re.findall(r" (\w+)", content.decode().partition("\n")[2])
-    return check.Board(check.Size(int(rows), int(columns)), int(black, 16), int(white, 16)), mover, content
+def read_position(content, size=None):
+    """The board, the mover and the text of a position, in any form that tools/hexpos reads. A list of moves is one on a
+    board of this size."""
+    try:
+        board, mover = position_in(content, size)
+    except BadWords as wrong:
+        raise NoSize(str(wrong).replace("hexpos: ", "", 1)) from None
+    except WrongLine as wrong:
+        raise NoPosition(str(wrong)) from None
+    return board, mover, text_of(board, mover).encode()
 
 
 def text_of(board, mover):

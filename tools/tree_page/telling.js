@@ -1,5 +1,5 @@
 // What a page says of a node, and how a record marks its board. A page has `cells`, the elements of the board's cells by their names, and
-// `linkTo`, which makes a link to the node with a number.
+// `linkTo`, which makes a link to the node with a number, behind the word `node` or another one.
 
 const colour = { black: "Black", white: "White" };
 const MARKS = ["black", "white", "carrier", "chosen", "black-fill", "white-fill"];
@@ -50,6 +50,14 @@ function childTold(number) {
   return [linkTo(number), " by ", code(head.rule), `: ${comesNow[head.rule](head, colour[head.winner], number)}`];
 }
 
+// The same in a sentence: this child shows something.
+function childShows(number, what) {
+  if (!isThere(number)) return [`Node ${number}, which is missing, is to show that ${what}.`];
+  const head = headOf(number);
+  const comes = comesNow[head.rule](head, colour[head.winner], number);
+  return [linkTo(number, "Node"), ` shows that ${what}, by `, code(head.rule), `: ${comes}.`];
+}
+
 const comesNow = {
   chain: (head, winner) => `${winner} has a chain`,
   links: (head, winner) => `${winner} has a link between his sides`,
@@ -83,12 +91,11 @@ function linkShown(record, name, [told, carrier]) {
 const meaning = {
   chain: (record, winner) => [`${winner} has a chain.`],
   links: (record, winner) => [`The last step makes a link between ${winner}'s two sides, on ${record.carrier || "no cell"}.`],
-  move: (record, winner) => [`${winner} moves to ${record.chosen}. That this wins shows `, ...childTold(record.child), "."],
+  move: (record, winner) => [`${winner} moves to ${record.chosen}. `, ...childShows(record.child, "this wins")],
   all: (record, winner, opponent) => [
     `After each move of ${opponent}'s, ${winner} wins: by a threat that the move leaves whole, or by the move's line.`],
-  fill: (record, winner) => [`${winner} fills cells. That this wins shows `, ...childTold(record.child), "."],
-  turned: (record, winner) => [
-    `That ${winner} wins this position turned by 180 degrees shows `, ...childTold(record.child), "."],
+  fill: (record, winner) => [`${winner} fills cells. `, ...childShows(record.child, "this wins")],
+  turned: (record, winner) => childShows(record.child, `${winner} wins this position turned by 180 degrees`),
 };
 
 const lineTold = {
