@@ -5,7 +5,6 @@ use Rattle.std.specs.Prelude.{slice_get, slice_index}
 use Rattle.hx_board.proofs.ListLaws.{get-append, get-map}
 use Rattle.hx_tree.specs.declared.nodes.Heading.{Heading}
 use Rattle.hx_tree.specs.declared.nodes.Node.{Node}
-use Rattle.hx_tree.specs.Entries.{Extends}
 use Rattle.hx_tree.specs.Trees.{headings_of}
 use Rattle.hx_tree.specs.Rules.{IsRightNode}
 use Rattle.hx_book.specs.Trees.{Names, renamed_node}
@@ -14,7 +13,7 @@ use Rattle.hx_book.proofs.RenamingLaws.{node-renamed}
 use Rattle.hx_board.specs.declared.colours.Colour.{Colour}
 use Rattle.hx_board.specs.Positions.{Board}
 use Rattle.hx_tree.specs.declared.entries.Found.{Found}
-use Rattle.hx_tree.specs.Entries.{IsFirstFound}
+use Rattle.hx_tree.specs.Entries.{Extends, IsEntry, IsFirstFound}
 use Rattle.hx_tree.proofs.EntryLaws.{node-later}
 use Rattle.hx_book.specs.declared.wider.Wider.{Wider}
 use Rattle.hx_book.specs.WiderEntry.{Serves, IsWiderFound}
@@ -101,7 +100,16 @@ wider_known list board mover wider is =
     ∙ ap Some (same_heading node.heading wider.position mover wider.found.winner
     (sym is.same_position) same.0 same.1)
 
--- it stays so in a list that grew
+-- the entry that was found is one of its own position
+pub wider-own_entry : (list : List Node) (board : Board) (mover : Colour) (wider : Wider)
+    → IsWiderFound false list board mover wider.found.winner wider → IsEntry list wider.position mover wider.found.index
+wider-own_entry list board mover wider is = record {
+  node = is.entry.node;
+  there = is.entry.there;
+  is_of = record { same_position = sym is.same_position; same_mover = is.entry.is_wider.same_mover };
+}
+
+-- what was found is found in a list that grew
 pub wider_found-later : {plain : Bool} → (new old : List Node) (board : Board) (mover : Colour) (wider : Wider) → Extends old new
     → IsWiderFound plain old board mover wider.found.winner wider → IsWiderFound plain new board mover wider.found.winner wider
 wider_found-later new old board mover wider grown is = record {

@@ -1,6 +1,5 @@
--- An entry of a position serves it. So what is stored at the position itself serves it too, and a refusal is one either way.
-use Rattle.std.proofs.Common.{Bool, true, false, ℕ, List, refl, ap, subst, Option, None, Some}
-use Rattle.std.specs.Prelude.{IfSome}
+-- An entry of a position serves it. So what is stored at the position itself serves it, and what ran out there is why nothing was stored.
+use Rattle.std.proofs.Common.{Bool, true, false, ℕ, List, refl, ap, subst, Result, Ok, Err, IfOk}
 use Rattle.hx_board.specs.declared.colours.Colour.{Colour}
 use Rattle.hx_board.specs.Colours.{other_of}
 use Rattle.hx_board.specs.Positions.{Board, stones_of}
@@ -8,13 +7,15 @@ use Rattle.hx_board.specs.Sets.{IsSubset}
 use Rattle.hx_tree.specs.declared.nodes.Node.{Node}
 use Rattle.hx_tree.specs.Entries.{IsOf}
 use Rattle.hx_book.specs.WiderEntry.{Serves}
-use Rattle.hx_nodes.specs.Stored.{HasEntry, TellsStored, MissingFor}
-use Rattle.hx_widen.specs.Inner.{EndsStores}
-use Rattle.hx_widen.specs.Wide.{IsServed, IsTrueRefusal, IsStoredWide}
+use Rattle.hx_nodes.specs.Stored.{HasEntry, IsStored, IsNotStored}
+use Rattle.hx_widen.specs.Wide.{IsServed, IsServedIf}
 use Rattle.hx_nodes.specs.declared.stored.Stored.{Stored}
-use Rattle.hx_nodes.specs.declared.stored.Stored.TheVariants.{Done, Refused, Missing, Memory}
+use Rattle.hx_nodes.specs.declared.stored.Stored.TheVariants.{Done, Missing}
+use Rattle.hx_limits.specs.declared.ran_out.RanOut.{RanOut}
+use Rattle.hx_limits.specs.declared.ran_out.RanOut.TheVariants.{Budget, Slots, Memory}
+use Rattle.hx_limits.specs.Causes.{IsUnstored}
 
-module _ (plain : Bool) (list : List Node) (slots : ℕ) (board : Board) (mover : Colour) where
+module _ (plain : Bool) (list : List Node) (board : Board) (mover : Colour) where
   serves-own : (kind : Bool) (node : Node) → IsOf board mover node → Serves kind node.heading board mover node.heading.winner
   serves-own true node is = record { same_position = is.same_position; same_mover = is.same_mover; same_winner = refl }
   serves-own false node is = record {
@@ -34,33 +35,17 @@ module _ (plain : Bool) (list : List Node) (slots : ℕ) (board : Board) (mover 
     entry = record { node = has.1.node; there = has.1.there; is_wider = serves-own plain has.1.node has.1.is_of };
   }
 
-  pub stored_refusal : (stored : Stored) → TellsStored list slots board mover stored → IsTrueRefusal list slots stored
-  stored_refusal Done is = tt
-  stored_refusal (Refused refusal) is = is.0
-  stored_refusal Missing is = tt
-  stored_refusal Memory is = tt
+  pub served-by-entry : (stored : Stored) → IsStored list board mover stored → IsServedIf plain list board mover stored
+  served-by-entry Done is = entry_served is
+  served-by-entry Missing is = tt
 
-  pub stored_wide : (stored : Stored) → TellsStored list slots board mover stored → IsStoredWide plain list slots board mover stored
-  stored_wide Done is = entry_served is
-  stored_wide (Refused refusal) is = is.0
-  stored_wide Missing is = tt
-  stored_wide Memory is = tt
+  pub if_ok-served : (result : Result Stored RanOut) → IfOk result (IsStored list board mover)
+      → IfOk result (IsServedIf plain list board mover)
+  if_ok-served (Ok stored) is = served-by-entry stored is
+  if_ok-served (Err why) is = tt
 
-  pub some_refusal : (stored : Option Stored) → IfSome stored (TellsStored list slots board mover)
-      → IfSome stored (IsTrueRefusal list slots)
-  some_refusal None is = tt
-  some_refusal (Some stored) is = stored_refusal stored is
-
-  -- an end is an answer that says no more than that
-  pub end_stored : (stored : Stored) → EndsStores list slots stored → IsStoredWide plain list slots board mover stored
-  end_stored Done is = absurd is
-  end_stored (Refused refusal) is = is
-  end_stored Missing is = absurd is
-  end_stored Memory is = tt
-
-pub end_answered : (list : List Node) (slots : ℕ) (Cause : Type 0) (stored : Stored) → EndsStores list slots stored
-    → MissingFor Cause stored
-end_answered list slots Cause Done is = absurd is
-end_answered list slots Cause (Refused refusal) is = tt
-end_answered list slots Cause Missing is = absurd is
-end_answered list slots Cause Memory is = tt
+pub unstored : (list : List Node) (slots : ℕ) (board : Board) (mover : Colour) (why : RanOut) → IsNotStored list slots board mover why
+    → IsUnstored list slots why
+unstored list slots board mover (Budget taken) is = is
+unstored list slots board mover (Slots refusal) is = is.0
+unstored list slots board mover Memory is = tt

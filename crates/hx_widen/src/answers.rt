@@ -2,8 +2,8 @@
 //! after moves of the opponent's need, so chosen that each other move is outside one of them, and the cells of the lines that name
 //! a better cell.
 //!
-//! The functions have no struct as a worker's have: each needs others of the list of proofs, the position and the set of links,
-//! and what they promise is the one clause `grew`.
+//! The functions have no struct as a worker's have: each needs others of the list of proofs, the position and the set of links.
+//! Each that has the list promises that it grew, each that stores also what ran out, and widen_all alone that a position is served.
 
 ghost use Rattle.std.specs.Prelude.{◌≡◌, ℕ, true, IfOk, IfErr};
 ghost use Rattle.hx_board.specs.Colours.{other_of};
@@ -181,8 +181,8 @@ fn store_each<P: Proofs, R: Wait>(
 }
 
 /// Stores that a set's player wins with the opponent to move, where entries say so of the positions after the moves that have to be
-/// tried: a proof that serves the position, or one of the position itself. It is Missing where the board is full, or after one of the
-/// moves that are to be tried no entry says so, or one of the position itself names the opponent.
+/// tried: a proof that serves the position, or one of the position itself. It is Missing where the board is full, or where after one
+/// of these moves no entry says so, or an entry of that very position names the opponent.
 pub fn widen_all<P: Proofs, R: Wait>(
     rt: &R,
     proofs: &mut P,

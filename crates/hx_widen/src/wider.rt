@@ -1,4 +1,4 @@
-//! Entries of wider positions: of one that a proof serves, whether any does, and a node of its own for it.
+//! Entries of wider positions: whether one serves a position, and a node of the position itself by such an entry.
 
 ghost use Rattle.std.specs.Prelude.{◌≡◌, ◌≢◌, ℕ, true, false, [], IfSome, IfOk, IfErr};
 ghost use Rattle.hx_board.specs.Colours.{other_of};

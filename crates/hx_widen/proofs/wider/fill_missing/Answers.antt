@@ -4,7 +4,7 @@ use Rattle.hx_tree.specs.Entries.{IsEntry}
 use Rattle.hx_book.specs.WiderEntry.{IsWiderFound}
 use Rattle.hx_widen.proofs.MissingStones.{wider_missing, no_step}
 use Rattle.hx_book.proofs.OwnEntries.{own-entry}
-use Rattle.hx_widen.proofs.TurnedEntries.{own_entry}
+use Rattle.hx_widen.proofs.KnownEntries.{wider-own_entry}
 use Rattle.hx_widen.proofs.wider.fill_missing.Goals as goal
 
 pub returns-then-plain-clause-stored : goal.returns-then-plain-clause-stored
@@ -27,12 +27,12 @@ returns-then-is_empty-clause-stored g c =
     ordinary c.requires in
     let whole = wider_missing list board c.args.to_move wider found c.size-size.ensures.valid _ _ c.empties.ensures
     c.empties-2.ensures in
-    let lead = rw (c.minus-missing.ensures.set, whole) at c.in-Ok.ensures in
-    let none : length c.in-Ok.steps.items ≡ 0 = search rules in (
+    let lead = rw (c.minus-missing.ensures.set, whole) at c.in_ok-steps.ensures in
+    let none : length c.in_ok-steps.steps.items ≡ 0 = search rules in (
       wider.found.index,
       subst (λ (b : Board). IsEntry list b c.args.to_move wider.found.index)
-          (sym (no_step board wider.found.winner c.in-Ok.steps.items wider.position lead none))
-          (own_entry list board board c.args.to_move wider found),
+          (sym (no_step board wider.found.winner c.in_ok-steps.steps.items wider.position lead none))
+          (wider-own_entry list board c.args.to_move wider found),
     )
 
 pub unreachable-requires : goal.unreachable-requires
@@ -44,8 +44,8 @@ unreachable-requires g c =
     ordinary c.requires in
     let whole = wider_missing list c.args.position.now c.args.to_move c.args.wider.now found c.size-size.ensures.valid _ _
     c.empties.ensures c.empties-2.ensures in
-    let lead = rw (c.minus-missing.ensures.set, whole) at c.in-Ok.ensures in
-    c.in-None.ensures.wrong (rw c.new-steps.ensures lead)
+    let lead = rw (c.minus-missing.ensures.set, whole) at c.in_ok-steps.ensures in
+    (rw c.in-Missing.is at c.in_ok-fill_to.ensures.wrong) (rw c.new-steps.ensures lead)
 
 pub fill_to-requires-clause-ordinary : goal.fill_to-requires-clause-ordinary
 fill_to-requires-clause-ordinary g c = sym c.plain.ensures ∙ c.if-plain.false

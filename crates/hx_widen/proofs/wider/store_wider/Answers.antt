@@ -13,14 +13,3 @@ fill_missing-requires g c =
     (λ (winner : Colour).
     IsWiderFound g.P.Proofs.is_plain new c.args.position.now c.args.to_move winner c.in-Some-look_wider.wider)
     (sym is.same_winner) is
-
-pub returns-in-None-clause-missing : goal.returns-in-None-clause-missing
-returns-in-None-clause-missing g c =
-    seen-now _ _ _ (extends-on _ _ _ c.look.ensures.grew.seen c.look_wider.ensures.grew.seen) c.in-None.ensures.found
-
-pub returns-in-Some-look_wider-clause-grew : goal.returns-in-Some-look_wider-clause-grew
-returns-in-Some-look_wider-clause-grew g c =
-    grows-on _ _ _ (grows-on _ _ _ c.look.ensures.grew c.look_wider.ensures.grew) c.fill_missing.ensures.grew
-
-pub returns-in-None-clause-grew : goal.returns-in-None-clause-grew
-returns-in-None-clause-grew g c = grows-on _ _ _ c.look.ensures.grew c.look_wider.ensures.grew
