@@ -1,4 +1,4 @@
 pub mod TreeSolutions
 pub mod LoneEnds
 pub mod PlainSweeps
-pub mod PositionEnds
+pub mod FoundWinners

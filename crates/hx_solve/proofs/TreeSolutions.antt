@@ -1,6 +1,6 @@
 -- The tree of a proof that a search came to solves the position; what else the search came to is a cause.
 use Rattle.std.proofs.Common.{◌≡◌, ℕ, ◌≤◌, List, length, get_or, sym, ap, ◌∙◌, subst, arith}
-use Rattle.std.specs.Prelude.{slice_get}
+use Rattle.std.specs.Prelude.{slice_get, Result, Ok, Err}
 use Rattle.std.proofs.lemmas.Option.{slice_get-get_or, same_Some, slice_get_within}
 use Rattle.hx_board.specs.declared.colours.Colour.{Colour}
 use Rattle.hx_board.specs.Positions.{Board}
@@ -8,6 +8,7 @@ use Rattle.hx_board.specs.Counts.{empty_count}
 use Rattle.hx_board.proofs.EmptyCells.{sweep_size-below, sweep_size-nine}
 use Rattle.hx_board.proofs.ListLaws.{get-map}
 use Rattle.hx_tree.specs.declared.nodes.Heading.{Heading}
+use Rattle.hx_tree.specs.declared.entries.Found.{Found}
 use Rattle.hx_tree.specs.declared.nodes.Node.{Node}
 use Rattle.hx_book.specs.declared.books.TheConstants.{MOST_SLOTS}
 use Rattle.hx_book.specs.Entries.{contents, IsBook}
@@ -15,13 +16,12 @@ use Rattle.hx_book.specs.Trees.{IsTreeOf}
 use Rattle.hx_tree.specs.Entries.{IsFirstFound}
 use Rattle.hx_tree.specs.Trees.{headings_of}
 use Rattle.hx_sweep.specs.Sweeps.{IsSweep}
-use Rattle.hx_worker.specs.declared.ended.Ended.{Ended}
-use Rattle.hx_worker.specs.declared.ended.Ended.TheVariants.{Proved, Spent, NoSlots, Memory}
-use Rattle.hx_worker.specs.Ends.{EndsSpent}
 use Rattle.hx_limits.specs.declared.settings.Settings.{Settings}
 use Rattle.hx_limits.specs.declared.ran_out.RanOut.{RanOut}
+use Rattle.hx_limits.specs.declared.ran_out.RanOut.TheVariants.{Budget, Slots, Memory}
 use Rattle.hx_solve.specs.Solutions.{IsSolution}
 use Rattle.hx_limits.specs.Causes.{HasCause, FoundNoRoom, LacksUnit}
+use Rattle.hx_pool.specs.Ends.{EndsSpent}
 use Rattle.hx_pool.specs.Searches.{IsClosedEnd}
 use Rattle.hx_solve.specs.Searches.{IsProofOf, HasEntryFor, IsTreeFor, IsTreeFrom, SaysWhy}
 
@@ -42,63 +42,56 @@ tree-for old new place root tree same few is = record {
 -- ---- by workers
 
 -- the root of an entry's tree has the entry's heading
-root-heading : (nodes tree : List Node) (board : Board) (mover : Colour) (index : ℕ) (winner : Colour)
-    → (found : IsFirstFound nodes board mover (record { index = index; winner = winner })) (is : IsTreeFor nodes index tree)
-    → is.root.heading ≡ found.first.entry.node.heading
-root-heading nodes tree board mover index winner found is =
-    same_Some is.root.heading found.first.entry.node.heading
-    (sym is.same_heading ∙ get-map (λ (node : Node). node.heading) nodes index found.first.entry.node found.first.entry.there)
+root-heading : (nodes tree : List Node) (board : Board) (mover : Colour) (found : Found)
+    → (first : IsFirstFound nodes board mover found) (is : IsTreeFor nodes found.index tree)
+    → is.root.heading ≡ first.first.entry.node.heading
+root-heading nodes tree board mover found first is =
+    same_Some is.root.heading first.first.entry.node.heading
+    (sym is.same_heading ∙ get-map (λ (node : Node). node.heading) nodes found.index first.first.entry.node first.first.entry.there)
 
-entry-solves : (nodes tree : List Node) (board : Board) (mover : Colour) (index : ℕ) (winner : Colour)
-    → IsFirstFound nodes board mover (record { index = index; winner = winner }) → IsTreeFor nodes index tree → IsSolution board mover tree
-entry-solves nodes tree board mover index winner found is = record {
+entry-solves : (nodes tree : List Node) (board : Board) (mover : Colour) (found : Found)
+    → IsFirstFound nodes board mover found → IsTreeFor nodes found.index tree → IsSolution board mover tree
+entry-solves nodes tree board mover found first is = record {
   valid = is.valid;
   root = is.root;
   last = is.is_root;
   position = position;
-  to_move = ap (λ (h : Heading). h.to_move) same ∙ found.first.entry.is_of.same_mover;
+  to_move = ap (λ (h : Heading). h.to_move) same ∙ first.first.entry.is_of.same_mover;
   few = is.few;
   size = λ k d inside. is.one_size k (get_or tree k d) (slice_get-get_or tree k d inside) ∙ ap (λ (b : Board). b.size) position;
 }
   where
-    same : is.root.heading ≡ found.first.entry.node.heading
-    same = root-heading nodes tree board mover index winner found is
+    same : is.root.heading ≡ first.first.entry.node.heading
+    same = root-heading nodes tree board mover found first is
 
     position : is.root.heading.position ≡ board
-    position = ap (λ (h : Heading). h.position) same ∙ found.first.entry.is_of.same_position
+    position = ap (λ (h : Heading). h.position) same ∙ first.first.entry.is_of.same_position
 
-pub tree-solves : (nodes tree : List Node) (granted : ℕ) (board : Board) (mover : Colour) (settings : Settings) (ended : Ended)
-    → IsClosedEnd (IsProofOf board mover) nodes granted settings ended → IsTreeFrom nodes ended tree → IsSolution board mover tree
-tree-solves nodes tree granted board mover settings (Proved index winner) says is =
-    entry-solves nodes tree board mover index winner says is
-tree-solves nodes tree granted board mover settings (Spent taken) says is = absurd is
-tree-solves nodes tree granted board mover settings (NoSlots refusal) says is = absurd is
-tree-solves nodes tree granted board mover settings Memory says is = absurd is
+pub tree-solves : (nodes tree : List Node) (granted : ℕ) (board : Board) (mover : Colour) (settings : Settings) (end : Result Found RanOut)
+    → IsClosedEnd (IsProofOf board mover) nodes granted settings end → IsTreeFrom nodes end tree → IsSolution board mover tree
+tree-solves nodes tree granted board mover settings (Ok found) says is = entry-solves nodes tree board mover found says is
+tree-solves nodes tree granted board mover settings (Err why) says is = absurd is
 
-pub entry-there : (nodes : List Node) (granted : ℕ) (board : Board) (mover : Colour) (settings : Settings) (ended : Ended)
-    → IsClosedEnd (IsProofOf board mover) nodes granted settings ended → HasEntryFor nodes ended
-entry-there nodes granted board mover settings (Proved index winner) says =
-    slice_get_within nodes index says.first.entry.node says.first.entry.there
-entry-there nodes granted board mover settings (Spent taken) says = tt
-entry-there nodes granted board mover settings (NoSlots refusal) says = tt
-entry-there nodes granted board mover settings Memory says = tt
+pub entry-there : (nodes : List Node) (granted : ℕ) (board : Board) (mover : Colour) (settings : Settings) (end : Result Found RanOut)
+    → IsClosedEnd (IsProofOf board mover) nodes granted settings end → HasEntryFor nodes end
+entry-there nodes granted board mover settings (Ok found) says =
+    slice_get_within nodes found.index says.first.entry.node says.first.entry.there
+entry-there nodes granted board mover settings (Err why) says = tt
 
-pub cause-by : (nodes : List Node) (granted : ℕ) (board : Board) (mover : Colour) (settings : Settings) (ended : Ended) (why : RanOut)
-    → IsBook (contents settings.slots nodes) → IsClosedEnd (IsProofOf board mover) nodes granted settings ended → SaysWhy ended why
-    → HasCause settings why
-cause-by nodes granted board mover settings (Proved index winner) why book says is = subst (HasCause settings) (sym is) tt
-cause-by nodes granted board mover settings (Spent taken) why book says is = subst (HasCause settings) (sym is) says.0
-cause-by nodes granted board mover settings (NoSlots refusal) why book says is =
+pub cause-by : (nodes : List Node) (granted : ℕ) (board : Board) (mover : Colour) (settings : Settings) (end : Result Found RanOut)
+    (why : RanOut) → IsBook (contents settings.slots nodes) → IsClosedEnd (IsProofOf board mover) nodes granted settings end
+    → SaysWhy end why → HasCause settings why
+cause-by nodes granted board mover settings (Ok found) why book says is = subst (HasCause settings) (sym is) tt
+cause-by nodes granted board mover settings (Err (Budget taken)) why book says is = subst (HasCause settings) (sym is) says.0
+cause-by nodes granted board mover settings (Err (Slots refusal)) why book says is =
     subst (HasCause settings) (sym is)
     (let room : FoundNoRoom settings.slots refusal = record { nodes = nodes; book = book; out_of_slots = says } in room)
-cause-by nodes granted board mover settings Memory why book says is = subst (HasCause settings) (sym is) tt
+cause-by nodes granted board mover settings (Err Memory) why book says is = subst (HasCause settings) (sym is) tt
 
 -- a unit is wanting where the end says so
-pub spent-by : (ended : Ended) (why : RanOut) → SaysWhy ended why → LacksUnit why → EndsSpent ended
-spent-by (Proved index winner) why is lacks = absurd (subst LacksUnit is lacks)
-spent-by (Spent taken) why is lacks = tt
-spent-by (NoSlots refusal) why is lacks = absurd (subst LacksUnit is lacks)
-spent-by Memory why is lacks = absurd (subst LacksUnit is lacks)
+pub spent-by : (end : Result Found RanOut) (why : RanOut) → SaysWhy end why → LacksUnit why → EndsSpent end
+spent-by (Ok found) why is lacks = absurd (subst LacksUnit is lacks)
+spent-by (Err ran_out) why is lacks = subst LacksUnit is lacks
 
 -- ---- by a full search
 

@@ -1,6 +1,7 @@
 //! Who wins a position, without a tree.
 
 ghost use Rattle.std.specs.Prelude.{◌<◌, IfOk, IfErr, IsOk};
+ghost use Rattle.hx_board.specs.Colours.{other_of};
 ghost use Rattle.hx_board.specs.Counts.{IsSmall};
 ghost use Rattle.hx_board.specs.Game.{Wins};
 ghost use Rattle.hx_board.specs.Graph.{HasNoChain};
@@ -10,6 +11,7 @@ ghost use Rattle.hx_limits.specs.Causes.{HasCause, LacksMemory, LacksUnit};
 use crate::one_position::OnePosition;
 use hx_board::{Colour, Position};
 use hx_io::Gate;
+use hx_law::one_winner;
 use hx_limits::{RanOut, Settings};
 use hx_pool::run_all;
 use hx_share::book_names_winners;
@@ -32,6 +34,7 @@ pub fn winner<G: Gate + Sync, R: Threads + Wait + Sync>(
 ) -> Result<Colour, RanOut>
     requires { AreSettings settings }
     ensures winner { IfOk result (λ winner. Wins winner position.now to_move) }
+    ensures loser { IfOk result (λ winner. ¬ Wins (other_of winner) position.now to_move) }
     // A refusal carries the budget or the slots of the settings.
     ensures cause { IfErr result (HasCause settings) }
     // Where units are wanting though there were some, neither player has a chain.
@@ -41,6 +44,7 @@ pub fn winner<G: Gate + Sync, R: Threads + Wait + Sync>(
 {
     let answer = winner_by_workers(rt, alloc, position, to_move, &settings, gate);
     if answer.is_err() && is_small(position, settings.budget) {
+        one_winner(position, to_move);
         let mut tried = *position;
         return Ok(winner_of_small(&mut tried, to_move));
     }
@@ -58,6 +62,7 @@ fn winner_by_workers<G: Gate + Sync, R: Threads + Wait + Sync>(
 ) -> Result<Colour, RanOut>
     requires { AreSettings settings.now }
     ensures winner { IfOk result (λ winner. Wins winner position.now to_move) }
+    ensures loser { IfOk result (λ winner. ¬ Wins (other_of winner) position.now to_move) }
     ensures cause { IfErr result (HasCause settings.now) }
     ensures no_chain { IfErr result
         (λ why. LacksUnit why → 0 < settings.now.budget → HasNoChain position.now) }

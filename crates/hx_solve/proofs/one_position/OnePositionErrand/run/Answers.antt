@@ -1,13 +1,11 @@
 use Rattle.std.proofs.Common.{arith}
-use Rattle.hx_solve.proofs.PositionEnds.{ended-by}
 use Rattle.hx_solve.proofs.one_position.OnePositionErrand.run.Goals as goal
 
 pub returns : goal.returns
 returns g c =
-    let work = c.work_at.ensures in let done = c.work_at.result in let errand = c.args.self.now in record {
+    let work = c.work_at.ensures in record {
       same_book = work.book;
       same_counts = work.counts;
-      ended = ended-by errand.position errand.to_move done.book.seen c.args.bench.now.shared.now.made.slots done.counts done.ended
-          work.ended;
+      ended = work.ended;
       has_tried = λ spent some. work.no_chain spent (omega (arith, some, c.requires.seats.nothing.granted));
     }
