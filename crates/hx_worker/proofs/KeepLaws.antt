@@ -68,16 +68,16 @@ pub stands-moved : (old moved stood last : Standing) → moved ≡ old → Stand
 stands-moved old moved stood last there stands back =
     stands-on _ _ _ (stands-on _ _ _ (stands-same _ _ there) stands) (stands-same _ _ back)
 
--- a word is held, a turn keeps the seat, and the word is released
-pub release-keeps : (before held turned after : Seat) (word : ℕ) → held.made ≡ before.made
+-- a word is held, a visit keeps the seat, and the word is released
+pub release-keeps : (before held visited after : Seat) (word : ℕ) → held.made ≡ before.made
     → own_account held ≡ holding word (own_account before)
-    → KeepsSeat held turned → after.made ≡ turned.made → own_account after ≡ releasing word (own_account turned) → KeepsSeat before after
-release-keeps before held turned after word made_held own_held turn made_after own_after = record {
-  same_made = made_after ∙ turn.same_made ∙ made_held;
+    → KeepsSeat held visited → after.made ≡ visited.made → own_account after ≡ releasing word (own_account visited) → KeepsSeat before after
+release-keeps before held visited after word made_held own_held visit made_after own_after = record {
+  same_made = made_after ∙ visit.same_made ∙ made_held;
   same_held =
       ap (λ (a : Account). a.held) own_after
-      ∙ releasing-held word (own_account before) (own_account turned) (turn.same_held ∙ ap (λ (a : Account). a.held) own_held);
-  still_refused = λ is. ap (λ (a : Account). a.refused) own_after ∙ turn.still_refused (ap (λ (a : Account). a.refused) own_held ∙ is);
+      ∙ releasing-held word (own_account before) (own_account visited) (visit.same_held ∙ ap (λ (a : Account). a.held) own_held);
+  still_refused = λ is. ap (λ (a : Account). a.refused) own_after ∙ visit.still_refused (ap (λ (a : Account). a.refused) own_held ∙ is);
 }
 
 module _ {P G R W : Type 0} (sight : P → Sight) where
@@ -152,7 +152,7 @@ module _ {P G R W : Type 0} (sight : P → Sight) where
   keeps-on first second third one two =
       keeps-exchanged first second third second.own second.others third.own third.others one two two.own two.others
 
--- a set on which a turn put its stones, and took them back
+-- a set on which a visit put its stones, and took them back
 pub put-back : (before : Before) (old put played last : Standing) → IsPut before old put → StandsAgain put played
     → IsBack before played last
     → StandsAgain old last
@@ -181,7 +181,7 @@ undone-same old put reached last player past stands same_player back =
     let third : record old { past = last.past } ≡ old = ap (λ (it : List State). record old { past = it }) three in
     first ∙ second ∙ third
 
--- what a turn put can be taken back after the turns that came in between
+-- what a visit put can be taken back after the visits that came in between
 pub has-play : (before : Before) (old put played : Standing) → IsPut before old put → StandsAgain put played → HasPlay before played
 has-play Played old put played is stands = λ none.
     let lists : old.present ∷ old.past ≡ [] = sym is.same_past ∙ sym stands.same_past ∙ none in cc

@@ -1,2 +1,3 @@
 pub mod KeepLaws
+pub mod StopLaws
 pub mod UnlistedLaws

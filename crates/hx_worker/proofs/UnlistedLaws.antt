@@ -5,7 +5,7 @@ use Rattle.hx_board.specs.Positions.{Board}
 use Rattle.hx_tree.specs.declared.nodes.Node.{Node}
 use Rattle.hx_tree.specs.Entries.{Extends}
 use Rattle.hx_tree.proofs.EntryLaws.{seen-now, seen-within}
-use Rattle.hx_nodes.specs.Missing.{LacksEither}
+use Rattle.hx_nodes.specs.Stored.{LacksEither}
 use Rattle.hx_worker.specs.Ends.{WasUnlisted}
 
 pub neither-unlisted : (plain : Bool) (old new : List Node) (board : Board) (mover : Colour) → Extends old new

@@ -67,7 +67,7 @@ pub fn work<P: Proofs, G: Gate, R: Wait>(rt: &R, job: &mut Job<'_, P>, gate: &G)
     ensures white { IsGrown job.old.white job.new.white }
     ensures ended { IsEnded (P.sight job.new.proofs).list (P.sight job.new.proofs).slots
         job.new.seat job.old.position job.old.to_move result }
-    // A spent budget ends the work before the first turn, or after all was tried that can be tried at once.
+    // A spent budget ends the work before the first visit, or after all was tried that can be tried at once.
     ensures tried { EndsSpent result → (own job.old.seat).granted < (own job.new.seat).granted
         → IsTried job.old.position job.old.to_move job.new.black job.new.white }
     ensures unlisted { EndsSpent result → (own job.old.seat).granted < (own job.new.seat).granted
@@ -86,23 +86,25 @@ pub fn work<P: Proofs, G: Gate, R: Wait>(rt: &R, job: &mut Job<'_, P>, gate: &G)
     if let Err(spent) = ask(&worker, &mut job.seat) {
         return Ended::Spent(spent);
     }
-    let found = search_position(
+    let ended = search_position(
         &worker,
         &mut job.proofs,
         &mut job.seat,
         &job.position,
         job.to_move,
     );
-    match found {
-        Err(RanOut::Budget(spent)) => Ended::of(close_and_end(
-            rt,
-            &mut job.proofs,
-            &job.position,
-            job.to_move,
-            &mut job.black,
-            &mut job.white,
-            spent,
-        )),
-        other => Ended::of(other),
-    }
+    let spent = match ended {
+        Ok(found) => return Ended::of(Ok(found)),
+        Err(RanOut::Budget(spent)) => spent,
+        Err(why) => return Ended::of(Err(why)),
+    };
+    Ended::of(close_and_end(
+        rt,
+        &mut job.proofs,
+        &job.position,
+        job.to_move,
+        &mut job.black,
+        &mut job.white,
+        spent,
+    ))
 }

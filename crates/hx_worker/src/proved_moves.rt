@@ -1,4 +1,4 @@
-//! What is known of a turn's moves, once some are proved: by the turn after a move, or by marks.
+//! What is known of a visit's moves, once some are proved: by the visit after a move, or by marks.
 
 ghost use Rattle.std.specs.Prelude.{IfErr};
 ghost use Rattle.hx_worker.specs.Searches.{Keeps, Stops};
@@ -20,12 +20,12 @@ use hx_reach::Workspace;
 use hx_widen::{widen_all, widen_move, widen_turned};
 use std::sync::Wait;
 
-/// The numbers of a turn whose moves all lose.
+/// The numbers of a visit whose moves all lose.
 const LOST: Numbers = Numbers { phi: INF, delta: 0 };
 
 impl<P: Proofs, G: Gate, R: Wait> Search<'_, P, G, R, Workspace, LinkSet> {
-    /// Looks for the turn's own position, where it is marked, and then for the marked moves in focus: another worker may have
-    /// proved them since. Some where that ends the turn.
+    /// Looks for the visit's own position, where it is marked, and then for the marked moves in focus: another worker may have
+    /// proved them since. Some where that ends the visit.
     pub(crate) fn look_again(
         &mut self,
         situation: &Situation,
@@ -41,7 +41,7 @@ impl<P: Proofs, G: Gate, R: Wait> Search<'_, P, G, R, Workspace, LinkSet> {
         self.look_at_marked(situation, moves, count)
     }
 
-    /// Looks for the turn's own position, where it is marked. A mark of which the proofs know nothing was another position's, and
+    /// Looks for the visit's own position, where it is marked. A mark of which the proofs know nothing was another position's, and
     /// is written anew.
     fn look_at_own(&mut self, situation: &Situation) -> Result<Option<Outcome>, RanOut>
         ensures keeps { Keeps P.sight self.old self.new }
@@ -62,7 +62,7 @@ impl<P: Proofs, G: Gate, R: Wait> Search<'_, P, G, R, Workspace, LinkSet> {
         }
     }
 
-    /// Looks for the marked ones among the first so many moves, the last one first. Some where that ends the turn.
+    /// Looks for the marked ones among the first so many moves, the last one first. Some where that ends the visit.
     pub(crate) fn look_at_marked(
         &mut self,
         situation: &Situation,
@@ -114,7 +114,7 @@ impl<P: Proofs, G: Gate, R: Wait> Search<'_, P, G, R, Workspace, LinkSet> {
         }
     }
 
-    /// The proofs say who wins after a move. Where the mover does, the turn ends by it; else the move is left out.
+    /// The proofs say who wins after a move. Where the mover does, the visit ends by it; else the move is left out.
     fn by_move(
         &mut self,
         situation: &Situation,

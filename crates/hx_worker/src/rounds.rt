@@ -1,7 +1,7 @@
 //! The search at the job's position, on sets of its own: round after round, until the position is proved or something is
 //! wanting.
 //!
-//! An inner turn stores no node of its own position where an entry serves it. At the job's position alone there must be one,
+//! An inner visit stores no node of its own position where an entry serves it. At the job's position alone there must be one,
 //! and before a node of all moves there is one for each line. That takes fewer slots than a node for each position, since
 //! proofs are fewer.
 

@@ -3,8 +3,8 @@
 //! Each function of a search works with all of this, so it stands in one struct, and what every one of them keeps is one word
 //! (`Keeps` of specs/). The proofs and the seat are borrowed, so it says too that these are the same borrows.
 //!
-//! The sets of links are the mover's and the other player's, so they are exchanged before a turn of the other player, and again
-//! after it (`turns.rt`). They are owned, so that this, and putting one aside for a new one, is done by moves of their fields
+//! The sets of links are the mover's and the other player's, so they are exchanged before a visit with the other player to move, and again
+//! after it (`visits.rt`). They are owned, so that this, and putting one aside for a new one, is done by moves of their fields
 //! alone.
 
 ghost use Rattle.std.specs.Prelude.{◌≡◌};
@@ -29,7 +29,7 @@ pub(crate) struct Search<'a, P, G, R, W, L> {
     /// The links of the other player.
     pub(crate) others: L,
 
-    /// The way down to the turn at hand.
+    /// The way down to the visit at hand.
     pub(crate) way: Way,
 }
 

@@ -1,7 +1,7 @@
-//! The sets of links on which turns play and take back.
+//! The sets of links on which visits play and take back.
 //!
 //! To play on a set and take back is faster than a new set for each position by two to three, and stronger too, since links that
-//! were found higher up stay. But the links of many turns fill a set. So a set with many links is not played on; the turn gets a
+//! were found higher up stay. But the links of many visits fill a set. So a set with many links is not played on; the visit gets a
 //! new one.
 
 ghost use Rattle.std.specs.Prelude.{◌≡◌, IfOk, OnErr};
@@ -15,7 +15,7 @@ use std::mem::replace;
 /// A set with more links is not played on.
 const MANY_LINKS: u32 = 6000;
 
-/// How a set was before a turn put its stones.
+/// How a set was before a visit put its stones.
 #[derive(Drop)]
 pub(crate) enum Before {
     /// As it is, but for the last play.
@@ -28,7 +28,7 @@ pub(crate) enum Before {
     Other(LinkSet),
 }
 
-/// Puts the stones of a turn on a player's set, as one play, where there are any; or puts a new set in its place.
+/// Puts the stones of a visit on a player's set, as one play, where there are any; or puts a new set in its place.
 pub(crate) fn put(
     set: &mut LinkSet,
     situation: &Situation,
@@ -51,7 +51,7 @@ pub(crate) fn put(
     Ok(Before::Other(replace(set, new)))
 }
 
-/// Takes back what a turn put.
+/// Takes back what a visit put.
 pub(crate) fn take_back(set: &mut LinkSet, before: Before)
     requires { HasPlay before set.old }
     ensures { IsBack before set.old set.new }

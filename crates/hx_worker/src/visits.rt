@@ -1,10 +1,10 @@
-//! A worker's turns: the position of a player to move is proved, or its numbers come to a limit.
+//! A worker's visits: the position of a player to move is proved, or its numbers come to a limit.
 //!
-//! A turn asks for a unit, and looks the position up. Then it fills in, and puts the move that led to it and what was filled on
-//! both sets of links, the mover's first; links and the moves that must be tried tell where to go down. Whatever a turn meets, it
+//! A visit asks for a unit, and looks the position up. Then it fills in, and puts the move that led to it and what was filled on
+//! both sets of links, the mover's first; links and the moves that must be tried tell where to go down. Whatever a visit meets, it
 //! takes back all that it put, and releases all that it held.
 //!
-//! A turn ends open, too, where another worker proved a position further up on its way (`ways.rt`): the turn there will look that
+//! A visit ends open, too, where another worker proved a position further up on its way (`ways.rt`): the visit there will look that
 //! proof up, and has no use for what is below. So a worker goes back up to that position at once.
 
 ghost use Rattle.std.specs.Prelude.{IfErr};
@@ -29,7 +29,7 @@ use std::mem::swap;
 use std::sync::Wait;
 
 impl<P: Proofs, G: Gate, R: Wait> Search<'_, P, G, R, Workspace, LinkSet> {
-    /// A turn. No more than `depth` moves are made.
+    /// A visit. No more than `depth` moves are made.
     #[cycle(search)]
     fn visit(&mut self, start: &Start, depth: u32) -> Result<Outcome, RanOut>
         requires { MayHold self.old depth }
@@ -40,7 +40,7 @@ impl<P: Proofs, G: Gate, R: Wait> Search<'_, P, G, R, Workspace, LinkSet> {
         self.visit_granted(start, depth)
     }
 
-    /// A turn whose unit was granted.
+    /// A visit whose unit was granted.
     #[cycle(search)]
     pub(crate) fn visit_granted(&mut self, start: &Start, depth: u32) -> Result<Outcome, RanOut>
         requires { MayHold self.old depth }
@@ -64,7 +64,7 @@ impl<P: Proofs, G: Gate, R: Wait> Search<'_, P, G, R, Workspace, LinkSet> {
         self.conclude(start, &filled, outcome)
     }
 
-    /// Goes on with the turn's stones on the mover's set, or with a new set.
+    /// Goes on with the visit's stones on the mover's set, or with a new set.
     #[cycle(search)]
     fn with_own(&mut self, situation: &Situation, depth: u32) -> Result<Outcome, RanOut>
         requires { MayHold self.old depth }
@@ -80,7 +80,7 @@ impl<P: Proofs, G: Gate, R: Wait> Search<'_, P, G, R, Workspace, LinkSet> {
         outcome
     }
 
-    /// Brings the mover's links up to date, and goes on with the turn's stones on the other player's set, or with a new set.
+    /// Brings the mover's links up to date, and goes on with the visit's stones on the other player's set, or with a new set.
     #[cycle(search)]
     fn with_others(&mut self, situation: &Situation, depth: u32) -> Result<Outcome, RanOut>
         requires { MayHold self.old depth }
@@ -133,8 +133,8 @@ impl<P: Proofs, G: Gate, R: Wait> Search<'_, P, G, R, Workspace, LinkSet> {
         Ok(Outcome::Open(situation.limit))
     }
 
-    /// Looks for what others proved, and goes down to the move that the numbers choose, or ends the turn where nobody waits for it.
-    /// None where the turn goes on after that.
+    /// Looks for what others proved, and goes down to the move that the numbers choose, or ends the visit where nobody waits for it.
+    /// None where the visit goes on after that.
     #[cycle(search)]
     fn go_on(
         &mut self,
@@ -176,7 +176,7 @@ impl<P: Proofs, G: Gate, R: Wait> Search<'_, P, G, R, Workspace, LinkSet> {
             return Ok(Outcome::Open(down.child.numbers));
         }
         let word = loss_word(down.child.key);
-        // Before the turn below asks for its unit: so other workers see the hold while this one waits at its gate.
+        // Before the visit below asks for its unit: so other workers see the hold while this one waits at its gate.
         self.worker.counts.hold(self.seat, word);
         swap(&mut self.own, &mut self.others);
         let outcome = self.visit(&down.start, depth - 1);

@@ -1,7 +1,7 @@
 //! Moves that entries at wider positions tell of.
 //!
 //! An entry that serves the position after a move says who wins it, though nobody came to it. So each move is looked up before the
-//! turn goes down, and once a move is refuted the moves that its proof does not need are left out with it. In a hard search these
+//! visit goes down, and once a move is refuted the moves that its proof does not need are left out with it. In a hard search these
 //! are 2,000 to 40,000 moves.
 
 ghost use Rattle.std.specs.Prelude.{IfErr};
@@ -46,7 +46,7 @@ impl<P: Proofs, G: Gate, R: Wait> Search<'_, P, G, R, Workspace, LinkSet> {
         refuted.union(self.refuted_with(situation, cell))
     }
 
-    /// The end of the turn by a move after which an entry says that the mover wins.
+    /// The end of the visit by a move after which an entry says that the mover wins.
     fn won_by(&mut self, situation: &Situation, cell: Cell) -> Result<Option<Outcome>, RanOut>
         ensures keeps { Keeps P.sight self.old self.new }
         ensures stopped { IfErr result (Stops P.sight self.new) }
@@ -65,7 +65,7 @@ impl<P: Proofs, G: Gate, R: Wait> Search<'_, P, G, R, Workspace, LinkSet> {
         self.win_by(situation, cell)
     }
 
-    /// Looks each move up, the last one first. Some where that ends the turn; the moves that lose are left out.
+    /// Looks each move up, the last one first. Some where that ends the visit; the moves that lose are left out.
     pub(crate) fn look_at_all(
         &mut self,
         situation: &Situation,

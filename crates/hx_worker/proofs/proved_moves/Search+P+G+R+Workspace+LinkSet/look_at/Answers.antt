@@ -10,14 +10,11 @@ returns-then-not-is_marked-clause-keeps g c = keeps-itself _ c.args.self.now
 pub returns-in_default-after-clause-keeps : goal.returns-in_default-after-clause-keeps
 returns-in_default-after-clause-keeps g c = keeps-itself _ c.args.self.now
 
+pub returns-in_err-widen_turned-clause-keeps : goal.returns-in_err-widen_turned-clause-keeps
+returns-in_err-widen_turned-clause-keeps g c = keeps-grown _ _ _ c.widen_turned.ensures.grew
+
 pub returns-in-Done-clause-keeps : goal.returns-in-Done-clause-keeps
 returns-in-Done-clause-keeps g c = keeps-on _ _ _ _ (keeps-grown _ _ _ c.widen_turned.ensures.grew) c.by_move.ensures.keeps
 
-pub returns-in-Refused-clause-keeps : goal.returns-in-Refused-clause-keeps
-returns-in-Refused-clause-keeps g c = keeps-grown _ _ _ c.widen_turned.ensures.grew
-
 pub returns-in-Missing-clause-keeps : goal.returns-in-Missing-clause-keeps
 returns-in-Missing-clause-keeps g c = keeps-grown _ _ _ c.widen_turned.ensures.grew
-
-pub returns-in-Memory-clause-keeps : goal.returns-in-Memory-clause-keeps
-returns-in-Memory-clause-keeps g c = keeps-grown _ _ _ c.widen_turned.ensures.grew

@@ -4,12 +4,11 @@ use Rattle.hx_worker.proofs.proved_moves.Search+P+G+R+Workspace+LinkSet.look_at_
 pub returns-then-not-is_marked-clause-keeps : goal.returns-then-not-is_marked-clause-keeps
 returns-then-not-is_marked-clause-keeps g c = keeps-itself _ c.args.self.now
 
-pub returns-then-is_none-clause-keeps : goal.returns-then-is_none-clause-keeps
-returns-then-is_none-clause-keeps g c = keeps-grown _ _ _ c.widen_turned.ensures.grew
+pub returns-in_err-widen_turned-clause-keeps : goal.returns-in_err-widen_turned-clause-keeps
+returns-in_err-widen_turned-clause-keeps g c = keeps-grown _ _ _ c.widen_turned.ensures.grew
 
-pub returns-else-is_none-clause-keeps : goal.returns-else-is_none-clause-keeps
-returns-else-is_none-clause-keeps g c = keeps-grown _ _ _ c.widen_turned.ensures.grew
+pub returns-in-Done-clause-keeps : goal.returns-in-Done-clause-keeps
+returns-in-Done-clause-keeps g c = keeps-grown _ _ _ c.widen_turned.ensures.grew
 
-pub returns-else-is_none-clause-outcome : goal.returns-else-is_none-clause-outcome
-returns-else-is_none-clause-outcome g c =
-    c.outcome_of-known.ensures g.P.Proofs.is_plain _ _ _ _ c.args.self.now.seat.now c.widen_turned.ensures.stored
+pub returns-in-Missing-clause-keeps : goal.returns-in-Missing-clause-keeps
+returns-in-Missing-clause-keeps g c = keeps-grown _ _ _ c.widen_turned.ensures.grew

@@ -4,8 +4,8 @@ use Rattle.hx_worker.proofs.proved_moves.Search+P+G+R+Workspace+LinkSet.win_by.G
 pub returns-then-not-is_empty-clause-keeps : goal.returns-then-not-is_empty-clause-keeps
 returns-then-not-is_empty-clause-keeps g c = keeps-itself _ c.args.self.now
 
+pub returns-in_err-stored-clause-keeps : goal.returns-in_err-stored-clause-keeps
+returns-in_err-stored-clause-keeps g c = keeps-grown _ _ _ c.widen_move.ensures.grew
+
 pub returns-clause-keeps : goal.returns-clause-keeps
 returns-clause-keeps g c = keeps-grown _ _ _ c.widen_move.ensures.grew
-
-pub returns-clause-outcome : goal.returns-clause-outcome
-returns-clause-outcome g c = c.outcome_of.ensures g.P.Proofs.is_plain _ _ _ _ c.args.self.now.seat.now c.widen_move.ensures.stored

@@ -3,23 +3,23 @@ use Rattle.hx_worker.proofs.KeepLaws.{keeps-seat, keeps-own, keeps-others, keeps
 use Rattle.hx_worker.proofs.KeepLaws.{kept-may-hold, own-may-hold, others-may-hold, held-may-hold, release-keeps, stands-same, stands-moved}
 use Rattle.hx_worker.proofs.visits.Search+P+G+R+Workspace+LinkSet.+search.Goals as goal
 
-pub descend-turn-outcome-requires : goal.descend-turn-outcome-requires
-descend-turn-outcome-requires g t c κs within =
+pub descend-visit-outcome-requires : goal.descend-visit-outcome-requires
+descend-visit-outcome-requires g t c κs within =
     let less : c.args.depth - 1 < c.args.depth = omega arith in
     let may = held-may-hold c.args.self.now c.loss_word-word.result c.args.depth c.requires in (omega arith, search (rules, may))
 
 pub descend-returns-clause-keeps : goal.descend-returns-clause-keeps
 descend-returns-clause-keeps g t c =
-    let turn = c.turn-outcome.ensures.keeps in record {
-      same_worker = turn.same_worker;
-      same_proofs = turn.same_proofs;
-      same_seat = turn.same_seat;
-      grew = turn.grew;
+    let visit = c.visit-outcome.ensures.keeps in record {
+      same_worker = visit.same_worker;
+      same_proofs = visit.same_proofs;
+      same_seat = visit.same_seat;
+      grew = visit.grew;
       seat =
-          release-keeps c.args.self.now.seat.now c.hold.new.seat c.turn-outcome.new.self.seat.now c.release.new.seat c.loss_word-word.result
-          c.hold.ensures.made c.hold.ensures.own turn.seat c.release.ensures.made c.release.ensures.own;
-      own = stands-moved _ _ _ _ c.swap.ensures.y_after turn.others c.swap-2.ensures.x_after;
-      others = stands-moved _ _ _ _ c.swap.ensures.x_after turn.own c.swap-2.ensures.y_after;
+          release-keeps c.args.self.now.seat.now c.hold.new.seat c.visit-outcome.new.self.seat.now c.release.new.seat c.loss_word-word.result
+          c.hold.ensures.made c.hold.ensures.own visit.seat c.release.ensures.made c.release.ensures.own;
+      own = stands-moved _ _ _ _ c.swap.ensures.y_after visit.others c.swap-2.ensures.x_after;
+      others = stands-moved _ _ _ _ c.swap.ensures.x_after visit.own c.swap-2.ensures.y_after;
     }
 
 pub expand-returns-in-Some-look_at_marked-clause-keeps : goal.expand-returns-in-Some-look_at_marked-clause-keeps
@@ -64,27 +64,27 @@ go_on-returns-clause-keeps g t c =
     keeps-on _ _ _ _ (keeps-on _ _ _ _ c.look_again.ensures.keeps (keeps-seat _ _ _ c.choose.ensures.seat))
     (keeps-on _ _ _ _ c.descend-outcome.ensures.keeps c.take_in.ensures.keeps)
 
-pub turn-returns-in-Err-clause-keeps : goal.turn-returns-in-Err-clause-keeps
-turn-returns-in-Err-clause-keeps g t c = keeps-seat _ _ _ c.ask.ensures.seat
+pub visit-returns-in-Err-clause-keeps : goal.visit-returns-in-Err-clause-keeps
+visit-returns-in-Err-clause-keeps g t c = keeps-seat _ _ _ c.ask.ensures.seat
 
-pub turn-visit-requires : goal.turn-visit-requires
-turn-visit-requires g t c κs within =
+pub visit-visit_granted-requires : goal.visit-visit_granted-requires
+visit-visit_granted-requires g t c κs within =
     (omega arith, search (kept-may-hold g.P.Proofs.sight _ _ _ (keeps-seat _ _ _ c.ask.ensures.seat) c.requires))
 
-pub turn-returns-clause-keeps : goal.turn-returns-clause-keeps
-turn-returns-clause-keeps g t c = keeps-on _ _ _ _ (keeps-seat _ _ _ c.ask.ensures.seat) c.visit.ensures.keeps
-
-pub visit-returns-in_default-fill-clause-keeps : goal.visit-returns-in_default-fill-clause-keeps
-visit-returns-in_default-fill-clause-keeps g t c = c.look_up.ensures.keeps
-
-pub visit-returns-in_default-of-clause-keeps : goal.visit-returns-in_default-of-clause-keeps
-visit-returns-in_default-of-clause-keeps g t c = c.look_up.ensures.keeps
-
-pub visit-with_own-outcome-requires : goal.visit-with_own-outcome-requires
-visit-with_own-outcome-requires g t c κs within = (omega arith, search (kept-may-hold _ _ _ _ c.look_up.ensures.keeps c.requires))
-
 pub visit-returns-clause-keeps : goal.visit-returns-clause-keeps
-visit-returns-clause-keeps g t c =
+visit-returns-clause-keeps g t c = keeps-on _ _ _ _ (keeps-seat _ _ _ c.ask.ensures.seat) c.visit_granted.ensures.keeps
+
+pub visit_granted-returns-in_err-filled-clause-keeps : goal.visit_granted-returns-in_err-filled-clause-keeps
+visit_granted-returns-in_err-filled-clause-keeps g t c = c.look_up.ensures.keeps
+
+pub visit_granted-returns-in_default-of-clause-keeps : goal.visit_granted-returns-in_default-of-clause-keeps
+visit_granted-returns-in_default-of-clause-keeps g t c = c.look_up.ensures.keeps
+
+pub visit_granted-with_own-outcome-requires : goal.visit_granted-with_own-outcome-requires
+visit_granted-with_own-outcome-requires g t c κs within = (omega arith, search (kept-may-hold _ _ _ _ c.look_up.ensures.keeps c.requires))
+
+pub visit_granted-returns-clause-keeps : goal.visit_granted-returns-clause-keeps
+visit_granted-returns-clause-keeps g t c =
     keeps-on _ _ _ _ (keeps-on _ _ _ _ c.look_up.ensures.keeps c.with_own-outcome.ensures.keeps) c.conclude.ensures.keeps
 
 pub with_others-returns-in_default-put-clause-keeps : goal.with_others-returns-in_default-put-clause-keeps

@@ -3,11 +3,11 @@ use Rattle.std.proofs.Common.{◌+◌, ◌*◌}
 use Rattle.hx_worker.specs.Searches.{Keeps}
 use Rattle.hx_worker.proofs.visits.Search+P+G+R+Workspace+LinkSet.+search.Given as goal
 
-abbrev pub decreases-turn : goal.decreases-turn
-decreases-turn g l = 7 * l.depth + 6
-
 abbrev pub decreases-visit : goal.decreases-visit
-decreases-visit g l = 7 * l.depth + 5
+decreases-visit g l = 7 * l.depth + 6
+
+abbrev pub decreases-visit_granted : goal.decreases-visit_granted
+decreases-visit_granted g l = 7 * l.depth + 5
 
 abbrev pub decreases-with_own : goal.decreases-with_own
 decreases-with_own g l = 7 * l.depth + 4

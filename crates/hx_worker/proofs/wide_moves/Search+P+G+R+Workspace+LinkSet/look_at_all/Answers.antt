@@ -4,8 +4,11 @@ use Rattle.hx_worker.proofs.wide_moves.Search+P+G+R+Workspace+LinkSet.look_at_al
 pub loop-left-init : goal.loop-left-init
 loop-left-init g c = keeps-itself _ c.args.self.now
 
-pub returns-in-Some-won_by-clause-keeps : goal.returns-in-Some-won_by-clause-keeps
-returns-in-Some-won_by-clause-keeps g c = keeps-on _ _ _ _ c.loop-left.invariant c.won_by.ensures.keeps
+pub returns-in_err-outcome-clause-keeps : goal.returns-in_err-outcome-clause-keeps
+returns-in_err-outcome-clause-keeps g c = keeps-on _ _ _ _ c.loop-left.invariant c.won_by.ensures.keeps
+
+pub returns-in-Some-2-clause-keeps : goal.returns-in-Some-2-clause-keeps
+returns-in-Some-2-clause-keeps g c = keeps-on _ _ _ _ c.loop-left.invariant c.won_by.ensures.keeps
 
 pub loop-left-preserved-then-has : goal.loop-left-preserved-then-has
 loop-left-preserved-then-has g c =

@@ -4,7 +4,7 @@ use Rattle.hx_count.specs.Seats.{Seat, own}
 use Rattle.hx_share.specs.Readers.{Reader}
 use Rattle.hx_tree.specs.Entries.{Extends}
 use Rattle.hx_worker.specs.Ends.{EndsSpent}
-use Rattle.hx_pool.proofs.benches.Bench.work_at.Goals as goal
+use Rattle.hx_worker.proofs.benches.work_at.Goals as goal
 
 pub returns-in_default-clause-grew : goal.returns-in_default-clause-grew
 returns-in_default-clause-grew g c = ([], sym (append-nil c.args.seats.book.seen))
