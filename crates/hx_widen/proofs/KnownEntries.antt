@@ -1,5 +1,5 @@
 -- Entries that are known: one more of them, a list that grew, and the children of a node that is right after them.
-use Rattle.std.proofs.Common.{◌≡◌, Bool, true, false, ℕ, zero, suc, ◌<◌, List, [], ◌∷◌, ◌++◌, length, refl, sym, ap, ◌∙◌, Some, arith}
+use Rattle.std.proofs.Common.{◌≡◌, Bool, false, ℕ, zero, suc, ◌<◌, List, [], ◌∷◌, ◌++◌, length, refl, sym, ap, ◌∙◌, Some, arith}
 use Rattle.std.proofs.lemmas.Option.{slice_get_within}
 use Rattle.std.specs.Prelude.{slice_get, slice_index}
 use Rattle.hx_board.proofs.ListLaws.{get-append, get-map}
@@ -16,7 +16,7 @@ use Rattle.hx_tree.specs.declared.entries.Found.{Found}
 use Rattle.hx_tree.specs.Entries.{Extends, IsEntry, IsFirstFound}
 use Rattle.hx_tree.proofs.EntryLaws.{node-later}
 use Rattle.hx_book.specs.declared.wider.Wider.{Wider}
-use Rattle.hx_book.specs.WiderEntry.{Serves, IsWiderFound}
+use Rattle.hx_book.specs.WiderEntry.{IsWiderFound}
 use Rattle.hx_widen.specs.Inner.{AreKnown}
 use Rattle.hx_nodes.proofs.GrowingLists.{extends-headings}
 
@@ -82,23 +82,6 @@ found_known list board mover found is =
     get-map (λ (n : Node). n.heading) list found.index node is.first.entry.there
     ∙ ap Some (same_heading node.heading board mover found.winner is.first.entry.is_of.same_position is.first.entry.is_of.same_mover
     (sym is.same_winner))
-
--- an entry that serves a board has the mover and the winner that it was looked for with
-serves-mover : (plain : Bool) (heading : Heading) (board : Board) (mover winner : Colour) → Serves plain heading board mover winner
-    → (heading.to_move ≡ mover) × (heading.winner ≡ winner)
-serves-mover true heading board mover winner is = (is.same_mover, is.same_winner)
-serves-mover false heading board mover winner is = (is.same_mover, is.same_winner)
-
-pub wider_known : {plain : Bool} → (list : List Node) (board : Board) (mover : Colour) (wider : Wider)
-    → IsWiderFound plain list board mover wider.found.winner wider
-    → slice_get (headings_of list) wider.found.index ≡ Some
-    (record { position = wider.position; to_move = mover; winner = wider.found.winner })
-wider_known list board mover wider is =
-    let node : Node = is.entry.node in
-    let same = serves-mover _ node.heading board mover wider.found.winner is.entry.is_wider in
-    get-map (λ (n : Node). n.heading) list wider.found.index node is.entry.there
-    ∙ ap Some (same_heading node.heading wider.position mover wider.found.winner
-    (sym is.same_position) same.0 same.1)
 
 -- the entry that was found is one of its own position
 pub wider-own_entry : (list : List Node) (board : Board) (mover : Colour) (wider : Wider)

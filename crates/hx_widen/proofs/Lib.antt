@@ -1,4 +1,3 @@
 pub mod MissingStones
 pub mod KnownEntries
-pub mod KnownFills
 pub mod WideLaws

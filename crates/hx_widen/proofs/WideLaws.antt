@@ -1,5 +1,5 @@
--- An entry of a position serves it. So what is stored at the position itself serves it, and what ran out there is why nothing was stored.
-use Rattle.std.proofs.Common.{Bool, true, false, ℕ, List, refl, ap, subst, Result, Ok, Err, IfOk}
+-- An entry of a position serves it. So what is stored at the position itself serves it too.
+use Rattle.std.proofs.Common.{Bool, true, false, List, refl, ap, subst, Result, Ok, Err, IfOk}
 use Rattle.hx_board.specs.declared.colours.Colour.{Colour}
 use Rattle.hx_board.specs.Colours.{other_of}
 use Rattle.hx_board.specs.Positions.{Board, stones_of}
@@ -7,13 +7,11 @@ use Rattle.hx_board.specs.Sets.{IsSubset}
 use Rattle.hx_tree.specs.declared.nodes.Node.{Node}
 use Rattle.hx_tree.specs.Entries.{IsOf}
 use Rattle.hx_book.specs.WiderEntry.{Serves}
-use Rattle.hx_nodes.specs.Stored.{HasEntry, IsStored, IsNotStored}
+use Rattle.hx_nodes.specs.Stored.{HasEntry, IsStored}
 use Rattle.hx_widen.specs.Wide.{IsServed, IsServedIf}
 use Rattle.hx_nodes.specs.declared.stored.Stored.{Stored}
 use Rattle.hx_nodes.specs.declared.stored.Stored.TheVariants.{Done, Missing}
 use Rattle.hx_limits.specs.declared.ran_out.RanOut.{RanOut}
-use Rattle.hx_limits.specs.declared.ran_out.RanOut.TheVariants.{Budget, Slots, Memory}
-use Rattle.hx_limits.specs.Causes.{IsUnstored}
 
 module _ (plain : Bool) (list : List Node) (board : Board) (mover : Colour) where
   serves-own : (kind : Bool) (node : Node) → IsOf board mover node → Serves kind node.heading board mover node.heading.winner
@@ -43,9 +41,3 @@ module _ (plain : Bool) (list : List Node) (board : Board) (mover : Colour) wher
       → IfOk result (IsServedIf plain list board mover)
   if_ok-served (Ok stored) is = served-by-entry stored is
   if_ok-served (Err why) is = tt
-
-pub unstored : (list : List Node) (slots : ℕ) (board : Board) (mover : Colour) (why : RanOut) → IsNotStored list slots board mover why
-    → IsUnstored list slots why
-unstored list slots board mover (Budget taken) is = is
-unstored list slots board mover (Slots refusal) is = is.0
-unstored list slots board mover Memory is = tt

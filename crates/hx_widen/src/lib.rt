@@ -3,8 +3,7 @@
 //!
 //! What a proof needs is a guess here. A node by links, by fill steps or by answers to all moves is judged by the checker at the
 //! widened position before it is stored. One by a chain, a move or the turned position is right by what was looked up there. Where
-//! no entry serves the position then, the proof is stored at the position itself, but for one by the turned position; and where a slot
-//! was refused, nothing more is stored.
+//! no entry serves the position then, the proof is stored at the position itself, but for one by the turned position.
 #![tactic(auto, using(hx_book::proofs::SightLaws::growth))]
 
 mod answers;

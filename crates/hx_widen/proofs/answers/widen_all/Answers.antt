@@ -4,7 +4,8 @@ use Rattle.hx_widen.proofs.answers.widen_all.Goals as goal
 
 pub store_each-requires : goal.store_each-requires
 store_each-requires g c =
-    λ cell member. rw c.position-2.ensures ((c.in_ok-found.ensures.must.shared cell).0 (c.without_lines-cells.ensures.inside cell member)).empty
+    λ cell member. rw c.position-2.ensures
+    ((c.in_ok-found.ensures.must.shared cell).0 (c.without_lines-cells.ensures.inside cell member)).empty
 
 pub store_answers-requires-clause-no_lines : goal.store_answers-requires-clause-no_lines
 store_answers-requires-clause-no_lines g c = λ plain. c.in_ok-found.ensures.no_lines (c.plain.ensures ∙ plain)

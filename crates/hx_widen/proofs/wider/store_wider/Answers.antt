@@ -1,8 +1,6 @@
 use Rattle.std.proofs.Common.{sym, subst}
 use Rattle.hx_board.specs.declared.colours.Colour.{Colour}
 use Rattle.hx_book.specs.WiderEntry.{IsWiderFound}
-use Rattle.hx_tree.proofs.EntryLaws.{extends-on, seen-now}
-use Rattle.hx_book.proofs.SightLaws.{grows-on}
 use Rattle.hx_widen.proofs.wider.store_wider.Goals as goal
 
 pub fill_missing-requires : goal.fill_missing-requires
