@@ -16,7 +16,7 @@ use std::test::Fail;
 fn move_to(cell: Cell, key: u64) -> Child {
     Child {
         cell,
-        number,
+        key,
         numbers: Numbers { phi: 1, delta: 1 },
     }
 }
