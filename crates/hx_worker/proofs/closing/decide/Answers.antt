@@ -1,3 +1,4 @@
+use Rattle.std.proofs.lemmas.Result.{IfOk-weaker}
 use Rattle.hx_board.specs.declared.colours.Colour.TheVariants.{Black, White}
 use Rattle.hx_board.specs.Positions.{Board}
 use Rattle.hx_board.specs.Graph.{HasChain, HasNoChain}
@@ -11,23 +12,11 @@ no-chains board black white Black = black
 no-chains board black white White = white
 
 pub returns-clause-tried : goal.returns-clause-tried
-returns-clause-tried g c = λ none. record {
-  no_chain = no-chains _ (c.by_chain.ensures.no_chain c.in_default-by_chain.is) (c.by_chain-2.ensures.no_chain c.in_default-by_chain-2.is);
-  black_open = c.by_closed.ensures.open_set c.in_default-by_closed.is;
-  white_open = c.by_closed-2.ensures.open_set none;
-}
-
-pub returns-in-Some-by_chain-clause-grew : goal.returns-in-Some-by_chain-clause-grew
-returns-in-Some-by_chain-clause-grew g c = grows-on _ _ _ c.by_entry.ensures.grew c.by_chain.ensures.grew
-
-pub returns-in-Some-by_chain-2-clause-grew : goal.returns-in-Some-by_chain-2-clause-grew
-returns-in-Some-by_chain-2-clause-grew g c =
-    grows-on _ _ _ (grows-on _ _ _ c.by_entry.ensures.grew c.by_chain.ensures.grew) c.by_chain-2.ensures.grew
-
-pub returns-in-Some-by_closed-clause-grew : goal.returns-in-Some-by_closed-clause-grew
-returns-in-Some-by_closed-clause-grew g c =
-    let chains = grows-on _ _ _ (grows-on _ _ _ c.by_entry.ensures.grew c.by_chain.ensures.grew) c.by_chain-2.ensures.grew in
-    grows-on _ _ _ chains c.by_closed.ensures.grew
+returns-clause-tried g c = IfOk-weaker _ _ _ (λ found open_set none. record {
+  no_chain = no-chains _ (c.in_ok-found-2.ensures.no_chain c.in_default-2.is) (c.in_ok-found-3.ensures.no_chain c.in_default-3.is);
+  black_open = c.in_ok-found-4.ensures.open_set c.in_default-4.is;
+  white_open = open_set none;
+}) c.by_closed-2.ensures.open_set
 
 pub returns-clause-grew : goal.returns-clause-grew
 returns-clause-grew g c =
@@ -35,7 +24,9 @@ returns-clause-grew g c =
     grows-on _ _ _ (grows-on _ _ _ chains c.by_closed.ensures.grew) c.by_closed-2.ensures.grew
 
 pub returns-clause-unlisted : goal.returns-clause-unlisted
-returns-clause-unlisted g c = λ none.
+returns-clause-unlisted g c =
     let chains = grows-on _ _ _ c.by_chain.ensures.grew c.by_chain-2.ensures.grew in
     let closed = grows-on _ _ _ (grows-on _ _ _ chains c.by_closed.ensures.grew) c.by_closed-2.ensures.grew in
-    unlisted-wider _ _ _ _ _ _ _ (extends-itself _) closed.seen (c.by_entry.ensures.unlisted c.in_default.is)
+    IfOk-weaker _ _ _
+    (λ found open_set none. unlisted-wider _ _ _ _ _ _ _ (extends-itself _) closed.seen (c.in_ok-found.ensures.unlisted c.in_default.is))
+    c.by_closed-2.ensures.open_set
