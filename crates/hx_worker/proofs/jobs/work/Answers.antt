@@ -5,10 +5,10 @@ use Rattle.hx_worker.proofs.jobs.work.Goals as goal
 
 pub returns-clause-ended : goal.returns-clause-ended
 returns-clause-ended g c =
-    rw c.of.ensures
+    rw c.of-2.ensures
     (stopped-ended _ _ _ _ _ _ c.close_and_end.ensures.found (c.close_and_end.ensures.stopped _ c.in-Err-Budget.ensures.stopped))
 
 pub returns-clause-unlisted : goal.returns-clause-unlisted
 returns-clause-unlisted g c = λ spent more.
     unlisted-wider _ _ _ _ _ _ _ c.search_position-ended.ensures.grew.seen (extends-itself _)
-    (spent-lacks _ _ c.close_and_end.ensures.unlisted (rw c.of.ensures at spent))
+    (spent-lacks _ _ c.close_and_end.ensures.unlisted (rw c.of-2.ensures at spent))
