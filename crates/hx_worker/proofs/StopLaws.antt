@@ -1,33 +1,19 @@
--- Why a search stops: what kept a proof from being stored stops it, and what stops it is how the work ends.
-use Rattle.std.proofs.Common.{◌≡◌, sym, ap, ◌∙◌, ℕ, true, List, Result, Ok, Err, IfOk, IfErr}
+-- An entry that was found, or why a search stopped: as the end of the work, and as what a worker comes back with.
+use Rattle.std.proofs.Common.{ℕ, List, Result, Ok, Err, IfOk, IfErr}
 use Rattle.hx_board.specs.declared.colours.Colour.{Colour}
 use Rattle.hx_board.specs.Positions.{Board}
 use Rattle.hx_tree.specs.declared.nodes.Node.{Node}
 use Rattle.hx_tree.specs.Entries.{IsFirstFound}
 use Rattle.hx_tree.specs.declared.entries.Found.{Found}
-use Rattle.hx_count.specs.Seats.{Origin, Seat, own}
+use Rattle.hx_count.specs.Seats.{Seat}
 use Rattle.hx_limits.specs.declared.ran_out.RanOut.{RanOut}
 use Rattle.hx_limits.specs.declared.ran_out.RanOut.TheVariants.{Budget, Slots, Memory}
-use Rattle.hx_limits.specs.Causes.{IsUnstored, IsStopped, LacksUnit}
-use Rattle.hx_nodes.specs.Stored.{IsNotStored}
+use Rattle.hx_limits.specs.Causes.{IsStopped, LacksUnit}
 use Rattle.hx_pool.specs.Ends.{EndsSpent as ComesSpent}
 use Rattle.hx_pool.specs.Seats.{IsEndedBy}
 use Rattle.hx_worker.specs.declared.ended.Ended.{Ended}
 use Rattle.hx_worker.specs.declared.ended.Ended.TheVariants.{Proved, Spent, NoSlots, Memory as NoMemory}
 use Rattle.hx_worker.specs.Ends.{IsEnded, EndsSpent, found_of, ended_of}
-
--- the position and mover of a refused proof are no matter
-pub not_stored-unstored : (list : List Node) (slots : ℕ) (board : Board) (mover : Colour) (why : RanOut)
-    → IsNotStored list slots board mover why → IsUnstored list slots why
-not_stored-unstored list slots board mover (Budget taken) is = is
-not_stored-unstored list slots board mover (Slots refusal) is = is.0
-not_stored-unstored list slots board mover Memory is = is
-
-pub unstored-stopped : (list : List Node) (slots : ℕ) (seat : Seat) (why : RanOut) → IsUnstored list slots why
-    → IsStopped list slots seat why
-unstored-stopped list slots seat (Budget taken) is = absurd is
-unstored-stopped list slots seat (Slots refusal) is = is
-unstored-stopped list slots seat Memory is = is
 
 -- an entry that was found, or why the search stopped, as the end of the work
 pub stopped-ended : (list : List Node) (slots : ℕ) (seat : Seat) (board : Board) (mover : Colour) (found : Result Found RanOut)
@@ -59,13 +45,3 @@ found-spent (Proved index winner) spent = spent
 found-spent (Spent taken) spent = spent
 found-spent (NoSlots refusal) spent = spent
 found-spent NoMemory spent = spent
-
--- a seat of the same counts, that is refused if the old one was, is of a worker that stopped for the same reason
-pub stopped-later : (list : List Node) (slots : ℕ) (old new : Seat) (why : RanOut) → new.made ≡ old.made
-    → ((own old).refused ≡ true → (own new).refused ≡ true) → IsStopped list slots old why → IsStopped list slots new why
-stopped-later list slots old new (Budget taken) made refused is = record {
-  refused = refused is.refused;
-  budget = is.budget ∙ ap (λ (origin : Origin). origin.limits.budget) (sym made);
-}
-stopped-later list slots old new (Slots refusal) made refused is = is
-stopped-later list slots old new Memory made refused is = is

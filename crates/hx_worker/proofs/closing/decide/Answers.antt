@@ -1,8 +1,12 @@
+use Rattle.std.proofs.Common.{Option, Some, None, Result, Ok, Err, IfOk, IfNone}
 use Rattle.hx_board.specs.declared.colours.Colour.TheVariants.{Black, White}
 use Rattle.hx_board.specs.Positions.{Board}
 use Rattle.hx_board.specs.Graph.{HasChain, HasNoChain}
+use Rattle.hx_tree.specs.declared.entries.Found.{Found}
 use Rattle.hx_tree.proofs.EntryLaws.{extends-itself}
 use Rattle.hx_book.proofs.SightLaws.{grows-on}
+use Rattle.hx_limits.specs.declared.ran_out.RanOut.{RanOut}
+use Rattle.hx_worker.specs.Ends.{IsOpenSet, IsTried, WasUnlisted}
 use Rattle.hx_worker.proofs.UnlistedLaws.{unlisted-wider}
 use Rattle.hx_worker.proofs.closing.decide.Goals as goal
 
@@ -10,24 +14,23 @@ no-chains : (board : Board) → (HasChain board Black → ⊥) → (HasChain boa
 no-chains board black white Black = black
 no-chains board black white White = white
 
+-- what follows where nothing was found
+none-tells : (result : Result (Option Found) RanOut) (Told More : Type 0) → (Told → More) → IfOk result (λ found. IfNone found Told)
+    → IfOk result (λ found. IfNone found More)
+none-tells (Ok None) Told More more told = more told
+none-tells (Ok (Some found)) Told More more told = tt
+none-tells (Err why) Told More more told = tt
+
 pub returns-clause-tried : goal.returns-clause-tried
-returns-clause-tried g c = λ none. record {
-  no_chain = no-chains _ (c.by_chain.ensures.no_chain c.in_default-by_chain.is) (c.by_chain-2.ensures.no_chain c.in_default-by_chain-2.is);
-  black_open = c.by_closed.ensures.open_set c.in_default-by_closed.is;
-  white_open = c.by_closed-2.ensures.open_set none;
-}
-
-pub returns-in-Some-by_chain-clause-grew : goal.returns-in-Some-by_chain-clause-grew
-returns-in-Some-by_chain-clause-grew g c = grows-on _ _ _ c.by_entry.ensures.grew c.by_chain.ensures.grew
-
-pub returns-in-Some-by_chain-2-clause-grew : goal.returns-in-Some-by_chain-2-clause-grew
-returns-in-Some-by_chain-2-clause-grew g c =
-    grows-on _ _ _ (grows-on _ _ _ c.by_entry.ensures.grew c.by_chain.ensures.grew) c.by_chain-2.ensures.grew
-
-pub returns-in-Some-by_closed-clause-grew : goal.returns-in-Some-by_closed-clause-grew
-returns-in-Some-by_closed-clause-grew g c =
-    let chains = grows-on _ _ _ (grows-on _ _ _ c.by_entry.ensures.grew c.by_chain.ensures.grew) c.by_chain-2.ensures.grew in
-    grows-on _ _ _ chains c.by_closed.ensures.grew
+returns-clause-tried g c =
+    let tried : IsOpenSet c.by_closed-2.new.set c.args.to_move
+        → IsTried c.args.position.now c.args.to_move c.by_closed.new.set c.by_closed-2.new.set = λ open_set. record {
+      no_chain =
+          no-chains _ (rw c.in_default-2.is at c.in_ok-found-2.ensures.no_chain) (rw c.in_default-3.is at c.in_ok-found-3.ensures.no_chain);
+      black_open = rw c.in_default-4.is at c.in_ok-found-4.ensures.open_set;
+      white_open = open_set;
+    } in
+    none-tells c.by_closed-2.result _ _ tried c.by_closed-2.ensures.open_set
 
 pub returns-clause-grew : goal.returns-clause-grew
 returns-clause-grew g c =
@@ -35,7 +38,11 @@ returns-clause-grew g c =
     grows-on _ _ _ (grows-on _ _ _ chains c.by_closed.ensures.grew) c.by_closed-2.ensures.grew
 
 pub returns-clause-unlisted : goal.returns-clause-unlisted
-returns-clause-unlisted g c = λ none.
+returns-clause-unlisted g c =
     let chains = grows-on _ _ _ c.by_chain.ensures.grew c.by_chain-2.ensures.grew in
     let closed = grows-on _ _ _ (grows-on _ _ _ chains c.by_closed.ensures.grew) c.by_closed-2.ensures.grew in
-    unlisted-wider _ _ _ _ _ _ _ (extends-itself _) closed.seen (c.by_entry.ensures.unlisted c.in_default.is)
+    let unlisted : IsOpenSet c.by_closed-2.new.set c.args.to_move
+        → WasUnlisted g.P.Proofs.is_plain (g.P.Proofs.sight c.args.proofs.now).list (g.P.Proofs.sight c.by_closed-2.new.proofs).list
+        c.args.position.now c.args.to_move = λ open_set.
+    unlisted-wider _ _ _ _ _ _ _ (extends-itself _) closed.seen (rw c.in_default.is at c.in_ok-found.ensures.unlisted) in
+    none-tells c.by_closed-2.result _ _ unlisted c.by_closed-2.ensures.open_set

@@ -4,8 +4,8 @@ use Rattle.hx_worker.proofs.rounds.Search+P+G+R+Workspace+LinkSet.round.Goals as
 pub returns-in_err-_outcome-clause-keeps : goal.returns-in_err-_outcome-clause-keeps
 returns-in_err-_outcome-clause-keeps g c = c.visit_granted.ensures.keeps
 
-pub returns-in_err-settle-clause-keeps : goal.returns-in_err-settle-clause-keeps
-returns-in_err-settle-clause-keeps g c = keeps-on _ _ _ _ c.visit_granted.ensures.keeps c.settle.ensures.keeps
+pub returns-in_err-found-clause-keeps : goal.returns-in_err-found-clause-keeps
+returns-in_err-found-clause-keeps g c = keeps-on _ _ _ _ c.visit_granted.ensures.keeps c.settle.ensures.keeps
 
 pub returns-in-Some-clause-keeps : goal.returns-in-Some-clause-keeps
 returns-in-Some-clause-keeps g c = keeps-on _ _ _ _ c.visit_granted.ensures.keeps c.settle.ensures.keeps
