@@ -12,7 +12,7 @@ use hx_turn::Orientations;
 use std::alloc::{AllocError, Global};
 use std::test::Fail;
 
-/// A move to a cell, after which the position has this number. Nobody looked at it yet.
+/// A move to a cell, after which the position has this key. Nobody looked at it yet.
 fn move_to(cell: Cell, key: u64) -> Child {
     Child {
         cell,
