@@ -1,4 +1,4 @@
-//! One move of a turn, and what it is chosen by.
+//! One move of a visit, and what it is chosen by.
 
 ghost use Rattle.hx_pn.specs.Numbers.{IsNumbers};
 
@@ -15,7 +15,7 @@ pub struct Child {
     pub key: u64,
 
     /// The numbers of the position after the move, seen from the player to move there: the first ones of a move that nobody
-    /// looked at, those of its hint, or those that the last turn after it came to.
+    /// looked at, those of its hint, or those that the last visit after it came to.
     pub numbers: Numbers,
     ghost within: { IsNumbers numbers },
 }

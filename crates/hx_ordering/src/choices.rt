@@ -1,6 +1,6 @@
-//! What a turn does next: which move it goes down to, and how far.
+//! What a visit does next: which move it goes down to, and how far.
 //!
-//! Of the moves in focus the turn goes down to the one with the least delta, as df-pn does. Those out of focus count together as
+//! Of the moves in focus the visit goes down to the one with the least delta, as df-pn does. Those out of focus count together as
 //! one move more (`rest.rt`).
 //!
 //! One call reads hints and losses, `told_by`. What follows, `choice_by`, is a function of what was told, as its clause says.
@@ -24,20 +24,20 @@ use crate::stones::after;
 use hx_count::{CountSeat, Counts, Hints};
 use hx_pn::{Numbers, combine, thresholds};
 
-/// What a turn does next.
+/// What a visit does next.
 #[derive(Drop)]
 pub enum Choice {
     /// Each move is known to lose.
     AllLose,
 
-    /// The turn ends with these numbers. They have come to its limit, or the move to go down to has a stone on its cell.
+    /// The visit ends with these numbers. They have come to its limit, or the move to go down to has a stone on its cell.
     Limit(Numbers),
 
     /// It goes down.
     Down(Down),
 }
 
-/// A move that a turn goes down to.
+/// A move that a visit goes down to.
 #[derive(Drop)]
 pub struct Down {
     /// Its place among the moves.
@@ -46,11 +46,11 @@ pub struct Down {
     /// The move itself, with the numbers that it had before.
     pub child: Child,
 
-    /// The turn after the move.
+    /// The visit after the move.
     pub start: Start,
 }
 
-/// What the turn does next.
+/// What the visit does next.
 pub fn choose(
     counts: &Counts,
     hints: &Hints,
@@ -70,7 +70,7 @@ pub fn choose(
     choice_by(situation, moves, &numbers[..count])
 }
 
-/// The numbers that the moves give together. A turn that ends before it comes to its limit ends with these.
+/// The numbers that the moves give together. A visit that ends before it comes to its limit ends with these.
 pub fn numbers_of(counts: &Counts, hints: &Hints, seat: &mut CountSeat, moves: &Moves) -> Numbers
     requires seat { seat.old.made ≡ counts.now }
     requires words { counts.now.limits.words ≡ LOSS_WORDS }
@@ -103,7 +103,7 @@ fn given_by(
     (numbers, count)
 }
 
-/// What a turn does next that has moves, which give these numbers.
+/// What a visit does next that has moves, which give these numbers.
 fn choice_by(situation: &Situation, moves: &Moves, given: &[Numbers]) -> Choice
     requires numbers { All IsNumbers given.now }
     requires few { length given.now ≤ length moves.now.children.items }

@@ -1,4 +1,4 @@
-//! The numbers that a turn's moves give: those of the moves in focus, and behind them what the others count.
+//! The numbers that a visit's moves give: those of the moves in focus, and behind them what the others count.
 
 ghost use Rattle.std.specs.Prelude.{◌≡◌, ◌<◌, ◌≤◌, length, take, IfSome};
 ghost use Rattle.std.specs.List.{All};

@@ -1,4 +1,4 @@
-//! The moves of a turn: in which order they are tried, with which numbers, and which one a search goes down to.
+//! The moves of a visit: in which order they are tried, with which numbers, and which one a search goes down to.
 //!
 //! All of this only says where to look. Nothing here is in a proof of a position, so each heuristic may be wrong. Each stands in a
 //! file of its own that says what it brings.

@@ -1,7 +1,7 @@
 //! Hints, and the marks of positions that are proved.
 //!
-//! Each position and mover has a word of hints, which the turned position shares. A turn that ends open leaves its numbers
-//! there. A turn that ends with a proof leaves a mark, and whoever comes to the position again looks among the proofs at
+//! Each position and mover has a word of hints, which the turned position shares. A visit that ends open leaves its numbers
+//! there. A visit that ends with a proof leaves a mark, and whoever comes to the position again looks among the proofs at
 //! once, with no unit: on 7 by 7 that takes off three units of ten. To look for an entry of the position after each move,
 //! marked or not, brings no more and takes four to six times the looks.
 //!

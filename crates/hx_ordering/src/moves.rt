@@ -1,4 +1,4 @@
-//! The moves of a turn that are tried.
+//! The moves of a visit that are tried.
 
 ghost use Rattle.std.specs.Prelude.{◌≡◌, ◌≢◌, ℕ, ◌<◌, ◌≤◌, ◌⊎◌, true, not, length, map, filter, remove, slice_get, IfOk, IsSomeAnd, MatchOption};
 ghost use Rattle.std.specs.List.{All};
@@ -24,7 +24,7 @@ use hx_fill::{Must, must_for, without_lines};
 use hx_linkset::LinkSet;
 use hx_pn::Numbers;
 
-/// The moves of a turn.
+/// The moves of a visit.
 #[derive(Drop)]
 pub struct Moves {
     /// All empty cells, the best moves first.
@@ -97,7 +97,7 @@ impl Moves {
         self.children.retain(|child: &Child| !cells.has(child.cell));
     }
 
-    /// The turn after the move at this place has come to these numbers. Where there is no such place, nothing changes.
+    /// The visit after the move at this place has come to these numbers. Where there is no such place, nothing changes.
     pub fn note(&mut self, place: usize, numbers: Numbers)
         requires { IsNumbers numbers }
         ensures order { self.new.order ≡ self.old.order }

@@ -2,7 +2,7 @@
 //!
 //! A move that won after some move of the opponent's often wins after the same move elsewhere in the search. So for each mover and
 //! each last cell of the opponent's it is counted how often a cell was the winning move, and such cells are tried earlier.
-//! Only wins that a turn itself came to are counted.
+//! Only wins that a visit itself came to are counted.
 //!
 //! On the openings of 6 by 6 this takes a twelfth of the units off. On 7 by 7 it takes off a third after e6, a fifth after g4, and a fifth
 //! after a5, a6 and b4 together. Counts by cell alone, not after the opponent's last move, brought nothing, and shares by the
@@ -70,7 +70,7 @@ impl Replies {
         }
     }
 
-    /// The mover of a turn has won by a move to the cell.
+    /// The mover of a visit has won by a move to the cell.
     pub fn note(&self, situation: &Situation, cell: Cell) {
         let Some(last) = situation.moved else {
             return;

@@ -1,4 +1,4 @@
-//! What a turn goes on with after fill-in: the situation that it looks at.
+//! What a visit goes on with after fill-in: the situation that it looks at.
 
 ghost use Rattle.std.specs.Prelude.{◌≡◌, ◌↔◌, ◌++◌, [], IfOk, IsFalse};
 ghost use Rattle.hx_pn.specs.Numbers.{IsNumbers};
@@ -12,7 +12,7 @@ use hx_pn::Numbers;
 use hx_turn::Orientations;
 use std::alloc::Global;
 
-/// A position after fill-in with the player to move, and what a turn there goes on with.
+/// A position after fill-in with the player to move, and what a visit there goes on with.
 #[derive(Drop)]
 pub struct Situation {
     /// The position after fill-in.
@@ -22,7 +22,7 @@ pub struct Situation {
     /// The move that led to the position.
     pub moved: Option<Cell>,
 
-    /// The turn ends where its numbers come to this.
+    /// The visit ends where its numbers come to this.
     pub limit: Numbers,
 
     /// Whether anything was filled.

@@ -1,4 +1,4 @@
-//! What a turn is given.
+//! What a visit is given.
 
 ghost use Rattle.hx_pn.specs.Numbers.{IsNumbers};
 
@@ -6,7 +6,7 @@ use hx_board::{Cell, Colour};
 use hx_pn::Numbers;
 use hx_turn::Orientations;
 
-/// What a turn is given.
+/// What a visit is given.
 #[derive(Drop)]
 pub struct Start {
     /// The position before fill-in.
@@ -16,7 +16,7 @@ pub struct Start {
     /// The move that led to the position. The sets of links do not have its stone yet. None where no move led to it.
     pub moved: Option<Cell>,
 
-    /// The turn ends where its numbers come to this.
+    /// The visit ends where its numbers come to this.
     pub limit: Numbers,
     ghost within: { IsNumbers limit },
 }

@@ -1,4 +1,4 @@
-//! The stones that come in a turn: the move that led to it, and what is filled in.
+//! The stones that come in a visit: the move that led to it, and what is filled in.
 
 ghost use Rattle.std.specs.Prelude.{◌≡◌, ◌++◌, ◌∷◌, [], IfOk, MatchOption, OnOk};
 ghost use Rattle.hx_board.specs.Positions.{IsEmpty, put};
@@ -14,7 +14,7 @@ use std::alloc::Global;
 /// A stone that is put on a position: whose it is, and where.
 pub type Stone = (Colour, Cell);
 
-/// Room for the stones of most turns.
+/// Room for the stones of most visits.
 const FEW: usize = 8;
 
 /// The position after a move. None where the cell holds a stone.
@@ -31,7 +31,7 @@ pub fn after(before: &Orientations, colour: Colour, cell: Cell) -> Option<Orient
     }
 }
 
-/// The stones of a turn, the move first.
+/// The stones of a visit, the move first.
 pub(crate) fn stones_of(alloc: Global, start: &Start, filled: &Filled) -> Result<Vec<Stone>, Memory>
     ensures { IfOk result (λ stones. stones.items
         ≡ stones_of_move start.now.moved start.now.to_move
