@@ -27,7 +27,7 @@ pub struct Settings {
     /// How many workers search at once, from 1 to 64.
     pub workers: u32,
 
-    /// How many units they may spend, at most 2^40. A worker spends one for each turn at a position.
+    /// How many units they may spend, at most 2^40. A worker spends one for each visit of a position.
     pub budget: u64,
 
     /// How many proofs their book has room for, at most 1,048,576.

@@ -1,4 +1,4 @@
--- What a turn does next.
+-- What a visit does next.
 use Rattle.std.specs.Prelude.{◌≡◌, ◌≢◌, ℕ, ◌⊎◌, List, [], Any, slice_get}
 use Rattle.std.specs.declared.option.Option.TheVariants.{Some}
 use Rattle.hx_board.specs.Colours.{other_of}
@@ -40,26 +40,26 @@ IsTogether moves numbers =
     (given : List Numbers)
     × (AreGiven moves.children.items given × (numbers ≡ record { phi = phi_of given; delta = delta_of given }))
 
--- a turn ends with the numbers that its moves give together, because they have come to its limit, or because the cell
+-- a visit ends with the numbers that its moves give together, because they have come to its limit, or because the cell
 -- of a move holds a stone
 pub record IsEnd (situation : Situation) (moves : Moves) (given : List Numbers) (numbers : Numbers) : Type 0 where
   pub together : numbers ≡ record { phi = phi_of given; delta = delta_of given }
   pub because : HasReached situation.limit given ⊎ HasMoveToStone situation moves
 
--- a turn that has not come to its limit goes down to the move with the least delta, and as far as df-pn says
+-- a visit that has not come to its limit goes down to the move with the least delta, and as far as df-pn says
 pub record IsWayDown (situation : Situation) (moves : Moves) (given : List Numbers) (down : WayDown) : Type 0 where
   pub numbers : Numbers
   pub below_limit : ¬ HasReached situation.limit given
   pub chosen : IsChosen given down.place numbers
   pub step : IsStep situation moves down.place (child_limit situation.limit given down.place numbers) down
 
--- what a turn does that has moves, which give these numbers
+-- what a visit does that has moves, which give these numbers
 abbrev pub IsChoiceBy : Situation → Moves → List Numbers → Choice → Type 0
 IsChoiceBy situation moves given AllLose = ⊥
 IsChoiceBy situation moves given (Limit numbers) = IsEnd situation moves given numbers
 IsChoiceBy situation moves given (Down down) = IsWayDown situation moves given down
 
--- all moves lose where none is left that is not known to; else the turn goes by the numbers that its moves give
+-- all moves lose where none is left that is not known to; else the visit goes by the numbers that its moves give
 abbrev pub IsChoice : Situation → Moves → Choice → Type 0
 IsChoice situation moves AllLose = moves.children.items ≡ []
 IsChoice situation moves (Limit numbers) =

@@ -1,4 +1,4 @@
--- The stones that come in a turn: whose each is, and where.
+-- The stones that come in a visit: whose each is, and where.
 use Rattle.std.specs.Prelude.{ℕ, List, [], ◌∷◌, flat_map, Option}
 use Rattle.std.specs.declared.option.Option.TheVariants.{None, Some}
 use Rattle.hx_board.specs.declared.colours.Colour.{Colour}

@@ -1,4 +1,4 @@
--- Which moves a turn tries.
+-- Which moves a visit tries.
 use Rattle.std.specs.Prelude.{ℕ, List, map, Contains}
 use Rattle.hx_board.specs.Colours.{other_of}
 use Rattle.hx_board.specs.Positions.{IsEmpty}

@@ -24,7 +24,7 @@ use std::thread::Threads;
 /// search. Else it is answered what was wanting: memory, if that ended some worker's search; or a slot, if a worker's proof
 /// found no room; or a unit.
 ///
-/// It may wait for a worker. Before each of its turns a worker calls the gate.
+/// It may wait for a worker. Before each of its visits a worker calls the gate.
 pub fn solve<G: Gate + Sync, R: Threads + Wait + Sync>(
     rt: &R,
     alloc: Global,

@@ -24,7 +24,7 @@ use std::thread::Threads;
 /// answered what was wanting, as by `solve`: what the foremost of the workers' ends says (`foremost` of hx_pool). An opening that no
 /// worker proved is solved by a full search where it is small.
 ///
-/// It may wait for a worker. Before each of its turns a worker calls the gate.
+/// It may wait for a worker. Before each of its visits a worker calls the gate.
 pub fn survey<G: Gate + Sync, R: Threads + Wait + Sync>(
     rt: &R,
     alloc: Global,

@@ -24,7 +24,7 @@ none-tells (Err why) Told More more told = tt
 pub returns-clause-tried : goal.returns-clause-tried
 returns-clause-tried g c =
     let tried : IsOpenSet c.by_closed-2.new.set c.args.to_move
-        → IsTried c.args.position.now c.args.to_move c.by_closed.new.set c.by_closed-2.new.set = λ open_set. record {
+    → IsTried c.args.position.now c.args.to_move c.by_closed.new.set c.by_closed-2.new.set = λ open_set. record {
       no_chain =
           no-chains _ (rw c.in_default-2.is at c.in_ok-found-2.ensures.no_chain) (rw c.in_default-3.is at c.in_ok-found-3.ensures.no_chain);
       black_open = rw c.in_default-4.is at c.in_ok-found-4.ensures.open_set;
@@ -42,7 +42,7 @@ returns-clause-unlisted g c =
     let chains = grows-on _ _ _ c.by_chain.ensures.grew c.by_chain-2.ensures.grew in
     let closed = grows-on _ _ _ (grows-on _ _ _ chains c.by_closed.ensures.grew) c.by_closed-2.ensures.grew in
     let unlisted : IsOpenSet c.by_closed-2.new.set c.args.to_move
-        → WasUnlisted g.P.Proofs.is_plain (g.P.Proofs.sight c.args.proofs.now).list (g.P.Proofs.sight c.by_closed-2.new.proofs).list
-        c.args.position.now c.args.to_move = λ open_set.
+    → WasUnlisted g.P.Proofs.is_plain (g.P.Proofs.sight c.args.proofs.now).list (g.P.Proofs.sight c.by_closed-2.new.proofs).list
+    c.args.position.now c.args.to_move = λ open_set.
     unlisted-wider _ _ _ _ _ _ _ (extends-itself _) closed.seen (rw c.in_default.is at c.in_ok-found.ensures.unlisted) in
     none-tells c.by_closed-2.result _ _ unlisted c.by_closed-2.ensures.open_set
