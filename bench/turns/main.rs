@@ -1,4 +1,4 @@
-//! How long `turned`, `Orientations` and numbers take on about 100 positions of 11 by 11, in nanoseconds a call: the least of 500
+//! How long `turned`, `Orientations` and keys take on about 100 positions of 11 by 11, in nanoseconds a call: the least of 500
 //! rounds.
 #![tactic(auto)]
 
@@ -7,7 +7,7 @@ mod positions;
 use crate::positions::after_stones;
 use hx_board::{Cell, Colour, Size};
 use hx_test_support::Draws;
-use hx_turn::{Orientations, folded_key, number, turned};
+use hx_turn::{Orientations, folded_key, key, turned};
 use std::io;
 use std::time::Instant;
 
@@ -47,30 +47,30 @@ fn stones(positions: &[Orientations], cell: Cell) -> u64 {
     found
 }
 
-/// A stone more and then the number of both, as at each move of a search.
+/// A stone more and then the key of both, as at each move of a search.
 fn moves(positions: &[Orientations], cell: Cell) -> u64 {
     let mut found = 0u64;
     for both in positions {
         if both.position().empties().has(cell) {
             let more = both.with(Colour::Black, cell);
-            found = found.wrapping_add(more.number(Colour::White));
+            found = found.wrapping_add(more.key(Colour::White));
         }
     }
     found
 }
 
-fn numbers(positions: &[Orientations]) -> u64 {
+fn keys(positions: &[Orientations]) -> u64 {
     let mut found = 0u64;
     for both in positions {
-        found = found.wrapping_add(both.number(Colour::Black));
+        found = found.wrapping_add(both.key(Colour::Black));
     }
     found
 }
 
-fn numbers_anew(positions: &[Orientations]) -> u64 {
+fn keys_anew(positions: &[Orientations]) -> u64 {
     let mut found = 0u64;
     for both in positions {
-        found = found.wrapping_add(number(both.position(), Colour::Black));
+        found = found.wrapping_add(key(both.position(), Colour::Black));
     }
     found
 }
@@ -90,8 +90,8 @@ fn round(positions: &[Orientations], cell: Cell, call: u32) -> u64 {
         1 => tests(positions, cell),
         2 => stones(positions, cell),
         3 => moves(positions, cell),
-        4 => numbers(positions),
-        5 => numbers_anew(positions),
+        4 => keys(positions),
+        5 => keys_anew(positions),
         _ => folded(positions),
     }
 }
@@ -132,8 +132,8 @@ fn main(rt: HostRuntime) -> io::Result<()> {
     measure(&rt, &positions, middle, 0, "turned")?;
     measure(&rt, &positions, middle, 1, "a test for an empty cell")?;
     measure(&rt, &positions, middle, 2, "test and with")?;
-    measure(&rt, &positions, middle, 3, "test, with and number")?;
-    measure(&rt, &positions, middle, 4, "Orientations::number")?;
-    measure(&rt, &positions, middle, 5, "number")?;
+    measure(&rt, &positions, middle, 3, "test, with and key")?;
+    measure(&rt, &positions, middle, 4, "Orientations::key")?;
+    measure(&rt, &positions, middle, 5, "key")?;
     measure(&rt, &positions, middle, 6, "folded_key")
 }
