@@ -35,7 +35,7 @@ enum Boards {
 
 impl Boards {
     /// White's stones on the board of this number.
-    fn stones(self, key: u64) -> u128 {
+    fn stones(self, number: u64) -> u128 {
         match self {
             Boards::OneStone => beside(number),
             Boards::TwoStones => beside(number / 100 % 10) | beside(number % 100 + 10),
