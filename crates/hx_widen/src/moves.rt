@@ -7,31 +7,25 @@ ghost use Rattle.hx_limits.specs.Causes.{IsUnstored};
 ghost use Rattle.hx_widen.specs.Wide.{IsServedIf};
 
 use crate::widened::lifted;
-use crate::wider::{end_of, store_wider};
+use crate::wider::{end_of, fill_missing};
 use hx_board::{Cell, Colour, Mask, Position};
-use hx_book::Proofs;
+use hx_book::{Proofs, Wider};
 use hx_limits::RanOut;
 use hx_nodes::{Stored, store_move};
 use std::alloc::Global;
 use std::sync::Wait;
 
-/// Stores the move where the opponent has all cells that the entry of the position after it does not need.
+/// Stores the move where the opponent has all cells that this entry, which serves the position after it, does not need.
 fn move_wide<P: Proofs, R: Wait>(
     rt: &R,
     proofs: &mut P,
-    next: &Position,
+    wider: &Wider,
     to_move: Colour,
     cell: Cell,
 ) -> Result<(), RanOut>
     ensures grew { Grows (P.sight proofs.old) (P.sight proofs.new) }
     ensures stopped { IfErr result (IsUnstored (P.sight proofs.new).list (P.sight proofs.new).slots) }
 {
-    if proofs.plain() {
-        return Ok(());
-    }
-    let Some(wider) = proofs.look_wider(rt, next, to_move.other(), to_move) else {
-        return Ok(());
-    };
     let moved = Mask::empty().with(cell);
     let Some(wide) = lifted(&wider.position, to_move, moved) else {
         return Ok(());
@@ -61,12 +55,14 @@ pub fn widen_move<P: Proofs, R: Wait>(
     ensures stopped { IfErr result (IsUnstored (P.sight proofs.new).list (P.sight proofs.new).slots) }
 {
     let next = position.with(to_move, cell);
-    let tried = move_wide(rt, proofs, &next, to_move, cell);
+    let other = to_move.other();
+    let Some(wider) = proofs.look_wider(rt, &next, other, to_move) else {
+        return Ok(Stored::Missing);
+    };
+    let tried = move_wide(rt, proofs, &wider, to_move, cell);
     if let Stored::Done = end_of(rt, proofs, position, to_move, tried)? {
         return Ok(Stored::Done);
     }
-    match store_wider(rt, alloc, proofs, &next, to_move.other(), to_move)? {
-        Stored::Done => store_move(rt, proofs, position, to_move, cell),
-        Stored::Missing => Ok(Stored::Missing),
-    }
+    fill_missing(rt, alloc, proofs, &next, &wider, other)?;
+    store_move(rt, proofs, position, to_move, cell)
 }

@@ -1,3 +1,2 @@
-pub mod KeepLaws
 pub mod StopLaws
 pub mod UnlistedLaws

@@ -1,6 +1,5 @@
-pub mod Keeps
 pub mod Sets
 pub mod Ends
 pub mod Jobs
 -- ---- words for the functions inside the crate alone
-pub mod Searches
+pub mod Forms

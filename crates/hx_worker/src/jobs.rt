@@ -11,11 +11,11 @@ ghost use Rattle.hx_worker.specs.Ends.{IsEnded, IsTried, WasUnlisted, EndsSpent}
 
 use crate::closing::close_and_end;
 use crate::ended::Ended;
-use crate::rounds::search_position;
-use crate::workers::{Worker, ask};
+use crate::searches::search_by;
 use hx_board::{Colour, Position};
 use hx_book::Proofs;
 use hx_count::{CountSeat, Counts, Hints};
+use hx_dfpn::{Worker, ask};
 use hx_io::Gate;
 use hx_limits::RanOut;
 use hx_linkset::LinkSet;
@@ -86,7 +86,7 @@ pub fn work<P: Proofs, G: Gate, R: Wait>(rt: &R, job: &mut Job<'_, P>, gate: &G)
     if let Err(spent) = ask(&worker, &mut job.seat) {
         return Ended::Spent(spent);
     }
-    let ended = search_position(
+    let ended = search_by(
         &worker,
         &mut job.proofs,
         &mut job.seat,

@@ -1,27 +1,18 @@
-//! One worker: a depth-first search by proof numbers, over links, fill-in and the moves that must be tried.
+//! One worker: a search over a list of proofs, its last look where units run out, and how its work ends.
 //!
-//! The search only says where to look. Whatever it believes, a proof is made from what is certain at that moment: from the
-//! links of a set, and from entries that are looked up among the proofs. So nothing that orders the search is in a proof. The
-//! heuristics that say which move comes next are those of hx_ordering; each may be wrong, and stands in a file of its own that says
-//! what it brings.
+//! The search (hx_dfpn) only says where to look. Whatever it believes, a proof is made here from what is certain at that moment: from
+//! the links of a set, and from entries that are looked up among the proofs. Which proofs are made is one of two forms: those that
+//! serve many positions (`wide.rt`), and plain ones (`plain.rt`).
 #![tactic(auto)]
 
 mod benches;
 mod closing;
 mod ended;
 mod jobs;
-mod left_hints;
 mod listed;
-mod looks;
-mod outcomes;
-mod proved_moves;
-mod rounds;
+mod plain;
 mod searches;
-mod sets;
-mod visits;
-mod ways;
-mod wide_moves;
-mod workers;
+mod wide;
 
 pub use benches::{done_of, job_of, new_sets, work_at};
 pub use ended::Ended;

@@ -1,52 +1,85 @@
-//! What a worker searches with.
-//!
-//! Each function of a search works with all of this, so it stands in one struct, and what every one of them keeps is one word
-//! (`Keeps` of specs/). The proofs and the seat are borrowed, so it says too that these are the same borrows.
-//!
-//! The sets of links are the mover's and the other player's, so they are exchanged before a visit with the other player to move, and again
-//! after it (`visits.rt`). They are owned, so that this, and putting one aside for a new one, is done by moves of their fields
-//! alone.
+//! The search at a job's position, by one of the two forms in which proofs are made.
 
-ghost use Rattle.std.specs.Prelude.{◌≡◌};
+ghost use Rattle.std.specs.Prelude.{◌≡◌, ◌+◌, ◌<◌, IfOk, IfErr};
+ghost use Rattle.hx_book.specs.Sights.{Grows};
+ghost use Rattle.hx_count.specs.declared.events.TheConstants.{MOST_HELD};
+ghost use Rattle.hx_count.specs.Machine.{held_in_all};
+ghost use Rattle.hx_count.specs.Seats.{own, KeepsSeat};
+ghost use Rattle.hx_tree.specs.Entries.{IsFirstFound};
+ghost use Rattle.hx_limits.specs.Causes.{IsStopped};
 
-use crate::ways::Way;
-use crate::workers::Worker;
+use crate::listed::entry_of;
+use crate::plain::PlainProofs;
+use crate::wide::WideProofs;
+use hx_board::{CELLS, Colour, Position};
+use hx_book::Proofs;
 use hx_count::CountSeat;
+use hx_dfpn::{Worker, search_position};
+use hx_io::Gate;
+use hx_limits::RanOut;
+use hx_ordering::LOSS_WORDS;
+use hx_tree::Found;
+use std::sync::Wait;
 
-/// A worker with the proofs, its seat, a workspace and the sets of links that it searches with. Their types are parameters: a
-/// proof learns what is left behind a borrow in a struct only where no field of it is declared with memory of its own.
-pub(crate) struct Search<'a, P, G, R, W, L> {
-    pub(crate) worker: &'a Worker<'a, G, R>,
-
-    /// Where proofs are looked for and stored.
-    pub(crate) proofs: &'a mut P,
-    pub(crate) seat: &'a mut CountSeat,
-    pub(crate) workspace: W,
-
-    /// The links of the player to move.
-    pub(crate) own: L,
-
-    /// The links of the other player.
-    pub(crate) others: L,
-
-    /// The way down to the visit at hand.
-    pub(crate) way: Way,
+/// Searches by proofs that serve many positions.
+fn by_wide<P: Proofs, G: Gate, R: Wait>(
+    worker: &Worker<'_, G, R>,
+    proofs: &mut P,
+    seat: &mut CountSeat,
+    position: &Position,
+    to_move: Colour,
+) -> Result<Found, RanOut>
+    requires seat { seat.old.made ≡ worker.now.counts.now }
+    requires words { worker.now.counts.now.limits.words ≡ LOSS_WORDS }
+    requires room { held_in_all (own seat.old) + CELLS < MOST_HELD }
+    ensures grew { Grows (P.sight proofs.old) (P.sight proofs.new) }
+    ensures seat { KeepsSeat seat.old seat.new }
+    ensures found { IfOk result (IsFirstFound (P.sight proofs.new).list position.now to_move) }
+    ensures stopped { IfErr result (IsStopped (P.sight proofs.new).list (P.sight proofs.new).slots seat.new) }
+{
+    search_position(worker, &mut WideProofs::new(proofs), seat, position, to_move)?;
+    Ok(entry_of(worker.rt, proofs, position, to_move))
 }
 
-// It says what is left behind the borrows.
-impl<'a, P, G, R, W: Drop, L: Drop> Drop for Search<'a, P, G, R, W, L> {
-    fn drop(self)
-        ensures proofs { self.exit.1.0.now ≡ self.entry.proofs.now }
-        ensures seat { self.exit.1.1.0.now ≡ self.entry.seat.now }
-    {
-        let Self {
-            worker: _,
-            proofs: _,
-            seat: _,
-            workspace: _,
-            own: _,
-            others: _,
-            way: _,
-        } = self;
+/// Searches by plain proofs.
+fn by_plain<P: Proofs, G: Gate, R: Wait>(
+    worker: &Worker<'_, G, R>,
+    proofs: &mut P,
+    seat: &mut CountSeat,
+    position: &Position,
+    to_move: Colour,
+) -> Result<Found, RanOut>
+    requires seat { seat.old.made ≡ worker.now.counts.now }
+    requires words { worker.now.counts.now.limits.words ≡ LOSS_WORDS }
+    requires room { held_in_all (own seat.old) + CELLS < MOST_HELD }
+    ensures grew { Grows (P.sight proofs.old) (P.sight proofs.new) }
+    ensures seat { KeepsSeat seat.old seat.new }
+    ensures found { IfOk result (IsFirstFound (P.sight proofs.new).list position.now to_move) }
+    ensures stopped { IfErr result (IsStopped (P.sight proofs.new).list (P.sight proofs.new).slots seat.new) }
+{
+    search_position(worker, &mut PlainProofs::new(proofs), seat, position, to_move)?;
+    Ok(entry_of(worker.rt, proofs, position, to_move))
+}
+
+/// Searches the position until it is proved, or a unit, a slot or memory is wanting. A unit was granted.
+pub(crate) fn search_by<P: Proofs, G: Gate, R: Wait>(
+    worker: &Worker<'_, G, R>,
+    proofs: &mut P,
+    seat: &mut CountSeat,
+    position: &Position,
+    to_move: Colour,
+) -> Result<Found, RanOut>
+    requires seat { seat.old.made ≡ worker.now.counts.now }
+    requires words { worker.now.counts.now.limits.words ≡ LOSS_WORDS }
+    requires room { held_in_all (own seat.old) + CELLS < MOST_HELD }
+    ensures grew { Grows (P.sight proofs.old) (P.sight proofs.new) }
+    ensures seat { KeepsSeat seat.old seat.new }
+    ensures found { IfOk result (IsFirstFound (P.sight proofs.new).list position.now to_move) }
+    ensures stopped { IfErr result (IsStopped (P.sight proofs.new).list (P.sight proofs.new).slots seat.new) }
+{
+    if proofs.plain() {
+        by_plain(worker, proofs, seat, position, to_move)
+    } else {
+        by_wide(worker, proofs, seat, position, to_move)
     }
 }

@@ -10,5 +10,5 @@ returns-clause-ended g c =
 
 pub returns-clause-unlisted : goal.returns-clause-unlisted
 returns-clause-unlisted g c = λ spent more.
-    unlisted-wider _ _ _ _ _ _ _ c.search_position-ended.ensures.grew.seen (extends-itself _)
+    unlisted-wider _ _ _ _ _ _ _ c.search_by-ended.ensures.grew.seen (extends-itself _)
     (spent-lacks _ _ c.close_and_end.ensures.unlisted (rw c.of-2.ensures at spent))

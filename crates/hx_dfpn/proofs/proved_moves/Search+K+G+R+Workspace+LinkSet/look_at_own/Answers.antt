@@ -1,0 +1,14 @@
+use Rattle.hx_dfpn.proofs.KeepLaws.{keeps-itself, keeps-known}
+use Rattle.hx_dfpn.proofs.proved_moves.Search+K+G+R+Workspace+LinkSet.look_at_own.Goals as goal
+
+pub returns-then-not-is_marked-clause-keeps : goal.returns-then-not-is_marked-clause-keeps
+returns-then-not-is_marked-clause-keeps g c = keeps-itself _ c.args.self.now
+
+pub returns-in_err-of_position-clause-keeps : goal.returns-in_err-of_position-clause-keeps
+returns-in_err-of_position-clause-keeps g c = keeps-known _ _ _ c.of_position.ensures.goes
+
+pub returns-in-Proved-clause-keeps : goal.returns-in-Proved-clause-keeps
+returns-in-Proved-clause-keeps g c = keeps-known _ _ _ c.of_position.ensures.goes
+
+pub returns-in-Nothing-clause-keeps : goal.returns-in-Nothing-clause-keeps
+returns-in-Nothing-clause-keeps g c = keeps-known _ _ _ c.of_position.ensures.goes

@@ -1,5 +1,0 @@
-use Rattle.hx_worker.proofs.KeepLaws.{keeps-on}
-use Rattle.hx_worker.proofs.proved_moves.Search+P+G+R+Workspace+LinkSet.look_again.Goals as goal
-
-pub returns-clause-keeps : goal.returns-clause-keeps
-returns-clause-keeps g c = keeps-on _ _ _ _ c.look_at_own.ensures.keeps c.look_at_marked.ensures.keeps
