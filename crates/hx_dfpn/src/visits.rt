@@ -211,7 +211,10 @@ impl<K: Knows, G: Gate, R: Wait> Search<'_, K, G, R, Workspace, LinkSet> {
     {
         let (rt, alloc) = (self.worker.rt, self.worker.alloc);
         let position = start.here.position();
-        match self.known.by_fill(rt, alloc, position, start.to_move, filled)? {
+        match self
+            .known
+            .by_fill(rt, alloc, position, start.to_move, filled)?
+        {
             Known::Proved => Ok(Outcome::Proved),
             Known::Nothing => Ok(Outcome::Open(start.limit)),
         }
