@@ -37,8 +37,9 @@ fn by_wide<P: Proofs, G: Gate, R: Wait>(
     ensures found { IfOk result (IsFirstFound (P.sight proofs.new).list position.now to_move) }
     ensures stopped { IfErr result (IsStopped (P.sight proofs.new).list (P.sight proofs.new).slots seat.new) }
 {
+    // The worker is lent again, for as long as the form lives.
     search_position(
-        worker,
+        &*worker,
         &mut WideProofs::new(proofs),
         seat,
         position,
@@ -63,8 +64,9 @@ fn by_plain<P: Proofs, G: Gate, R: Wait>(
     ensures found { IfOk result (IsFirstFound (P.sight proofs.new).list position.now to_move) }
     ensures stopped { IfErr result (IsStopped (P.sight proofs.new).list (P.sight proofs.new).slots seat.new) }
 {
+    // The worker is lent again, for as long as the form lives.
     search_position(
-        worker,
+        &*worker,
         &mut PlainProofs::new(proofs),
         seat,
         position,
