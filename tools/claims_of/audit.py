@@ -9,7 +9,7 @@ from claims_of.summary import count
 from claims_of.terms import Fault
 
 DOCUMENT, SENTENCES = "docs/audit.md", "docs/audit-sentences.txt"
-MAIN = "crates/hx_main/src/main.rt"
+UNPROMISED = "crates/hx_main/src/main.rt", "crates/hx_cli/src/command_line.rt"
 SENTENCE = re.compile(r"([0-9a-f]{6}) (\S+(?: \S+)*)  (\S.*)")
 PART = re.compile(r"(<!-- claims: (\w+) -->\n)(.*?)(<!-- end -->\n)", re.S)
 
@@ -131,12 +131,13 @@ class Parts:
         yield f"The lists stop at {len(words)} words of the kit's library: {', '.join(f'`{word}`' for word in words)}."
 
     def main(self):
-        lines = (self.top / MAIN).read_text(encoding="utf-8").splitlines()
-        yield f"{len(lines)} lines:"
-        yield ""
-        yield "```rust"
-        yield from lines
-        yield "```"
+        for path in UNPROMISED:
+            lines = (self.top / path).read_text(encoding="utf-8").splitlines()
+            yield f"[{path}](../{path}), {len(lines)} lines:"
+            yield ""
+            yield "```rust"
+            yield from lines
+            yield "```"
 
 
 def number_row(title, entries):

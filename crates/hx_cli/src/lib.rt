@@ -1,4 +1,4 @@
-//! The words of the command line: which command they are, with which settings.
+//! The words of the command line: as the program is given them, and which command they are, with which settings.
 //!
 //! A command is its name, for `demo` a seed, for `survey` the size of a board, and for one that searches its options, in any order and each
 //! at most once. Those of `solve` may have the flag `--plain-tree` among them.
@@ -6,6 +6,7 @@
 #![tactic(auto)]
 
 mod choices;
+mod command_line;
 mod commands;
 mod laws;
 mod numbers;
@@ -15,5 +16,6 @@ mod seeds;
 mod settings;
 mod sizes;
 
+pub use command_line::words_given;
 pub use commands::{Command, Survey, command_of};
 pub use laws::one_command;
