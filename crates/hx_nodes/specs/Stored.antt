@@ -1,5 +1,5 @@
 -- What became of a proof that was to be stored in a list of nodes with so many slots.
-use Rattle.std.specs.Prelude.{◌≡◌, ℕ, Bool, true, false, List}
+use Rattle.std.specs.Prelude.{ℕ, Bool, true, false, List}
 use Rattle.hx_board.specs.declared.colours.Colour.{Colour}
 use Rattle.hx_board.specs.Positions.{Board}
 use Rattle.hx_tree.specs.declared.nodes.Node.{Node}
@@ -25,12 +25,6 @@ abbrev pub IsNotStored : List Node → ℕ → Board → Colour → RanOut → T
 IsNotStored list slots board mover (Budget taken) = ⊥
 IsNotStored list slots board mover (Slots refusal) = IsOutOfSlots list slots refusal × IsOf board mover refusal.node
 IsNotStored list slots board mover Memory = Unit {0}
-
--- a refusal hands this node back
-abbrev pub HandsBack : Node → RanOut → Type 0
-HandsBack node (Budget taken) = Unit {0}
-HandsBack node (Slots refusal) = refusal.node ≡ node
-HandsBack node Memory = Unit {0}
 
 -- it is not memory that ran out
 abbrev pub HadMemory : RanOut → Type 0

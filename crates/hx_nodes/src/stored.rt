@@ -6,7 +6,7 @@ ghost use Rattle.hx_tree.specs.Rules.{IsRightNode};
 ghost use Rattle.hx_tree.specs.Trees.{headings_of};
 ghost use Rattle.hx_book.specs.Sights.{Grows};
 ghost use Rattle.hx_packed.specs.Children.{HasNoLinks};
-ghost use Rattle.hx_nodes.specs.Stored.{HasEntry, IsNotStored, HandsBack, HadMemory};
+ghost use Rattle.hx_nodes.specs.Stored.{HasEntry, IsNotStored, HadMemory};
 
 use hx_book::Proofs;
 use hx_limits::RanOut;
@@ -34,7 +34,6 @@ pub fn store<P: Proofs, R: Wait>(rt: &R, proofs: &mut P, node: Node) -> Result<(
         node.heading.to_move) }
     ensures stopped { IfErr result (IsNotStored (P.sight proofs.new).list (P.sight proofs.new).slots
         node.heading.position node.heading.to_move) }
-    ensures handed_back { IfErr result (HandsBack node) }
     ensures memory { HasNoLinks node.rule → IfErr result HadMemory }
 {
     let offer = Offer::of(node)?;
