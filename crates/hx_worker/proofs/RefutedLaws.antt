@@ -33,13 +33,14 @@ empty_of : (board : Board) (player : Colour) (n : ℕ) → OnBoard board.size n 
 empty_of board Black n on own others = record { on_board = on; no_black = own; no_white = others }
 empty_of board White n on own others = record { on_board = on; no_black = others; no_white = own }
 
-module _ (board : Board) (mover : Colour) (cell there_cell : ℕ) (there : Board) where
-  -- a cell that was empty and is not holds the mover's stone, where the winner's stones are those from before
-  mover_there : IsEmpty board there_cell → (IsEmpty there there_cell → ⊥) → there.size ≡ board.size
-      → stones_of there (other_of mover) ≡ stones_of board (other_of mover) → has (stones_of there mover) there_cell ≡ true
-  mover_there empty held size same =
-      true_from_ne_false _ (λ none. held (empty_of there mover there_cell (subst (λ (s : Extent). OnBoard s there_cell) (sym size) empty.on_board) none
-      (ap (λ (s : ℕ). has s there_cell) same ∙ no_stone board (other_of mover) there_cell empty)))
+-- a cell that was empty and is not holds the mover's stone, where the winner's stones are those from before
+filled-by_mover : (board there : Board) (mover : Colour) (cell : ℕ) → IsEmpty board cell → (IsEmpty there cell → ⊥) → there.size ≡ board.size
+    → stones_of there (other_of mover) ≡ stones_of board (other_of mover) → has (stones_of there mover) cell ≡ true
+filled-by_mover board there mover cell empty held size same =
+    let on : OnBoard there.size cell = subst (λ (s : Extent). OnBoard s cell) (sym size) empty.on_board in
+    let no_others : has (stones_of there (other_of mover)) cell ≡ false =
+    ap (λ (s : ℕ). has s cell) same ∙ no_stone board (other_of mover) cell empty in
+    true_from_ne_false _ (λ none. held (empty_of there mover cell on none no_others))
 
 module _ (board : Board) (mover : Colour) (cell other : ℕ) (empty : IsEmpty board other) where
   abbrev winner : Colour
@@ -52,7 +53,7 @@ module _ (board : Board) (mover : Colour) (cell other : ℕ) (empty : IsEmpty bo
       let size : there.size ≡ board.size = ap (λ (b : Board). b.size) is.same_position ∙ size-put board mover cell in
       let own : stones_of there winner ≡ stones_of board winner = ap (λ (b : Board). stones_of b winner) is.same_position ∙ others-put board mover cell in
       let stone : has (stones_of (put board mover cell) mover) other ≡ true =
-      subst (λ (b : Board). has (stones_of b mover) other ≡ true) is.same_position (mover_there board mover cell other there empty held size own) in
+      subst (λ (b : Board). has (stones_of b mover) other ≡ true) is.same_position (filled-by_mover board there mover other empty held size own) in
       let same : other ≡ cell =
       ⊎_elim (λ w. w.1) (λ was. absurd (false≢true (sym (no_stone board mover other empty) ∙ was))) ((stones-put board mover mover cell other).0 stone) in
       rw same is
@@ -63,7 +64,7 @@ module _ (board : Board) (mover : Colour) (cell other : ℕ) (empty : IsEmpty bo
       let there : Board = heading.position in
       let size : there.size ≡ board.size = is.same_size ∙ size-put board mover cell in
       let own : stones_of there winner ≡ stones_of board winner = is.same_stones ∙ others-put board mover cell in
-      let stone : has (stones_of there mover) other ≡ true = mover_there board mover cell other there empty held size own in
+      let stone : has (stones_of there mover) other ≡ true = filled-by_mover board there mover other empty held size own in
       let inside : IsSubset (stones_of (put board mover cell) mover) (stones_of there mover) =
       subst (λ (who : Colour). IsSubset (stones_of (put board mover cell) who) (stones_of there who)) (other-other mover) is.has_opponents in
       record {

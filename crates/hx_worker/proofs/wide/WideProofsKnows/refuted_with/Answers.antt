@@ -6,9 +6,11 @@ use Rattle.hx_worker.proofs.wide.WideProofsKnows.refuted_with.Goals as goal
 
 pub returns-in-Some-clause-refuted : goal.returns-in-Some-clause-refuted
 returns-in-Some-clause-refuted g c = λ other member.
-    let found = rw (c.with-next.ensures, c.other-other.ensures) at c.in-Some.ensures.found in
-    (c.in-Some.wider.found.index, found-serves_others _ _ _ _ _ c.in-Some.wider found _ _ c.empties.ensures
-    c.empties-in-Some.ensures other (rw c.minus.ensures.set at member))
+    let found = rw (c.with-next.ensures, c.other-other.ensures) at c.in-Some.ensures.found in (
+      c.in-Some.wider.found.index,
+      found-serves_others _ _ _ _ _ c.in-Some.wider found _ _ c.empties.ensures
+          c.empties-in-Some.ensures other (rw c.minus.ensures.set at member),
+    )
 
 pub returns-in-None-clause-refuted : goal.returns-in-None-clause-refuted
 returns-in-None-clause-refuted g c = λ other member.
