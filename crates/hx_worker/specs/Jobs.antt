@@ -1,5 +1,5 @@
 -- A job that may go on to a further position, and what stays the same in it.
-use Rattle.std.specs.Prelude.{◌≡◌, ℕ}
+use Rattle.std.specs.Prelude.{◌≡◌}
 use Rattle.hx_count.specs.Machine.{held_in_all}
 use Rattle.hx_count.specs.Seats.{own}
 use Rattle.hx_ordering.specs.declared.losses.TheConstants.{LOSS_WORDS}
