@@ -1,18 +1,12 @@
 -- What every function of a search keeps: so do two of them, one after the other.
 use Rattle.std.proofs.Common.{◌≡◌, refl, sym, ap, ◌∙◌, ℕ, ◌<◌, List, [], ◌∷◌, arith}
-use Rattle.hx_board.specs.declared.colours.Colour.{Colour}
-use Rattle.hx_book.proofs.SightLaws.{grows-itself, grows-on}
 use Rattle.hx_count.specs.Machine.{Account, holding, releasing, held_in_all}
 use Rattle.hx_count.specs.Seats.{Seat, Origin, own as own_account}
 use Rattle.hx_count.proofs.MachineLaws.{held-holding-le, releasing-held}
-use Rattle.hx_link.specs.declared.links.Link.{Link}
-use Rattle.hx_link.specs.declared.steps.Step.{Step}
-use Rattle.hx_linkset.specs.States.{State, Standing, added}
-use Rattle.hx_linkset.specs.Answers.{IsAdded}
-use Rattle.hx_linkset.specs.declared.sets.Added.{Added}
-use Rattle.hx_linkset.specs.declared.sets.Added.TheVariants.{New, Covered, Refused, Limit}
+use Rattle.hx_linkset.specs.States.{State, Standing}
 use Rattle.hx_count.specs.Seats.{KeepsSeat}
 use Rattle.hx_known.specs.Views.{View, Goes}
+use Rattle.hx_known.proofs.ViewLaws.{goes-itself, goes-on}
 use Rattle.hx_dfpn.specs.declared.searches.Search.{Search}
 use Rattle.hx_dfpn.specs.declared.sets.Before.{Before}
 use Rattle.hx_dfpn.specs.declared.sets.Before.TheVariants.{Played, Same, Other}
@@ -31,27 +25,12 @@ stands-same old new same = record {
   same_past = ap (λ (set : Standing). set.past) same;
 }
 
-stands-more : (old new : Standing) (link : Link) (step : Step) → new ≡ record old { present = added old.present link step }
-    → StandsAgain old new
-stands-more old new link step grown = record {
-  same_player = ap (λ (set : Standing). set.player) grown;
-  same_board = ap (λ (set : Standing). set.present.board) grown;
-  same_past = ap (λ (set : Standing). set.past) grown;
-}
-
 pub stands-on : (first second third : Standing) → StandsAgain first second → StandsAgain second third → StandsAgain first third
 stands-on first second third one two = record {
   same_player = two.same_player ∙ one.same_player;
   same_board = two.same_board ∙ one.same_board;
   same_past = two.same_past ∙ one.same_past;
 }
-
--- what a step gives is added to a set, or is not
-pub stands-added : (old new : Standing) (step : Step) (answer : Added) → IsAdded old new step answer → StandsAgain old new
-stands-added old new step (New place) is = stands-more old new _ _ is.grown
-stands-added old new step (Covered place) is = stands-same old new is.same
-stands-added old new step Refused is = stands-same old new is.same
-stands-added old new step Limit is = stands-same old new is.same
 
 pub seat-itself : (seat : Seat) → KeepsSeat seat seat
 seat-itself seat = record { same_made = refl; same_held = refl; still_refused = λ is. is }
@@ -78,15 +57,6 @@ release-keeps before held visited after word made_held own_held visit made_after
       ap (λ (a : Account). a.held) own_after
       ∙ releasing-held word (own_account before) (own_account visited) (visit.same_held ∙ ap (λ (a : Account). a.held) own_held);
   still_refused = λ is. ap (λ (a : Account). a.refused) own_after ∙ visit.still_refused (ap (λ (a : Account). a.refused) own_held ∙ is);
-}
-
-pub goes-itself : (view : View) → Goes view view
-goes-itself view = record { grew = grows-itself view.sight; same_behind = refl }
-
-pub goes-on : (first second third : View) → Goes first second → Goes second third → Goes first third
-goes-on first second third one two = record {
-  grew = grows-on _ _ _ one.grew two.grew;
-  same_behind = two.same_behind ∙ one.same_behind;
 }
 
 module _ {K G R W : Type 0} (view : K → View) where
@@ -120,18 +90,6 @@ module _ {K G R W : Type 0} (view : K → View) where
   keeps-seat search now kept =
       keeps-parts search search.known.now now search.own search.others search.way
       (goes-itself _) kept (stands-itself _) (stands-itself _)
-
-  pub keeps-own : (search : Search K G R W Standing) (set : Standing) → StandsAgain search.own set
-      → Keeps view search (record search { own = set })
-  keeps-own search set stands =
-      keeps-parts search search.known.now search.seat.now set search.others search.way
-      (goes-itself _) (seat-itself _) stands (stands-itself _)
-
-  pub keeps-others : (search : Search K G R W Standing) (set : Standing) → StandsAgain search.others set
-      → Keeps view search (record search { others = set })
-  keeps-others search set stands =
-      keeps-parts search search.known.now search.seat.now search.own set search.way
-      (goes-itself _) (seat-itself _) (stands-itself _) stands
 
   -- the way down is no matter of what is kept
   pub keeps-way : (search : Search K G R W Standing) (way : Way) → Keeps view search (record search { way = way })
@@ -175,20 +133,6 @@ put-back Played old put played last is stands back =
     }
 put-back Same old put played last is stands back = stands-moved _ _ _ _ is stands back
 put-back (Other set) old put played last is stands back = stands-same _ _ (back ∙ is)
-
--- a stone was put on a set, and taken back after links came: the set is what it was
-pub undone-same : (old put reached last : Standing) → put.player ≡ old.player → put.past ≡ old.present ∷ old.past
-    → StandsAgain put reached → last.player ≡ reached.player → reached.past ≡ last.present ∷ last.past → last ≡ old
-undone-same old put reached last player past stands same_player back =
-    let lists : old.present ∷ old.past ≡ last.present ∷ last.past = sym past ∙ sym stands.same_past ∙ back in
-    let one : last.player ≡ old.player = same_player ∙ stands.same_player ∙ player in
-    let two : last.present ≡ old.present = cc in
-    let three : last.past ≡ old.past = cc in
-    let first : last ≡ record last { player = old.player } = ap (λ (it : Colour). record last { player = it }) one in
-    let second : record last { player = old.player } ≡ record old { past = last.past } =
-    ap (λ (it : State). record { player = old.player; present = it; past = last.past }) two in
-    let third : record old { past = last.past } ≡ old = ap (λ (it : List State). record old { past = it }) three in
-    first ∙ second ∙ third
 
 -- what a visit put can be taken back after the visits that came in between
 pub has-play : (before : Before) (old put played : Standing) → IsPut before old put → StandsAgain put played → HasPlay before played

@@ -28,7 +28,8 @@ impl<K: Knows, G: Gate, R: Wait> Search<'_, K, G, R, Workspace, LinkSet> {
             return Mask::empty();
         }
         let rt = self.worker.rt;
-        self.known.refuted_with(rt, position, situation.to_move, cell)
+        self.known
+            .refuted_with(rt, position, situation.to_move, cell)
     }
 
     /// The refuted moves, with those that lose with a move, where that move is not among them.

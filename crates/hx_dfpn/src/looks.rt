@@ -79,7 +79,8 @@ impl<K: Knows, G: Gate, R: Wait> Search<'_, K, G, R, Workspace, LinkSet> {
         let rt = self.worker.rt;
         match reach_with(&mut self.workspace, &mut self.others, situation.to_move)? {
             Reached::Decided(index) => {
-                self.known.by_link(rt, &self.others, situation.to_move, index)?;
+                self.known
+                    .by_link(rt, &self.others, situation.to_move, index)?;
                 Ok(Some(Outcome::Proved))
             }
             Reached::Open => Ok(None),

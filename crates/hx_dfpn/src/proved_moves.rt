@@ -51,7 +51,10 @@ impl<K: Knows, G: Gate, R: Wait> Search<'_, K, G, R, Workspace, LinkSet> {
             return Ok(None);
         }
         let position = situation.filled.position();
-        match self.known.of_position(worker.rt, position, situation.to_move)? {
+        match self
+            .known
+            .of_position(worker.rt, position, situation.to_move)?
+        {
             Known::Proved => Ok(Some(Outcome::Proved)),
             Known::Nothing => {
                 leave_open(worker.hints, key, first_numbers(position));
@@ -145,7 +148,9 @@ impl<K: Knows, G: Gate, R: Wait> Search<'_, K, G, R, Workspace, LinkSet> {
             return Ok(None);
         }
         let (rt, alloc) = (self.worker.rt, self.worker.alloc);
-        let known = self.known.by_move(rt, alloc, position, situation.to_move, cell)?;
+        let known = self
+            .known
+            .by_move(rt, alloc, position, situation.to_move, cell)?;
         Ok(outcome_of(known))
     }
 

@@ -48,7 +48,10 @@ impl<K: Knows, G: Gate, R: Wait> Search<'_, K, G, R, Workspace, LinkSet> {
     {
         let _outcome = self.visit_granted(start, DEPTH)?;
         let (rt, alloc) = (self.worker.rt, self.worker.alloc);
-        match self.known.settle(rt, alloc, start.here.position(), start.to_move)? {
+        match self
+            .known
+            .settle(rt, alloc, start.here.position(), start.to_move)?
+        {
             Known::Proved => Ok(Known::Proved),
             Known::Nothing => {
                 ask(self.worker, self.seat)?;

@@ -13,8 +13,8 @@ use crate::ways::Way;
 use crate::workers::Worker;
 use hx_count::CountSeat;
 
-/// A worker with whoever knows of positions, its seat, a workspace and the sets of links that it searches with. Their types are parameters: a
-/// proof learns what is left behind a borrow in a struct only where no field of it is declared with memory of its own.
+/// A worker with whoever knows of positions, its seat, a workspace and the sets of links that it searches with. Their types are
+/// parameters: a proof learns what is left behind a borrow in a struct only where no field of it is declared with memory of its own.
 pub(crate) struct Search<'a, K, G, R, W, L> {
     pub(crate) worker: &'a Worker<'a, G, R>,
 

@@ -148,7 +148,7 @@ impl<K: Knows, G: Gate, R: Wait> Search<'_, K, G, R, Workspace, LinkSet> {
             return Ok(Some(outcome));
         }
         let worker = self.worker;
-        // Where all moves lose the proof is at hand, so it is stored even if nobody waits for it.
+        // Where all moves lose the proof is at hand, so it is told even if nobody waits for it.
         let is_open = !moves.children.is_empty();
         if is_open && self.way.is_marked_above(worker.hints, depth) {
             let numbers = numbers_of(worker.counts, worker.hints, self.seat, moves);
@@ -183,8 +183,7 @@ impl<K: Knows, G: Gate, R: Wait> Search<'_, K, G, R, Workspace, LinkSet> {
         outcome
     }
 
-    /// Ends a visit: where the position after fill-in was proved, the proof of the position before it is stored; and a hint is
-    /// left.
+    /// Ends a visit: where the position after fill-in was proved, so is the position before it; and a hint is left.
     fn conclude(
         &mut self,
         start: &Start,
@@ -211,7 +210,10 @@ impl<K: Knows, G: Gate, R: Wait> Search<'_, K, G, R, Workspace, LinkSet> {
     {
         let (rt, alloc) = (self.worker.rt, self.worker.alloc);
         let position = start.here.position();
-        match self.known.by_fill(rt, alloc, position, start.to_move, filled)? {
+        match self
+            .known
+            .by_fill(rt, alloc, position, start.to_move, filled)?
+        {
             Known::Proved => Ok(Outcome::Proved),
             Known::Nothing => Ok(Outcome::Open(start.limit)),
         }

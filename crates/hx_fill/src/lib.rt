@@ -18,7 +18,7 @@ mod views;
 mod winners_steps;
 
 pub use fills::{Fill, Filled};
-pub use mustplay::{must, must_for};
+pub use mustplay::{must, must_without_lines};
 pub use musts::Must;
 pub use rounds::fill_in;
 pub use tried_cells::without_lines;

@@ -1,6 +1,6 @@
 //! The moves of a player's opponent that must be answered, by the live links of the player.
 
-ghost use Rattle.std.specs.Prelude.{◌≡◌, [], true, false, IfOk};
+ghost use Rattle.std.specs.Prelude.{◌≡◌, [], IfOk};
 ghost use Rattle.hx_board.specs.Colours.{other_of};
 ghost use Rattle.hx_fill.specs.Musts.{IsMust};
 ghost use Rattle.hx_fill.specs.Unders.{LeaveNoneDominated, AreByOrder};
@@ -36,8 +36,8 @@ pub fn must(set: &LinkSet, order: &[Cell]) -> Result<musts::Must, Memory>
     })
 }
 
-/// What the opponent of the set's player must try, with a line for none of the cells: so each of them is to be tried.
-fn must_without_lines(set: &LinkSet) -> Result<musts::Must, Memory>
+/// The same cells and threats, with a line for none of the cells: so each of them is to be tried, also where another one is better.
+pub fn must_without_lines(set: &LinkSet) -> Result<musts::Must, Memory>
     ensures must { IfOk result (λ must. IsMust set.now must.threats must.cells must.under) }
     ensures no_lines { IfOk result (λ must. must.under ≡ []) }
 {
@@ -48,20 +48,4 @@ fn must_without_lines(set: &LinkSet) -> Result<musts::Must, Memory>
         cells,
         under: Lines::new(Vec::new(set.allocator())),
     })
-}
-
-/// What a mover must play, for a list of proofs. In a plain one each of the cells is answered by a child, so none has a line; for any
-/// other it is as `must` says.
-pub fn must_for(set: &LinkSet, order: &[Cell], plain: bool) -> Result<musts::Must, Memory>
-    ensures must { IfOk result (λ must. IsMust set.now must.threats must.cells must.under) }
-    ensures no_lines { IfOk result (λ must. plain ≡ true → must.under ≡ []) }
-    ensures none_dominated { IfOk result (λ must. plain ≡ false
-        → LeaveNoneDominated set.now.present.board (other_of set.now.player) must.cells must.under) }
-    ensures order { IfOk result (λ must. plain ≡ false → AreByOrder set.now.present.board
-        (other_of set.now.player) must.cells order.now must.under) }
-{
-    if plain {
-        return must_without_lines(set);
-    }
-    must(set, order)
 }

@@ -127,8 +127,8 @@ module _ (own others : Standing) (situation : Situation) (order threats : List �
   tried-without_line cell is no_line =
       gathered cell ((each.each cell).1 is.own_empty) (kept cell ((must.shared cell).1 is.shared) no_line) is.empty
 
-  pub tried-plain : under ≡ [] → (cell : ℕ) → IsUnanswered own others situation cell → Tries children cell
-  tried-plain none cell is = tried-without_line cell is (λ at. none_in cell (subst (λ (lines : List Line). HasLineFor lines cell) none at))
+  pub tried-without_lines : under ≡ [] → (cell : ℕ) → IsUnanswered own others situation cell → Tries children cell
+  tried-without_lines none cell is = tried-without_line cell is (λ at. none_in cell (subst (λ (lines : List Line). HasLineFor lines cell) none at))
 
   pub tried-or_better : (cell : ℕ) → IsUnanswered own others situation cell
       → Tries children cell ⊎ HasBetter own others situation children cell

@@ -4,7 +4,7 @@
 //! file of its own that says what it brings.
 //!
 //! What a file says that its heuristic brings was measured with an unverified program of the same heuristics, but for
-//! `replies.rt` and `rest.rt`, whose figures are of the search of hx_worker.
+//! `replies.rt` and `rest.rt`, whose figures are of the search of hx_dfpn.
 #![tactic(auto)]
 
 mod children;

@@ -1,10 +1,10 @@
 //! The moves of a visit that are tried.
 
-ghost use Rattle.std.specs.Prelude.{◌≡◌, ◌≢◌, ℕ, ◌<◌, ◌≤◌, ◌⊎◌, true, not, length, map, filter, remove, slice_get, IfOk, IsSomeAnd, MatchOption};
+ghost use Rattle.std.specs.Prelude.{◌≡◌, ◌≢◌, [], ℕ, ◌<◌, ◌≤◌, ◌⊎◌, true, not, length, map, filter, remove, slice_get, IfOk, IsSomeAnd, MatchOption};
 ghost use Rattle.std.specs.List.{All};
 ghost use Rattle.hx_board.specs.Positions.{IsEmpty};
 ghost use Rattle.hx_board.specs.Sets.{has, IsSubset};
-ghost use Rattle.hx_fill.specs.Musts.{IsSharedByAll};
+ghost use Rattle.hx_fill.specs.Musts.{IsMust, IsSharedByAll};
 ghost use Rattle.hx_fill.specs.Unders.{HasLineFor};
 ghost use Rattle.hx_pn.specs.Numbers.{IsNumbers};
 ghost use Rattle.hx_ordering.specs.Choices.{IsChildOf};
@@ -20,7 +20,7 @@ use crate::stones::after;
 use crate::unseen_moves::first_numbers;
 use hx_board::{Cell, Mask, Memory};
 use hx_count::Hints;
-use hx_fill::{Must, must_for, without_lines};
+use hx_fill::{Must, must, must_without_lines, without_lines};
 use hx_linkset::LinkSet;
 use hx_pn::Numbers;
 
@@ -36,19 +36,19 @@ pub struct Moves {
 
 impl Moves {
     /// The moves that must be tried, by the links of both players: no link of the other player answers them, and no other move
-    /// is better. In a plain search a move is tried though another one is better, since the proof has to answer it too.
+    /// is better. Where all are tried, a move is tried though another one is better.
     pub fn of(
         hints: &Hints,
         replies: &Replies,
         own: &LinkSet,
         others: &LinkSet,
         situation: &Situation,
-        plain: bool,
+        tries_all: bool,
     ) -> Result<Moves, Memory>
         ensures each { IfOk result (λ moves. All (IsChildOf situation.now) moves.children.items) }
         ensures among { IfOk result (λ moves.
             All (λ child. IsSharedByAll others.now child.cell) moves.children.items) }
-        ensures all { plain ≡ true → IfOk result (λ moves. (cell : ℕ)
+        ensures all { tries_all ≡ true → IfOk result (λ moves. (cell : ℕ)
             → IsUnanswered own.now others.now situation.now cell
             → Tries moves.children.items cell) }
         ensures best { IfOk result (λ moves. (cell : ℕ)
@@ -60,7 +60,7 @@ impl Moves {
     {
         let earlier = replies.earlier(situation, own.position().empties());
         let order = in_order(own, others, &earlier)?;
-        let must = must_for(others, order.as_slice(), plain)?;
+        let must = must_try(others, order.as_slice(), tries_all)?;
         let tried = tried_cells(&must);
         let mut children = Vec::with_capacity(own.allocator(), order.len()).map_err(|_| Memory)?;
         for cell in order.as_slice() {
@@ -115,6 +115,17 @@ impl Moves {
             self.children[place].numbers = numbers;
         }
     }
+}
+
+/// What must be tried by the other player's links, with a line for each cell than which another one is better, or with none.
+fn must_try(others: &LinkSet, order: &[Cell], tries_all: bool) -> Result<Must, Memory>
+    ensures must { IfOk result (λ must. IsMust others.now must.threats must.cells must.under) }
+    ensures no_lines { IfOk result (λ must. tries_all ≡ true → must.under ≡ []) }
+{
+    if tries_all {
+        return must_without_lines(others);
+    }
+    must(others, order)
 }
 
 /// The cells that must be tried: those without a line.

@@ -1,2 +1,3 @@
+pub mod RefutedLaws
 pub mod StopLaws
 pub mod UnlistedLaws

@@ -3,7 +3,7 @@
 //! A worker may go from position to position: its seats stay in one job, which gets new sets of links for each. The sets are made in
 //! its own thread, so that workers do not wait for one another's.
 
-ghost use Rattle.std.specs.Prelude.{◌≡◌, ◌<◌, IfOk, OnErr};
+ghost use Rattle.std.specs.Prelude.{◌≡◌, ◌<◌, IfOk};
 ghost use Rattle.hx_board.specs.Graph.{HasNoChain};
 ghost use Rattle.hx_count.specs.Machine.{held_in_all};
 ghost use Rattle.hx_count.specs.Seats.{own};

@@ -9,7 +9,7 @@ ghost use Rattle.hx_worker.specs.Forms.{HasWin};
 
 use hx_board::{Cell, Colour, Mask, Memory, Position};
 use hx_book::Proofs;
-use hx_fill::{Filled, must_for};
+use hx_fill::{Filled, must_without_lines};
 use hx_known::{Known, Knows};
 use hx_limits::RanOut;
 use hx_linkset::LinkSet;
@@ -112,10 +112,10 @@ impl<P: Proofs> Knows for PlainProofs<'_, P> {
         &mut self,
         rt: &R,
         set: &LinkSet,
-        order: &[Cell],
+        _order: &[Cell],
     ) -> Result<Known, RanOut> {
         // In a plain proof each move of the opponent has an answer, and no line names a better cell.
-        let found = must_for(set, order, true)?;
+        let found = must_without_lines(set)?;
         match store_answers(rt, self.proofs, set, found)? {
             Stored::Done => Ok(Known::Proved),
             Stored::Missing => Ok(Known::Nothing),

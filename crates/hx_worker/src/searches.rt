@@ -37,7 +37,14 @@ fn by_wide<P: Proofs, G: Gate, R: Wait>(
     ensures found { IfOk result (IsFirstFound (P.sight proofs.new).list position.now to_move) }
     ensures stopped { IfErr result (IsStopped (P.sight proofs.new).list (P.sight proofs.new).slots seat.new) }
 {
-    search_position(worker, &mut WideProofs::new(proofs), seat, position, to_move)?;
+    // The worker is lent again, for as long as the form lives.
+    search_position(
+        &*worker,
+        &mut WideProofs::new(proofs),
+        seat,
+        position,
+        to_move,
+    )?;
     Ok(entry_of(worker.rt, proofs, position, to_move))
 }
 
@@ -57,7 +64,14 @@ fn by_plain<P: Proofs, G: Gate, R: Wait>(
     ensures found { IfOk result (IsFirstFound (P.sight proofs.new).list position.now to_move) }
     ensures stopped { IfErr result (IsStopped (P.sight proofs.new).list (P.sight proofs.new).slots seat.new) }
 {
-    search_position(worker, &mut PlainProofs::new(proofs), seat, position, to_move)?;
+    // The worker is lent again, for as long as the form lives.
+    search_position(
+        &*worker,
+        &mut PlainProofs::new(proofs),
+        seat,
+        position,
+        to_move,
+    )?;
     Ok(entry_of(worker.rt, proofs, position, to_move))
 }
 

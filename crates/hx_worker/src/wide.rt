@@ -22,7 +22,8 @@ use hx_widen::{
 use std::alloc::Global;
 use std::sync::Wait;
 
-/// Proofs of wider positions are looked for and stored. The list is not to be plain: nothing but a look is made of such a one.
+/// Proofs of wider positions are looked for and stored, in a list that is not plain. In a plain one proofs are stored at the positions
+/// themselves.
 pub(crate) struct WideProofs<'a, P> {
     proofs: &'a mut P,
 }

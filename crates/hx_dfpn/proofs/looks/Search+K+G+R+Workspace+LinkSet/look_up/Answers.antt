@@ -1,4 +1,5 @@
-use Rattle.hx_dfpn.proofs.KeepLaws.{goes-on, keeps-known}
+use Rattle.hx_known.proofs.ViewLaws.{goes-on}
+use Rattle.hx_dfpn.proofs.KeepLaws.{keeps-known}
 use Rattle.hx_dfpn.proofs.looks.Search+K+G+R+Workspace+LinkSet.look_up.Goals as goal
 
 pub returns-in_err-of_position-clause-keeps : goal.returns-in_err-of_position-clause-keeps

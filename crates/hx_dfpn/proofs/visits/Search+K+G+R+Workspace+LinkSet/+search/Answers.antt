@@ -12,9 +12,9 @@ pub descend-returns-clause-keeps : goal.descend-returns-clause-keeps
 descend-returns-clause-keeps g t c =
     let visit = c.visit-outcome.ensures.keeps in record {
       same_worker = visit.same_worker;
-      same_proofs = visit.same_proofs;
+      same_known = visit.same_known;
       same_seat = visit.same_seat;
-      grew = visit.grew;
+      goes = visit.goes;
       seat =
           release-keeps c.args.self.now.seat.now c.hold.new.seat c.visit-outcome.new.self.seat.now c.release.new.seat c.loss_word-word.result
           c.hold.ensures.made c.hold.ensures.own visit.seat c.release.ensures.made c.release.ensures.own;

@@ -4,7 +4,7 @@ use Rattle.std.proofs.lemmas.List.Elements.{All-push}
 use Rattle.hx_fill.specs.Musts.{IsSharedByAll}
 use Rattle.hx_ordering.specs.declared.children.Child.{Child}
 use Rattle.hx_ordering.specs.Choices.{IsChildOf}
-use Rattle.hx_ordering.proofs.TryLaws.{AreTried, gathered-passed, gathered-pushed, gathered-all, tried-plain, tried-or_better}
+use Rattle.hx_ordering.proofs.TryLaws.{AreTried, gathered-passed, gathered-pushed, gathered-all, tried-without_lines, tried-or_better}
 use Rattle.hx_ordering.proofs.moves.Moves.of.Goals as goal
 
 pub loop-cell-preserved-then-not-has : goal.loop-cell-preserved-then-not-has
@@ -39,12 +39,12 @@ loop-cell-preserved c =
     })
 
 pub returns-clause-all : goal.returns-clause-all
-returns-clause-all c = λ plain. tried-plain c.args.own.now c.args.others.now c.args.situation.now c.in_ok-order.order.items _ _ _ _
+returns-clause-all c = λ all. tried-without_lines c.args.own.now c.args.others.now c.args.situation.now c.in_ok-order.order.items _ _ _ _
     c.loop-cell.children.items c.in_ok-must.ensures.must c.tried_cells-tried.ensures.kept c.in_ok-order.ensures
     (subst (λ (order : List ℕ). AreTried c.args.situation.now.filled c.tried_cells-tried.result order c.loop-cell.children.items)
     c.as_slice-cell-items.ensures.value
     (gathered-all _ _ _ _ _ c.loop-cell-test.false c.loop-cell.invariant.gathered))
-    (c.in_ok-must.ensures.no_lines plain)
+    (c.in_ok-must.ensures.no_lines all)
 
 pub returns-clause-best : goal.returns-clause-best
 returns-clause-best c = tried-or_better c.args.own.now c.args.others.now c.args.situation.now c.in_ok-order.order.items _ _ _ _
