@@ -1,4 +1,5 @@
-use Rattle.std.proofs.Common.{◌∙◌}
+use Rattle.std.proofs.Common.{sym, ◌∙◌}
+use Rattle.std.proofs.lemmas.Bool.{false≢true}
 use Rattle.hx_book.proofs.SightLaws.{grows-on}
 use Rattle.hx_widen.proofs.WideLaws.{if_ok-served}
 use Rattle.hx_widen.proofs.RefusalLaws.{if_err-unstored}
@@ -10,7 +11,7 @@ store_each-requires g c =
     ((c.in_ok-found.ensures.must.shared cell).0 (c.without_lines-cells.ensures.inside cell member)).empty
 
 pub store_answers-requires-clause-no_lines : goal.store_answers-requires-clause-no_lines
-store_answers-requires-clause-no_lines g c = λ plain. c.in_ok-found.ensures.no_lines (c.plain.ensures ∙ plain)
+store_answers-requires-clause-no_lines g c = λ plain. absurd (false≢true (sym c.if-plain.false ∙ c.plain.ensures ∙ plain))
 
 pub returns-clause-served : goal.returns-clause-served
 returns-clause-served g c = if_ok-served _ _ _ _ c.store_answers.result c.store_answers.ensures.stored
