@@ -1,5 +1,5 @@
 -- Entries that are known: one more of them, a list that grew, and the children of a node that is right after them.
-use Rattle.std.proofs.Common.{◌≡◌, Bool, false, ℕ, zero, suc, ◌<◌, List, [], ◌∷◌, ◌++◌, length, refl, sym, ap, ◌∙◌, Some, arith}
+use Rattle.std.proofs.Common.{◌≡◌, Bool, false, ℕ, zero, suc, ◌<◌, List, [], ◌∷◌, ◌++◌, length, refl, sym, ap, ◌∙◌, subst, Some, arith}
 use Rattle.std.proofs.lemmas.Option.{slice_get_within}
 use Rattle.std.specs.Prelude.{slice_get, slice_index}
 use Rattle.hx_board.proofs.ListLaws.{get-append, get-map}
@@ -91,6 +91,12 @@ wider-own_entry list board mover wider is = record {
   there = is.entry.there;
   is_of = record { same_position = sym is.same_position; same_mover = is.entry.is_wider.same_mover };
 }
+
+-- what was found of a winner is of the winner that it tells
+pub wider_found-told : (plain : Bool) (list : List Node) (board : Board) (mover winner : Colour) (wider : Wider)
+    → IsWiderFound plain list board mover winner wider → IsWiderFound plain list board mover wider.found.winner wider
+wider_found-told plain list board mover winner wider is =
+    subst (λ (told : Colour). IsWiderFound plain list board mover told wider) (sym is.same_winner) is
 
 -- what was found is found in a list that grew
 pub wider_found-later : {plain : Bool} → (new old : List Node) (board : Board) (mover : Colour) (wider : Wider) → Extends old new

@@ -1,3 +1,4 @@
 pub mod MissingStones
 pub mod KnownEntries
 pub mod WideLaws
+pub mod RefusalLaws

@@ -41,3 +41,8 @@ module _ (plain : Bool) (list : List Node) (board : Board) (mover : Colour) wher
       → IfOk result (IsServedIf plain list board mover)
   if_ok-served (Ok stored) is = served-by-entry stored is
   if_ok-served (Err why) is = tt
+
+  pub if_ok-entry_served : {A : Type 0} → (result : Result A RanOut) → IfOk result (λ _. HasEntry list board mover)
+      → IfOk result (λ _. IsServed plain list board mover)
+  if_ok-entry_served (Ok answer) has = entry_served has
+  if_ok-entry_served (Err why) has = tt

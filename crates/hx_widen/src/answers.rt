@@ -21,7 +21,7 @@ use crate::widened::widened;
 use crate::wider::{end_of, store_wider};
 use hx_board::{CELLS, Cell, Colour, Mask, Position};
 use hx_book::Proofs;
-use hx_fill::{Must, must_for, without_lines};
+use hx_fill::{Must, must, without_lines};
 use hx_limits::RanOut;
 use hx_linkset::LinkSet;
 use hx_nodes::{Stored, store_answers};
@@ -126,9 +126,6 @@ fn all_wide<P: Proofs, R: Wait>(
     ensures grew { Grows (P.sight proofs.old) (P.sight proofs.new) }
     ensures stopped { IfErr result (IsUnstored (P.sight proofs.new).list (P.sight proofs.new).slots) }
 {
-    if proofs.plain() {
-        return Ok(());
-    }
     let alloc = set.allocator();
     let winner = set.colour();
     let Some(position) = position_for(rt, proofs, set, found) else {
@@ -181,8 +178,8 @@ fn store_each<P: Proofs, R: Wait>(
 }
 
 /// Stores that a set's player wins with the opponent to move, where entries say so of the positions after the moves that have to be
-/// tried: a proof that serves the position, or one of the position itself. It is Missing where the board is full, or where after one
-/// of these moves no entry says so, or an entry of that very position names the opponent.
+/// tried: a proof that serves the position, or one of the position itself. It is Missing where the board is full, where the list is
+/// plain, or where after one of these moves no entry says so, or an entry of that very position names the opponent.
 pub fn widen_all<P: Proofs, R: Wait>(
     rt: &R,
     proofs: &mut P,
@@ -193,7 +190,10 @@ pub fn widen_all<P: Proofs, R: Wait>(
     ensures served { IfOk result (IsServedIf P.is_plain (P.sight proofs.new).list set.now.present.board (other_of set.now.player)) }
     ensures stopped { IfErr result (IsUnstored (P.sight proofs.new).list (P.sight proofs.new).slots) }
 {
-    let found = must_for(set, order, proofs.plain())?;
+    if proofs.plain() {
+        return Ok(Stored::Missing);
+    }
+    let found = must(set, order)?;
     let tried = all_wide(rt, proofs, set, &found);
     let to_move = set.colour().other();
     if let Stored::Done = end_of(rt, proofs, set.position(), to_move, tried)? {

@@ -26,9 +26,6 @@ fn chain_wide<P: Proofs, R: Wait>(
     ensures grew { Grows (P.sight proofs.old) (P.sight proofs.new) }
     ensures stopped { IfErr result (IsUnstored (P.sight proofs.new).list (P.sight proofs.new).slots) }
 {
-    if proofs.plain() {
-        return Ok(());
-    }
     let Some(wide) = widened(position, winner, Mask::empty()) else {
         return Ok(());
     };

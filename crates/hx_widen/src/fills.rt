@@ -63,9 +63,6 @@ fn fill_wide<P: Proofs, R: Wait>(
     ensures grew { Grows (P.sight proofs.old) (P.sight proofs.new) }
     ensures stopped { IfErr result (IsUnstored (P.sight proofs.new).list (P.sight proofs.new).slots) }
 {
-    if proofs.plain() {
-        return Ok(());
-    }
     let winner = wider.found.winner;
     let steps = own_steps(alloc, fills, winner)?;
     if steps.is_empty() {

@@ -2,6 +2,10 @@
 //!
 //! What a node at a widened position needs is a guess. So such a node names its children by their places in a short list of
 //! entries, is judged by the checker over their headings, and is stored only where the checker says that it is right.
+//!
+//! No plain list of the program's comes to this crate. One is told apart for the proof alone: by store_known, since not every right node
+//! is plain; by widen_all, since no line of a plain node names a better cell; and by fill_missing, since an entry of such a list serves
+//! its own position alone.
 
 ghost use Rattle.std.specs.Prelude.{◌≡◌, false, List, [], slice_get, OnOk, OnErr, IfOk, IfErr};
 ghost use Rattle.std.specs.declared.option.Option.TheVariants.{Some};
@@ -62,8 +66,8 @@ impl Known {
     }
 }
 
-/// Stores a node in a list that is not plain, where the checker says that it is right after the known entries. Missing only where it is
-/// not.
+/// Stores a node, where the checker says that it is right after the known entries. Missing only where it is not, or where the list is
+/// plain.
 pub(crate) fn store_known<P: Proofs, R: Wait>(
     rt: &R,
     alloc: Global,
@@ -71,16 +75,18 @@ pub(crate) fn store_known<P: Proofs, R: Wait>(
     known: &Known,
     node: Node,
 ) -> Result<Stored, RanOut>
-    requires known { AreKnown (P.sight proofs.old).list known.now.headings.items
-        known.now.places.items }
-    requires ordinary { P.is_plain ≡ false }
+    requires { AreKnown (P.sight proofs.old).list known.now.headings.items known.now.places.items }
     ensures grew { Grows (P.sight proofs.old) (P.sight proofs.new) }
     ensures stored { IfOk result (IsStored (P.sight proofs.new).list node.heading.position
         node.heading.to_move) }
     ensures stopped { IfErr result (IsNotStored (P.sight proofs.new).list (P.sight proofs.new).slots
         node.heading.position node.heading.to_move) }
-    ensures wrong { IfOk result (MissingFor (¬ IsRightNode known.now.headings.items node)) }
+    ensures wrong { P.is_plain ≡ false → IfOk result
+        (MissingFor (¬ IsRightNode known.now.headings.items node)) }
 {
+    if proofs.plain() {
+        return Ok(Stored::Missing);
+    }
     let is_right = check_node(alloc, known.headings.as_slice(), &node)?;
     if !is_right {
         return Ok(Stored::Missing);

@@ -29,9 +29,6 @@ fn links_wide<P: Proofs, R: Wait>(
     ensures grew { Grows (P.sight proofs.old) (P.sight proofs.new) }
     ensures stopped { IfErr result (IsUnstored (P.sight proofs.new).list (P.sight proofs.new).slots) }
 {
-    if proofs.plain() {
-        return Ok(());
-    }
     let alloc = set.allocator();
     let winner = set.colour();
     let Derived { steps, places: _ } = set.derivation(&[index])?;

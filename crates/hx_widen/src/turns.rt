@@ -33,9 +33,6 @@ pub fn widen_turned<P: Proofs, R: Wait>(
     if let Stored::Done = served(rt, proofs, position, to_move) {
         return Ok(Stored::Done);
     }
-    if proofs.plain() {
-        return Ok(Stored::Missing);
-    }
     let other = turned(position);
     let Some(wider) = look_wider_either(rt, proofs, &other, to_move) else {
         return Ok(Stored::Missing);

@@ -155,7 +155,7 @@ pub(crate) fn fill_missing<P: Proofs, R: Wait>(
     let missing = position.empties().minus(wider.position.empties());
     let steps = others_on(alloc, position, wider.found.winner, missing)?;
     if steps.is_empty() {
-        // The entry is of the position itself. Who else writes to the book has stored it since it was looked for.
+        // The entry is of the position itself.
         return Ok(());
     }
     let steps = FillSteps::new(steps);
@@ -165,7 +165,8 @@ pub(crate) fn fill_missing<P: Proofs, R: Wait>(
     }
 }
 
-/// Stores that the winner of an entry wins a position by these steps to the entry's. Missing only where they do not lead there.
+/// Stores that the winner of an entry wins a position by these steps to the entry's. Missing only where they do not lead there, or
+/// where the list is plain.
 pub(crate) fn fill_to<P: Proofs, R: Wait>(
     rt: &R,
     alloc: Global,
@@ -178,12 +179,11 @@ pub(crate) fn fill_to<P: Proofs, R: Wait>(
     requires found { (board : Board)
         × IsWiderFound P.is_plain (P.sight proofs.old).list board to_move wider.now.found.winner wider.now }
     requires some { steps ≢ [] }
-    requires ordinary { P.is_plain ≡ false }
     ensures grew { Grows (P.sight proofs.old) (P.sight proofs.new) }
     ensures stored { IfOk result (IsStored (P.sight proofs.new).list position.now to_move) }
     ensures stopped { IfErr result (IsNotStored (P.sight proofs.new).list (P.sight proofs.new).slots
         position.now to_move) }
-    ensures wrong { IfOk result
+    ensures wrong { P.is_plain ≡ false → IfOk result
         (MissingFor (¬ LeadTo position.now wider.now.found.winner steps wider.now.position)) }
 {
     // The proof takes from here that the position's board is one.

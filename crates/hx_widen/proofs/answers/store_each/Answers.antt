@@ -22,3 +22,7 @@ loop-cell-preserved g c =
       grew = grows-on _ _ _ before.grew c.store_wider.ensures.grew;
       inside = rw c.without-left.ensures.set (λ n member. before.inside n (has-remove_before c.loop-cell.left c.in-Some.cell n member));
     }
+
+pub returns-in_err-store_wider-clause-grew : goal.returns-in_err-store_wider-clause-grew
+returns-in_err-store_wider-clause-grew g c =
+    grows-on _ _ _ c.loop-cell.invariant.grew c.store_wider.ensures.grew

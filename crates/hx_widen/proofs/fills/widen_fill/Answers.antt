@@ -1,7 +1,9 @@
 use Rattle.hx_tree.specs.Entries.{Extends}
 use Rattle.hx_tree.proofs.EntryLaws.{extends-on}
+use Rattle.hx_book.proofs.SightLaws.{grows-on}
 use Rattle.hx_widen.proofs.KnownEntries.{wider_found-later}
 use Rattle.hx_widen.proofs.WideLaws.{if_ok-served}
+use Rattle.hx_widen.proofs.RefusalLaws.{if_err-unstored}
 use Rattle.hx_widen.proofs.fills.widen_fill.Goals as goal
 
 pub fill_missing-requires : goal.fill_missing-requires
@@ -14,3 +16,29 @@ fill_missing-requires g c =
 
 pub returns-clause-served : goal.returns-clause-served
 returns-clause-served g c = if_ok-served _ _ _ _ c.store_fill.result c.store_fill.ensures.stored
+
+pub returns-in_err-end_of-clause-grew : goal.returns-in_err-end_of-clause-grew
+returns-in_err-end_of-clause-grew g c =
+    grows-on _ _ _ c.look_wider_either.ensures.grew
+    (grows-on _ _ _ c.fill_wide-tried.ensures.grew c.end_of.ensures.grew)
+
+pub returns-in-Done-clause-grew : goal.returns-in-Done-clause-grew
+returns-in-Done-clause-grew g c =
+    grows-on _ _ _ c.look_wider_either.ensures.grew
+    (grows-on _ _ _ c.fill_wide-tried.ensures.grew c.end_of.ensures.grew)
+
+pub returns-in_err-fill_missing-clause-grew : goal.returns-in_err-fill_missing-clause-grew
+returns-in_err-fill_missing-clause-grew g c =
+    grows-on _ _ _ c.look_wider_either.ensures.grew
+    (grows-on _ _ _ c.fill_wide-tried.ensures.grew
+    (grows-on _ _ _ c.end_of.ensures.grew c.fill_missing.ensures.grew))
+
+pub returns-clause-grew : goal.returns-clause-grew
+returns-clause-grew g c =
+    grows-on _ _ _ c.look_wider_either.ensures.grew
+    (grows-on _ _ _ c.fill_wide-tried.ensures.grew
+    (grows-on _ _ _ c.end_of.ensures.grew
+    (grows-on _ _ _ c.fill_missing.ensures.grew c.store_fill.ensures.grew)))
+
+pub returns-clause-stopped : goal.returns-clause-stopped
+returns-clause-stopped g c = if_err-unstored _ _ _ _ c.store_fill.result c.store_fill.ensures.stopped

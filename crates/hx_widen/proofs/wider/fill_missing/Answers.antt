@@ -45,7 +45,4 @@ unreachable-requires g c =
     let whole = wider_missing list c.args.position.now c.args.to_move c.args.wider.now found c.size-size.ensures.valid _ _
     c.empties.ensures c.empties-2.ensures in
     let lead = rw (c.minus-missing.ensures.set, whole) at c.in_ok-steps.ensures in
-    (rw c.in-Missing.is at c.in_ok-fill_to.ensures.wrong) (rw c.new-steps.ensures lead)
-
-pub fill_to-requires-clause-ordinary : goal.fill_to-requires-clause-ordinary
-fill_to-requires-clause-ordinary g c = sym c.plain.ensures ∙ c.if-plain.false
+    (rw c.in-Missing.is at c.in_ok-fill_to.ensures.wrong ordinary) (rw c.new-steps.ensures lead)
