@@ -21,60 +21,6 @@ use hx_ordering::LOSS_WORDS;
 use hx_tree::Found;
 use std::sync::Wait;
 
-/// Searches by proofs that serve many positions.
-fn by_wide<P: Proofs, G: Gate, R: Wait>(
-    worker: &Worker<'_, G, R>,
-    proofs: &mut P,
-    seat: &mut CountSeat,
-    position: &Position,
-    to_move: Colour,
-) -> Result<Found, RanOut>
-    requires seat { seat.old.made ≡ worker.now.counts.now }
-    requires words { worker.now.counts.now.limits.words ≡ LOSS_WORDS }
-    requires room { held_in_all (own seat.old) + CELLS < MOST_HELD }
-    ensures grew { Grows (P.sight proofs.old) (P.sight proofs.new) }
-    ensures seat { KeepsSeat seat.old seat.new }
-    ensures found { IfOk result (IsFirstFound (P.sight proofs.new).list position.now to_move) }
-    ensures stopped { IfErr result (IsStopped (P.sight proofs.new).list (P.sight proofs.new).slots seat.new) }
-{
-    // The worker is lent again, for as long as the form lives.
-    search_position(
-        &*worker,
-        &mut WideProofs::new(proofs),
-        seat,
-        position,
-        to_move,
-    )?;
-    Ok(entry_of(worker.rt, proofs, position, to_move))
-}
-
-/// Searches by plain proofs.
-fn by_plain<P: Proofs, G: Gate, R: Wait>(
-    worker: &Worker<'_, G, R>,
-    proofs: &mut P,
-    seat: &mut CountSeat,
-    position: &Position,
-    to_move: Colour,
-) -> Result<Found, RanOut>
-    requires seat { seat.old.made ≡ worker.now.counts.now }
-    requires words { worker.now.counts.now.limits.words ≡ LOSS_WORDS }
-    requires room { held_in_all (own seat.old) + CELLS < MOST_HELD }
-    ensures grew { Grows (P.sight proofs.old) (P.sight proofs.new) }
-    ensures seat { KeepsSeat seat.old seat.new }
-    ensures found { IfOk result (IsFirstFound (P.sight proofs.new).list position.now to_move) }
-    ensures stopped { IfErr result (IsStopped (P.sight proofs.new).list (P.sight proofs.new).slots seat.new) }
-{
-    // The worker is lent again, for as long as the form lives.
-    search_position(
-        &*worker,
-        &mut PlainProofs::new(proofs),
-        seat,
-        position,
-        to_move,
-    )?;
-    Ok(entry_of(worker.rt, proofs, position, to_move))
-}
-
 /// Searches the position until it is proved, or a unit, a slot or memory is wanting. A unit was granted.
 pub(crate) fn search_by<P: Proofs, G: Gate, R: Wait>(
     worker: &Worker<'_, G, R>,
@@ -91,9 +37,23 @@ pub(crate) fn search_by<P: Proofs, G: Gate, R: Wait>(
     ensures found { IfOk result (IsFirstFound (P.sight proofs.new).list position.now to_move) }
     ensures stopped { IfErr result (IsStopped (P.sight proofs.new).list (P.sight proofs.new).slots seat.new) }
 {
+    // The worker is lent again, for as long as the form lives.
     if proofs.plain() {
-        by_plain(worker, proofs, seat, position, to_move)
-    } else {
-        by_wide(worker, proofs, seat, position, to_move)
+        search_position(
+            &*worker,
+            &mut PlainProofs::new(proofs),
+            seat,
+            position,
+            to_move,
+        )?;
+        return Ok(entry_of(worker.rt, proofs, position, to_move));
     }
+    search_position(
+        &*worker,
+        &mut WideProofs::new(proofs),
+        seat,
+        position,
+        to_move,
+    )?;
+    Ok(entry_of(worker.rt, proofs, position, to_move))
 }
