@@ -72,7 +72,7 @@ pub struct Allowed {
 }
 
 /// What the player's links may have on this position.
-pub(crate) fn allowed_on(position: &Position, colour: Colour) -> Allowed
+pub fn allowed_on(position: &Position, colour: Colour) -> Allowed
     ensures { IsAllowed result position.now colour }
 {
     Allowed {
