@@ -14,7 +14,7 @@ mod results;
 mod step_lists;
 mod steps;
 
-pub use links::{Allowed, Kind, Link, ends_of, is_outside};
+pub use links::{Allowed, Kind, Link, allowed_on, ends_of, is_outside};
 pub use parts::{MOST_PARTS, Parts};
 pub use results::{result_among, result_of};
 pub use step_lists::Steps;

@@ -3,8 +3,10 @@
 //! Anshelevich calls a Full link a virtual connection and a Semi link a virtual semi-connection.
 
 ghost use Rattle.std.specs.Prelude.{◌≡◌, ℕ, ◌<◌, ◌↔◌, IsTrue, true, false};
+ghost use Rattle.hx_board.specs.declared.colours.Colour.{Colour};
 ghost use Rattle.hx_board.specs.declared.vertices.Vertex.{Vertex};
 ghost use Rattle.hx_board.specs.Finds.{Finds};
+ghost use Rattle.hx_board.specs.Positions.{Board};
 ghost use Rattle.hx_board.specs.Sets.{has};
 ghost use Rattle.hx_board.specs.VertexSets.{code_of, IsSomeVertex};
 ghost use Rattle.hx_link.specs.declared.links.Link.{Link};
@@ -70,7 +72,7 @@ pub struct Allowed {
 }
 
 /// What the player's links may have on this position.
-pub(crate) fn allowed_on(position: &Position, colour: Colour) -> Allowed
+pub fn allowed_on(position: &Position, colour: Colour) -> Allowed
     ensures { IsAllowed result position.now colour }
 {
     Allowed {
@@ -79,11 +81,11 @@ pub(crate) fn allowed_on(position: &Position, colour: Colour) -> Allowed
     }
 }
 
-/// Whether there can be this link on the board where this is allowed.
+/// Whether there can be this link on each board where this is allowed.
 #[inline(always)]
-fn is_link(position: &Position, colour: Colour, allowed: &Allowed, link: &Link) -> bool
-    requires { IsAllowed allowed.now position.now colour }
-    ensures { IsTrue result ↔ IsLink position.now colour link.now }
+fn is_link(allowed: &Allowed, link: &Link) -> bool
+    ensures { (board : Board) (colour : Colour) → IsAllowed allowed.now board colour
+        → IsTrue result ↔ IsLink board colour link.now }
 {
     let inner = allowed.empties.meet(link.carrier);
     let a_end = allowed.ends.has(link.a);
@@ -119,21 +121,20 @@ fn ordered(kind: Kind, x: &Vertex, y: &Vertex, carrier: Mask) -> Link
     }
 }
 
-/// The link of this kind, these ends in either order, and this carrier, where there can be one.
+/// The link of this kind, these ends in either order, and this carrier, where there can be one on the boards where this
+/// is allowed.
 #[inline(always)]
 pub(crate) fn made(
-    position: &Position,
-    colour: Colour,
     allowed: &Allowed,
     kind: Kind,
     x: &Vertex,
     y: &Vertex,
     carrier: Mask,
 ) -> Option<Link>
-    requires { IsAllowed allowed.now position.now colour }
-    ensures { Finds result (IsMade position.now colour kind x.now y.now carrier) }
+    ensures { (board : Board) (colour : Colour) → IsAllowed allowed.now board colour
+        → Finds result (IsMade board colour kind x.now y.now carrier) }
 {
     let link = ordered(kind, x, y, carrier);
-    let is_right = is_link(position, colour, allowed, &link);
+    let is_right = is_link(allowed, &link);
     if is_right { Some(link) } else { None }
 }

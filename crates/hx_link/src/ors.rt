@@ -2,14 +2,16 @@
 //! them, a move of the opponent leaves one way, and so the ends are joined whoever moves first.
 
 ghost use Rattle.std.specs.Prelude.{◌≡◌, MatchOption, slice_get};
+ghost use Rattle.hx_board.specs.declared.colours.Colour.{Colour};
 ghost use Rattle.hx_board.specs.Finds.{Finds};
+ghost use Rattle.hx_board.specs.Positions.{Board};
 ghost use Rattle.hx_link.specs.Steps.{StepGives, IsAllowed};
 ghost use Rattle.hx_link.specs.Named.{IsSemiAt, ArePartsFrom, PartsSoFar};
 
 use crate::links::{Allowed, Kind, Link, has_ends, made};
 use crate::parts::MOST_PARTS;
 use crate::steps::Step;
-use hx_board::{Colour, Mask, Position, Vertex};
+use hx_board::{Mask, Vertex};
 
 /// The cells that are in all carriers of the parts, and those that are in some.
 #[derive(Clone, Copy)]
@@ -67,15 +69,9 @@ fn link_at(before: &[Link], place: u32) -> Option<Link>
 }
 
 /// The Full link of the ends that the parts share.
-pub(crate) fn or_link(
-    position: &Position,
-    colour: Colour,
-    allowed: &Allowed,
-    before: &[Link],
-    places: &[u32],
-) -> Option<Link>
-    requires { IsAllowed allowed.now position.now colour }
-    ensures { Finds result (StepGives position.now colour before.now (Step.Or places.now)) }
+pub(crate) fn or_link(allowed: &Allowed, before: &[Link], places: &[u32]) -> Option<Link>
+    ensures { (board : Board) (colour : Colour) → IsAllowed allowed.now board colour
+        → Finds result (StepGives board colour before.now (Step.Or places.now)) }
 {
     let count = places.len();
     if count < 2 || MOST_PARTS < count {
@@ -91,13 +87,5 @@ pub(crate) fn or_link(
     if !none_shared {
         return None;
     }
-    made(
-        position,
-        colour,
-        allowed,
-        Kind::Full,
-        &first.a,
-        &first.b,
-        shares.in_some,
-    )
+    made(allowed, Kind::Full, &first.a, &first.b, shares.in_some)
 }

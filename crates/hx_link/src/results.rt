@@ -51,30 +51,22 @@ pub fn result_among(
     ensures { Finds result (StepGives position.now colour before.now step.now) }
 {
     match step {
-        Step::Base { a, b } => base_link(position, colour, groups, allowed, a, b),
+        Step::Base { a, b } => base_link(groups, allowed, a, b),
         Step::AndStone { left, right } => {
             and_stone(position, colour, allowed, before, *left, *right)
         }
-        Step::AndCell { left, right } => and_cell(position, colour, allowed, before, *left, *right),
-        Step::Or { parts } => or_link(position, colour, allowed, before, parts.items()),
+        Step::AndCell { left, right } => and_cell(allowed, before, *left, *right),
+        Step::Or { parts } => or_link(allowed, before, parts.items()),
     }
 }
 
 /// The Full link of two vertices that are joined.
-fn base_link(
-    position: &Position,
-    colour: Colour,
-    groups: &Groups,
-    allowed: &Allowed,
-    a: &Vertex,
-    b: &Vertex,
-) -> Option<Link>
-    requires groups { groups.now ≡ record { board = position.now; player = colour } }
-    requires allowed { IsAllowed allowed.now position.now colour }
+fn base_link(groups: &Groups, allowed: &Allowed, a: &Vertex, b: &Vertex) -> Option<Link>
+    requires { IsAllowed allowed.now groups.now.board groups.now.player }
     ensures { (before : List Link)
-        → Finds result (StepGives position.now colour before (Step.Base a.now b.now)) }
+        → Finds result (StepGives groups.now.board groups.now.player before (Step.Base a.now b.now)) }
 {
-    let Some(link) = made(position, colour, allowed, Kind::Full, a, b, Mask::empty()) else {
+    let Some(link) = made(allowed, Kind::Full, a, b, Mask::empty()) else {
         return None;
     };
     let joined = groups.joined(*a, *b);

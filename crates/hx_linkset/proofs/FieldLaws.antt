@@ -6,10 +6,11 @@ use Rattle.hx_board.specs.declared.colours.Colour.{Colour}
 use Rattle.hx_board.specs.Positions.{Board, IsBoard}
 use Rattle.hx_board.specs.Counts.{empty_count}
 use Rattle.hx_board.specs.Graph.{Grouped}
+use Rattle.hx_link.specs.declared.links.Allowed.{Allowed}
 use Rattle.hx_link.specs.declared.links.Link.{Link}
 use Rattle.hx_link.specs.declared.steps.Step.{Step}
+use Rattle.hx_link.specs.Steps.{IsAllowed}
 use Rattle.hx_linkset.specs.declared.fulls.FullLink.{FullLink}
-use Rattle.hx_linkset.specs.declared.liveness.Liveness.{Liveness}
 use Rattle.hx_linkset.specs.declared.plays.Stage.{Stage}
 use Rattle.hx_linkset.specs.declared.limits.TheConstants.{MOST_LINKS}
 use Rattle.hx_linkset.specs.States.{State, IsLive, IsRight, GivesFromLive, added}
@@ -18,7 +19,6 @@ use Rattle.hx_linkset.specs.LastStones.{board_before, AreDropped}
 use Rattle.hx_linkset.specs.Rings.{Rings, grown}
 use Rattle.hx_linkset.specs.Held.{AreHeads, head_of, head_at, IsLinked, RingsHold, IsPassed, IsLiveThere}
 use Rattle.hx_linkset.specs.History.{HoldsLive, HasHistory, FieldsKeep}
-use Rattle.hx_linkset.specs.Telling.{Tells}
 use Rattle.hx_linkset.specs.Fulls.{AreFullLists}
 use Rattle.hx_linkset.proofs.GivenLaws.{from_live-live}
 use Rattle.hx_linkset.proofs.HeadLaws.{live-small}
@@ -69,34 +69,34 @@ module _ (rings : Rings) (heads : AreHeads rings) (Has : ℕ → Link → Type 0
   }
 
 pub fields-none : (player : Colour) (board : Board) (links : List Link) (steps : List Step) (plays : List Stage)
-    (groups : Grouped) (liveness : Liveness) (rings : Rings) (fulls : List (List FullLink)) (log : List ℕ) (plays_capacity log_capacity : ℕ)
+    (groups : Grouped) (allowed : Allowed) (rings : Rings) (fulls : List (List FullLink)) (log : List ℕ) (plays_capacity log_capacity : ℕ)
     → links ≡ [] → steps ≡ [] → plays ≡ [] → log ≡ [] → groups ≡ record { board = board; player = player }
-    → Tells liveness board player → IsBoard board → AreHeads rings → AreFullLists [] fulls → 121 ≤ plays_capacity
+    → IsAllowed allowed board player → IsBoard board → AreHeads rings → AreFullLists [] fulls → 121 ≤ plays_capacity
     → MOST_LINKS ≤ log_capacity
     → FieldsKeep player (record {
       board = board;
       links = links;
       steps = steps;
-    }) plays groups liveness rings fulls log plays_capacity log_capacity
-fields-none player board links steps plays groups liveness rings fulls log plays_capacity log_capacity no_links no_steps no_plays
-    no_log groups_are tells is_board heads no_fulls room log_room =
+    }) plays groups allowed rings fulls log plays_capacity log_capacity
+fields-none player board links steps plays groups allowed rings fulls log plays_capacity log_capacity no_links no_steps no_plays
+    no_log groups_are allowed_is is_board heads no_fulls room log_room =
     rw (no_links, no_steps, no_plays, no_log) record {
       keeps = keeps-none player board is_board;
       history = record { hold = rings-none rings heads (IsLiveThere board player); log_ok = log-none [] (IsLiveThere board player) };
       groups_are = groups_are;
-      tells = tells;
+      allowed_is = allowed_is;
       fulls_are = no_fulls;
       plays_room = room;
       log_room = log_room;
     }
 
 module _ (player : Colour) (board : Board) (links : List Link) (steps : List Step) (plays : List Stage) (groups : Grouped)
-    (liveness : Liveness) (rings : Rings) (fulls : List (List FullLink)) (log : List ℕ) (plays_capacity log_capacity : ℕ)
+    (allowed : Allowed) (rings : Rings) (fulls : List (List FullLink)) (log : List ℕ) (plays_capacity log_capacity : ℕ)
     (k : FieldsKeep player (record {
       board = board;
       links = links;
       steps = steps;
-    }) plays groups liveness rings fulls log plays_capacity log_capacity) where
+    }) plays groups allowed rings fulls log plays_capacity log_capacity) where
   abbrev old : State
   old = record { board = board; links = links; steps = steps }
 
@@ -136,8 +136,8 @@ module _ (player : Colour) (board : Board) (links : List Link) (steps : List Ste
     fields-room = omega (arith, room-play player old plays after 0 right_after filled k.keeps, k.plays_room)
 
     module _ (rings' : Rings) (log' : List ℕ) (passed : IsPassed links board after player (length links) rings rings' log log')
-        (groups' : Grouped) (liveness' : Liveness) (plays' : List Stage) (plays_capacity' log_capacity' : ℕ)
-        (is_groups : groups' ≡ record { board = after; player = player }) (tells : Tells liveness' after player)
+        (groups' : Grouped) (allowed' : Allowed) (plays' : List Stage) (plays_capacity' log_capacity' : ℕ)
+        (is_groups : groups' ≡ record { board = after; player = player }) (allowed_is : IsAllowed allowed' after player)
         (is_plays : plays' ≡ plays ++ record { position = board; count = length links; logged = length log } ∷ [])
         (is_capacity : plays_capacity' ≡ plays_capacity) (is_log_capacity : log_capacity' ≡ log_capacity) where
       history_is : HasHistory player after links rings' log'
@@ -146,12 +146,12 @@ module _ (player : Colour) (board : Board) (links : List Link) (steps : List Ste
           (history-played links board after player rings rings' log log' passed (more-fewer_live board after more player)
           (reverse plays) k.history)
 
-      pub fields-played : FieldsKeep player new plays' groups' liveness' rings' fulls log' plays_capacity' log_capacity'
+      pub fields-played : FieldsKeep player new plays' groups' allowed' rings' fulls log' plays_capacity' log_capacity'
       fields-played = record {
         keeps = rw is_plays (keeps-played player old plays after (length log) right_after filled k.keeps);
         history = rw is_plays history_is;
         groups_are = is_groups;
-        tells = tells;
+        allowed_is = allowed_is;
         fulls_are = k.fulls_are;
         plays_room = rw is_capacity k.plays_room;
         log_room = rw is_log_capacity k.log_room;
@@ -168,12 +168,12 @@ module _ (player : Colour) (board : Board) (links : List Link) (steps : List Ste
         board = board;
         links = links';
         steps = steps';
-      }) plays groups liveness rings' fulls' log plays_capacity log_capacity
+      }) plays groups allowed rings' fulls' log plays_capacity log_capacity
   fields-same links' steps' rings' fulls' same_links same_steps same_rings are_fulls = record {
     keeps = rw (same_links, same_steps) k.keeps;
     history = rw (same_links, same_rings) k.history;
     groups_are = k.groups_are;
-    tells = k.tells;
+    allowed_is = k.allowed_is;
     fulls_are = rw same_links are_fulls;
     plays_room = k.plays_room;
     log_room = k.log_room;
@@ -200,14 +200,14 @@ module _ (player : Colour) (board : Board) (links : List Link) (steps : List Ste
             board = board;
             links = links';
             steps = steps';
-          }) plays groups liveness rings' fulls' log plays_capacity log_capacity
+          }) plays groups allowed rings' fulls' log plays_capacity log_capacity
       fields-added less is_rings fulls' are_fulls = record {
         keeps = rw (is_links, is_steps) (keeps-added player old plays link step g k.keeps less);
         history = rw (is_links, is_rings)
             (history-added links board player rings log now link live added-small (reverse plays)
             (last_fits (reverse plays) k.keeps.stands) k.history);
         groups_are = k.groups_are;
-        tells = k.tells;
+        allowed_is = k.allowed_is;
         fulls_are = rw is_links are_fulls;
         plays_room = k.plays_room;
         log_room = k.log_room;

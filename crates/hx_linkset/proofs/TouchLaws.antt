@@ -10,12 +10,12 @@ use Rattle.hx_board.specs.Positions.{Board, IsBoard}
 use Rattle.hx_board.specs.VertexSets.{code_of, IsSomeVertex}
 use Rattle.hx_board.proofs.CellLaws.{on_board-small}
 use Rattle.hx_board.proofs.SetLaws.{has-empty, has-intersection_both}
+use Rattle.hx_link.specs.declared.links.Allowed.{Allowed}
 use Rattle.hx_link.specs.declared.links.Link.{Link}
-use Rattle.hx_link.specs.Steps.{IsEnd}
-use Rattle.hx_linkset.specs.declared.liveness.Liveness.{Liveness}
+use Rattle.hx_link.specs.Steps.{IsEnd, IsAllowed}
 use Rattle.hx_linkset.specs.declared.liveness.Losses.{Losses}
 use Rattle.hx_linkset.specs.States.{IsLive}
-use Rattle.hx_linkset.specs.Telling.{Tells, AreLosses}
+use Rattle.hx_linkset.specs.Losses.{AreLosses}
 use Rattle.hx_linkset.specs.Touches.{IsTouch, AreTouches}
 use Rattle.hx_linkset.proofs.HeadLaws.{live-some}
 use Rattle.hx_linkset.proofs.LossLaws.{untaken-end, untaken-live}
@@ -52,8 +52,8 @@ touch-at (l ∷ ls) (t ∷ ts) zero link touch are e f =
     rw (← same, ← same_touch) are.0
 touch-at (l ∷ ls) (t ∷ ts) (suc place) link touch are e f = touch-at ls ts place link touch are.1 e f
 
-module _ (losses : Losses) (before after : Liveness) (l : AreLosses losses before after) (old new : Board) (player : Colour)
-    (told : Tells before old player) (tells : Tells after new player) (is_board : IsBoard old) (link : Link) (touch : ℕ)
+module _ (losses : Losses) (before after : Allowed) (l : AreLosses losses before after) (old new : Board) (player : Colour)
+    (was_allowed : IsAllowed before old player) (is_allowed : IsAllowed after new player) (is_board : IsBoard old) (link : Link) (touch : ℕ)
     (is : IsTouch link touch) (none : intersection touch losses.taken ≡ 0) (live : IsLive old player link) where
   apart : (n : ℕ) → has touch n ≡ true → has losses.taken n ≡ true → ⊥
   apart n h k = false≢true
@@ -66,11 +66,11 @@ module _ (losses : Losses) (before after : Liveness) (l : AreLosses losses befor
 
   end-left : (vertex : Vertex) → IsSomeVertex vertex → has touch (code_of vertex) ≡ true → IsEnd old player vertex
       → IsEnd new player vertex
-  end-left vertex some in_touch end = untaken-end losses before after l new player tells old told vertex some
+  end-left vertex some in_touch end = untaken-end losses before after l new player is_allowed old was_allowed vertex some
       (false_from_ne_true (has losses.ends (code_of vertex)) (λ k. apart (code_of vertex) in_touch (l.taken_ends (code_of vertex) k))) end
 
   pub untouched-live : IsLive new player link
   untouched-live =
       let some = live-some old is_board player link live in
-      untaken-live losses before after l new player tells old told link unfilled live
+      untaken-live losses before after l new player is_allowed old was_allowed link unfilled live
       (end-left link.a some.0 is.a_end live.a_end, end-left link.b some.1 is.b_end live.b_end)

@@ -4,16 +4,16 @@ use Rattle.hx_board.specs.declared.colours.Colour.{Colour}
 use Rattle.hx_board.specs.declared.cells.TheConstants.{CELLS}
 use Rattle.hx_board.specs.Positions.{Board}
 use Rattle.hx_board.specs.Graph.{Grouped}
+use Rattle.hx_link.specs.declared.links.Allowed.{Allowed}
 use Rattle.hx_link.specs.declared.links.Link.{Link}
+use Rattle.hx_link.specs.Steps.{IsAllowed}
 use Rattle.hx_linkset.specs.declared.fulls.FullLink.{FullLink}
-use Rattle.hx_linkset.specs.declared.liveness.Liveness.{Liveness}
 use Rattle.hx_linkset.specs.declared.plays.Stage.{Stage}
 use Rattle.hx_linkset.specs.declared.limits.TheConstants.{MOST_LINKS}
 use Rattle.hx_linkset.specs.States.{State, IsLive}
 use Rattle.hx_linkset.specs.Plays.{Keeps}
 use Rattle.hx_linkset.specs.Rings.{Rings, cut, IsInside}
 use Rattle.hx_linkset.specs.Held.{RingsHold, LogHolds, IsLiveThere, CanRelink, relinked_all, AreAllDropped}
-use Rattle.hx_linkset.specs.Telling.{Tells}
 use Rattle.hx_linkset.specs.Fulls.{AreFullLists}
 
 -- the last nodes cut off, as many as that
@@ -60,12 +60,12 @@ HasHistory player board links rings log (play ∷ plays) =
 
 -- what the fields of a set keep
 pub record FieldsKeep (player : Colour) (state : State) (plays : List Stage) (groups : Grouped)
-    (liveness : Liveness) (rings : Rings) (fulls : List (List FullLink)) (log : List ℕ)
+    (allowed : Allowed) (rings : Rings) (fulls : List (List FullLink)) (log : List ℕ)
     (plays_capacity log_capacity : ℕ) : Type 0 where
   pub keeps : Keeps player state plays
   pub history : HasHistory player state.board state.links rings log (reverse plays)
   pub groups_are : groups ≡ record { board = state.board; player = player }
-  pub tells : Tells liveness state.board player
+  pub allowed_is : IsAllowed allowed state.board player
   pub fulls_are : AreFullLists state.links fulls
   pub plays_room : CELLS ≤ plays_capacity
   pub log_room : MOST_LINKS ≤ log_capacity

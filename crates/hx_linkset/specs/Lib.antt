@@ -9,6 +9,6 @@ pub mod Marks
 pub mod Derivations
 pub mod LiveOf
 pub mod LastStones
-pub mod Telling
+pub mod Losses
 pub mod Fulls
 pub mod Touches

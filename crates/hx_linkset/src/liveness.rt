@@ -4,44 +4,27 @@
 //! function of the board and the link, and needs no mark: the links that a live link was made from are live with it, since
 //! their carriers are inside its own and their ends are its ends, own stones, or in its carrier.
 //!
-//! Two sets tell it for all links. They are taken once for a position, so that a pass over many links
-//! has them at hand.
+//! What is allowed on a position tells it for all links: the empty cells, and the vertices that may be ends. It is taken once
+//! for a position, so that a pass over many links has it at hand.
 
 ghost use Rattle.std.specs.Prelude.{◌≡◌, ◌↔◌, IsTrue, false};
 ghost use Rattle.hx_board.specs.declared.colours.Colour.{Colour};
 ghost use Rattle.hx_board.specs.Positions.{Board};
-ghost use Rattle.hx_link.specs.Steps.{IsEnd};
+ghost use Rattle.hx_link.specs.Steps.{IsEnd, IsAllowed};
 ghost use Rattle.hx_linkset.specs.States.{IsLive};
-ghost use Rattle.hx_linkset.specs.Telling.{Tells, AreLosses};
+ghost use Rattle.hx_linkset.specs.Losses.{AreLosses};
 
-use hx_board::{Colour, Mask, Position, VertexSet};
-use hx_link::{Link, ends_of};
+use hx_board::{Mask, VertexSet};
+use hx_link::{Allowed, Link};
 
-/// The empty cells of a position, and the vertices that may be ends of a player's links.
-#[derive(Clone, Copy)]
-pub(crate) struct Liveness {
-    pub(crate) empties: Mask,
-    pub(crate) ends: VertexSet,
-}
-
-/// What tells which links of a player are live on a position.
-pub(crate) fn liveness_of(position: &Position, player: Colour) -> Liveness
-    ensures { Tells result position.now player }
-{
-    Liveness {
-        empties: position.empties(),
-        ends: ends_of(position, player),
-    }
-}
-
-/// Whether a link is live on each position of which this tells it.
+/// Whether a link is live on each board where this is allowed.
 #[inline(always)]
-pub(crate) fn is_live(liveness: &Liveness, link: &Link) -> bool
-    ensures { (board : Board) (player : Colour) → Tells liveness.now board player
+pub(crate) fn is_live(allowed: &Allowed, link: &Link) -> bool
+    ensures { (board : Board) (player : Colour) → IsAllowed allowed.now board player
         → IsTrue result ↔ IsLive board player link.now }
 {
     let (_a, _b) = (link.a.code(), link.b.code());
-    link.carrier.inside(liveness.empties) && liveness.ends.has(link.a) && liveness.ends.has(link.b)
+    link.carrier.inside(allowed.empties) && allowed.ends.has(link.a) && allowed.ends.has(link.b)
 }
 
 /// What a play takes away from the links of a player.
@@ -58,10 +41,10 @@ pub(crate) struct Losses {
     pub(crate) taken: VertexSet,
 }
 
-/// What a play takes away, by what is live before it and after it. It is taken once for a pass over all links, and not made
+/// What a play takes away, by what is allowed before it and after it. It is taken once for a pass over all links, and not made
 /// again at each of them.
 #[inline(never)]
-pub(crate) fn losses_of(before: &Liveness, after: &Liveness) -> Losses
+pub(crate) fn losses_of(before: &Allowed, after: &Allowed) -> Losses
     ensures { AreLosses result before.now after.now }
 {
     let filled = before.empties.minus(after.empties);
@@ -76,13 +59,13 @@ pub(crate) fn losses_of(before: &Liveness, after: &Liveness) -> Losses
 
 /// Whether a play takes an end of a link whose carrier is empty before it.
 #[inline(always)]
-fn loses_end(before: &Liveness, losses: &Losses, link: &Link) -> bool
-    ensures lost { (after : Liveness) (new : Board) (player : Colour)
-        → AreLosses losses.now before.now after → Tells after new player
+fn loses_end(before: &Allowed, losses: &Losses, link: &Link) -> bool
+    ensures lost { (after : Allowed) (new : Board) (player : Colour)
+        → AreLosses losses.now before.now after → IsAllowed after new player
         → IsTrue result → IsLive new player link.now → ⊥ }
-    ensures kept { (after : Liveness) (old new : Board) (player : Colour)
-        → AreLosses losses.now before.now after → Tells before.now old player
-        → Tells after new player → result ≡ false → IsLive old player link.now
+    ensures kept { (after : Allowed) (old new : Board) (player : Colour)
+        → AreLosses losses.now before.now after → IsAllowed before.now old player
+        → IsAllowed after new player → result ≡ false → IsLive old player link.now
         → IsEnd new player link.now.a × IsEnd new player link.now.b }
 {
     let (_a, _b) = (link.a.code(), link.b.code());
@@ -93,14 +76,14 @@ fn loses_end(before: &Liveness, losses: &Losses, link: &Link) -> bool
 
 /// Whether a link is live before a play and not after it. Of most links a play takes nothing, so that is asked first.
 #[inline(always)]
-pub(crate) fn is_dropped(before: &Liveness, losses: &Losses, link: &Link) -> bool
-    ensures dropped { (after : Liveness) (old new : Board) (player : Colour)
-        → AreLosses losses.now before.now after → Tells before.now old player
-        → Tells after new player
+pub(crate) fn is_dropped(before: &Allowed, losses: &Losses, link: &Link) -> bool
+    ensures dropped { (after : Allowed) (old new : Board) (player : Colour)
+        → AreLosses losses.now before.now after → IsAllowed before.now old player
+        → IsAllowed after new player
         → IsTrue result → IsLive old player link.now × (IsLive new player link.now → ⊥) }
-    ensures kept { (after : Liveness) (old new : Board) (player : Colour)
-        → AreLosses losses.now before.now after → Tells before.now old player
-        → Tells after new player
+    ensures kept { (after : Allowed) (old new : Board) (player : Colour)
+        → AreLosses losses.now before.now after → IsAllowed before.now old player
+        → IsAllowed after new player
         → result ≡ false → IsLive old player link.now → IsLive new player link.now }
 {
     let loses_cell = link.carrier.meets(losses.filled);

@@ -8,10 +8,10 @@ ghost use Rattle.hx_linkset.specs.Fulls.{AreFullLists};
 use crate::chains::{Chains, FIRST_NODE};
 use crate::fulls::FullLists;
 use crate::limits::MOST_LINKS;
-use crate::liveness::{liveness_of, losses_of};
+use crate::liveness::losses_of;
 use crate::touches::HeldLinks;
 use hx_board::{Colour, Position};
-use hx_link::Link;
+use hx_link::{Link, allowed_on};
 
 /// Takes each link out that is live before a play and not after it, and logs it.
 pub(crate) fn drop_dead(
@@ -32,11 +32,11 @@ pub(crate) fn drop_dead(
 {
     // The proof takes from here that the position's board is one.
     let _size = before.size();
-    let live = liveness_of(before, player);
-    let kept = liveness_of(after, player);
-    let losses = losses_of(&live, &kept);
+    let allowed_before = allowed_on(before, player);
+    let allowed_after = allowed_on(after, player);
+    let losses = losses_of(&allowed_before, &allowed_after);
     for place in 0..links.len() {
-        let drops = links.is_dropped(&live, &losses, place);
+        let drops = links.is_dropped(&allowed_before, &losses, place);
         if !drops {
             continue;
         }

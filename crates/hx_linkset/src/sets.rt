@@ -34,13 +34,13 @@ use crate::chains::{Chains, FIRST_NODE, head_for};
 use crate::derivations::{Derived, derivation_of};
 use crate::fulls::{FullIter, FullLists};
 use crate::limits::MOST_LINKS;
-use crate::liveness::{Liveness, is_live, liveness_of};
+use crate::liveness::is_live;
 use crate::pairs::{PairIter, in_order};
 use crate::passes::{cut_down, cut_fulls, drop_dead, put_back};
 use crate::plays::{Stage, before_last, can_put, key_of, logged_from, stage_of, with_all};
 use crate::touches::HeldLinks;
 use hx_board::{CELLS, Cell, Colour, Groups, Mask, Memory, Position, Vertex, VertexSet};
-use hx_link::{Allowed, Kind, Link, Step, result_among};
+use hx_link::{Allowed, Kind, Link, Step, allowed_on, result_among};
 use std::alloc::Global;
 use std::marker::Model;
 
@@ -67,10 +67,10 @@ pub struct LinkSet {
     position: Position,
     colour: Colour,
 
-    /// The groups of the player, and what tells which links are live. Each play makes both anew. The groups are a large table, and
-    /// stand behind a pointer, so that to move a set takes little.
+    /// The groups of the player, and what is allowed, by which a link is live or not. Each play makes both anew. The
+    /// groups are a large table, and stand behind a pointer, so that to move a set takes little.
     groups: Box<Groups>,
-    liveness: Liveness,
+    allowed: Allowed,
     links: HeldLinks,
     pub(crate) steps: Vec<Step>,
 
@@ -101,7 +101,7 @@ impl Model for LinkSet {
 
     ghost invariant = { λ s. FieldsKeep s.colour
         record { board = s.position; links = s.links; steps = s.steps.items } s.plays.items
-        s.groups.value s.liveness s.chains s.fulls s.log.items
+        s.groups.value s.allowed s.chains s.fulls s.log.items
         (vec_capacity s.plays) (vec_capacity s.log) };
 }
 
@@ -135,7 +135,7 @@ impl LinkSet {
             position: *position,
             colour,
             groups,
-            liveness: liveness_of(position, colour),
+            allowed: allowed_on(position, colour),
             links: HeldLinks::new(alloc),
             steps: Vec::new(alloc),
             chains,
@@ -198,7 +198,7 @@ impl LinkSet {
         let Some(link) = self.held(index) else {
             return None;
         };
-        let live = is_live(&self.liveness, &link);
+        let live = is_live(&self.allowed, &link);
         if live { Some(link) } else { None }
     }
 
@@ -264,7 +264,7 @@ impl LinkSet {
         ensures { AreFullAt self.now vertex result }
     {
         let list = self.fulls.at(&vertex);
-        FullIter::new(list, &vertex, self.liveness.empties, self.liveness.ends)
+        FullIter::new(list, &vertex, self.allowed.empties, self.allowed.ends)
     }
 
     /// Those of the live Full links that end at a vertex whose carriers are inside `cells` and whose other ends are in `to`,
@@ -477,7 +477,7 @@ impl LinkSet {
             self.steps.truncate(play.count);
             self.position = play.position;
             *self.groups = Groups::of(&self.position, self.colour);
-            self.liveness = liveness_of(&self.position, self.colour);
+            self.allowed = allowed_on(&self.position, self.colour);
         }
     }
 
@@ -502,7 +502,7 @@ impl LinkSet {
         self.plays.push_reserved(now);
         self.position = *after;
         *self.groups = Groups::of(after, self.colour);
-        self.liveness = liveness_of(after, self.colour);
+        self.allowed = allowed_on(after, self.colour);
     }
 
     /// The link that a step gives from live links. It is live.
@@ -511,22 +511,18 @@ impl LinkSet {
     {
         // The proof takes from here that the position's board is one.
         let _size = self.position.size();
-        let allowed = Allowed {
-            empties: self.liveness.empties,
-            ends: self.liveness.ends,
-        };
         let Some(link) = result_among(
             &self.position,
             self.colour,
             &self.groups,
-            &allowed,
+            &self.allowed,
             self.links.as_slice(),
             step,
         ) else {
             return None;
         };
         // Its ends were asked for.
-        let live = link.carrier.inside(self.liveness.empties);
+        let live = link.carrier.inside(self.allowed.empties);
         if live { Some(link) } else { None }
     }
 

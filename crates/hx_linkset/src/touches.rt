@@ -9,12 +9,13 @@ ghost use Rattle.std.specs.declared.option.Option.TheVariants.{Some};
 ghost use Rattle.hx_board.specs.declared.colours.Colour.{Colour};
 ghost use Rattle.hx_board.specs.Positions.{Board, IsBoard};
 ghost use Rattle.hx_link.specs.declared.links.Link.{Link};
+ghost use Rattle.hx_link.specs.Steps.{IsAllowed};
 ghost use Rattle.hx_linkset.specs.States.{IsLive};
-ghost use Rattle.hx_linkset.specs.Telling.{Tells, AreLosses};
+ghost use Rattle.hx_linkset.specs.Losses.{AreLosses};
 
-use crate::liveness::{Liveness, Losses, is_dropped};
+use crate::liveness::{Losses, is_dropped};
 use hx_board::{Memory, VertexSet};
-use hx_link::Link;
+use hx_link::{Allowed, Link};
 use std::alloc::Global;
 use std::marker::Model;
 
@@ -97,17 +98,17 @@ impl HeldLinks {
 
     /// Whether the link at a place is live before a play and not after it.
     #[inline(always)]
-    pub(crate) fn is_dropped(&self, before: &Liveness, losses: &Losses, place: usize) -> bool
+    pub(crate) fn is_dropped(&self, before: &Allowed, losses: &Losses, place: usize) -> bool
         requires { place < length self.now }
         ensures dropped { (link : Link) → slice_get self.now place ≡ Some link
-            → (after : Liveness) (old new : Board) (player : Colour)
-            → AreLosses losses.now before.now after → Tells before.now old player
-            → Tells after new player
+            → (after : Allowed) (old new : Board) (player : Colour)
+            → AreLosses losses.now before.now after → IsAllowed before.now old player
+            → IsAllowed after new player
             → IsTrue result → IsLive old player link × (IsLive new player link → ⊥) }
         ensures kept { (link : Link) → slice_get self.now place ≡ Some link
-            → (after : Liveness) (old new : Board) (player : Colour)
-            → AreLosses losses.now before.now after → Tells before.now old player
-            → Tells after new player → IsBoard old
+            → (after : Allowed) (old new : Board) (player : Colour)
+            → AreLosses losses.now before.now after → IsAllowed before.now old player
+            → IsAllowed after new player → IsBoard old
             → result ≡ false → IsLive old player link → IsLive new player link }
     {
         let is_untouched = self.touches[place].meet(losses.taken).is_empty();

@@ -29,8 +29,8 @@ loop-place-preserved-then-not-drops c =
     record {
       passed = passed-kept c.args.links.now c.args.before.now c.args.after.now c.args.player c.loop-place.place link
           there _ _ _ _ c.loop-place.invariant.passed
-          (c.is_dropped-drops.ensures.kept link there c.liveness_of-kept.result c.args.before.now c.args.after.now c.args.player
-          c.losses_of-losses.ensures c.liveness_of-live.ensures c.liveness_of-kept.ensures c.size-size.ensures.valid c.if-not-drops.true);
+          (c.is_dropped-drops.ensures.kept link there c.allowed_on-allowed_after.result c.args.before.now c.args.after.now c.args.player
+          c.losses_of-losses.ensures c.allowed_on-allowed_before.ensures c.allowed_on-allowed_after.ensures c.size-size.ensures.valid c.if-not-drops.true);
       room = c.loop-place.invariant.room;
     }
 
@@ -40,8 +40,8 @@ unlink-requires c =
     let link : Link = get_or c.args.links.now c.loop-place.place nowhere in
     let there : slice_get c.args.links.now c.loop-place.place ≡ Some link =
     slice_get-get_or c.args.links.now c.loop-place.place nowhere less in
-    let live = (c.is_dropped-drops.ensures.dropped link there c.liveness_of-kept.result c.args.before.now c.args.after.now c.args.player
-    c.losses_of-losses.ensures c.liveness_of-live.ensures c.liveness_of-kept.ensures c.if-not-drops.false).0 in
+    let live = (c.is_dropped-drops.ensures.dropped link there c.allowed_on-allowed_after.result c.args.before.now c.args.after.now c.args.player
+    c.losses_of-losses.ensures c.allowed_on-allowed_before.ensures c.allowed_on-allowed_after.ensures c.if-not-drops.false).0 in
     passed-inside c.args.links.now c.args.before.now c.args.after.now c.args.player c.loop-place.place link there _ _
     _ _ c.loop-place.invariant.passed
     live (live-small c.args.before.now c.size-size.ensures.valid c.args.player link live)
@@ -52,8 +52,8 @@ push_reserved-requires c =
     let link : Link = get_or c.args.links.now c.loop-place.place nowhere in
     let there : slice_get c.args.links.now c.loop-place.place ≡ Some link =
     slice_get-get_or c.args.links.now c.loop-place.place nowhere less in
-    let live = (c.is_dropped-drops.ensures.dropped link there c.liveness_of-kept.result c.args.before.now c.args.after.now c.args.player
-    c.losses_of-losses.ensures c.liveness_of-live.ensures c.liveness_of-kept.ensures c.if-not-drops.false).0 in
+    let live = (c.is_dropped-drops.ensures.dropped link there c.allowed_on-allowed_after.result c.args.before.now c.args.after.now c.args.player
+    c.losses_of-losses.ensures c.allowed_on-allowed_before.ensures c.allowed_on-allowed_after.ensures c.if-not-drops.false).0 in
     let room : length c.loop-place.log.items < length c.args.links.now =
     passed-room c.args.links.now c.args.before.now c.args.after.now c.args.player c.loop-place.place link there _ _ _
     _ c.loop-place.invariant.passed
@@ -66,8 +66,8 @@ loop-place-preserved c =
     let link : Link = get_or c.args.links.now c.loop-place.place nowhere in
     let there : slice_get c.args.links.now c.loop-place.place ≡ Some link =
     slice_get-get_or c.args.links.now c.loop-place.place nowhere less in
-    let drops = c.is_dropped-drops.ensures.dropped link there c.liveness_of-kept.result c.args.before.now c.args.after.now c.args.player
-    c.losses_of-losses.ensures c.liveness_of-live.ensures c.liveness_of-kept.ensures c.if-not-drops.false in
+    let drops = c.is_dropped-drops.ensures.dropped link there c.allowed_on-allowed_after.result c.args.before.now c.args.after.now c.args.player
+    c.losses_of-losses.ensures c.allowed_on-allowed_before.ensures c.allowed_on-allowed_after.ensures c.if-not-drops.false in
     let passed : IsPassed _ _ _ _ (c.loop-place.place + 1) _ _ _ _ =
     passed-dropped c.args.links.now c.args.before.now c.args.after.now c.args.player c.loop-place.place link there _ _
     _ _ c.loop-place.invariant.passed

@@ -18,7 +18,7 @@ returns-then-live c =
     (given-from_live c.self.inside.position c.self.inside.colour c.self.inside.links c.args.step.now c.in-Some.link
     c.size-size.ensures.valid.1 g
     (record {
-      empty = λ cell h. (c.self.invariant.tells.empties cell).0 (c.inside-live.ensures.0 c.if-live.true cell h);
+      empty = λ cell h. (c.self.invariant.allowed_is.empties cell).0 (c.inside-live.ensures.0 c.if-live.true cell h);
       a_end = g.link_ok.a_end;
       b_end = g.link_ok.b_end;
     }))
@@ -32,6 +32,6 @@ returns-else-live c = λ link gives.
     rw c.as_slice.ensures at c.in-Some.ensures in
     let same : link ≡ c.in-Some.link = step-unique _ _ _ link c.in-Some.link c.args.step.now here.gives g in
     let live : IsLive c.self.inside.position c.self.inside.colour link = from_live-live _ _ _ c.args.step.now link here in
-    let inside : IsSubset c.in-Some.link.carrier c.self.inside.liveness.empties =
-    λ cell h. (c.self.invariant.tells.empties cell).1 (live.empty cell (ap (λ (l : Link). has l.carrier cell) same ∙ h)) in
+    let inside : IsSubset c.in-Some.link.carrier c.self.inside.allowed.empties =
+    λ cell h. (c.self.invariant.allowed_is.empties cell).1 (live.empty cell (ap (λ (l : Link). has l.carrier cell) same ∙ h)) in
     false≢true (sym c.if-live.false ∙ c.inside-live.ensures.1 inside)

@@ -34,7 +34,7 @@ invariant_of-self c =
     (length c.self.inside.links) c.self.inside.chains c.drop_dead.new.chains c.self.inside.log.items c.drop_dead.new.log.items =
     c.drop_dead.ensures.passed in
     fields-played _ _ _ _ _ _ _ _ _ _ _ _ c.self.invariant c.args.after.now more _ _ passed _ _ _ _ _ c.of.ensures
-    c.liveness_of-self-inside.ensures
+    c.allowed_on-self-inside.ensures
     (c.push_reserved.ensures.items
     ∙ ap (λ (s : Stage). c.self.inside.plays.items ++ s ∷ []) stage_is) c.push_reserved.ensures.capacity c.drop_dead.ensures.room
 
@@ -53,7 +53,7 @@ returns c =
     (length c.self.inside.links) c.self.inside.chains c.drop_dead.new.chains c.self.inside.log.items c.drop_dead.new.log.items =
     c.drop_dead.ensures.passed in
     seen-played _ _ _ _ _ _ _ _ _ _ _ _ c.self.invariant c.args.after.now more _ _ passed _ _ _ _ _ c.of.ensures
-    c.liveness_of-self-inside.ensures
+    c.allowed_on-self-inside.ensures
     (c.push_reserved.ensures.items
     ∙ ap (λ (s : Stage). c.self.inside.plays.items ++ s ∷ []) stage_is) c.push_reserved.ensures.capacity c.drop_dead.ensures.room
     ∙ ap (λ (s : Standing). let t : Standing =
