@@ -10,7 +10,6 @@ ghost use Rattle.hx_board.specs.Colours.{other_of};
 ghost use Rattle.hx_board.specs.Positions.{IsEmpty};
 ghost use Rattle.hx_board.specs.Sets.{has};
 ghost use Rattle.hx_fill.specs.Musts.{IsMust};
-ghost use Rattle.hx_fill.specs.Unders.{HasLineFor};
 ghost use Rattle.hx_book.specs.Sights.{Grows};
 ghost use Rattle.hx_limits.specs.Causes.{IsUnstored};
 ghost use Rattle.hx_widen.specs.Wide.{IsServedIf};

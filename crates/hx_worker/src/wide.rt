@@ -22,8 +22,7 @@ use hx_widen::{
 use std::alloc::Global;
 use std::sync::Wait;
 
-/// Proofs of wider positions are looked for and stored, in a list that is not plain. In a plain one proofs are stored at the positions
-/// themselves.
+/// Proofs of wider positions are looked for and stored. It is for lists that are not plain: in a plain one it stores less.
 pub(crate) struct WideProofs<'a, P> {
     proofs: &'a mut P,
 }
