@@ -42,7 +42,6 @@ impl<'a, P> Drop for PlainProofs<'a, P> {
 }
 
 impl<P: Proofs> Knows for PlainProofs<'_, P> {
-    ghost use Rattle.std.specs.Prelude.{false};
     ghost use Rattle.std.specs.declared.option.Option.TheVariants.{Some};
 
     ghost view = { λ f. record { sight = P.sight f.proofs.now; behind = Some f.proofs.ghost_name } };

@@ -47,7 +47,6 @@ impl<'a, P> Drop for WideProofs<'a, P> {
 }
 
 impl<P: Proofs> Knows for WideProofs<'_, P> {
-    ghost use Rattle.std.specs.Prelude.{true};
     ghost use Rattle.std.specs.declared.option.Option.TheVariants.{Some};
 
     ghost view = { λ f. record { sight = P.sight f.proofs.now; behind = Some f.proofs.ghost_name } };
