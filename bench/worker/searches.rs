@@ -12,6 +12,7 @@ use hx_io::RealGate;
 use hx_linkset::LinkSet;
 use hx_ordering::{LOSS_WORDS, Replies};
 use hx_worker::{Ended, Job, work};
+use hx_zones::Zones;
 use std::alloc::Global;
 use std::sync::Wait;
 
@@ -43,6 +44,7 @@ pub(crate) fn search<R: Wait>(
     alloc: Global,
     book: Book,
     hints: &Hints,
+    zones: &Zones,
     position: &Position,
     to_move: Colour,
     budget: u64,
@@ -62,6 +64,7 @@ pub(crate) fn search<R: Wait>(
         seat,
         hints,
         replies: &replies,
+        zones,
         black,
         white,
     };

@@ -1,4 +1,4 @@
-//! What is searched, each with a book and hints of its own.
+//! What is searched, each with a book, hints and zones of its own.
 
 ghost use Rattle.std.specs.Prelude.{◌≤◌, ◌^◌};
 
@@ -8,12 +8,16 @@ use hx_board::{Colour, Memory, Position, Size};
 use hx_book::Book;
 use hx_count::Hints;
 use hx_worker::Ended;
+use hx_zones::Zones;
 use std::alloc::Global;
 use std::sync::Wait;
 use std::time::{Clock, Instant};
 
 /// Words of hints.
 const HINTS: u32 = 1048576;
+
+/// Blocks of zones: as many as a search has by default.
+const BLOCKS: u32 = 2048;
 
 /// Slots of a book.
 const SLOTS: u32 = 1048576;
@@ -46,7 +50,7 @@ pub(crate) struct Task {
 }
 
 /// All searches.
-pub(crate) const TASKS: [Task; 12] = [
+pub(crate) const TASKS: [Task; 13] = [
     Task {
         name: "empty6",
         side: 6,
@@ -114,6 +118,12 @@ pub(crate) const TASKS: [Task; 12] = [
         budget: 3000,
     },
     Task {
+        name: "empty8",
+        side: 8,
+        positions: Positions::Empty,
+        budget: MANY_UNITS,
+    },
+    Task {
         name: "empty11",
         side: 11,
         positions: Positions::Empty,
@@ -167,6 +177,7 @@ fn timed<R: Wait + Clock>(
     alloc: Global,
     book: Book,
     hints: &Hints,
+    zones: &Zones,
     position: &Position,
     to_move: Colour,
     budget: u64,
@@ -175,7 +186,7 @@ fn timed<R: Wait + Clock>(
     requires { budget ≤ 2 ^ 40 }
 {
     let start = Instant::now(rt).map_err(|_| Memory)?;
-    let done = search(rt, alloc, book, hints, position, to_move, budget)?;
+    let done = search(rt, alloc, book, hints, zones, position, to_move, budget)?;
     let time = start.elapsed(rt).map_err(|_| Memory)?.as_nanos();
     sum.add(&done, u64::try_from(time).unwrap_or(u64::MAX));
     let Done { book, .. } = done;
@@ -187,6 +198,7 @@ fn search_openings<R: Wait + Clock>(
     alloc: Global,
     book: Book,
     hints: &Hints,
+    zones: &Zones,
     empty: &Position,
     sum: &mut Sum,
 ) -> Result<Book, Memory> {
@@ -200,6 +212,7 @@ fn search_openings<R: Wait + Clock>(
                     alloc,
                     book,
                     hints,
+                    zones,
                     &position,
                     Colour::White,
                     MANY_UNITS,
@@ -226,6 +239,7 @@ pub(crate) fn run<R: Wait + Clock>(rt: &R, alloc: Global, task: &Task) -> Result
     };
     let budget = task.budget.min(MANY_UNITS);
     let hints = Hints::with_words(alloc, HINTS)?;
+    let zones = Zones::with_blocks(alloc, BLOCKS)?;
     let book = Book::with_slots(alloc, SLOTS)?;
     let empty = Position::empty(size);
     let book = match task.positions {
@@ -234,6 +248,7 @@ pub(crate) fn run<R: Wait + Clock>(rt: &R, alloc: Global, task: &Task) -> Result
             alloc,
             book,
             &hints,
+            &zones,
             &empty,
             Colour::Black,
             budget,
@@ -245,6 +260,7 @@ pub(crate) fn run<R: Wait + Clock>(rt: &R, alloc: Global, task: &Task) -> Result
                 alloc,
                 book,
                 &hints,
+                &zones,
                 &position,
                 Colour::White,
                 budget,
@@ -252,7 +268,9 @@ pub(crate) fn run<R: Wait + Clock>(rt: &R, alloc: Global, task: &Task) -> Result
             )?,
             None => book,
         },
-        Positions::EachOpening => search_openings(rt, alloc, book, &hints, &empty, &mut sum)?,
+        Positions::EachOpening => {
+            search_openings(rt, alloc, book, &hints, &zones, &empty, &mut sum)?
+        }
     };
     sum.nodes = book.held();
     let entries = book.into_entries();

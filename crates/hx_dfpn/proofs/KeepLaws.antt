@@ -4,6 +4,7 @@ use Rattle.hx_count.specs.Machine.{Account, holding, releasing, held_in_all}
 use Rattle.hx_count.specs.Seats.{Seat, Origin, own as own_account}
 use Rattle.hx_count.proofs.MachineLaws.{held-holding-le, releasing-held}
 use Rattle.hx_linkset.specs.States.{State, Standing}
+use Rattle.hx_reach.specs.Growth.{IsGrown}
 use Rattle.hx_count.specs.Seats.{KeepsSeat}
 use Rattle.hx_known.specs.Views.{View, Goes}
 use Rattle.hx_known.proofs.ViewLaws.{goes-itself, goes-on}
@@ -30,6 +31,14 @@ stands-on first second third one two = record {
   same_player = two.same_player ∙ one.same_player;
   same_board = two.same_board ∙ one.same_board;
   same_past = two.same_past ∙ one.same_past;
+}
+
+-- a set to which links were added stands as it stood
+pub grown-stands : (old new : Standing) → IsGrown old new → StandsAgain old new
+grown-stands old new grown = record {
+  same_player = grown.same_player;
+  same_board = grown.same_board;
+  same_past = grown.same_past;
 }
 
 pub seat-itself : (seat : Seat) → KeepsSeat seat seat
@@ -61,16 +70,17 @@ release-keeps before held visited after word made_held own_held visit made_after
 
 module _ {K G R W : Type 0} (view : K → View) where
   -- where only what a search may change was changed, and in a way that is kept
-  keeps-parts : (search : Search K G R W Standing) (now : K) (seat : Seat) (own others : Standing) (way : Way)
+  keeps-parts : (search : Search K G R W Standing) (now : K) (seat : Seat) (workspace : W) (own others : Standing) (way : Way)
       → Goes (view search.known.now) (view now) → KeepsSeat search.seat.now seat → StandsAgain search.own own
       → StandsAgain search.others others → Keeps view search (record search {
         known = record search.known { now = now };
         seat = record search.seat { now = seat };
+        workspace = workspace;
         own = own;
         others = others;
         way = way;
       })
-  keeps-parts search now seat own others way goes kept own_stands others_stand = record {
+  keeps-parts search now seat workspace own others way goes kept own_stands others_stand = record {
     same_worker = refl;
     same_known = refl;
     same_seat = refl;
@@ -83,18 +93,33 @@ module _ {K G R W : Type 0} (view : K → View) where
   pub keeps-known : (search : Search K G R W Standing) (now : K) → Goes (view search.known.now) (view now)
       → Keeps view search (record search { known = record search.known { now = now } })
   keeps-known search now goes =
-      keeps-parts search now search.seat.now search.own search.others search.way goes (seat-itself _) (stands-itself _) (stands-itself _)
+      keeps-parts search now search.seat.now search.workspace search.own search.others search.way
+      goes (seat-itself _) (stands-itself _) (stands-itself _)
 
   pub keeps-seat : (search : Search K G R W Standing) (now : Seat) → KeepsSeat search.seat.now now
       → Keeps view search (record search { seat = record search.seat { now = now } })
   keeps-seat search now kept =
-      keeps-parts search search.known.now now search.own search.others search.way
+      keeps-parts search search.known.now now search.workspace search.own search.others search.way
       (goes-itself _) kept (stands-itself _) (stands-itself _)
+
+  -- the mover's set stands as it stood, whatever is in the workspace
+  pub keeps-own : (search : Search K G R W Standing) (workspace : W) (own : Standing) → StandsAgain search.own own
+      → Keeps view search (record search { workspace = workspace; own = own })
+  keeps-own search workspace own stands =
+      keeps-parts search search.known.now search.seat.now workspace own search.others search.way
+      (goes-itself _) (seat-itself _) stands (stands-itself _)
+
+  -- the same of the other player's set
+  pub keeps-others : (search : Search K G R W Standing) (workspace : W) (others : Standing) → StandsAgain search.others others
+      → Keeps view search (record search { workspace = workspace; others = others })
+  keeps-others search workspace others stands =
+      keeps-parts search search.known.now search.seat.now workspace search.own others search.way
+      (goes-itself _) (seat-itself _) (stands-itself _) stands
 
   -- the way down is no matter of what is kept
   pub keeps-way : (search : Search K G R W Standing) (way : Way) → Keeps view search (record search { way = way })
   keeps-way search way =
-      keeps-parts search search.known.now search.seat.now search.own search.others way
+      keeps-parts search search.known.now search.seat.now search.workspace search.own search.others way
       (goes-itself _) (seat-itself _) (stands-itself _) (stands-itself _)
 
   pub keeps-itself : (search : Search K G R W Standing) → Keeps view search search

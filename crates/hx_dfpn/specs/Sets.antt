@@ -1,4 +1,4 @@
--- Stones that are put on a set of links and taken back: words for the functions inside the crate alone.
+-- Stones that are put on a set of links and taken back.
 use Rattle.std.specs.Prelude.{◌≡◌, ◌≢◌, [], ◌∷◌}
 use Rattle.hx_linkset.specs.States.{Standing}
 use Rattle.hx_dfpn.specs.declared.sets.Before.{Before}

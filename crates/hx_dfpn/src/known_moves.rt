@@ -10,10 +10,10 @@ use crate::outcomes::Outcome;
 use crate::searches::Search;
 use hx_board::{Cell, Mask};
 use hx_io::Gate;
-use hx_known::Knows;
+use hx_known::{Known, Knows};
 use hx_limits::RanOut;
 use hx_linkset::LinkSet;
-use hx_ordering::{Moves, Situation};
+use hx_ordering::{Child, Moves, Situation};
 use hx_reach::Workspace;
 use std::sync::Wait;
 
@@ -32,17 +32,7 @@ impl<K: Knows, G: Gate, R: Wait> Search<'_, K, G, R, Workspace, LinkSet> {
             .refuted_with(rt, position, situation.to_move, cell)
     }
 
-    /// The refuted moves, with those that lose with a move, where that move is not among them.
-    fn with_refuted(&mut self, situation: &Situation, cell: Cell, refuted: Mask) -> Mask
-        ensures keeps { Keeps K.view self.old self.new }
-    {
-        if refuted.has(cell) {
-            return refuted;
-        }
-        refuted.union(self.refuted_with(situation, cell))
-    }
-
-    /// Looks each move up, the last one first. Some where that ends the visit; the moves that lose are left out.
+    /// Asks what is known of each move. Some where that ends the visit; the moves that lose are left out.
     pub(crate) fn look_at_all(
         &mut self,
         situation: &Situation,
@@ -51,21 +41,17 @@ impl<K: Knows, G: Gate, R: Wait> Search<'_, K, G, R, Workspace, LinkSet> {
         ensures keeps { Keeps K.view self.old self.new }
         ensures stopped { IfErr result (Stops K.view self.new) }
     {
-        let mut refuted = Mask::empty();
-        let mut left = moves.children.len();
-        while left > 0 {
-            left -= 1;
-            let Some(child) = moves.children.get(left).copied() else {
-                return Ok(None);
-            };
-            if let Some(outcome) = self.win_by(situation, child.cell)? {
-                return Ok(Some(outcome));
-            }
-            refuted = self.with_refuted(situation, child.cell, refuted);
-            if refuted.has(child.cell) {
-                moves.leave_out(left);
-            }
+        let (rt, alloc) = (self.worker.rt, self.worker.alloc);
+        let position = situation.filled.position();
+        let order = moves.order.as_slice();
+        let cells = cells_of(moves.children.as_slice());
+        let asked = self
+            .known
+            .of_moves(rt, alloc, position, situation.to_move, order, cells)?;
+        if let Known::Proved = asked.known {
+            return Ok(Some(Outcome::Proved));
         }
+        moves.leave_out_all(asked.refuted);
         Ok(None)
     }
 
@@ -81,4 +67,13 @@ impl<K: Knows, G: Gate, R: Wait> Search<'_, K, G, R, Workspace, LinkSet> {
         let refuted = self.refuted_with(situation, cell);
         moves.leave_out_all(refuted);
     }
+}
+
+/// The cells of moves.
+fn cells_of(children: &[Child]) -> Mask {
+    let mut cells = Mask::empty();
+    for child in children {
+        cells = cells.with(child.cell);
+    }
+    cells
 }

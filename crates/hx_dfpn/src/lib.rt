@@ -20,4 +20,6 @@ mod ways;
 mod workers;
 
 pub use rounds::search_position;
+pub use sets::{Before, put, take_back};
+pub use ways::Way;
 pub use workers::{Worker, ask};

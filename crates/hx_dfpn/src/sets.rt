@@ -17,7 +17,7 @@ const MANY_LINKS: u32 = 6000;
 
 /// How a set was before a visit put its stones.
 #[derive(Drop)]
-pub(crate) enum Before {
+pub enum Before {
     /// As it is, but for the last play.
     Played,
 
@@ -29,11 +29,7 @@ pub(crate) enum Before {
 }
 
 /// Puts the stones of a visit on a player's set, as one play, where there are any; or puts a new set in its place.
-pub(crate) fn put(
-    set: &mut LinkSet,
-    situation: &Situation,
-    player: Colour,
-) -> Result<Before, Memory>
+pub fn put(set: &mut LinkSet, situation: &Situation, player: Colour) -> Result<Before, Memory>
     ensures put { IfOk result (λ before. IsPut before set.old set.new) }
     ensures memory { OnErr result (set.new ≡ set.old) }
 {
@@ -52,7 +48,7 @@ pub(crate) fn put(
 }
 
 /// Takes back what a visit put.
-pub(crate) fn take_back(set: &mut LinkSet, before: Before)
+pub fn take_back(set: &mut LinkSet, before: Before)
     requires { HasPlay before set.old }
     ensures { IsBack before set.old set.new }
 {

@@ -16,25 +16,25 @@ const PLACES: usize = CELLS + 1;
 /// The keys of the positions on a way down, each at the place of its visit's depth. The place of the root is the last one, so
 /// behind a visit's own place there are those of the visits above it alone. It can be copied, since it has no memory of its own.
 #[derive(Clone, Copy)]
-pub(crate) struct Way {
+pub struct Way {
     keys: [u64; PLACES],
 }
 
 impl Way {
     /// A way on which no position is noted.
-    pub(crate) fn new() -> Way {
+    pub fn new() -> Way {
         Way { keys: [0; PLACES] }
     }
 
     /// Notes the position and mover that have this key as those of the visit at a depth.
-    pub(crate) fn note(&mut self, depth: u32, key: u64) {
+    pub fn note(&mut self, depth: u32, key: u64) {
         if let Some(place) = self.keys.get_mut(depth as usize) {
             *place = key;
         }
     }
 
     /// Whether a position above the visit at a depth is marked as proved.
-    pub(crate) fn is_marked_above(&self, hints: &Hints, depth: u32) -> bool {
+    pub fn is_marked_above(&self, hints: &Hints, depth: u32) -> bool {
         let above = self.keys.get(depth as usize + 1..).unwrap_or(&[]);
         for key in above {
             if is_marked(hints, *key) {

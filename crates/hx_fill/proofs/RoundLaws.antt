@@ -153,7 +153,7 @@ module _ (player : Colour) (board next : Board) (fills more : List Fill) (adds :
       let none = adds.none (omega arith) in
       (none.0, rw none.0 none.1)
 
-  round-fewer : IsBoard board → (length more ≡ length fills → ⊥) → empty_count next < empty_count board
+  pub round-fewer : IsBoard board → (length more ≡ length fills → ⊥) → empty_count next < empty_count board
   round-fewer is grew =
       let all = lengths in
       fewer_empty adds.added board next is adds.to

@@ -20,6 +20,6 @@ mod winners_steps;
 pub use fills::{Fill, Filled};
 pub use mustplay::{must, must_without_lines};
 pub use musts::Must;
-pub use rounds::fill_in;
+pub use rounds::{fill_in, fill_in_for};
 pub use tried_cells::without_lines;
 pub use winners_steps::steps_for;

@@ -41,6 +41,24 @@ pub fn fill_in(alloc: Global, position: &Position) -> Result<Filled, Memory>
     }
 }
 
+/// Fills what is dead or a captured pair for one player alone, until no such cells are left.
+pub fn fill_in_for(alloc: Global, position: &Position, colour: Colour) -> Result<Filled, Memory>
+    ensures fills { IfOk result (λ filled.
+        IsFillIn position.now filled.steps.items filled.position) }
+{
+    let mut filled = Filled::none(alloc, position);
+    loop {
+        // The proof takes from here that the position's board is one.
+        let _size = filled.position.size();
+        let before = filled.steps.len();
+        fill_round(&mut filled, colour)?;
+        let has_none = filled.steps.len() == before;
+        if has_none {
+            return Ok(filled);
+        }
+    }
+}
+
 /// Looks at each empty cell for one player.
 fn fill_round(filled: &mut Filled, colour: Colour) -> Result<(), Memory>
     ensures { OnOk result (IsRound colour 0

@@ -1,5 +1,5 @@
 -- What whoever knows is to a search, and what the answers say.
-use Rattle.std.specs.Prelude.{◌≡◌, Option}
+use Rattle.std.specs.Prelude.{◌≡◌, List}
 use Rattle.std.specs.Borrow.{GName}
 use Rattle.hx_book.specs.Sights.{Sight, Grows}
 use Rattle.hx_limits.specs.declared.ran_out.RanOut.{RanOut}
@@ -7,12 +7,12 @@ use Rattle.hx_limits.specs.Causes.{IsUnstored}
 use Rattle.hx_known.specs.declared.knows.Known.{Known}
 use Rattle.hx_known.specs.declared.knows.Known.TheVariants.{Proved, Nothing}
 
--- the nodes that were seen, and the borrow behind which they are, where they are behind one
+-- the nodes that were seen, and the borrows behind which they are, the outermost first
 pub record View : Type 0 where
   pub sight : Sight
-  pub behind : Option GName
+  pub behind : List GName
 
--- what was seen only grew, behind the same borrow
+-- what was seen only grew, behind the same borrows
 pub record Goes (old new : View) : Type 0 where
   pub grew : Grows old.sight new.sight
   pub same_behind : new.behind ≡ old.behind

@@ -30,9 +30,19 @@ pub enum Known {
     Nothing,
 }
 
+/// What is known of moves.
+#[derive(Clone, Copy, PartialEq, Eq, Debug)]
+pub struct OfMoves {
+    /// Whether one of them wins. Then it is known that their mover wins the position.
+    pub known: Known,
+
+    /// Those that lose.
+    pub refuted: Mask,
+}
+
 /// Whoever knows of positions who wins them, and learns it from what a search finds. Others may teach the same one at any time.
 pub trait Knows {
-    /// What was seen, and the borrow behind which it is.
+    /// What was seen, and the borrows behind which it is.
     ghost view: { Self → View };
 
     /// It is known who wins the position with this player to move.
@@ -49,6 +59,10 @@ pub trait Knows {
 
     /// The position after fill-in, as far as a position is known by what is known after it.
     fn fill(&self, alloc: Global, position: &Position) -> Result<Filled, Memory>
+        ensures { IfOk result (λ filled. IsFillIn position.now filled.steps.items filled.position) };
+
+    /// The position after fill-in for one player alone, as far as a position is known by what is known after it.
+    fn fill_for(&self, alloc: Global, position: &Position, player: Colour) -> Result<Filled, Memory>
         ensures { IfOk result (λ filled. IsFillIn position.now filled.steps.items filled.position) };
 
     /// What is known of a position.
@@ -100,6 +114,21 @@ pub trait Knows {
         requires { IsEmpty position.now cell }
         ensures goes { Goes (view self.old) (view self.new) }
         ensures known { IfOk result (IfProved (proved self.new position.now to_move)) }
+        ensures stopped { IfErr result (LacksRoom (view self.new)) };
+
+    /// What is known of the moves to these cells, before any of them is made. Those that come last in the order are asked about first.
+    fn of_moves<R: Wait>(
+        &mut self,
+        rt: &R,
+        alloc: Global,
+        position: &Position,
+        to_move: Colour,
+        order: &[Cell],
+        cells: Mask,
+    ) -> Result<OfMoves, RanOut>
+        ensures goes { Goes (view self.old) (view self.new) }
+        ensures known { IfOk result
+            (λ moves. IfProved (proved self.new position.now to_move) moves.known) }
         ensures stopped { IfErr result (LacksRoom (view self.new)) };
 
     /// The player of a set wins with the opponent to move, where that is known after each move that must be tried. Better cells are

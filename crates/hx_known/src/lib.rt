@@ -6,4 +6,4 @@
 
 mod knows;
 
-pub use knows::{Known, Knows};
+pub use knows::{Known, Knows, OfMoves};

@@ -3,6 +3,7 @@
 use hx_count::{Counts, Hints};
 use hx_ordering::Replies;
 use hx_share::Shared;
+use hx_zones::Zones;
 
 /// What all workers share: the book, the counts, and what they leave for one another.
 #[derive(Drop)]
@@ -11,4 +12,5 @@ pub struct Bench<'a> {
     pub counts: &'a Counts,
     pub hints: &'a Hints,
     pub replies: &'a Replies,
+    pub zones: &'a Zones,
 }

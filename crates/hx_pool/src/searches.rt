@@ -17,6 +17,7 @@ use hx_io::Gate;
 use hx_limits::{RanOut, Settings};
 use hx_ordering::{LOSS_WORDS, Replies};
 use hx_share::Shared;
+use hx_zones::{Zones, zone_blocks};
 use std::alloc::Global;
 use std::sync::Wait;
 use std::thread::Threads;
@@ -50,6 +51,7 @@ pub fn run_all<E: Errand + Sync, G: Gate + Sync, R: Threads + Wait + Sync>(
     let words = hint_words(settings.budget, empties);
     let hints = Hints::with_words(alloc, words)?;
     let replies = Replies::new(alloc)?;
+    let zones = Zones::with_blocks(alloc, zone_blocks(settings.budget, empties))?;
     let room = Parts::with_room(alloc, workers)?;
     let (shared, books) = Shared::start(alloc, settings.slots, workers)?;
     let (counts, count_seats) = Counts::start(alloc, settings.budget, LOSS_WORDS, workers)?;
@@ -58,6 +60,7 @@ pub fn run_all<E: Errand + Sync, G: Gate + Sync, R: Threads + Wait + Sync>(
         counts: &counts,
         hints: &hints,
         replies: &replies,
+        zones: &zones,
     };
     let mut places = bench.deal(alloc, books, count_seats)?;
     let crew = Crew {

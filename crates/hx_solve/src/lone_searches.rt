@@ -19,6 +19,7 @@ use hx_ordering::{LOSS_WORDS, Replies};
 use hx_pool::{Searched, hint_words};
 use hx_tree::Found;
 use hx_worker::{Ended, Job, new_sets, work};
+use hx_zones::Zones;
 use std::alloc::Global;
 use std::sync::Wait;
 
@@ -48,6 +49,8 @@ pub(crate) fn search_alone<G: Gate, R: Wait>(
     let words = hint_words(settings.budget, position.empty_count());
     let hints = Hints::with_words(alloc, words)?;
     let replies = Replies::new(alloc)?;
+    // A plain search has no zones.
+    let zones = Zones::with_blocks(alloc, 0)?;
     let book = PlainBook::with_slots(alloc, settings.slots)?;
     let (counts, mut seats) = Counts::start(alloc, settings.budget, LOSS_WORDS, 1)?;
     let Some(seat) = seats.pop() else {
@@ -63,6 +66,7 @@ pub(crate) fn search_alone<G: Gate, R: Wait>(
         seat,
         hints: &hints,
         replies: &replies,
+        zones: &zones,
         black,
         white,
     };

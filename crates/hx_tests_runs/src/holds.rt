@@ -10,9 +10,9 @@ use hx_board::{Colour, Mask, Memory, Position, Size};
 use hx_book::Book;
 use hx_count::{CountSeat, Counts, Hints};
 use hx_io::Gate;
-use hx_linkset::LinkSet;
 use hx_ordering::{LOSS_WORDS, Replies};
-use hx_worker::{Ended, Job, work};
+use hx_worker::{Ended, Job, new_sets, work};
+use hx_zones::Zones;
 use std::alloc::Global;
 use std::cell::RefCell;
 use std::sync::Wait;
@@ -63,7 +63,47 @@ impl Gate for WatchingGate<'_> {
     }
 }
 
-/// A worker's work on a position with White to move.
+/// What a worker has beside its seat and its position.
+#[derive(Drop)]
+struct Bench<'a> {
+    counts: &'a Counts,
+    hints: &'a Hints,
+    replies: &'a Replies,
+    zones: &'a Zones,
+}
+
+/// A worker's work on a position with White to move, over a book of its own.
+fn work_on<R: Wait>(
+    rt: &R,
+    alloc: Global,
+    position: Position,
+    bench: &Bench<'_>,
+    seat: CountSeat,
+    gate: &WatchingGate<'_>,
+) -> Result<Ended, Memory>
+    requires seat { seat.made ≡ bench.now.counts.now }
+    requires words { bench.now.counts.now.limits.words ≡ LOSS_WORDS }
+    requires nothing_held { held_in_all (own seat) ≡ 0 }
+{
+    let (black, white) = new_sets(alloc, &position)?;
+    let proofs = Book::with_slots(alloc, 1024)?;
+    let mut job = Job {
+        worker: 0,
+        position,
+        to_move: Colour::White,
+        proofs,
+        counts: bench.counts,
+        seat,
+        hints: bench.hints,
+        replies: bench.replies,
+        zones: bench.zones,
+        black,
+        white,
+    };
+    Ok(work(rt, &mut job, gate))
+}
+
+/// As `work_on`, with tables of its own of what workers leave for one another.
 fn worked<R: Wait>(
     rt: &R,
     alloc: Global,
@@ -78,19 +118,14 @@ fn worked<R: Wait>(
 {
     let hints = Hints::with_words(alloc, 1024)?;
     let replies = Replies::new(alloc)?;
-    let mut job = Job {
-        worker: 0,
-        position,
-        to_move: Colour::White,
-        proofs: Book::with_slots(alloc, 1024)?,
+    let zones = Zones::with_blocks(alloc, 16)?;
+    let bench = Bench {
         counts,
-        seat,
         hints: &hints,
         replies: &replies,
-        black: LinkSet::new(alloc, &position, Colour::Black)?,
-        white: LinkSet::new(alloc, &position, Colour::White)?,
+        zones: &zones,
     };
-    Ok(work(rt, &mut job, gate))
+    work_on(rt, alloc, position, &bench, seat, gate)
 }
 
 /// Black's f1 on the board of 6 by 6, which five units do not decide.

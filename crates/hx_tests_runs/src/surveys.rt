@@ -21,11 +21,11 @@ fn a_survey_writes_its_table(rt: HostRuntime) -> Result<(), Fail> {
     Ok(())
 }
 
-/// Each of the first two openings takes a unit, and the others are these two, turned. They would take a unit each, if each opening had a
-/// book of its own, or if what is proved were searched again.
+/// Each of the first two openings takes two units, one in each walk, and the others are these two, turned. They would take two units each,
+/// if each opening had a book of its own, or if what is proved were searched again.
 #[test]
 fn the_openings_share_one_book(rt: HostRuntime) -> Result<(), Fail> {
-    assert_turns(&rt, rt.alloc(), &["survey", "2", "2"], TWO_BY_TWO, 2, 0x1)
+    assert_turns(&rt, rt.alloc(), &["survey", "2", "2"], TWO_BY_TWO, 4, 0x1)
 }
 
 /// Each unit has one turn, and so has the end of the worker, which is refused a unit. There would be more turns, if each opening had a

@@ -65,6 +65,7 @@ pub fn job_of<'a>(
         seat: seats.counts,
         hints: bench.hints,
         replies: bench.replies,
+        zones: bench.zones,
         black,
         white,
     }

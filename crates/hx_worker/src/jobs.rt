@@ -20,6 +20,7 @@ use hx_io::Gate;
 use hx_limits::RanOut;
 use hx_linkset::LinkSet;
 use hx_ordering::{LOSS_WORDS, Replies};
+use hx_zones::Zones;
 use std::sync::Wait;
 
 /// What a worker works on, and with.
@@ -40,6 +41,7 @@ pub struct Job<'a, P: Proofs> {
     /// What workers leave for one another.
     pub hints: &'a Hints,
     pub replies: &'a Replies,
+    pub zones: &'a Zones,
 
     /// The links of both players at the position.
     pub black: LinkSet,
@@ -61,6 +63,7 @@ pub fn work<P: Proofs, G: Gate, R: Wait>(rt: &R, job: &mut Job<'_, P>, gate: &G)
     ensures counts { job.new.counts.now ≡ job.old.counts.now }
     ensures hints { job.new.hints.now ≡ job.old.hints.now }
     ensures replies { job.new.replies.now ≡ job.old.replies.now }
+    ensures zones { job.new.zones.now ≡ job.old.zones.now }
     ensures grew { Grows (P.sight job.old.proofs) (P.sight job.new.proofs) }
     ensures seat { KeepsSeat job.old.seat job.new.seat }
     ensures black { IsGrown job.old.black job.new.black }
@@ -89,6 +92,7 @@ pub fn work<P: Proofs, G: Gate, R: Wait>(rt: &R, job: &mut Job<'_, P>, gate: &G)
     let ended = search_by(
         &worker,
         &mut job.proofs,
+        job.zones,
         &mut job.seat,
         &job.position,
         job.to_move,

@@ -7,6 +7,7 @@
 
 mod benches;
 mod closing;
+mod each_move;
 mod ended;
 mod jobs;
 mod listed;

@@ -7,10 +7,11 @@ ghost use Rattle.hx_board.specs.Positions.{put};
 ghost use Rattle.hx_nodes.specs.Stored.{HasEntry};
 ghost use Rattle.hx_worker.specs.Forms.{HasWin};
 
+use crate::each_move::{KnowsMoves, of_each_move};
 use hx_board::{Cell, Colour, Mask, Memory, Position};
 use hx_book::Proofs;
 use hx_fill::{Filled, must_without_lines};
-use hx_known::{Known, Knows};
+use hx_known::{Known, Knows, OfMoves};
 use hx_limits::RanOut;
 use hx_linkset::LinkSet;
 use hx_nodes::{Stored, store_answers, store_chain, store_links, store_move};
@@ -41,10 +42,50 @@ impl<'a, P> Drop for PlainProofs<'a, P> {
     }
 }
 
-impl<P: Proofs> Knows for PlainProofs<'_, P> {
-    ghost use Rattle.std.specs.declared.option.Option.TheVariants.{Some};
+impl<P: Proofs> KnowsMoves for PlainProofs<'_, P> {
+    ghost use Rattle.std.specs.Prelude.{[], ◌∷◌};
 
-    ghost view = { λ f. record { sight = P.sight f.proofs.now; behind = Some f.proofs.ghost_name } };
+    ghost view = { λ f. record { sight = P.sight f.proofs.now; behind = f.proofs.ghost_name ∷ [] } };
+
+    ghost won = { λ f board mover. HasEntry (P.sight f.proofs.now).list board mover };
+
+    ghost lost = { λ f board mover cell.
+        HasWin (P.sight f.proofs.now).list (put board mover cell) (other_of mover) (other_of mover) };
+
+    fn win_by<R: Wait>(
+        &mut self,
+        rt: &R,
+        _alloc: Global,
+        position: &Position,
+        to_move: Colour,
+        cell: Cell,
+    ) -> Result<Known, RanOut> {
+        match store_move(rt, self.proofs, position, to_move, cell)? {
+            Stored::Done => Ok(Known::Proved),
+            Stored::Missing => Ok(Known::Nothing),
+        }
+    }
+
+    fn lost_with<R: Wait>(
+        &mut self,
+        rt: &R,
+        position: &Position,
+        to_move: Colour,
+        cell: Cell,
+    ) -> Mask {
+        let next = position.with(to_move, cell);
+        let other = to_move.other();
+        match self.proofs.look(rt, &next, other) {
+            Some(found) if found.winner == other => Mask::empty().with(cell),
+            _ => Mask::empty(),
+        }
+    }
+}
+
+impl<P: Proofs> Knows for PlainProofs<'_, P> {
+    ghost use Rattle.std.specs.Prelude.{[], ◌∷◌};
+
+    ghost view = { λ f. record { sight = P.sight f.proofs.now; behind = f.proofs.ghost_name ∷ [] } };
 
     ghost proved = { λ f board mover. HasEntry (P.sight f.proofs.now).list board mover };
 
@@ -58,6 +99,15 @@ impl<P: Proofs> Knows for PlainProofs<'_, P> {
     }
 
     fn fill(&self, alloc: Global, position: &Position) -> Result<Filled, Memory> {
+        Ok(Filled::none(alloc, position))
+    }
+
+    fn fill_for(
+        &self,
+        alloc: Global,
+        position: &Position,
+        _player: Colour,
+    ) -> Result<Filled, Memory> {
         Ok(Filled::none(alloc, position))
     }
 
@@ -96,15 +146,24 @@ impl<P: Proofs> Knows for PlainProofs<'_, P> {
     fn by_move<R: Wait>(
         &mut self,
         rt: &R,
-        _alloc: Global,
+        alloc: Global,
         position: &Position,
         to_move: Colour,
         cell: Cell,
     ) -> Result<Known, RanOut> {
-        match store_move(rt, self.proofs, position, to_move, cell)? {
-            Stored::Done => Ok(Known::Proved),
-            Stored::Missing => Ok(Known::Nothing),
-        }
+        self.win_by(rt, alloc, position, to_move, cell)
+    }
+
+    fn of_moves<R: Wait>(
+        &mut self,
+        rt: &R,
+        alloc: Global,
+        position: &Position,
+        to_move: Colour,
+        order: &[Cell],
+        cells: Mask,
+    ) -> Result<OfMoves, RanOut> {
+        of_each_move(self, rt, alloc, position, to_move, order, cells)
     }
 
     fn by_answers<R: Wait>(
@@ -140,12 +199,7 @@ impl<P: Proofs> Knows for PlainProofs<'_, P> {
         to_move: Colour,
         cell: Cell,
     ) -> Mask {
-        let next = position.with(to_move, cell);
-        let other = to_move.other();
-        match self.proofs.look(rt, &next, other) {
-            Some(found) if found.winner == other => Mask::empty().with(cell),
-            _ => Mask::empty(),
-        }
+        self.lost_with(rt, position, to_move, cell)
     }
 
     fn settle<R: Wait>(

@@ -8,10 +8,11 @@ ghost use Rattle.hx_nodes.specs.Stored.{HasEntry};
 ghost use Rattle.hx_widen.specs.Wide.{IsServed};
 ghost use Rattle.hx_worker.specs.Forms.{IsServedAs};
 
+use crate::each_move::{KnowsMoves, of_each_move};
 use hx_board::{Cell, Colour, Mask, Memory, Position};
 use hx_book::Proofs;
-use hx_fill::{Filled, fill_in};
-use hx_known::{Known, Knows};
+use hx_fill::{Filled, fill_in, fill_in_for};
+use hx_known::{Known, Knows, OfMoves};
 use hx_limits::RanOut;
 use hx_linkset::LinkSet;
 use hx_nodes::Stored;
@@ -46,10 +47,50 @@ impl<'a, P> Drop for WideProofs<'a, P> {
     }
 }
 
-impl<P: Proofs> Knows for WideProofs<'_, P> {
-    ghost use Rattle.std.specs.declared.option.Option.TheVariants.{Some};
+impl<P: Proofs> KnowsMoves for WideProofs<'_, P> {
+    ghost use Rattle.std.specs.Prelude.{[], ◌∷◌};
 
-    ghost view = { λ f. record { sight = P.sight f.proofs.now; behind = Some f.proofs.ghost_name } };
+    ghost view = { λ f. record { sight = P.sight f.proofs.now; behind = f.proofs.ghost_name ∷ [] } };
+
+    ghost won = { λ f board mover. IsServed P.is_plain (P.sight f.proofs.now).list board mover };
+
+    ghost lost = { λ f board mover cell. IsServedAs P.is_plain (P.sight f.proofs.now).list
+        (put board mover cell) (other_of mover) (other_of mover) };
+
+    fn win_by<R: Wait>(
+        &mut self,
+        rt: &R,
+        alloc: Global,
+        position: &Position,
+        to_move: Colour,
+        cell: Cell,
+    ) -> Result<Known, RanOut> {
+        match widen_move(rt, alloc, self.proofs, position, to_move, cell)? {
+            Stored::Done => Ok(Known::Proved),
+            Stored::Missing => Ok(Known::Nothing),
+        }
+    }
+
+    fn lost_with<R: Wait>(
+        &mut self,
+        rt: &R,
+        position: &Position,
+        to_move: Colour,
+        cell: Cell,
+    ) -> Mask {
+        let next = position.with(to_move, cell);
+        let other = to_move.other();
+        match self.proofs.look_wider(rt, &next, other, other) {
+            Some(wider) => position.empties().minus(wider.position.empties()),
+            None => Mask::empty(),
+        }
+    }
+}
+
+impl<P: Proofs> Knows for WideProofs<'_, P> {
+    ghost use Rattle.std.specs.Prelude.{[], ◌∷◌};
+
+    ghost view = { λ f. record { sight = P.sight f.proofs.now; behind = f.proofs.ghost_name ∷ [] } };
 
     ghost proved = { λ f board mover. IsServed P.is_plain (P.sight f.proofs.now).list board mover };
 
@@ -64,6 +105,15 @@ impl<P: Proofs> Knows for WideProofs<'_, P> {
 
     fn fill(&self, alloc: Global, position: &Position) -> Result<Filled, Memory> {
         fill_in(alloc, position)
+    }
+
+    fn fill_for(
+        &self,
+        alloc: Global,
+        position: &Position,
+        player: Colour,
+    ) -> Result<Filled, Memory> {
+        fill_in_for(alloc, position, player)
     }
 
     fn of_position<R: Wait>(
@@ -106,10 +156,19 @@ impl<P: Proofs> Knows for WideProofs<'_, P> {
         to_move: Colour,
         cell: Cell,
     ) -> Result<Known, RanOut> {
-        match widen_move(rt, alloc, self.proofs, position, to_move, cell)? {
-            Stored::Done => Ok(Known::Proved),
-            Stored::Missing => Ok(Known::Nothing),
-        }
+        self.win_by(rt, alloc, position, to_move, cell)
+    }
+
+    fn of_moves<R: Wait>(
+        &mut self,
+        rt: &R,
+        alloc: Global,
+        position: &Position,
+        to_move: Colour,
+        order: &[Cell],
+        cells: Mask,
+    ) -> Result<OfMoves, RanOut> {
+        of_each_move(self, rt, alloc, position, to_move, order, cells)
     }
 
     fn by_answers<R: Wait>(
@@ -145,12 +204,7 @@ impl<P: Proofs> Knows for WideProofs<'_, P> {
         to_move: Colour,
         cell: Cell,
     ) -> Mask {
-        let next = position.with(to_move, cell);
-        let other = to_move.other();
-        match self.proofs.look_wider(rt, &next, other, other) {
-            Some(wider) => position.empties().minus(wider.position.empties()),
-            None => Mask::empty(),
-        }
+        self.lost_with(rt, position, to_move, cell)
     }
 
     fn settle<R: Wait>(

@@ -1,0 +1,2 @@
+-- ---- words for the functions inside the crate alone
+pub mod Steps
