@@ -1,5 +1,5 @@
-// What is asked of a page of a tree once it has opened: `.ci/page` puts this behind the page's own script, with `task`, which
-// says at which nodes to look and which keys to press at the root, and `report`, which hands on what came.
+// What is asked of a page of a tree once it has opened: `.ci/page` puts this behind the page's own script, with `task`,
+// which says at which nodes to look and which keys to press at the root, and `report`, which hands on what came.
 
 (async () => {
   const opened = performance.now();
@@ -15,8 +15,8 @@
 
   const numberShown = () => Number(document.getElementById("number").value);
 
-  // A key, or a click on the line of a cell. One that is to lead to another node has time for that, and one that is not has
-  // little.
+  // A key, or a click on the line of a cell. One that is to lead to another node has time for that, and one that is not
+  // has little.
   async function pressed([key, wanted]) {
     const shown = changed();
     const patience = wanted === numberShown() ? 100 : 10000;

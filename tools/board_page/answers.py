@@ -2,8 +2,7 @@
 
 Each request names the token of the address that was opened, this server as its host and, where it names one, this
 server as its origin. So no other site and no one who has not seen the address gets an answer, and no answer allows
-another site to read it.
-"""
+another site to read it."""
 import hmac
 import http
 import http.server
@@ -25,8 +24,7 @@ TYPES = {".html": "text/html", ".css": "text/css", ".js": "text/javascript", ".j
          ".svg": "image/svg+xml"}
 SCRIPTS = ("page", "board", "position", "questions", "why", "game", "pattern", "pictures", "elements")
 FILES = {"": HERE / "page.html", "page.css": HERE / "page.css", "marks.css": HERE / "marks.css",
-         "board.css": PAGES / "board.css",
-         **{f"{script}.js": HERE / f"{script}.js" for script in SCRIPTS}}
+         "board.css": PAGES / "board.css", **{f"{script}.js": HERE / f"{script}.js" for script in SCRIPTS}}
 # What the pages of trees have, in the order in which they have it: reader.js holds it together.
 READER = ("tree.js", "links.js", "records.js", "telling.js")
 HEADERS = {
@@ -214,8 +212,7 @@ def read_reader(server):
 
 
 def board_at(server, rest):
-    """The empty board of ROWS/COLUMNS, as the pages of trees draw it. How it looks the page says, in which no style
-    may stand."""
+    """The empty board of ROWS/COLUMNS, as the pages of trees draw it. The page says how it looks, without styles."""
     words = rest.split("/")
     require(len(words) == 2 and all(word.isascii() and word.isdigit() and len(word) < 3 for word in words),
             "rows and columns")

@@ -1,5 +1,4 @@
-"""What the page asks, read from JSON: every value is looked at, and anything else than what is expected is refused in
-a sentence."""
+"""What the page asks, read from JSON: each value is looked at, and what is not expected is refused in a sentence."""
 import json
 
 from drawn_boards.boards import MOST, Position, Template, cell_of

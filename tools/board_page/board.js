@@ -1,5 +1,5 @@
-// The board: the picture that the pages of trees have, whose cells are buttons here. Arrow keys go from cell to cell, and Enter or the
-// space bar is a click.
+// The board: the picture that the pages of trees have, whose cells are buttons here. Arrow keys go from cell to cell,
+// and Enter or the space bar is a click.
 
 import { colourName } from "./elements.js";
 import { LETTERS } from "./position.js";
@@ -8,7 +8,8 @@ const SVG = "http://www.w3.org/2000/svg";
 const STONES = ["black", "white"];
 const MARKED = { "+": "wins", "-": "loses", "?": "left-open", "*": "in-carrier" };
 const SIGNS = { "-": "\u2212" };
-const SPOKEN = { "+": "a move here wins", "-": "a move here loses", "?": "a move here was left open", "*": "in the carrier" };
+const SPOKEN = { "+": "a move here wins", "-": "a move here loses", "?": "a move here was left open",
+  "*": "in the carrier" };
 const LARGEST = 1.8; // how much larger than drawn a small board may be
 const STEPS = { ArrowLeft: [0, -1], ArrowRight: [0, 1], ArrowUp: [-1, 0], ArrowDown: [1, 0] };
 
@@ -42,7 +43,8 @@ export class Board {
     for (const text of this.svg.querySelectorAll("text")) text.setAttribute("aria-hidden", "true");
     this.cells = new Map([...this.svg.querySelectorAll("[data-cell]")].map((cell) => [cell.dataset.cell, cell]));
     for (const [name, cell] of this.cells) this.makeButton(name, cell);
-    this.ring = svgElement("polygon", { class: "ring", points: this.cells.get("a1").querySelector("polygon").getAttribute("points") });
+    this.ring = svgElement("polygon", { class: "ring",
+      points: this.cells.get("a1").querySelector("polygon").getAttribute("points") });
     this.svg.append(this.ring);
     if (!this.cells.has(this.focused)) this.focused = "a1";
   }
@@ -54,7 +56,8 @@ export class Board {
     cell.addEventListener("click", () => this.clicked(name));
   }
 
-  // The stones of a position, the signs of some cells, and other marks by their classes; `last` is the cell of the last move.
+  // The stones of a position, the signs of some cells, and other marks by their classes; `last` is the cell of the last
+  // move.
   show(position, { signs = {}, classes = {}, last = "", sides = [] } = {}) {
     for (const [name, cell] of this.cells) {
       const stone = position.stones.get(name);
@@ -78,7 +81,8 @@ export class Board {
 
   // The marks that a record of a tree has put on the board are said too.
   nameByMarks() {
-    const said = { carrier: "in the carrier", chosen: "chosen", "black-fill": "filled in for Black", "white-fill": "filled in for White" };
+    const said = { carrier: "in the carrier", chosen: "chosen", "black-fill": "filled in for Black",
+      "white-fill": "filled in for White" };
     for (const [name, { classList }] of this.cells) {
       const marks = Object.keys(said).filter((mark) => classList.contains(mark));
       this.name(name, STONES.find((stone) => classList.contains(stone)), marks.map((mark) => said[mark]));

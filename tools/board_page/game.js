@@ -5,7 +5,8 @@ import { moveTold } from "./position.js";
 
 export class Game {
   constructor(page, { winner, tree, answers, over }) {
-    Object.assign(this, { page, winner, tree, loser: other[winner], moves: [], isOver: over, isWaiting: false, said: "", last: "" });
+    Object.assign(this, { page, winner, tree, loser: other[winner], moves: [],
+      isOver: over, isWaiting: false, said: "", last: "" });
     if (answers.length) this.put(winner, answers[0]);
     this.said = this.told();
   }
@@ -21,7 +22,8 @@ export class Game {
 
   told() {
     const won = `${colourName[this.winner]} has joined ${joined[this.winner]} and won.`;
-    const answered = this.last ? `${colourName[this.winner]} ${this.moves.length ? "answers" : "begins with"} ${this.last}. ` : "";
+    const does = this.moves.length ? "answers" : "begins with";
+    const answered = this.last ? `${colourName[this.winner]} ${does} ${this.last}. ` : "";
     return answered + (this.isOver ? won : `It is your turn, as ${colourName[this.loser]}.`);
   }
 

@@ -1,5 +1,5 @@
-// The page: the position that is shown, the questions about it, and what the board is used for: to put stones, to see why, for a game, or
-// for a pattern.
+// The page: the position that is shown, the questions about it, and what the board is used for: to put stones, to see
+// why, for a game, or for a pattern.
 
 import { Board } from "./board.js";
 import { byId, button, colourName, counted, joined, make, other, spelled } from "./elements.js";
@@ -11,9 +11,11 @@ import { Desk, call } from "./questions.js";
 import { Why } from "./why.js";
 
 const DOING = {
-  solve: "hx solve searches", check: "hx check reads the tree", play: "hx play answers", template: "hx template tries", "": "it begins",
+  solve: "hx solve searches", check: "hx check reads the tree", play: "hx play answers", template: "hx template tries",
+  "": "it begins",
 };
-const NO_ANSWER = "tools/board does not answer. Where it has ended, start it again, and open the address that it writes.";
+const NO_ANSWER = "tools/board does not answer. "
+  + "Where it has ended, start it again, and open the address that it writes.";
 const ACCEPTED = "hx check accepted the tree that proves it.";
 const TICK = 100; // milliseconds between two looks at the clock
 const RAN_OUT = { budget: "units were used up", proofs: "proved positions were kept, and there is no room for more" };
@@ -24,7 +26,8 @@ class Page {
     const ofFile = start.position && Position.from(start.position);
     this.shown = new Shown(Position.ofLink(location.hash) || ofFile || new Position(7, 7), "Start");
     this.board = new Board(byId("board"), (cell) => this.click(cell));
-    this.desk = new Desk({ told: (told) => this.showProgress(told), connected: (isThere) => this.showConnection(isThere) });
+    const connected = (isThere) => this.showConnection(isThere);
+    this.desk = new Desk({ told: (told) => this.showProgress(told), connected });
     setInterval(() => this.tick(), TICK);
   }
 
@@ -70,7 +73,8 @@ class Page {
   };
 
   putStone(cell, colour) {
-    if (this.position.stones.get(cell) !== colour) this.show(this.position.put(cell, colour), `${moveTold(colour, cell)}, put`);
+    if (this.position.stones.get(cell) === colour) return;
+    this.show(this.position.put(cell, colour), `${moveTold(colour, cell)}, put`);
   }
 
   setMover(mover) {
@@ -95,7 +99,8 @@ class Page {
   }
 
   emptyBoard() {
-    const [rows, columns] = ["rows", "columns"].map((name) => Math.min(Math.max(Math.trunc(Number(byId(name).value)) || 1, 1), MOST));
+    const lengthIn = (name) => Math.min(Math.max(Math.trunc(Number(byId(name).value)) || 1, 1), MOST);
+    const [rows, columns] = ["rows", "columns"].map(lengthIn);
     this.enter(null);
     this.show(new Position(rows, columns), `Empty, ${rows} by ${columns}`);
   }
@@ -112,7 +117,8 @@ class Page {
   // ---- Questions
 
   options() {
-    const given = ["workers", "budget", "proofs"].map((name) => [name, byId(name).value]).filter(([, value]) => value !== "");
+    const given = ["workers", "budget", "proofs"].map((name) => [name, byId(name).value])
+      .filter(([, value]) => value !== "");
     return Object.fromEntries(given.map(([name, value]) => [name, Number(value)]));
   }
 
@@ -183,7 +189,8 @@ class Page {
     if (told.winner === other[mover]) return this.whoTold(told);
     const rest = opens.length ? ` ${this.openTold(counted(opens.length, "move"), told)}` : "";
     if (!wins.length) return rest.trim();
-    const alone = wins.length === 1 && !opens.length ? `${wins[0]} alone` : `${wins.length} of ${counted(cells.length, "move")}`;
+    const alone = wins.length === 1 && !opens.length ? `${wins[0]} alone`
+      : `${wins.length} of ${counted(cells.length, "move")}`;
     return `${colourName[mover]} wins, by ${alone}.${rest}`;
   }
 
@@ -351,11 +358,12 @@ class Page {
 
 function connect(page) {
   const clicks = {
-    "ask-who": () => page.askWho(), "ask-moves": () => page.askMoves(), "ask-why": () => page.askWhy(), "ask-game": () => page.askGame(),
-    "ask-pattern": () => page.askPattern(), stop: () => page.desk.stop(), undo: () => page.undo(), redo: () => page.go(page.shown.at + 1),
-    empty: () => page.emptyBoard(), read: () => page.paste(),
-    "as-text": () => page.takeText("text"), "as-drawn": () => page.takeText("drawn"), "as-link": () => page.takeAddress(),
-    "as-svg": () => page.takeSvg(), "as-png": () => page.takePng(), copy: () => page.copy(),
+    "ask-who": () => page.askWho(), "ask-moves": () => page.askMoves(), "ask-why": () => page.askWhy(),
+    "ask-game": () => page.askGame(), "ask-pattern": () => page.askPattern(), stop: () => page.desk.stop(),
+    undo: () => page.undo(), redo: () => page.go(page.shown.at + 1), empty: () => page.emptyBoard(),
+    read: () => page.paste(), "as-text": () => page.takeText("text"), "as-drawn": () => page.takeText("drawn"),
+    "as-link": () => page.takeAddress(), "as-svg": () => page.takeSvg(), "as-png": () => page.takePng(),
+    copy: () => page.copy(),
   };
   for (const [id, clicked] of Object.entries(clicks)) byId(id).onclick = clicked;
   for (const mover of document.querySelectorAll("[name=mover]")) mover.onchange = () => page.setMover(mover.value);
@@ -366,7 +374,8 @@ function connect(page) {
 
 // Undo and redo as everywhere, but where something is written.
 function pressed(page, event) {
-  if (!(event.ctrlKey || event.metaKey) || event.altKey || ["INPUT", "TEXTAREA", "SELECT"].includes(event.target.tagName)) return;
+  const isTyped = ["INPUT", "TEXTAREA", "SELECT"].includes(event.target.tagName);
+  if (!(event.ctrlKey || event.metaKey) || event.altKey || isTyped) return;
   const key = event.key.toLowerCase();
   if (key === "z" && !event.shiftKey) page.undo();
   else if (key === "y" || key === "z") page.go(page.shown.at + 1);
@@ -375,7 +384,8 @@ function pressed(page, event) {
 }
 
 function setOptions({ options, limits }) {
-  for (const [name, [min, max]] of Object.entries(limits)) Object.assign(byId(name), { min, max, value: options[name] ?? "" });
+  for (const [name, [min, max]] of Object.entries(limits))
+    Object.assign(byId(name), { min, max, value: options[name] ?? "" });
 }
 
 async function begin() {

@@ -22,8 +22,7 @@ def text_by_hexpos(words, content):
 
 
 def exact_text(content, size):
-    """The exact text of what is written here. A list of moves that does not tell its board is one on a board of this
-    size."""
+    """The exact text of what is written here. Moves that do not tell their board are on one of this size."""
     content = content.lstrip() if content.lstrip().startswith(NAMES) else content
     if content.startswith(NAMES):
         content = content.rstrip() + b"\n"

@@ -45,7 +45,8 @@ export class Pattern {
   // A third end takes the place of the first.
   toggleEnd(end) {
     const isOther = this.position.stones.get(end) === other[this.owner];
-    this.said = isOther ? `${end} is a stone of ${colourName[other[this.owner]]}'s; an end is ${colourName[this.owner]}'s, or empty.` : "";
+    const [own, its] = [this.owner, other[this.owner]].map((player) => colourName[player]);
+    this.said = isOther ? `${end} is a stone of ${its}'s; an end is ${own}'s, or empty.` : "";
     if (this.ends.includes(end)) this.ends = this.ends.filter((one) => one !== end);
     else if (!isOther) this.ends = [...this.ends, end].slice(-2);
     this.carrier.delete(end);
@@ -57,7 +58,8 @@ export class Pattern {
 
   asked() {
     const { rows, columns, black, white } = this.position.asked();
-    return { rows, columns, black, white, owner: this.owner, kind: this.kind, ends: this.ends, carrier: [...this.carrier] };
+    return { rows, columns, black, white, owner: this.owner, kind: this.kind,
+      ends: this.ends, carrier: [...this.carrier] };
   }
 
   async ask() {
@@ -73,7 +75,8 @@ export class Pattern {
     const [one, two] = this.ends.map((end) => this.endTold(end));
     const [owner, opponent] = [colourName[this.owner], colourName[other[this.owner]]];
     const first = this.kind === "full" ? `though ${opponent} moves first` : `where ${owner} moves first`;
-    if (safe === "unknown") return `That was left open: ${cells} cells are marked, and at most ${MOST_CELLS} are tried.`;
+    if (safe === "unknown")
+      return `That was left open: ${cells} cells are marked, and at most ${MOST_CELLS} are tried.`;
     const can = safe === "yes" ? `Yes: ${owner} can` : `No: ${owner} cannot`;
     return `${can} join ${one} with ${two} by these ${counted(cells, "cell")}, ${first}.`;
   }
@@ -99,7 +102,8 @@ export class Pattern {
     const cells = this.ends.filter((end) => !(end in SIDES.black));
     cells.forEach((end) => this.page.board.name(end, this.position.stones.get(end), ["an end"]));
     const ends = this.ends.map((end) => this.endTold(end)).join(" and ");
-    byId("pattern-told").textContent = this.said || `${counted(this.carrier.size, "cell")} marked. Ends: ${ends || "none"}.`;
+    byId("pattern-told").textContent = this.said
+      || `${counted(this.carrier.size, "cell")} marked. Ends: ${ends || "none"}.`;
   }
 
   leave() {}

@@ -14,7 +14,9 @@ export async function svgOf(svg) {
   copy.removeAttribute("style"); // how large it may be on the page
   copy.setAttribute("role", "img");
   copy.setAttribute("aria-label", "the board");
-  for (const cell of copy.querySelectorAll("[data-cell]")) ["role", "tabindex", "aria-label"].forEach((name) => cell.removeAttribute(name));
+  for (const cell of copy.querySelectorAll("[data-cell]")) {
+    for (const name of ["role", "tabindex", "aria-label"]) cell.removeAttribute(name);
+  }
   const style = document.createElementNS(copy.namespaceURI, "style");
   style.textContent = await styles();
   copy.prepend(style);

@@ -9,7 +9,8 @@ const LINK = /^#?(\d{1,2})x(\d{1,2});(black|white);([.bw/]+)$/;
 
 // The names of a board's cells, row by row.
 export function namesOf(rows, columns) {
-  return Array.from({ length: rows * columns }, (_, place) => LETTERS[place % columns] + (Math.floor(place / columns) + 1));
+  return Array.from({ length: rows * columns },
+    (_, place) => LETTERS[place % columns] + (Math.floor(place / columns) + 1));
 }
 
 export class Position {
@@ -19,7 +20,8 @@ export class Position {
 
   // What a server tells of a position, or of a template, which has no mover.
   static from({ rows, columns, black, white, mover = "black" }) {
-    return new Position(rows, columns, new Map([...black.map((cell) => [cell, "black"]), ...white.map((cell) => [cell, "white"])]), mover);
+    return new Position(rows, columns,
+      new Map([...black.map((cell) => [cell, "black"]), ...white.map((cell) => [cell, "white"])]), mover);
   }
 
   get cells() {
@@ -55,13 +57,15 @@ export class Position {
 
   // As the server is asked about it.
   asked() {
-    return { rows: this.rows, columns: this.columns, black: this.of("black"), white: this.of("white"), mover: this.mover };
+    return { rows: this.rows, columns: this.columns, black: this.of("black"),
+      white: this.of("white"), mover: this.mover };
   }
 
   // What stands behind the # of an address: the size, who is to move, and the rows.
   link() {
     const letters = this.cells.map((cell) => (this.stones.get(cell) || ".")[0]).join("");
-    const rows = Array.from({ length: this.rows }, (_, row) => letters.slice(row * this.columns, (row + 1) * this.columns));
+    const rows = Array.from({ length: this.rows },
+      (_, row) => letters.slice(row * this.columns, (row + 1) * this.columns));
     return `#${this.rows}x${this.columns};${this.mover};${rows.join("/")}`;
   }
 
@@ -69,8 +73,8 @@ export class Position {
   static ofLink(link) {
     const [, rows, columns, mover, drawn] = (link.match(LINK) || []);
     const lines = (drawn || "").split("/");
-    const isRight = drawn && rows >= 1 && rows <= MOST && columns >= 1 && columns <= MOST && lines.length === Number(rows)
-      && lines.every((line) => line.length === Number(columns));
+    const isRight = drawn && rows >= 1 && rows <= MOST && columns >= 1 && columns <= MOST
+      && lines.length === Number(rows) && lines.every((line) => line.length === Number(columns));
     if (!isRight) return null;
     const names = namesOf(Number(rows), Number(columns));
     const stones = [...lines.join("")].map((letter, place) => [names[place], COLOURS[letter]]);

@@ -2,15 +2,14 @@
 that has ended.
 
 What is told of a question is a dictionary, which the page shows. A winner is told only where `hx check` accepted the
-tree, with the position that was asked.
-"""
+tree, with the position that was asked."""
 import re
 from typing import Any, NamedTuple
 
 from drawn_boards.boards import Position
 from drawn_boards.texts import text_of
-from tree_page.longest import has_chain
 from tree_page.order import from_the_middle
+from tree_page.positions import has_chain
 from tree_page.records import cell_of, check, name
 
 from .runs import file_of

@@ -1,5 +1,6 @@
-// What the pages of trees have, as one function. It reads the tree whose text stands in the element `tree` of the page, tells what
-// its nodes say, and marks a board. `isTurned` reads it as it stands behind a node by `turned`: with every cell turned by 180 degrees.
+// What the pages of trees have, as one function. It reads the tree whose text stands in the element `tree` of the page,
+// tells what its nodes say, and marks a board. `isTurned` reads it as it stands behind a node by `turned`: with every
+// cell turned by 180 degrees.
 
 export function readTree({ cells, cellWide, cellEdge, linkTo }, isTurned) {
 // HERE
@@ -18,7 +19,8 @@ export function readTree({ cells, cellWide, cellEdge, linkTo }, isTurned) {
   }
 
   return {
-    root, headOf, entriesOf, recordOf, draw, make, listed, asLines, linkShown, meaning, lineTold, fillTold, other, colour,
+    root, headOf, entriesOf, recordOf, draw, make, listed, asLines, linkShown, meaning, lineTold, fillTold,
+    other, colour,
     // The winner's answer to a cell of the link that these steps make, and the carrier of what stands then; or nothing.
     answerIn: (number, cell) => {
       const head = headOf(number);
@@ -28,10 +30,13 @@ export function readTree({ cells, cellWide, cellEdge, linkTo }, isTurned) {
     },
   };
 
-  // In an And over a stone the part that the cell is in; in an Or the first part without it, which is an And over a cell.
+  // In an And over a stone the part that the cell is in; in an Or the first part without it, which is an And over a
+  // cell.
   function keptIn(steps, links, place, cell) {
     const [kind, ...parts] = steps[place];
-    if (kind === "stone") return parts.filter((part) => links[part].carrier & cell).map((part) => keptIn(steps, links, part, cell))[0];
+    if (kind === "stone") {
+      return parts.filter((part) => links[part].carrier & cell).map((part) => keptIn(steps, links, part, cell))[0];
+    }
     if (kind !== "or") return undefined;
     const kept = parts.find((part) => !(links[part].carrier & cell));
     const [, ...halves] = steps[kept];

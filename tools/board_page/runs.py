@@ -1,5 +1,4 @@
-"""Runs of the program: what they read and write are files without a name, so that nothing is left behind, whatever
-ends them."""
+"""Runs of the program: what they read and write are files without a name, so nothing is left, whatever ends them."""
 import contextlib
 import os
 import signal
@@ -25,7 +24,7 @@ class Run:
     def __init__(self, words, source):
         self.words, self.output = words, tempfile.TemporaryFile()
         source.seek(0)
-        # A session of its own: what the terminal sends reaches this server alone, which ends the run with all that it
+        # A session of its own: what the terminal sends reaches this server alone, which ends the run with all it
         # started.
         self.program = started(*words, stdin=source, stdout=self.output, start_new_session=True)
 

@@ -1,5 +1,4 @@
-"""The server of the page: one thread, on 127.0.0.1 alone, which tends the connections and the one run of the
-program."""
+"""The server of the page: one thread, on 127.0.0.1 alone, for all connections and the one run of the program."""
 import http.server
 import json
 import secrets

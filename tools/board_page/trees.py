@@ -1,4 +1,4 @@
-"""Trees that `hx check` accepted, and what the page asks of them. They may be large, so no more of them is read than
+"""Trees that `hx check` accepted, and what the page asks of them. They may be large, so no more is read than
 that takes."""
 import os
 import re

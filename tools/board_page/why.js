@@ -1,5 +1,5 @@
-// Why somebody wins: the tree that was accepted, on the same board. A click on a cell goes down its line, and the winner's answer is played
-// at once; of a cell that no line answers it is said why.
+// Why somebody wins: the tree that was accepted, on the same board. A click on a cell goes down its line, and the
+// winner's answer is played at once; of a cell that no line answers it is said why.
 
 import { button, colourName, fill, make, other } from "./elements.js";
 import { moveTold } from "./position.js";
@@ -9,7 +9,8 @@ import { readTree } from "./reader.js";
 const whyFilled = {
   other: (cell, winner, opponent) => `${cell} was given to ${opponent}: ${winner} wins even so.`,
   dead: (cell, winner) => `${cell} is dead for ${winner}: whoever takes it, nothing changes.`,
-  pair: (cell, winner, opponent, partner) => `${cell} and ${partner} are a captured pair: after ${cell} ${winner} takes ${partner}.`,
+  pair: (cell, winner, opponent, partner) =>
+    `${cell} and ${partner} are a captured pair: after ${cell} ${winner} takes ${partner}.`,
 };
 
 export class Why {
@@ -44,7 +45,8 @@ export class Why {
     for (const [kind, named] of fills) {
       const told = reader.fillTold[kind](named, ...players);
       const cells = named.split(" ");
-      cells.forEach((cell, place) => filled.set(cell, { told, why: whyFilled[kind](cell, ...players, cells[1 - place]) }));
+      const why = (cell, place) => whyFilled[kind](cell, ...players, cells[1 - place]);
+      cells.forEach((cell, place) => filled.set(cell, { told, why: why(cell, place) }));
     }
   }
 
@@ -109,7 +111,8 @@ export class Why {
     this.marked = { carrier: stands[2], chosen: "" };
     const isOutside = !record.carrier.split(" ").includes(cell);
     const which = isOutside ? `${cell} is outside all threats` : `A threat stands after ${cell}`;
-    return `${which}: ${colourName[record.winner]} still has that of step ${stands[0]}, ${stands[1]}, on ${stands[2] || "no cell"}.`;
+    const [step, link, cells] = stands;
+    return `${which}: ${colourName[record.winner]} still has that of step ${step}, ${link}, on ${cells || "no cell"}.`;
   }
 
   inLink(record, cell) {
@@ -125,7 +128,8 @@ export class Why {
   linkTo(number, word = "node") {
     return button(`${word} ${number}`, () => {
       const record = this.record();
-      const [cell] = (record.lines || []).find(([, kind, child]) => kind === "child" && child === number) || [record.chosen];
+      const [cell] = (record.lines || []).find(([, kind, child]) => kind === "child" && child === number)
+        || [record.chosen];
       this.click(cell);
     }, { className: "link" });
   }
@@ -185,7 +189,8 @@ export class Why {
       make("h2", [`Why ${winner} wins`]),
       this.pathTold(),
       make("p", [this.said], { id: "why-said", role: "status" }),
-      make("p", [`${colourName[record.mover]} is to move. The tree's rule here is `, make("code", [record.rule]), ". ", ...meaning]),
+      make("p", [`${colourName[record.mover]} is to move. The tree's rule here is `,
+        make("code", [record.rule]), ". ", ...meaning]),
       ...this.fillsTold(),
       ...this.answersTold(record, opponent),
       ...this.stepsTold(record, number),
@@ -207,7 +212,8 @@ export class Why {
   answersTold(record, opponent) {
     if (!record.threats) return [];
     const { reader } = this.here;
-    const threats = record.threats.map(([step, ...link]) => make("li", reader.linkShown(record, `threat ${step}`, link)));
+    const threats = record.threats.map(([step, ...link]) =>
+      make("li", reader.linkShown(record, `threat ${step}`, link)));
     const lines = record.lines.map((line) => make("li", reader.lineTold[line[1]](line, opponent)));
     return [
       ...(lines.length ? [make("h3", ["Answers"]), make("ul", lines)] : []),
@@ -218,7 +224,8 @@ export class Why {
   stepsTold(record, number) {
     if (!record.steps?.length) return [];
     const steps = record.steps.map(([name, ...link]) => make("li", this.here.reader.linkShown(record, name, link)));
-    return [make("details", [make("summary", [`The ${steps.length} steps of node ${number}`]), make("ol", steps, { start: 0 })])];
+    return [make("details", [make("summary", [`The ${steps.length} steps of node ${number}`]),
+      make("ol", steps, { start: 0 })])];
   }
 
   leave() {

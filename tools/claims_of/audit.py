@@ -30,8 +30,8 @@ COUNTED = {
 }
 TITLES = {
     "check": "`yes`, `proof` and `wrong` of `check`", "solve": "`solved`, `unknown` and `refusal` of `solve`",
-    "named_players_win": "`named_players_win`", "replies": "`replies` of `htp`", "seat_names_winners": "`seat_names_winners`",
-    "one_winner": "`one_winner`",
+    "named_players_win": "`named_players_win`", "replies": "`replies` of `htp`",
+    "seat_names_winners": "`seat_names_winners`", "one_winner": "`one_winner`",
 }
 
 
@@ -57,7 +57,7 @@ def sentences_of(text):
 
 
 def unmatched(sentences, entries):
-    """Definitions without a sentence, sentences without a definition, and definitions that changed after their sentence was written."""
+    """Definitions without a sentence, sentences without a definition, and definitions that are newer than theirs."""
     for name, entry in entries.items():
         if name not in sentences:
             yield f"{SENTENCES}: {name} has no sentence; its mark is {entry.mark()}"
@@ -162,8 +162,8 @@ def read_again(top):
 
 def write(top):
     path = top / DOCUMENT
-    path.write_text(with_parts(path.read_text(encoding="utf-8"), {name: list(part) for name, part in Parts(top).made().items()}),
-                    encoding="utf-8")
+    path.write_text(with_parts(path.read_text(encoding="utf-8"),
+                               {name: list(part) for name, part in Parts(top).made().items()}), encoding="utf-8")
 
 
 def differences(top):

@@ -13,7 +13,7 @@ FIELD = re.compile(r"  (?:pub )?([^\s:]+) :")
 
 
 class Entry:
-    """A definition in a list: where it stands, the pieces of its text, what it rests on, and the imports of its file."""
+    """A definition in a list: where it stands, the pieces of its text, what it rests on, and its file's imports."""
 
     def __init__(self, key, path, pieces, uses, imports=()):
         self.key, self.path, self.uses, self.imports = key, path, uses, imports
@@ -54,7 +54,8 @@ def without_imports(lines):
     """The lines without `ghost use` and attributes, and without an empty line where such ones stood."""
     kept = []
     for line in lines:
-        if IS_LEFT_OUT.match(line) or not line.strip() and (not kept or not kept[-1].strip() or kept[-1].rstrip().endswith("{")):
+        if IS_LEFT_OUT.match(line) or not line.strip() and (not kept or not kept[-1].strip()
+                                                            or kept[-1].rstrip().endswith("{")):
             continue
         kept.append(line)
     return kept
@@ -124,11 +125,12 @@ class Lists:
         if not model:
             return Entry(key, item.file.where, [item.lines()], self.of_fields_of_type(item), [item.file.imports])
         imports = [imports_in(model), item.file.imports]
-        return Entry(key, item.file.where, [comment_of(item), lines_of_value(model)], self.of_model(item, model, ["Value"]), imports)
+        return Entry(key, item.file.where, [comment_of(item), lines_of_value(model)],
+                     self.of_model(item, model, ["Value"]), imports)
 
     def of_view(self, key):
-        """The type of a parameter or a result: how its values are shown, and what they keep, count too. What its fields hold is seen as
-        contracts see it."""
+        """The type of a parameter or a result: how its values are shown, and what they keep, count too. What its fields
+        hold is seen as contracts see it."""
         item = self.repository.item(key)
         model = item.file.model_of(key.name)
         uses = self.of_fields_of_type(item)
@@ -141,14 +143,16 @@ class Lists:
         ghosts, uses = dict(ghosts_of(model)), []
         for name in names:
             imports = [imports_in(model), item.file.imports]
-            uses += self.of_term(ghosts[name].term, set(generics_of(model)), imports, item.file, f"{item.where()}: {name}")
+            uses += self.of_term(ghosts[name].term, set(generics_of(model)), imports, item.file,
+                                 f"{item.where()}: {name}")
         return uses
 
     def of_fields_of_type(self, item):
         """What the types of a struct's fields, or of an enum's variants, rest on; and the ghost fields of a struct."""
         bound = set(generics_of(item))
         names = {str(token) for token, after in zip(item.tokens, item.tokens[1:]) if after == ":"}
-        uses = self.of_paths(without_names(item.tokens[item.tokens.index(item.kind) + 2:], item.kind), item, bound | {item.name})
+        uses = self.of_paths(without_names(item.tokens[item.tokens.index(item.kind) + 2:], item.kind), item,
+                             bound | {item.name})
         for name, ghost in ghosts_of(item):
             uses += self.of_term(ghost.term, bound | names, [item.file.imports], item.file, f"{item.where()}: {name}")
         return uses
@@ -162,7 +166,8 @@ class Lists:
             uses += self.of_term(ghost.term, bound, [item.file.imports], item.file, f"{item.where()}: {name}")
         for member in self.repository.members(item):
             if member.kind == "fn":
-                uses += self.of_function(member, list(clauses_of(member)), Around(bound, None, generics_of(item), [item.file.imports]))
+                uses += self.of_function(member, list(clauses_of(member)),
+                                         Around(bound, None, generics_of(item), [item.file.imports]))
         return Entry(key, item.file.where, [item.lines()], uses, [item.file.imports])
 
     # ---- Words
@@ -196,8 +201,10 @@ class Lists:
     def of_clause_word(self, word, item, signature, around, where):
         front = word.split(".")[0]
         if front in signature.types:
-            tokens = [around.self_type if token == "Self" and around.self_type else token for token in signature.types[front]]
-            used = self.of_paths(tokens, item, set(signature.bounds) | ({"Self"} if around.self_type is None else set()))
+            tokens = [around.self_type if token == "Self" and around.self_type else token
+                      for token in signature.types[front]]
+            used = self.of_paths(tokens, item,
+                                 set(signature.bounds) | ({"Self"} if around.self_type is None else set()))
             return [as_view(one) for one in used]
         if front in signature.bounds:
             return [self.member(word, signature.bounds[front], item, where)]
@@ -219,8 +226,8 @@ class Lists:
     # ---- Lists
 
     def below(self, keys):
-        """The entries of these keys and of all that they rest on, each behind what it uses; and the words of the kit. Of a type that is
-        seen in both ways the fuller one counts."""
+        """The entries of these keys and of all that they rest on, each behind what it uses; and the words of the kit.
+        Of a type that is seen in both ways the fuller one counts."""
         views = {key._replace(kind="type") for key in self.reached(keys) if key.kind == "view"}
         found, kit, begun = {}, {}, set()
 

@@ -9,16 +9,16 @@ from claims_of.terms import Fault
 
 TYPES = ("struct", "enum", "type")
 # What Rust knows without an import.
-RUST = set("""bool char str u8 u16 u32 u64 u128 usize i8 i16 i32 i64 i128 isize Self Vec String Option Result Box Some None Ok Err
-Drop Copy Clone Send Sync Sized Iterator IntoIterator Fn FnMut FnOnce Default PartialEq Eq PartialOrd Ord HostRuntime AllocGlobal
-true false self""".split())
+RUST = set("""bool char str u8 u16 u32 u64 u128 usize i8 i16 i32 i64 i128 isize Self Vec String Option Result Box Some
+None Ok Err Drop Copy Clone Send Sync Sized Iterator IntoIterator Fn FnMut FnOnce Default PartialEq Eq PartialOrd Ord
+HostRuntime AllocGlobal true false self""".split())
 VARIANTS = {"Some", "None", "Ok", "Err"}
 KEYWORDS = {"mut", "dyn", "impl", "as", "const", "pub", "crate", "ref", "for", "fn", "where", "move", "unsafe"}
 
 
 class Key(NamedTuple):
-    """A definition of ours: a definition of specs/ (`spec`), or a `type`, a `trait` or a `const` of src/; a `view` is a type with how its
-    values are shown."""
+    """A definition of ours: a definition of specs/ (`spec`), or a `type`, a `trait` or a `const` of src/; a `view` is a
+    type with how its values are shown."""
     kind: str
     crate: str
     module: str
@@ -158,13 +158,15 @@ class Repository:
     def kits(self, crate):
         """The libraries of the kit on which a crate stands."""
         lines = [line.partition("#")[0].partition(":") for line in (self.top / "crates.txt").read_text().splitlines()]
-        return {"std", "core"} | {used for head, _, rest in lines if head.split()[:1] == [crate] for used in rest.split()}
+        return {"std", "core"} | {used for head, _, rest in lines if head.split()[:1] == [crate]
+                                  for used in rest.split()}
 
     def in_crate(self, crate, path, where):
         """An item by its path from the root of a crate, which may hand on what stands elsewhere."""
-        module = ""
-        while len(path) > 1 and (self.top / f"crates/{crate}/src/{'/'.join(filter(None, [module, path[0]]))}.rt").is_file():
-            module, path = "/".join(filter(None, [module, path[0]])), path[1:]
+        module, inner = "", path[0]
+        while len(path) > 1 and (self.top / f"crates/{crate}/src/{inner}.rt").is_file():
+            module, path = inner, path[1:]
+            inner = f"{module}/{path[0]}"
         file = self.code(crate, module, where)
         own = [item for item in file.items if item.name == path[0] and item.kind in (*TYPES, "trait", "const")]
         if own:

@@ -41,7 +41,8 @@ def candidates(repository, crate, name):
             text = path.read_text(encoding="utf-8")
             if re.search(rf"(?<!\w){re.escape(last)}(?!\w)", text):
                 relative = str(path.relative_to(repository.top))
-                yield from in_specs(repository, relative, name) if kind == "spec" else in_code(repository, relative, name)
+                found = in_specs if kind == "spec" else in_code
+                yield from found(repository, relative, name)
 
 
 def in_specs(repository, path, name):
@@ -62,7 +63,8 @@ def in_code(repository, path, name):
         elif not types and item.name == last and item.kind == "fn":
             yield item, None
         elif types == [item.name] and item.kind in ("impl", "trait"):
-            yield from ((member, item) for member in repository.members(item) if member.name == last and member.kind == "fn")
+            yield from ((member, item) for member in repository.members(item) if member.name == last and member.kind
+                        == "fn")
 
 
 def has_part(repository, one, part):
@@ -87,9 +89,11 @@ def no_such_field(repository, lists, records, wanted):
     for record in records:
         fields = fields_of(repository, record)
         missing = [field for field in wanted if field not in fields]
-        said.append(f"no field {', '.join(f'`{field}`' for field in missing)} in {record.name}; its fields are {', '.join(fields)}")
+        said.append(f"no field {', '.join(f'`{field}`' for field in missing)} in {record.name}; its fields are "
+                    f"{', '.join(fields)}")
         for field in fields:
-            inside = [name for one in lists.of_field(record, field) if isinstance(one, Key) for name in fields_of(repository, one)]
+            inside = [name for one in lists.of_field(record, field) if isinstance(one, Key)
+                      for name in fields_of(repository, one)]
             instead += [f"{field}.{name}" for name in missing if name in inside]
     return "; ".join(said or ["there is no record"]) + (f"; try {','.join(dict.fromkeys(instead))}" if instead else "")
 
@@ -142,13 +146,14 @@ def lines_of(item, clause):
 
 
 def restricted(repository, lists, uses, fields, where):
-    """The record among what a clause rests on that has all these fields. Behind a point is a field of the record that the field before it
-    promises."""
+    """The record among what a clause rests on that has all these fields. Behind a point is a field of the record that
+    the field before it promises."""
     own = list(dict.fromkeys(field.partition(".")[0] for field in fields))
     records = [one for one in dict.fromkeys(uses) if isinstance(one, Key) and fields_of(repository, one)]
     found = {one for one in records if all(field in fields_of(repository, one) for field in own)}
     if len(found) != 1:
-        wanted = no_such_field(repository, lists, records, own) if not found else f"several records have the fields {', '.join(own)}"
+        wanted = no_such_field(repository, lists, records,
+                               own) if not found else f"several records have the fields {', '.join(own)}"
         raise Fault(f"{where}: {wanted}")
     record, only = found.pop(), {}
     for field in own:
@@ -161,7 +166,7 @@ def restricted(repository, lists, uses, fields, where):
 # ---- Lists
 
 def below_all(lists, asked):
-    """The entries below all that is asked for, with these at the end of what each rests on; and the words of the kit."""
+    """The entries below all that is asked for, these at the end of what each rests on; and the kit's words."""
     found = [find(lists.repository, lists, name, part) for name, part in asked]
     for one in found:
         for key, fields in one.only.items():

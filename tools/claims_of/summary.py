@@ -7,7 +7,8 @@ def summary(entries, kit):
     crates = sorted({entry.key.crate for entry in entries})
     words = ", ".join(sorted({word.name for word in kit}))
     return "\n".join([
-        f"-- {len(entries)} definitions, {lines} lines, of which {comments} are comments, in {len(crates)} crates: {', '.join(crates)}",
+        f"-- {len(entries)} definitions, {lines} lines, of which {comments} are comments, in {len(crates)} crates: "
+        f"{', '.join(crates)}",
         *textwrap.wrap(f"Of the kit's library they stop at {len({word.name for word in kit})} words: {words}", 110,
                        initial_indent="-- ", subsequent_indent="-- ", break_on_hyphens=False)])
 

@@ -1,8 +1,8 @@
 """Terms of antt: their tokens, and which of their words are bound inside of them.
 
-A word that is bound, as a parameter, behind a λ, by `let` or as a variable of a pattern, is no name to look for. Its scope goes to the
-end of the brackets that it stands in. What the reader of terms does not know, as `elim` and `open`, is a fault and not skipped.
-"""
+A word that is bound, as a parameter, behind a λ, by `let` or as a variable of a pattern, is no name to look for. Its
+scope goes to the end of the brackets that it stands in. What the reader of terms does not know, as `elim` and `open`,
+is a fault and not skipped."""
 import re
 from typing import NamedTuple
 
@@ -10,7 +10,8 @@ TOKEN = re.compile(r'"(?:[^"\\\n]|\\.)*"|--[^\n]*|\[\]|[(){}\[\];,⟦⟧]|[^\s()
 PAIRS = {"(": ")", "{": "}"}
 UNKNOWN = {"elim", "open", "unfolding", "[", "]", "⟦", "⟧", "?"}
 # What the language has of itself.
-BUILT_IN = {"→", "×", "⊥", "¬", "=", ":", ".", ",", ";", "_", "Type", "Unit", "tt", "absurd", "refl", "λ", "let", "in", "where"}
+BUILT_IN = {"→", "×", "⊥", "¬", "=", ":", ".", ",", ";", "_", "Type", "Unit", "tt", "absurd", "refl", "λ", "let", "in",
+            "where"}
 # With these in a pattern a value is taken apart, also where no constructor of ours is meant.
 TAKES_APART = {"[]", "∷", "zero", "suc", "true", "false"}
 
@@ -159,8 +160,8 @@ class Walk:
         raise Fault(f"{self.place.where}: a `let` without `in`")
 
     def behind_record(self):
-        """`record { f = e; .. }`, or the same with a value in front: the names of fields are none to look for. Of a type without a name,
-        `record { f : A; .. }`, each field sees those before it."""
+        """`record { f = e; .. }`, or the same with a value in front: the names of fields are none to look for. Of a
+        type without a name, `record { f : A; .. }`, each field sees those before it."""
         self.at += 1
         if self.tokens[self.at] == "(":
             yield from self.inside(self.group())

@@ -39,6 +39,7 @@ def cell_of(word, size):
 
 
 def lines_of(content):
-    """The lines of what people write. A byte that is no UTF-8 stays a character of its own, so that it is refused where it stands."""
+    """The lines of what people write. A byte that is no UTF-8 stays a character of its own, to be refused where
+    it stands."""
     lines = content.decode("utf-8", "surrogateescape").split("\n")
     return lines if lines[-1] else lines[:-1]

@@ -1,5 +1,6 @@
 """The words of tools/hexpos, and what it answers to them."""
 import re
+import sys
 from typing import NamedTuple, Optional, Tuple
 
 from drawn_boards.boards import Position, WrongLine
@@ -101,8 +102,7 @@ def moves_of(content, size, first):
 
 
 def position_in(content, size=None):
-    """The position in any form that is read here: its text, which begins with its name, a drawn board or a list of
-    moves."""
+    """The position in any form that is read here: a text, which begins with its name, a drawn board or moves."""
     if not size and content.startswith(b"hex"):
         found = read_text(content)
         if not isinstance(found, Position):
@@ -110,3 +110,9 @@ def position_in(content, size=None):
         return found
     size = check.Size(*size) if size else None
     return moves_of(content, size, "black") if size or is_list(content) else read_position(content)
+
+
+def refused(told, status=1):
+    """Says on standard error why nothing is written. The status with which a script ends then."""
+    print(told, file=sys.stderr)
+    return status

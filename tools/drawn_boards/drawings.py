@@ -2,8 +2,7 @@
 
 Blanks and empty lines count for nothing, and small and capital letters are the same. Two forms of rows are read: the
 cells, with the number of the row before them or not; and, as the programs MoHex and Wolve print a board, the number,
-a backslash, the cells, a backslash and the number again.
-"""
+a backslash, the cells, a backslash and the number again."""
 import re
 import string
 
@@ -155,7 +154,8 @@ class DrawnPosition(Drawing):
         and a guess would be wrong half the time."""
         black, white = (sum(cells.count(stone) for cells in self.rows) for stone in "bw")
         if black - white not in (0, 1):
-            raise self.wrong(f"black to move, or white to move, since {black} black and {white} white stones do not tell it", "nothing")
+            raise self.wrong(f"black to move, or white to move, since {black} black and {white} white stones do not "
+                             "tell it", "nothing")
         return "black" if black == white else "white"
 
 

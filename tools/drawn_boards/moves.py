@@ -5,8 +5,7 @@ Words are parted by blanks, commas and ends of lines, and moves may stand in one
 d3` is read, and so is `1. c4 2. b2 3. d3`. Another number is refused, since a move may be missing there.
 
 In front of the moves may stand what tells the board in an address of HexWorld, or the whole address: `#4,` or
-`#11nc1,`, a number of rows and columns and how the board is shown. HexWorld's Red is Black here.
-"""
+`#11nc1,`, a number of rows and columns and how the board is shown. HexWorld's Red is Black here."""
 import re
 
 from drawn_boards.boards import MOST, Position, WrongLine, cell_of, lines_of, shown

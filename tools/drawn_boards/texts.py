@@ -9,7 +9,7 @@ LENGTH = "([1-9]|10|11)"
 
 
 class Lines:
-    """The lines of a text, one after the other. What is wanted of the last one is kept, since more may be asked of it."""
+    """The lines of a text, one after the other. What is wanted of the last one is kept for more questions."""
 
     def __init__(self, content):
         *self.ended, self.rest = content.decode("latin-1").split("\n")
@@ -48,7 +48,8 @@ def read_text(content):
     black = lines.next_mask("black", "of cells on the board", size.all_cells)
     white = lines.next_mask("white", "of cells on the board without a black stone", size.all_cells & ~black)
     board = check.Board(size, black, white)
-    found = Position(board, *lines.next("move black, or move white", "move (black|white)")) if kind == "pos" else template_on(lines, board)
+    found = Position(board, *lines.next("move black, or move white",
+                                        "move (black|white)")) if kind == "pos" else template_on(lines, board)
     lines.end()
     return found
 
@@ -56,11 +57,13 @@ def read_text(content):
 def template_on(lines, board):
     owner, = lines.next("owner black, or owner white", "owner (black|white)")
     kind, = lines.next("kind full, or kind semi", "kind (full|semi)")
-    ends = lines.next("ends VERTEX VERTEX, two that differ, without a stone of the other player", "ends ([^ ]+) ([^ ]+)")
+    ends = lines.next("ends VERTEX VERTEX, two that differ, without a stone of the other player",
+                      "ends ([^ ]+) ([^ ]+)")
     cells = [cell_of(word, board.size) for word in ends if word not in ("first", "last")]
     others = board.of(check.OTHER[owner])
     lines.require(ends[0] != ends[1] and all(cell is not None and not check.has(others, cell) for cell in cells))
-    carrier = lines.next_mask("carrier", "of empty cells that are no ends", board.empty() & ~sum(map(check.only, cells)))
+    carrier = lines.next_mask("carrier", "of empty cells that are no ends",
+                              board.empty() & ~sum(map(check.only, cells)))
     return Template(board, owner, kind, ends, carrier)
 
 

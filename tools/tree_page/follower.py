@@ -1,8 +1,7 @@
 """Which links the winner of a plain tree keeps in a game, told from the tree alone.
 
-The rules are those by which `hx play` moves, written again from docs/promises.md and the head of hx_play's files. So what is drawn is no
-part of what the program says, and a move that is not the one told here shows that one of the two is wrong.
-"""
+The rules are those by which `hx play` moves, written again from docs/promises.md and the head of hx_play's files. So
+what is drawn is no part of what the program says, and where the moves differ one of the two is wrong."""
 from .records import check, links_of
 
 
@@ -50,7 +49,8 @@ class Follower:
                 self.place = child
                 return self.move_at_node()
         self.read_links()
-        return self.move_in(next(place for _, (place,) in entries[1] if not check.has(self.links[place].carrier, stone)), stone)
+        threats = (place for _, (place,) in entries[1])
+        return self.move_in(next(place for place in threats if not check.has(self.links[place].carrier, stone)), stone)
 
     def move_at_node(self):
         _, rule, values, _ = self.node()
@@ -74,9 +74,10 @@ class Follower:
         return self.move_in_kept(stone)
 
     def move_in_kept(self, stone):
-        """In the first kept link that the stone touches, or in the first of all, by its first part without the stone."""
+        """In the first kept link that the stone touches, or in the first of all, by a first part without it."""
         self.part_all()
-        touched = [place for place in sorted(self.kept) if stone is not None and check.has(self.links[place].carrier, stone)]
+        touched = [place for place in sorted(self.kept)
+                   if stone is not None and check.has(self.links[place].carrier, stone)]
         place = (touched or sorted(self.kept))[0]
         self.kept.remove(place)
         return self.take_cell(next(part for part in self.steps[place][1]

@@ -1,9 +1,9 @@
-"""Runs of `hx solve`, many at once: on this machine, or by GNU parallel on others. Here a loop takes less code than driving parallel would,
-and wants nothing to be installed; the log has the same columns.
+"""Runs of `hx solve`, many at once: on this machine, or by GNU parallel on others. Here a loop takes less code than
+driving parallel would, and wants nothing to be installed; the log has the same columns.
 
-The folder of the runs has a method `take`, which keeps a tree that was written to a file, and `answers`, what was written in the place of
-trees. Its `log` gets a line for each run that ended. A signal that asks for the end stops all runs and raises Stopped.
-"""
+The folder of the runs has a method `take`, which keeps a tree that was written to a file, and `answers`, what was
+written in the place of trees. Its `log` gets a line for each run that ended. A signal that asks for the end stops all
+runs and raises Stopped."""
 import contextlib
 import os
 import shutil
@@ -73,7 +73,8 @@ class Progress:
 
     def show(self, last):
         if self.is_shown:
-            print(f"{self.ended} of {self.count} jobs, {time.time() - self.started:.0f} s", end=last, file=sys.stderr, flush=True)
+            print(f"{self.ended} of {self.count} jobs, {time.time() - self.started:.0f} s", end=last, file=sys.stderr,
+                  flush=True)
 
 
 class Job:
@@ -99,7 +100,8 @@ class Job:
         else:
             self.folder.answers.add(self.path.read_text().strip() if status == OPEN else f"status {status}")
             self.path.unlink()
-        row = [self.number, ":", f"{self.started:.3f}", f"{ran:10.3f}", 0, size, max(status, 0), max(-status, 0), self.line]
+        row = [self.number, ":", f"{self.started:.3f}", f"{ran:10.3f}", 0, size, max(status, 0), max(-status, 0),
+               self.line]
         with open(self.folder.log, "a") as log:
             log.write("\t".join(map(str, row)) + "\n")
 
@@ -162,7 +164,8 @@ def end_parallel(known):
 
 def want_parallel():
     if not shutil.which("parallel"):
-        raise NoParallel("--sshlogin wants GNU parallel, which is not found: install it, on Debian the package parallel")
+        raise NoParallel("--sshlogin wants GNU parallel, which is not found: install it, on Debian the package "
+                         "parallel")
 
 
 def started_parallel(words):
@@ -172,7 +175,8 @@ def started_parallel(words):
 
 
 def take_outputs(folder, source, progress):
-    """Takes each tree out of the lines, and what says that units or room were wanting. A tree that was cut off is dropped."""
+    """Takes each tree out of the lines, and what says that units or room were wanting. One that was cut off is
+    dropped."""
     tree, path = [], folder.path / "found"
     for line in source:
         if line.startswith(b"unknown "):

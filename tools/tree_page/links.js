@@ -1,11 +1,12 @@
-// Boards, what is joined on them, and what link a step gives, by docs/definitions.md (Links). A set of cells is a number
-// whose bits are those of a mask. A vertex is a cell's index, or one of the winner's sides.
+// Boards, what is joined on them, and what link a step gives, by docs/definitions.md (Links). A set of cells is a
+// number whose bits are those of a mask. A vertex is a cell's index, or one of the winner's sides.
 
 const WIDTH = 11;
 const [FIRST, LAST] = [121, 122];
 const only = Array.from({ length: LAST + 1 }, (_, vertex) => 1n << BigInt(vertex));
 const cellName = (cell) => "abcdefghijk"[cell % WIDTH] + (Math.floor(cell / WIDTH) + 1);
-const allCells = Array.from({ length: rows * columns }, (_, place) => WIDTH * Math.floor(place / columns) + place % columns);
+const allCells = Array.from({ length: rows * columns },
+  (_, place) => WIDTH * Math.floor(place / columns) + place % columns);
 const indexOf = new Map([...allCells.map((cell) => [cellName(cell), cell]), ["first", FIRST], ["last", LAST]]);
 
 // The cells of a set, in cell order.

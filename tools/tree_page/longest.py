@@ -1,11 +1,11 @@
 """The line of play by a plain tree in which the loser holds out longest.
 
-The winner moves as `hx play` does (follower.py), so the loser alone chooses. At each of its moves it tries first what may last longest by
-the steps of the links that are left, and leaves out what cannot last longer than a line that it has.
-"""
+The winner moves as `hx play` does (follower.py), so the loser alone chooses. At each of its moves it tries first what
+may last longest by the steps of the links that are left, and leaves out what cannot outlast a line that it has."""
 import copy
 
 from .follower import Follower
+from .positions import has_chain
 from .records import check, links_of
 
 
@@ -29,7 +29,7 @@ class Standing(Follower):
 
 
 def most_in_links(steps):
-    """For each step how many moves the loser may make at the most until nothing is left of its link: one for each Or on the way."""
+    """For each step how many moves the loser may make until nothing is left of its link: one for each Or on the way."""
     most = []
     for kind, values in steps:
         if kind == "base":
@@ -60,7 +60,8 @@ class Bounds:
         if rule == "links":
             return links[-1]
         if rule == "all":
-            return 1 + max([links[place] for _, (place,) in entries[1]] + [self.at_node[child] for _, _, (child,) in entries[2]])
+            return 1 + max([links[place] for _, (place,) in entries[1]]
+                           + [self.at_node[child] for _, _, (child,) in entries[2]])
         return 0
 
     def most(self, standing):
@@ -92,7 +93,8 @@ class Longest:
         return best
 
     def tries(self, board, standing):
-        """Each move and its answer, with how many moves the loser may make at the most then: the most first, and those into links first."""
+        """Each move and its answer, with how many moves the loser may make at the most then: the most first, and those
+        into links first."""
         cells = standing.copied().carriers()
         found = []
         for move in check.members_of(board.empty()):
@@ -102,10 +104,6 @@ class Longest:
             most = 0 if has_chain(after, self.winner) else self.bounds.most(later)
             found.append((most, move, answer, after, later))
         return sorted(found, key=lambda one: (-one[0], not check.has(cells, one[1])))
-
-
-def has_chain(board, player):
-    return check.Graph(board, player).are_joined(check.FIRST, check.LAST)
 
 
 def longest_line(nodes):

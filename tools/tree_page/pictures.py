@@ -1,7 +1,6 @@
 """A board as a picture: hexagons with coordinates, coloured sides, stones, the marks of a record, and a key to them.
 
-A mark of a cell is a class of it, and board.css says how it looks.
-"""
+A mark of a cell is a class of it, and board.css says how it looks."""
 import html
 import math
 import pathlib
@@ -19,7 +18,7 @@ EDGE = WIDE / math.sqrt(3)
 MARGIN = 38.0  # above and on the left, where the coordinates stand
 NARROW = 14.0  # the other two margins
 LETTER_WIDE, LINE_HIGH, MOST_LETTERS = 8.0, 20.0, 56  # of a caption
-KEY_HIGH, KEY_SCALE, KEY_TEXT = 24.0, 0.4, 26.0  # of a line of the key; of its cell; how far to the right its words begin
+KEY_HIGH, KEY_SCALE, KEY_TEXT = 24.0, 0.4, 26.0  # of a line of the key; of its cell; how far right its words begin
 # The corners of a cell from its middle, clockwise from the top.
 CORNERS = [(0, -EDGE), (WIDE / 2, -EDGE / 2), (WIDE / 2, EDGE / 2), (0, EDGE), (-WIDE / 2, EDGE / 2),
            (-WIDE / 2, -EDGE / 2)]
@@ -114,8 +113,10 @@ def key_of(record):
     """What each mark in the picture of a root says."""
     winner, opponent = record["winner"].capitalize(), check.OTHER[record["winner"]].capitalize()
     is_all = record["rule"] == "all"
-    said = {"chosen": f"moves of {opponent}'s to be answered" if is_all else f"{record['chosen']}, {winner}'s winning move",
-            "carrier": f"cells of {winner}'s {'threats' if is_all else 'link'}", "black-fill": "filled in with Black's stones",
+    said = {"chosen": f"moves of {opponent}'s to be answered"
+            if is_all else f"{record['chosen']}, {winner}'s winning move",
+            "carrier": f"cells of {winner}'s {'threats' if is_all else 'link'}",
+            "black-fill": "filled in with Black's stones",
             "white-fill": "filled in with White's stones", "chain": f"{winner}'s chain"}
     return [(mark, words) for mark, words in said.items() if record.get(mark)]
 

@@ -29,5 +29,9 @@ def text_of(board, mover):
     return check.position_text(check.Heading(board, mover, mover))
 
 
+def has_chain(board, player):
+    return check.Graph(board, player).are_joined(check.FIRST, check.LAST)
+
+
 def turned(board):
     return board._replace(black=board.size.turned(board.black), white=board.size.turned(board.white))

@@ -1,8 +1,7 @@
 """Why a node is wrong: the first condition that fails, by its name in conformance/conditions.md, in a sentence.
 
 Whether a node is right checkers/check.py says, and its parts say what fails; here its conditions are looked at one by
-one. A text that is no tree's has a reason too, where its wrong line passes a limit that is a condition.
-"""
+one. A text that is no tree's has a reason too, where its wrong line passes a limit that is a condition."""
 import io
 import os
 import re
@@ -49,7 +48,7 @@ def no_chain(heading):
 
 
 def reaches(board, player, own, first=0, last=0, near=check.WAYS, row_ends=False):
-    """Whether cells of these join the two sides, where the lines of a side may be so many more, and cells touch in
+    """Whether cells of these join the two sides, where a side's lines may be so many more, and cells touch in
     these ways."""
     size = board.size
     place = (lambda cell: cell // check.WIDTH) if player == "black" else (lambda cell: cell % check.WIDTH)
@@ -214,7 +213,7 @@ def step_told(kind, values):
 # ---- Nodes
 
 class Reasons(check.Judge):
-    """The first condition of a node that fails after the headings of those before it: each rule is a method of its
+    """The first condition of a node that fails after the headings of those before it: a rule is a method of its
     name."""
 
     def no_child(self, definition, child, *heading):
@@ -459,8 +458,7 @@ def first_fault(content, number=None):
 
 
 def fault_by_program(content):
-    """The same, where the built program says which node it is, in less time. Without the program all nodes are judged
-    here."""
+    """The same, where the built program says which node it is, in less time. Without it all nodes are judged here."""
     if not os.access(PROGRAM, os.X_OK):
         return first_fault(content)
     answer = subprocess.run([PROGRAM, "check"], input=content, stdout=subprocess.PIPE).stdout

@@ -52,8 +52,9 @@ const ofRule = {
       .flatMap(([, ...cells]) => cells).reduce((set, cell) => set | only[indexOf.get(cell)], 0n));
     const last = afterFills(number);
     return {
-      [`${other[winner]}-fill`]: given(true), [`${winner}-fill`]: given(false), chosen: last.rule === "move" ? last.values[0] : "",
-      child: Number(values[1]), fills: fills.map(([kind, ...cells]) => [kind, cells.join(" ")]),
+      [`${other[winner]}-fill`]: given(true), [`${winner}-fill`]: given(false),
+      chosen: last.rule === "move" ? last.values[0] : "", child: Number(values[1]),
+      fills: fills.map(([kind, ...cells]) => [kind, cells.join(" ")]),
     };
   },
 };

@@ -1,9 +1,8 @@
 """What is told of the nodes of a tree, as the text says it: cells by their names, a set of cells as one text.
 
-The text is read by checkers/check.py, so that there is no third reader of its grammar, and what link a step gives is taken
-from there. A picture shows the record of a root. The page makes the same records of its own, in tree.js and links.js;
-`.ci/page` holds them against these.
-"""
+The text is read by checkers/check.py, so that there is no third reader of its grammar, and what link a step gives is
+taken from there. A picture shows the record of a root. The page makes the same records of its own, in tree.js and
+links.js; `.ci/page` holds them against these."""
 import io
 import pathlib
 import sys
@@ -100,7 +99,8 @@ def record_of(nodes, number):
     heading, rule, values, entries = nodes[number]
     return {"black": names(heading.board.black), "white": names(heading.board.white), "mover": heading.mover,
             "winner": heading.winner, "rule": rule, "carrier": "", "chosen": "",
-            **OF_RULE[rule](heading, values, *entries), **({"chosen": move_after(nodes, number)} if rule == "fill" else {})}
+            **OF_RULE[rule](heading, values, *entries),
+            **({"chosen": move_after(nodes, number)} if rule == "fill" else {})}
 
 
 def move_after(nodes, number):
@@ -164,7 +164,8 @@ def of_fill(heading, values, fills):
     """Each player has the cells that the fill steps give him."""
     others = {cell for kind, cells in fills for cell in cells if kind == "other"}
     own = {cell for kind, cells in fills for cell in cells if kind != "other"}
-    return {f"{check.OTHER[heading.winner]}-fill": names_listed(sorted(others)), f"{heading.winner}-fill": names_listed(sorted(own)),
+    return {f"{check.OTHER[heading.winner]}-fill": names_listed(sorted(others)),
+            f"{heading.winner}-fill": names_listed(sorted(own)),
             "child": values[-1], "fills": [[kind, names_listed(cells)] for kind, cells in fills]}
 
 

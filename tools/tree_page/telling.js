@@ -1,5 +1,5 @@
-// What a page says of a node, and how a record marks its board. A page has `cells`, the elements of the board's cells by their names, and
-// `linkTo`, which makes a link to the node with a number, behind the word `node` or another one.
+// What a page says of a node, and how a record marks its board. A page has `cells`, the elements of the board's cells
+// by their names, and `linkTo`, which makes a link to the node with a number, behind the word `node` or another one.
 
 const colour = { black: "Black", white: "White" };
 const MARKS = ["black", "white", "carrier", "chosen", "black-fill", "white-fill"];
@@ -18,10 +18,12 @@ function draw(record) {
 // The corners of the line along a chain, from side to side.
 function pointsOf({ chain, winner }) {
   if (!chain) return [];
-  const middles = chain.split(" ").map((name) => cells.get(name).getAttribute("transform").match(/[\d.]+/g).map(Number));
+  const middles = chain.split(" ").map((name) => cells.get(name).getAttribute("transform")
+    .match(/[\d.]+/g).map(Number));
   const [x, y] = winner === "black" ? [0, cellEdge] : [cellWide / 2, 0];
   const [[left, top], [right, bottom]] = [middles[0], middles.at(-1)];
-  return [[left - x, top - y], ...middles, [right + x, bottom + y]].map((point) => point.map((at) => at.toFixed(1)).join());
+  return [[left - x, top - y], ...middles, [right + x, bottom + y]]
+    .map((point) => point.map((at) => at.toFixed(1)).join());
 }
 
 // ---- Elements
@@ -62,11 +64,13 @@ const comesNow = {
   chain: (head, winner) => `${winner} has a chain`,
   links: (head, winner) => `${winner} has a link between his sides`,
   move: ({ values: [cell] }, winner) => `${winner} moves to ${cell}`,
-  all: ({ values: [, threats, lines] }) => `${counted(Number(threats), "threat")} and ${counted(Number(lines), "line")}`,
+  all: ({ values: [, threats, lines] }) =>
+    `${counted(Number(threats), "threat")} and ${counted(Number(lines), "line")}`,
   turned: ({ values: [child] }) => `node ${child} has it turned by 180 degrees`,
   fill: (head, winner, number) => {
     const last = afterFills(number);
-    return last.rule === "fill" ? `${winner} fills cells` : `${winner} fills cells, then ${comesNow[last.rule](last, winner)}`;
+    return last.rule === "fill" ? `${winner} fills cells`
+      : `${winner} fills cells, then ${comesNow[last.rule](last, winner)}`;
   },
 };
 
@@ -90,7 +94,8 @@ function linkShown(record, name, [told, carrier]) {
 
 const meaning = {
   chain: (record, winner) => [`${winner} has a chain.`],
-  links: (record, winner) => [`The last step makes a link between ${winner}'s two sides, on ${record.carrier || "no cell"}.`],
+  links: (record, winner) => [
+    `The last step makes a link between ${winner}'s two sides, on ${record.carrier || "no cell"}.`],
   move: (record, winner) => [`${winner} moves to ${record.chosen}. `, ...childShows(record.child, "this wins")],
   all: (record, winner, opponent) => [
     `After each move of ${opponent}'s, ${winner} wins: by a threat that the move leaves whole, or by the move's line.`],
@@ -100,7 +105,8 @@ const meaning = {
 
 const lineTold = {
   child: ([cell, , child]) => [`${cell}: `, ...childTold(child)],
-  dead: ([cell, , better], opponent) => [`${cell}: ${opponent} does no worse by ${better}, after which ${cell} is dead`],
+  dead: ([cell, , better], opponent) => [
+    `${cell}: ${opponent} does no worse by ${better}, after which ${cell} is dead`],
   pair: ([cell, , named], opponent) => {
     const [better, partner] = named.split(" ");
     return [`${cell}: ${opponent} does no worse by ${better}, after which ${cell} and ${partner} are a captured pair`];

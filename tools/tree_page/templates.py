@@ -1,14 +1,11 @@
 """A template as a picture: its carrier and its ends are marked, and a caption has what `hx template` says of it."""
-import os
-import pathlib
 import re
 import subprocess
 
 from tree_page.pictures import picture
+from tree_page.program import program
 from tree_page.records import cell_of, check, end_told, name, names
 
-TOP = pathlib.Path(__file__).resolve().parents[2]
-PROGRAM = TOP / "crates" / "hx_main" / "out" / "hx_main"
 SIDES = {"first": check.FIRST, "last": check.LAST}
 
 
@@ -18,8 +15,7 @@ class NoTemplate(Exception):
 
 def answer_to(content):
     """What the program says, which reads the text, so that it is not judged here."""
-    program = PROGRAM if os.access(PROGRAM, os.X_OK) else TOP / "hx"
-    answer = subprocess.run([program, "template"], input=content, stdout=subprocess.PIPE).stdout.decode().strip()
+    answer = subprocess.run([program(), "template"], input=content, stdout=subprocess.PIPE).stdout.decode().strip()
     wrong = re.fullmatch(r"bad template (\d+)", answer)
     if wrong:
         raise NoTemplate(f"line {wrong[1]} is not of the text of a template")

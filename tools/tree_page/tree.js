@@ -1,5 +1,5 @@
-// The text of the tree, and its nodes, each read when it is asked for. The text was read as a whole before this page was
-// made, so every line is of the grammar; but a tree may be wrong, and a child missing.
+// The text of the tree, and its nodes, each read when it is asked for. The text was read as a whole before this page
+// was made, so every line is of the grammar; but a tree may be wrong, and a child missing.
 
 const text = document.getElementById("tree").textContent;
 const BEGIN = "\nnode ";

@@ -1,17 +1,11 @@
-"""Who wins a position, by trying each game to its end: the plain program that other scripts hold the built program against.
+"""Who wins a position, by trying each game to its end: the plain program that other scripts hold the built program
+against.
 
-Boards, and what is joined, are those of the checker in Python, which shares no code with the program.
-"""
+Boards, and what is joined, are those of the checker in Python, which shares no code with the program."""
 import functools
-import pathlib
-import sys
 
-TOP = pathlib.Path(__file__).resolve().parent.parent
-sys.path.insert(0, str(TOP / "checkers"))
-sys.dont_write_bytecode = True  # nothing is left beside the module
-import check  # noqa: E402
-
-PROGRAM = TOP / "crates" / "hx_main" / "out" / "hx_main"
+import check
+from tree_page.positions import has_chain
 
 
 @functools.cache
@@ -21,10 +15,6 @@ def size_of(rows, columns):
 
 def board_of(rows, columns, black=0, white=0):
     return check.Board(size_of(rows, columns), black, white)
-
-
-def has_chain(board, player):
-    return check.Graph(board, player).are_joined(check.FIRST, check.LAST)
 
 
 @functools.cache
@@ -46,8 +36,9 @@ def drawn_board(draws, rows, columns, empty):
     return board_of(rows, columns).put("black", *cells[:half]).put("white", *cells[half:])
 
 
-def text_of(board, mover):
-    return check.position_text(check.Heading(board, mover, mover))
+def cell_name(cell):
+    row, column = divmod(cell, check.WIDTH)
+    return f"{'abcdefghijk'[column]}{row + 1}"
 
 
 def names_a_move(tree):

@@ -1,7 +1,7 @@
-// Runs pages of trees in node, with as much of a document as they ask for: node .ci/document.js PAGE..
+// Runs pages of trees in node, with as much of a document as they ask for: node .ci/shared/document.js PAGE..
 //
-// Each file is a page with the task and the script that `.ci/page` put into it. Writes a line of JSON for each: what the script
-// reported, or nothing but `null` where it reported nothing.
+// Each file is a page with the task and the script that `.ci/page` put into it. Writes a line of JSON for each: what
+// the script reported, or nothing but `null` where it reported nothing.
 
 const fs = require("node:fs");
 const vm = require("node:vm");

@@ -2,14 +2,14 @@
 import json
 import pathlib
 import re
-import sys
 import xml.etree.ElementTree
 
-from boards import BRIDGE, LONG, RACE, TOP, TooLate, empty, example, is_there, running, wait_for
-from driving import CONTROL, SHIFT, Browser, NoBrowser, found_browser
+from tree_page.positions import has_chain
+from tree_page.records import NoTree, cell_of, check, read_nodes, record_of
 
-sys.path.insert(0, str(TOP / "tools"))
-from tree_page.records import NoTree, check, cell_of, read_nodes, record_of  # noqa: E402
+from .boards import BRIDGE, LONG, RACE, empty, example, is_there, running, wait_for
+from .driving import CONTROL, SHIFT, Browser, NoBrowser, found_browser
+from .trials import TooLate
 
 DESK, PHONE = (1280, 900), (390, 844)
 RACE_LINK = "#4x4;black;b.../bwww/b.../w..b"
@@ -93,9 +93,8 @@ def try_stones(trials, page):
     page.click("#redo")
     page.wait_stones(["d4"], ["c4"])
     for tool, cell, stones in (("black", "a1", (["a1", "d4"], ["c4"])), ("white", "a1", (["d4"], ["a1", "c4"])),
-                               ("away", "a1", (["d4"], ["c4"])),
-                               ("away", "a2", (["d4"], ["c4"])), ("turns", "d4", (["d4"], ["c4"])),
-                               ("turns", "g7", (["d4", "g7"], ["c4"]))):
+                               ("away", "a1", (["d4"], ["c4"])), ("away", "a2", (["d4"], ["c4"])),
+                               ("turns", "d4", (["d4"], ["c4"])), ("turns", "g7", (["d4", "g7"], ["c4"]))):
         page.browser.value(f"one('[name=tool][value={tool}]').click()")
         page.click(cell)
         page.wait_stones(*stones)
@@ -124,8 +123,7 @@ def try_questions(trials, page):
     page.wait("namesOf('.cell.loses').length === 7")
     trials.want("the signs", {"b3": "+", **dict.fromkeys("b1 c1 d1 c3 d3 b4 c4".split(), MINUS)}, page.signs())
     trials.want("what is said of cells", ["b3, empty, a move here wins", "c3, empty, a move here loses",
-                                          "a1, Black's stone"],
-                [page.label(cell) for cell in ("b3", "c3", "a1")])
+                                          "a1, Black's stone"], [page.label(cell) for cell in ("b3", "c3", "a1")])
     page.click("c3")
     page.wait_stones(["a1", "a2", "a3", "c3", "d4"], ["b2", "c2", "d2", "a4"])
     page.wait("textOf('#answer') === ''")
@@ -139,8 +137,7 @@ def try_stop(trials, page):
     page.open("#11x11;black;" + "/".join(["." * 11] * 11), 11)
     page.browser.value("one('#budget').value = 1099511627776")
     page.click("#ask-who")
-    page.wait("/^[1-9][0-9.]* s: hx solve searches/.test(textOf('#progress'))",
-              "the seconds of a question")
+    page.wait("/^[1-9][0-9.]* s: hx solve searches/.test(textOf('#progress'))", "the seconds of a question")
     child, = page.board.children()
     page.click("#stop")
     page.wait_text("#answer", "Stopped: it was stopped.")
@@ -226,8 +223,8 @@ def try_cells(trials, page, record):
         page.click(cell)
         if wanted is None:
             page.wait(f"document.querySelectorAll('.path li').length === {length + 1}")
-            trials.want(f"what is said of {cell}", True, bool(re.match(rf"(Black|White) {cell} is (answered by|played)",
-                                                                       page.text("#why-said"))))
+            is_said = re.match(rf"(Black|White) {cell} is (answered by|played)", page.text("#why-said"))
+            trials.want(f"what is said of {cell}", True, bool(is_said))
             page.click("#undo")
             page.wait(f"document.querySelectorAll('.path li').length === {length}")
         else:
@@ -255,7 +252,7 @@ def try_game(trials, page):
             page.wait_text("#game-said", "It is your turn, as White.")
     board = check.Board(check.Size(4, 4), *(sum(check.only(cell_of(cell)) for cell in page.cells(player))
                                             for player in ("black", "white")))
-    trials.want("Black's chain at the end", True, check.Graph(board, "black").are_joined(check.FIRST, check.LAST))
+    trials.want("Black's chain at the end", True, has_chain(board, "black"))
     page.click("#panel .row button:last-child", "#ask-who")
     page.wait_text("#answer", "Black has joined the top with the bottom and won.")
 
@@ -450,8 +447,7 @@ def try_whys(trials, page):
         (RACE_LINK, 4), ("#5x5;white;...../b..../...../...../.....", 5),
         ("#6x6;white;....../..b.../....../....../....../......", 6))]
     trials.want("whether nodes with lines were looked at, and how far lines were gone down",
-                [(False, True), (True, True), (True, True)],
-                [(looked, steps > 0) for looked, steps in came])
+                [(False, True), (True, True), (True, True)], [(looked, steps > 0) for looked, steps in came])
     try_why_in_game(trials, page)
 
 

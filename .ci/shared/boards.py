@@ -3,32 +3,16 @@ import contextlib
 import http.client
 import json
 import os
-import pathlib
 import signal
 import subprocess
 import time
 
-TOP = pathlib.Path(__file__).resolve().parent.parent
+from . import EXAMPLES, TOP
+from .trials import TooLate
+
 PATIENCE = 120  # seconds for what is waited for
 STEP = 0.05
 LONG = {"budget": 1_099_511_627_776}  # a question that goes on until it is ended
-
-
-class TooLate(Exception):
-    """What was waited for did not come."""
-
-
-class Trials:
-    """What was tried, and how often it came otherwise."""
-
-    def __init__(self):
-        self.count = self.wrong = 0
-
-    def want(self, what, wanted, came):
-        self.count += 1
-        if wanted != came:
-            self.wrong += 1
-            print(f"{what}: wanted {str(wanted)[:300]!r}, came {str(came)[:300]!r}", flush=True)
 
 
 class Running:
@@ -110,10 +94,9 @@ def empty(rows, columns=None, mover="black"):
 
 
 def example(name):
-    return (TOP / "examples" / name).read_text()
+    return (EXAMPLES / name).read_text()
 
 
 RACE = {"rows": 4, "columns": 4, "black": ["a1", "a2", "a3", "d4"], "white": ["b2", "c2", "d2", "a4"], "mover": "black"}
 BRIDGE = {"rows": 4, "columns": 5, "black": ["c2"], "white": [], "owner": "black", "kind": "full",
-          "ends": ["c2", "last"],
-          "carrier": ["d2", "b3", "c3", "d3", "a4", "b4", "c4", "d4"]}
+          "ends": ["c2", "last"], "carrier": ["d2", "b3", "c3", "d3", "a4", "b4", "c4", "d4"]}

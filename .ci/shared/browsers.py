@@ -1,8 +1,7 @@
 """What runs pages: a browser without a window, or node with a stand-in of a document, which is document.js.
 
 A page calls `report` with what came. In node that is given; in a browser it stands in the page, hands what came to a
-server here, and goes on to the next page.
-"""
+server here, and goes on to the next page."""
 import http.server
 import json
 import os
@@ -95,7 +94,7 @@ class Answers(http.server.BaseHTTPRequestHandler):
 
 
 def started_browser(program, address, folder):
-    """A browser without a window. It has a folder of its own, and is a group of processes, so that all of it can be ended."""
+    """A browser without a window, with a folder of its own: a group of processes, which can be ended whole."""
     words = (["--headless", "--no-remote", "--profile", folder] if "firefox" in pathlib.Path(program).name
              else ["--headless", "--no-sandbox", "--disable-gpu", f"--user-data-dir={folder}"])
     return subprocess.Popen([program, *words, address], stdin=subprocess.DEVNULL, stdout=subprocess.DEVNULL,

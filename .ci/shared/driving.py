@@ -1,6 +1,5 @@
 """A browser that is driven: it is told what to open, which keys to press and where to click, over two pipes (the
-protocol of Chromium's tools for developers), and says what its page holds. Firefox has no such pipes.
-"""
+protocol of Chromium's tools for developers), and says what its page holds. Firefox has no such pipes."""
 import base64
 import contextlib
 import json
@@ -13,13 +12,13 @@ import subprocess
 import tempfile
 import time
 
-from boards import PATIENCE, STEP, TooLate
+from .boards import PATIENCE, STEP
+from .trials import TooLate
 
 BROWSERS = ("chromium", "chromium-browser", "google-chrome")
 # By the names of keys: the code by which the browser knows each, and the text that it types.
 KEYS = {"Tab": (9, ""), "Enter": (13, "\r"), " ": (32, " "), "ArrowLeft": (37, ""), "ArrowUp": (38, ""),
-        "ArrowRight": (39, ""),
-        "ArrowDown": (40, ""), "z": (90, ""), "y": (89, "")}
+        "ArrowRight": (39, ""), "ArrowDown": (40, ""), "z": (90, ""), "y": (89, "")}
 SHIFT, CONTROL = 8, 2
 # In each page: what goes wrong in it, as texts, and short words for what is asked of it often.
 COLLECTED = """window.wrongs = [];
@@ -42,8 +41,7 @@ def found_browser(words):
 
 
 class Browser:
-    """A browser without a window, with one page. It has a folder of its own, and is a group of processes, so that all
-    of it can be ended."""
+    """A browser without a window, with one page and a folder of its own: a group of processes, ended as one."""
 
     def __init__(self, program):
         self.folder, self.count, self.session, self.buffer = tempfile.mkdtemp(), 0, None, b""
