@@ -1,4 +1,5 @@
--- What is no position is refused: each status but 4 and those of faults is that of a position, or of an input above the limit.
+-- What is no position is refused: each status but 4 and those of faults is that of a position, or of an input that is
+-- above the limit.
 use Rattle.std.proofs.Common.{◌≡◌, ◌⊎◌, ℕ, ◌≤◌, inl, inr, ⊎_elim, List, length, Bool, arith}
 use Rattle.std.specs.Prelude.{Option, None, Some, IfSome}
 use Rattle.std.proofs.lemmas.Bool.{cases_lt}

@@ -1,4 +1,5 @@
--- What a run promises by the command that its words are. Words are one command at most, with one seed and one choice of settings.
+-- What a run promises by the command that its words are. Words are one command at most, with one seed and with one
+-- choice of settings.
 use Rattle.std.proofs.Common.{◌≡◌, ℕ, List, sym, subst}
 use Rattle.hx_io.specs.Sources.{Reading}
 use Rattle.hx_io.specs.Sinks.{Writing}
@@ -45,7 +46,7 @@ module _ (words : List (List ℕ)) (source source_now : Reading) (sink sink_now 
   Promises finish Template = DecidesAsPromised source source_now sink sink_now finish.status
   Promises finish (Survey survey) = TabulatesAsPromised survey.size survey.settings sink sink_now finish
 
-  -- words that are this command and also that one are one command, so what is promised of the one is promised of the other
+  -- words that are this command and also that one are one command, so what is promised of one is promised of the other
   pub kept : (finish : Finish) (own other : Command) → Asks own words → Asks other words → Promises finish own
       → Promises finish other
   kept finish own other asks others promises = subst (Promises finish) (Asks-one words own other asks others) promises

@@ -1,5 +1,5 @@
-//! What follows from the promises of commands, and the numbers of limits. The calls do nothing; what they say stands in their
-//! contracts.
+//! What follows from the promises of commands, and the numbers of limits. The calls do nothing; what they say stands in
+//! their contracts.
 
 ghost use Rattle.std.specs.Prelude.{◌≡◌, ℕ, ◌-◌, ◌^◌, ◌≤◌, List, length, Option, Some, IfSome, Bool, true};
 ghost use Rattle.hx_board.specs.declared.cells.TheConstants.{CELLS};
@@ -25,8 +25,8 @@ ghost use Rattle.hx_text.specs.declared.versions.Version.TheVariants.{One};
 ghost use Rattle.hx_cmd_solve.specs.Positions.{IsNoPosition};
 ghost use Rattle.hx_cmd_solve.specs.Promises.{SaysSolved, KeepsPromises as SolvesAsPromised};
 
-/// `check` answers 0 to each tree that `solve` wrote with status 0, however long it is, unless a fault or want of memory comes in
-/// its place.
+/// `check` answers 0 to each tree that `solve` wrote with status 0, however long it is, unless a fault or want of
+/// memory comes in its place.
 pub fn check_accepts_what_solve_writes()
     ensures { (plain_tree : Bool) (input : List ℕ) (taken taken_now : Option (List ℕ))
         (solved : SaysSolved plain_tree input taken taken_now)
@@ -43,8 +43,8 @@ pub fn a_plain_tree_is_of_the_first_version()
         → solved.is_text.preamble.version ≡ One }
 {}
 
-/// `solve` answers 4 to each input within the limit that is the text of no position, unless a fault or want of memory comes in
-/// its place.
+/// `solve` answers 4 to each input within the limit that is the text of no position, unless a fault or want of memory
+/// comes in its place.
 pub fn what_is_no_position_is_refused()
     ensures { (settings : Bounds) (plain_tree : Bool) (source source_now : Reading)
         (sink sink_now : Writing) (finish : FinishValue)
@@ -53,8 +53,8 @@ pub fn what_is_no_position_is_refused()
         → IsUnlessStopped finish.status 4) }
 {}
 
-/// The limits that definitions of crates further down tell by constants of the code: each is this number. So a program with
-/// another one is not proved.
+/// The limits that definitions of crates further down tell by constants of the code: each is this number. So a program
+/// with another one is not proved.
 pub fn limits()
     // The largest board, and with the two sides of a player.
     ensures cells { CELLS ≡ 121 }

@@ -1,5 +1,5 @@
--- Counts of wins over the positions that a seed draws: one position more, that each is small under a budget that is enough, and who
--- wins it by a tree.
+-- Counts of wins over the positions that a seed draws: one position more, that each is small under a budget that is
+-- enough, and who wins it by a tree.
 use Rattle.std.proofs.Common.{◌≡◌, ℕ, suc, ◌+◌, ◌≤◌, List, [], ◌∷◌, ◌++◌, refl, sym, ap, ◌∙◌, subst, arith}
 use Rattle.hx_board.specs.declared.colours.Colour.{Colour}
 use Rattle.hx_board.specs.declared.colours.Colour.TheVariants.{Black, White}

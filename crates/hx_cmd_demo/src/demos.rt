@@ -1,5 +1,5 @@
-//! The whole command, from the seed to the exit status: positions are drawn and solved, and each tree is checked before the next
-//! position is drawn. It reads nothing.
+//! The whole command, from the seed to the exit status: positions are drawn and solved, and each tree is checked before
+//! the next position is drawn. It reads nothing.
 
 ghost use Rattle.std.specs.Prelude.{◌≡◌, ◌+◌, ◌-◌, ◌≤◌, ◌<◌, ◌^◌, IfOk, IfErr};
 ghost use Rattle.hx_board.specs.declared.colours.Colour.TheVariants.{Black};
@@ -32,8 +32,8 @@ struct DemoFinding {
     tally: Tally,
 }
 
-/// Draws positions with this seed, solves each of them with these settings, checks its tree, and writes how many each player wins
-/// with Black to move, or why one was not solved.
+/// Draws positions with this seed, solves each of them with these settings, checks its tree, and writes how many each
+/// player wins with Black to move, or why one was not solved.
 ///
 /// It may wait for a worker. Before each of its turns a worker calls the gate.
 pub fn run_demo<K: Sink, G: Gate + Sync, R: Threads + Wait + Sync>(
@@ -48,8 +48,8 @@ pub fn run_demo<K: Sink, G: Gate + Sync, R: Threads + Wait + Sync>(
     // Some answer is due, and it was written whole, or the sink failed before it took all of it.
     ensures run { IsDemoRun seed settings (K.writing sink.old) (K.writing sink.new) result }
 
-    // The counts that are written are the true ones; with units enough for each position they are written, unless the sink failed or
-    // memory was wanting; and a refusal that is told was counted.
+    // The counts that are written are the true ones; with units enough for each position they are written, unless the
+    // sink failed or memory was wanting; and a refusal that is told was counted.
     ensures promises { KeepsPromises seed settings
         (K.writing sink.old) (K.writing sink.new) result }
 {

@@ -1,4 +1,5 @@
-//! The command `demo`: positions that a seed draws are solved, each tree is checked, and how many each player wins is written.
+//! The command `demo`: positions that a seed draws are solved, each tree is checked, and it is written how many each
+//! player wins.
 #![tactic(auto)]
 
 mod answers;

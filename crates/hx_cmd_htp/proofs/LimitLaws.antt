@@ -1,4 +1,5 @@
--- An end by a limit tells that the lines up to `quit` are not within the limits, and a session that is done that they are.
+-- An end by a limit tells that the lines up to `quit` are not within the limits, and a session that is done tells that
+-- they are.
 use Rattle.std.proofs.Common.{◌≡◌, ℕ, Bool, true, false, cond, inl, inr, List, [], ◌∷◌, ◌++◌, refl, sym, ap, ◌∙◌, subst}
 use Rattle.std.specs.Prelude.{Option}
 use Rattle.hx_lines.specs.Lines.{lines_of}

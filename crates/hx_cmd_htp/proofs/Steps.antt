@@ -1,4 +1,5 @@
--- A session as a service over lines: its step from a line to a reply, and that what ran up to `quit` is a session's run.
+-- A session as a service over lines: its step from a line to a reply, and that what ran up to `quit` is the run of a
+-- session.
 use Rattle.std.proofs.Common.{◌≡◌, ℕ, Bool, false, List, [], ◌∷◌, ◌++◌, refl, ap, sym, subst, arith}
 use Rattle.hx_lines.specs.Services.{StepsOn, Completes}
 use Rattle.hx_htp.specs.States.{State, fresh}

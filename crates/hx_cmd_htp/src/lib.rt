@@ -1,5 +1,5 @@
-//! The command `htp`: a session of the Hex Text Protocol over the lines of a source, from the first line to one of its ends, whose
-//! questions a search answers.
+//! The command `htp`: a session of the Hex Text Protocol over the lines of a source, from the first line to one of its
+//! ends, whose questions a search answers.
 #![tactic(auto)]
 
 mod laws;

@@ -1,8 +1,9 @@
 //! Who answers the questions of a session: a search, with the settings of the command.
 //!
-//! A searcher keeps the tally of the run, so what a session says was used up is counted where it was refused. Its workers
-//! have the gate that holds nobody back: what is sent to threads inside a trait's method may rest on no gate that is a
-//! type parameter.
+//! A searcher keeps the tally of the run, so what a session says was used up is counted where it was refused. It keeps
+//! the zones of its searches, so that each is helped by those before it; books, counts and hints are of one search
+//! alone. Its workers have the gate that holds nobody back: what is sent to threads inside a trait's method may rest on
+//! no gate that is a type parameter.
 
 ghost use Rattle.std.specs.Prelude.{◌≡◌};
 ghost use Rattle.hx_limits.specs.Settings.{AreSettings};
@@ -14,7 +15,7 @@ use hx_board::{Colour, Memory, Position};
 use hx_htp::{Answerer, Told};
 use hx_io::RealGate;
 use hx_limits::{RanOut, Settings, Tally};
-use hx_solve::winner;
+use hx_solve::{KeptZones, winner};
 use std::alloc::Global;
 use std::sync::Wait;
 use std::thread::Threads;
@@ -25,6 +26,7 @@ pub(crate) struct Searcher {
     alloc: Global,
     settings: Settings,
     tally: Tally,
+    kept: KeptZones,
     ghost within: { AreSettings settings },
     ghost of_settings: { IsOfSettings settings tally },
 }
@@ -39,6 +41,7 @@ impl Searcher {
             alloc,
             settings,
             tally: Tally::new(settings.budget, settings.slots),
+            kept: KeptZones::new(),
         }
     }
 
@@ -50,6 +53,7 @@ impl Searcher {
             alloc: _,
             settings: _,
             tally,
+            kept: _,
         } = self;
         tally
     }
@@ -64,7 +68,15 @@ impl Answerer for Searcher {
         position: &Position,
         to_move: Colour,
     ) -> Result<Told, Memory> {
-        match winner(rt, self.alloc, position, to_move, self.settings, &RealGate) {
+        match winner(
+            rt,
+            self.alloc,
+            &mut self.kept,
+            position,
+            to_move,
+            self.settings,
+            &RealGate,
+        ) {
             Ok(winner) => Ok(Told::Winner(winner)),
             Err(why) => left_open(self.settings, &mut self.tally, why),
         }

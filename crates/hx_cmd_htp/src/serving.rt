@@ -1,7 +1,7 @@
 //! Serving a session: each line is answered before the next read, up to `quit`, the end, a fault or a limit.
 //!
-//! What stands behind the line of `quit` is not looked at, and a last piece without LF is a line. Behind the most lines one
-//! more is cut and not answered: it tells whether the input was over.
+//! What stands behind the line of `quit` is not looked at, and a last piece without LF is a line. Behind the most lines
+//! one more is cut and not answered: it tells whether the input was over.
 
 ghost use Rattle.std.specs.Prelude.{◌≡◌, ◌+◌, ◌<◌, ◌≤◌, ℕ, true, List, Option, Some, None, MatchOption, if◌then◌else◌};
 ghost use Rattle.hx_io.specs.Sinks.{SomeWriteFailed};
@@ -21,7 +21,8 @@ use std::thread::Threads;
 
 /// Answers the lines of a source in a new session, and says how it ended.
 ///
-/// Each reply is written before the next read, and no read follows the line of `quit`. It may wait where the answerer does.
+/// Each reply is written before the next read, and no read follows the line of `quit`. It may wait where the answerer
+/// may wait.
 pub fn serve<R: Threads + Wait + Sync, S: Source, K: Sink, A: Answerer>(
     rt: &R,
     source: &mut S,

@@ -17,8 +17,8 @@ use std::alloc::Global;
 use std::sync::Wait;
 use std::thread::Threads;
 
-/// Answers the lines of the input, each before the next read. Where an answer asks who wins a position, it is searched with
-/// these settings.
+/// Answers the lines of the input, each before the next read. Where an answer asks who wins a position, it is searched
+/// with these settings.
 ///
 /// It may wait for a worker.
 pub fn run_session<S: Source, K: Sink, R: Threads + Wait + Sync>(
@@ -34,8 +34,8 @@ pub fn run_session<S: Source, K: Sink, R: Threads + Wait + Sync>(
         (S.reading source.old) (S.reading source.new)
         (K.writing sink.old) (K.writing sink.new) result }
 
-    // With status 0 the output is the replies of a session to the lines of the input, up to `quit` or its end; a player that a reply
-    // names wins and the other one does not; and each reply that names a limit was counted.
+    // With status 0 the output is the replies of a session to the lines of the input, up to `quit` or its end; a player
+    // that a reply names wins and the other one does not; and each reply that names a limit was counted.
     ensures promises { KeepsPromises settings
         (S.reading source.old) (S.reading source.new)
         (K.writing sink.old) (K.writing sink.new) result }

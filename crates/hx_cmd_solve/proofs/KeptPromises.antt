@@ -1,5 +1,5 @@
--- What a run of `solve` says with each status: each answer fits its cause alone, since an input that one answer is true of is
--- not an input that another is true of.
+-- What a run of `solve` says with each status: each answer fits its cause alone, since an input that one answer is true
+-- of is not an input that another is true of.
 use Rattle.std.proofs.Common.{◌≡◌, ◌↔◌, ◌⊎◌, ℕ, ◌<◌, ◌≤◌, Bool, inl, inr, ⊎_elim, List, length, refl, sym, ap, ◌∙◌, subst, arith}
 use Rattle.std.specs.Prelude.{Option, None, Some, IfSome, codes}
 use Rattle.hx_io.specs.Sources.{Reading, SomeReadFailed}

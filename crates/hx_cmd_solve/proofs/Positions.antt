@@ -1,5 +1,5 @@
--- The text of a position tells the position, so at most one answer to it fits: it has no wrong line, and it is small under a
--- budget or not.
+-- The text of a position tells the position, so at most one answer to it fits: it has no wrong line, and it is small
+-- under a budget or not.
 use Rattle.std.proofs.Common.{◌≡◌, ℕ, ◌+◌, ◌≤◌, List, [], ◌∷◌, length, refl, ap, subst, arith, length-append}
 use Rattle.std.specs.Fmt.{decimal}
 use Rattle.std.specs.declared.result.Result.{Result}

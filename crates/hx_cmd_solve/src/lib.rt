@@ -1,5 +1,5 @@
-//! The command `solve`: the text of a position is read, the position is searched, and the text of a tree that proves who wins it is
-//! written, or why there is none.
+//! The command `solve`: the text of a position is read, the position is searched, and the text of a tree that proves
+//! who wins it is written, or why there is none.
 #![tactic(auto)]
 
 mod answers;

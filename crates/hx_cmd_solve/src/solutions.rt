@@ -12,8 +12,8 @@ use hx_io::{Failed, Sink};
 use hx_text::{Version, write_end, write_heading, write_node};
 use hx_tree::Node;
 
-/// The winner of a position, the nodes of a tree that proves it, the last of which is of that position, and the version of the
-/// tree's text.
+/// The winner of a position, the nodes of a tree that proves it, the last of which is of that position, and the version
+/// of the tree's text.
 #[derive(Debug, Drop, PartialEq, Eq)]
 pub struct Solution {
     pub version: Version,

@@ -1,5 +1,5 @@
-//! The whole command, from the input to the exit status: a position is read, workers search it, and the tree that they come to is
-//! written, or why there is none. Where the tree is to be plain, one worker searches.
+//! The whole command, from the input to the exit status: a position is read, workers search it, and the tree that they
+//! come to is written, or why there is none. Where the tree is to be plain, one worker searches.
 
 ghost use Rattle.std.specs.Prelude.{◌≡◌, ◌<◌, true, IfOk, IfErr};
 ghost use Rattle.hx_board.specs.Counts.{IsSmall};
@@ -39,8 +39,8 @@ struct Finding {
     tally: Tally,
 }
 
-/// Reads the text of a position, solves it with these settings, and writes the text of a tree that proves who wins it, or why
-/// there is none.
+/// Reads the text of a position, solves it with these settings, and writes the text of a tree that proves who wins it,
+/// or why there is none.
 ///
 /// It may wait for a worker. Before each of its turns a worker calls the gate.
 pub fn run_solve<S: Source, K: Sink, G: Gate + Sync, R: Threads + Wait + Sync>(
@@ -58,8 +58,8 @@ pub fn run_solve<S: Source, K: Sink, G: Gate + Sync, R: Threads + Wait + Sync>(
         (S.reading source.old) (S.reading source.new)
         (K.writing sink.old) (K.writing sink.new) result }
 
-    // The tree that is written is a valid one of the input's position, and its winner alone wins; a small position is not left open,
-    // unless a fault or want of memory comes in its place; and a refusal that is told was counted.
+    // The tree that is written is a valid one of the input's position, and its winner alone wins; a small position is
+    // not left open, unless a fault or want of memory comes in its place; and a refusal that is told was counted.
     ensures promises { KeepsPromises settings plain_tree
         (S.reading source.old) (S.reading source.new)
         (K.writing sink.old) (K.writing sink.new) result }

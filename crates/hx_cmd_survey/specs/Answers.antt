@@ -28,8 +28,8 @@ abbrev pub tally_of : Settings → Answer → Tallied
 tally_of settings (Surveyed table) = no_refusal settings
 tally_of settings (LeftOpen wanting) = wanting_tally settings wanting
 
--- When each answer comes: a table only where it tells who wins after each opening, and a limit only where the openings are not
--- small under the budget.
+-- When each answer comes: a table only where it tells who wins after each opening, and a limit only where the openings
+-- are not small under the budget.
 abbrev pub IsDue : Extent → Settings → Answer → Type 0
 IsDue size settings (Surveyed table) = (table.size ≡ size) × IsSurvey size table.cells_of_black
 IsDue size settings (LeftOpen wanting) = IsWantingWhere settings (¬ OpeningsAreSmall size settings.budget) wanting

@@ -24,8 +24,8 @@ pub record KeepsPromises (size : Extent) (settings : Settings) (sink sink_now : 
   pub no_refusal : finish.status ≡ 0 → CountsNoRefusal finish.tally
   -- where the openings are small under the budget it ends so, whatever the other options
   pub small : OpeningsAreSmall size settings.budget → IsUnlessCutShort finish.status 0
-  -- 3 comes only where the openings are not small, and only where a refusal was counted, of a unit of the budget or of one
-  -- of the slots; the line that is written says which of them
+  -- 3 comes only where the openings are not small, and only where a refusal was counted, of a unit of the budget or of
+  -- one of the slots; the line that is written says which of them
   pub unknown : finish.status ≡ 3
       → (¬ OpeningsAreSmall size settings.budget) × SaysUnknown settings sink.taken sink_now.taken finish.tally
   -- with 7 the output says that memory was wanting

@@ -23,8 +23,8 @@ struct Finding {
     tally: Tally,
 }
 
-/// Finds who wins after each opening of a board of this size, by workers with these settings, and writes it as a table, or why some
-/// opening was left open.
+/// Finds who wins after each opening of a board of this size, by workers with these settings, and writes it as a table,
+/// or why some opening was left open.
 ///
 /// It may wait for a worker. Before each of its turns a worker calls the gate.
 pub fn run_survey<K: Sink, G: Gate + Sync, R: Threads + Wait + Sync>(
@@ -39,9 +39,10 @@ pub fn run_survey<K: Sink, G: Gate + Sync, R: Threads + Wait + Sync>(
     // Some answer is due, and it was written whole, or the sink failed before it took all of it.
     ensures run { IsSurveyRun size settings (K.writing sink.old) (K.writing sink.new) result }
 
-    // The table that is written is the true one; where the openings are small it is written, unless the sink failed or memory was
-    // wanting; and a refusal that is told was counted.
-    ensures promises { KeepsPromises size settings (K.writing sink.old) (K.writing sink.new) result }
+    // The table that is written is the true one; where the openings are small it is written, unless the sink failed or
+    // memory was wanting; and a refusal that is told was counted.
+    ensures promises { KeepsPromises size settings
+        (K.writing sink.old) (K.writing sink.new) result }
 {
     let Finding { answer, tally } = settle(rt, alloc, size, settings, gate);
     let status = say(sink, &answer);

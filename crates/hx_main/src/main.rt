@@ -10,8 +10,8 @@ use std::thread;
 /// The exit status where memory for the words or for the command's thread was wanting.
 const OUT_OF_MEMORY: u8 = 7;
 
-/// The command runs in a thread of its own, and this one only waits. The system gives the first thread its stack where it is written to,
-/// and ends the program by a signal where the address space is used up then; another thread has its stack as a whole, or is not made.
+/// The command runs in a thread of its own, which has its stack as a whole or is not made. The first one gets its stack
+/// where it is written to, and where the address space is used up then the system ends the program by a signal.
 fn main(rt: HostRuntime) -> ExitCode {
     let command = move || {
         let Ok(words) = words_given(&rt) else {

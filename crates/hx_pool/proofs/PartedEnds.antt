@@ -1,4 +1,5 @@
--- What came of the work at a place, and the ends of the workers whose seats stand in two lists, where both lists get one more seat.
+-- What came of the work at a place, and the ends of the workers whose seats stand in two lists, where both lists get
+-- one more seat.
 use Rattle.std.proofs.Common.{◌≡◌, ℕ, ◌<◌, List, [], ◌∷◌, ◌++◌, length, refl, sym, subst, All, Some}
 use Rattle.std.specs.Prelude.{slice_get, Result}
 use Rattle.std.proofs.lemmas.List.Elements.{All-pop, All-push, All-weaker}

@@ -6,8 +6,8 @@ use Rattle.hx_pool.specs.declared.hints.TheConstants.{WORDS_OF_UNIT, MANY_UNITS,
 abbrev pub most_words_of : ℕ → ℕ
 most_words_of budget = if nat_le budget MANY_UNITS then MANY_WORDS else MOST_WORDS
 
--- how many positions can come, with either player to move, where so many cells are empty: each of them stays empty, or gets a
--- stone of either player
+-- how many positions can come, with either player to move, where so many cells are empty: each of them stays empty, or
+-- gets a stone of either player
 abbrev pub positions_of : ℕ → ℕ
 positions_of empties = 2 * 3 ^ empties
 

@@ -18,7 +18,7 @@ pub record AreNewSeats (book : BookOrigin) (counts : Origin) (seats : Seats) : T
   pub same_counts : seats.counts.made ≡ counts
   pub nothing : HasNothing (own seats.counts)
 
--- what an end says of the nodes that a worker has seen and of its seat; what it is where something was found, the errand says
+-- what an end says of the nodes that a worker has seen and of its seat; where something was found, the errand says what
 abbrev pub IsEndedBy : {F : Type 0} → (List Node → F → Type 0) → List Node → ℕ → Seat → Result F RanOut → Type 0
 IsEndedBy proved seen slots seat (Ok found) = proved seen found
 IsEndedBy proved seen slots seat (Err why) = IsStopped seen slots seat why

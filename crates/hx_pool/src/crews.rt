@@ -1,11 +1,13 @@
 //! The workers, each in a thread.
 //!
-//! All work is one fork and one join. A worker's seats go into its thread and come back with the end of its work, since the
-//! book and the counts are closed with all seats. Where no thread can be made the work is done on the caller's thread, one worker
-//! after another. The fork and the join take no memory that could be wanting: what a worker gives back lies where its seats lay.
+//! All work is one fork and one join. A worker's seats go into its thread and come back with the end of its work, since
+//! the book and the counts are closed with all seats. Where no thread can be made the work is done on the caller's
+//! thread, one worker after another. The fork and the join take no memory that could be wanting: what a worker gives
+//! back lies where its seats lay.
 //!
-//! One of the workers runs in the caller's thread. That should not be a program's first thread, whose stack the system gives where
-//! it is written to: there the system ends the program by a signal once the stacks of the other threads have left no memory.
+//! One of the workers runs in the caller's thread. That should not be a program's first thread, whose stack the system
+//! gives where it is written to: there the system ends the program by a signal once the stacks of the other threads
+//! have left no memory.
 
 ghost use Rattle.std.specs.Prelude.{◌≡◌, ◌<◌, length};
 ghost use Rattle.std.specs.List.{All};
@@ -39,7 +41,8 @@ impl<E: Errand + Sync> Crew<'_, E> {
     )
         requires words { self.now.bench.now.counts.now.limits.words ≡ LOSS_WORDS }
         requires some { 0 < length places.old }
-        requires before { All (IsBefore self.now.bench.now.shared.now.made self.now.bench.now.counts.now) places.old }
+        requires before { All
+            (IsBefore self.now.bench.now.shared.now.made self.now.bench.now.counts.now) places.old }
         ensures len { length places.new ≡ length places.old }
         ensures after { All
             (IsAfter (E.proved self.now.errand.now) (E.tried self.now.errand.now)
@@ -53,7 +56,8 @@ impl<E: Errand + Sync> Crew<'_, E> {
             threads,
             &|_, place: &mut Place<E::Found>|
                 requires { (self.now.bench.now.counts.now.limits.words ≡ LOSS_WORDS)
-                    × IsBefore self.now.bench.now.shared.now.made self.now.bench.now.counts.now place.old }
+                    × IsBefore self.now.bench.now.shared.now.made self.now.bench.now.counts.now
+                    place.old }
             { self.work_in(rt, alloc, gate, place) },
         );
     }
@@ -67,7 +71,8 @@ impl<E: Errand + Sync> Crew<'_, E> {
         place: &mut Place<E::Found>,
     )
         requires words { self.now.bench.now.counts.now.limits.words ≡ LOSS_WORDS }
-        requires before { IsBefore self.now.bench.now.shared.now.made self.now.bench.now.counts.now place.old }
+        requires before { IsBefore self.now.bench.now.shared.now.made self.now.bench.now.counts.now
+            place.old }
         ensures { IsAfter (E.proved self.now.errand.now) (E.tried self.now.errand.now)
             self.now.bench.now.shared.now.made self.now.bench.now.counts.now place.new }
     {

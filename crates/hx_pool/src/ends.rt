@@ -1,5 +1,5 @@
-//! Which of the workers' ends counts: what a worker found before all others; then want of memory, since with more of it the search
-//! might have gone on; then want of a slot; and want of a unit last.
+//! Which of the workers' ends counts: what a worker found before all others; then want of memory, since with more of it
+//! the search might have gone on; then want of a slot; and want of a unit last.
 
 ghost use Rattle.std.specs.Prelude.{◌≡◌, ◌<◌, ◌≤◌, Contains, vec_len};
 ghost use Rattle.std.specs.List.{All};

@@ -1,10 +1,11 @@
 //! How many words of hints the workers have.
 //!
-//! A visit of a position spends one unit and leaves its numbers in one word. Where it leaves them in the word of another position those
-//! are lost. So there are eight words for each unit, up to a number of words that depends on the budget, and 16 at the least. More
-//! words than positions that can come are of no use. Where one of the two is few the table is small, too, and takes no longer to make
-//! than the search takes. It is made of a list of zeros, so for a moment it takes twice its memory. docs/performance.md has how long
-//! that takes, and docs/tried.md why there are eight words.
+//! A visit of a position spends one unit and leaves its numbers in one word. Where it leaves them in the word of
+//! another position those are lost. So there are eight words for each unit, up to a number of words that depends on the
+//! budget, and 16 at the least. More words than positions that can come are of no use. Where one of the two is few the
+//! table is small, too, and takes no longer to make than the search takes. It is made of a list of zeros, so for a
+//! moment it takes twice its memory. docs/performance.md tells how long that takes, and
+//! docs/tried.md why there are eight words.
 
 ghost use Rattle.std.specs.Prelude.{◌≡◌, ◌<◌, ◌≤◌, ◌/◌, ◌^◌, ℕ, max};
 ghost use Rattle.hx_pool.specs.HintWords.{words_of_use, most_words_of};

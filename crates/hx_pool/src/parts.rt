@@ -23,7 +23,7 @@ pub(crate) struct Parts<F> {
 }
 
 impl<F: Drop> Parts<F> {
-    /// Room for the parts of so many workers. It is taken before the work begins, so that no proof is lost for want of it.
+    /// Room for the parts of so many workers. It is taken before the work begins, so no proof is lost for want of room.
     pub(crate) fn with_room(alloc: Global, workers: u32) -> Result<Parts<F>, Memory>
         ensures { IfOk result (HasRoom workers) }
     {

@@ -30,8 +30,8 @@ pub struct Searched<B, F> {
     pub end: Result<F, RanOut>,
 }
 
-/// Lets all workers run the errand, on positions with at most so many empty cells. What a worker found counts before all else; then
-/// want of memory, of a slot, and of a unit last.
+/// Lets all workers run the errand, on positions with at most so many empty cells, with a table of zones of their own.
+/// What a worker found counts before all else; then want of memory, of a slot, and of a unit last.
 ///
 /// It may wait for a worker.
 pub fn run_all<E: Errand + Sync, G: Gate + Sync, R: Threads + Wait + Sync>(
@@ -44,14 +44,33 @@ pub fn run_all<E: Errand + Sync, G: Gate + Sync, R: Threads + Wait + Sync>(
 ) -> Result<Searched<Book, E::Found>, Memory>
     requires { AreSettings settings.now }
     ensures { IfOk result
-        (λ searched. IsSearchEnd (E.proved errand.now) (E.tried errand.now) settings.now searched.book
-        searched.totals.granted searched.end) }
+        (λ searched. IsSearchEnd (E.proved errand.now) (E.tried errand.now) settings.now
+        searched.book searched.totals.granted searched.end) }
+{
+    let zones = Zones::with_blocks(alloc, zone_blocks(settings.budget, empties))?;
+    run_with_zones(rt, alloc, errand, &zones, empties, settings, gate)
+}
+
+/// As `run_all`, with a table of zones that the caller keeps. It may hold what earlier searches on boards of the same
+/// size left there.
+pub fn run_with_zones<E: Errand + Sync, G: Gate + Sync, R: Threads + Wait + Sync>(
+    rt: &R,
+    alloc: Global,
+    errand: &E,
+    zones: &Zones,
+    empties: u32,
+    settings: &Settings,
+    gate: &G,
+) -> Result<Searched<Book, E::Found>, Memory>
+    requires { AreSettings settings.now }
+    ensures { IfOk result
+        (λ searched. IsSearchEnd (E.proved errand.now) (E.tried errand.now) settings.now
+        searched.book searched.totals.granted searched.end) }
 {
     let workers = settings.workers;
     let words = hint_words(settings.budget, empties);
     let hints = Hints::with_words(alloc, words)?;
     let replies = Replies::new(alloc)?;
-    let zones = Zones::with_blocks(alloc, zone_blocks(settings.budget, empties))?;
     let room = Parts::with_room(alloc, workers)?;
     let (shared, books) = Shared::start(alloc, settings.slots, workers)?;
     let (counts, count_seats) = Counts::start(alloc, settings.budget, LOSS_WORDS, workers)?;
@@ -60,7 +79,7 @@ pub fn run_all<E: Errand + Sync, G: Gate + Sync, R: Threads + Wait + Sync>(
         counts: &counts,
         hints: &hints,
         replies: &replies,
-        zones: &zones,
+        zones,
     };
     let mut places = bench.deal(alloc, books, count_seats)?;
     let crew = Crew {

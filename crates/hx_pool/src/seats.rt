@@ -1,7 +1,7 @@
 //! What a worker steps with, and what it gives back.
 //!
-//! Each worker has a place of its own, in which its seats wait for it and to which they come back with the end of its work. So
-//! all room for what comes back is there before the work begins.
+//! Each worker has a place of its own, in which its seats wait for it and to which they come back with the end of its
+//! work. So all room for what comes back is there before the work begins.
 
 use hx_count::CountSeat;
 use hx_limits::RanOut;

@@ -1,4 +1,5 @@
--- Who wins a position, and that the other player does not: by an entry that was found, and by the law that exactly one player wins.
+-- Who wins a position, and that the other player does not: by an entry that was found, and by the law that exactly one
+-- player wins.
 use Rattle.std.proofs.Common.{◌≡◌, List, sym, subst, Option}
 use Rattle.std.specs.Prelude.{IfSome}
 use Rattle.hx_board.specs.declared.colours.Colour.{Colour}

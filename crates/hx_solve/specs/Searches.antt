@@ -30,8 +30,8 @@ abbrev pub HasEntryFor : List Node → Result Found RanOut → Type 0
 HasEntryFor nodes (Ok found) = found.index < length nodes
 HasEntryFor nodes (Err why) = Unit {0}
 
--- a valid tree whose root has the heading of the node at this place, of no more nodes than a book may have, all on boards
--- of one size
+-- a valid tree whose root has the heading of the node at this place, of no more nodes than a book may have, all on
+-- boards of one size
 pub record IsTreeFor (nodes : List Node) (place : ℕ) (tree : List Node) : Type 0 where
   pub valid : IsValidTree tree
   pub few : length tree ≤ MOST_SLOTS

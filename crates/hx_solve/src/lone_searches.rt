@@ -1,5 +1,5 @@
-//! A search by one worker over a plain book, in the caller's thread. `run_all` of hx_pool needs a system that makes threads and a gate
-//! that threads may share; who asks for a plain tree need have neither.
+//! A search by one worker over a plain book, in the caller's thread. `run_all` of hx_pool needs a system that makes
+//! threads and a gate that threads may share; who asks for a plain tree need have neither.
 
 ghost use Rattle.std.specs.Prelude.{◌≡◌, ◌<◌, IfOk};
 ghost use Rattle.hx_board.specs.Graph.{HasNoChain};
@@ -81,7 +81,8 @@ pub(crate) fn search_alone<G: Gate, R: Wait>(
     })
 }
 
-/// The work of the worker on its job. It is a call of its own, after which the counts are no longer lent and can be closed.
+/// The work of the worker on its job. It is a call of its own, so that afterwards the counts are no longer lent and can
+/// be closed.
 fn work_off<G: Gate, R: Wait>(rt: &R, job: Job<'_, PlainBook>, gate: &G) -> GivenBack
     requires made { job.seat.made ≡ job.counts.now }
     requires words { job.counts.now.limits.words ≡ LOSS_WORDS }

@@ -23,8 +23,9 @@ use hx_tree::{Found, Node};
 use std::alloc::Global;
 use std::sync::Wait;
 
-/// The tree of a position and mover, of plain nodes alone, by one worker on the caller's thread and, where it comes to no proof of a
-/// small position, by a full search. Else it is answered what was wanting, as by `solve`. At most 2^40 units, and 1,048,576 slots.
+/// The tree of a position and mover, of plain nodes alone, by one worker on the caller's thread and, where it comes to
+/// no proof of a small position, by a full search. Else it is answered what was wanting, as by `solve`. At most 2^40
+/// units, and 1,048,576 slots.
 ///
 /// Before each of its visits the worker calls the gate.
 pub fn solve_plain<G: Gate, R: Wait>(

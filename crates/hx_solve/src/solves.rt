@@ -20,9 +20,9 @@ use std::alloc::Global;
 use std::sync::Wait;
 use std::thread::Threads;
 
-/// The tree of a position and mover, by workers in threads and, where they come to no proof of a small position, by a full
-/// search. Else it is answered what was wanting: memory, if that ended some worker's search; or a slot, if a worker's proof
-/// found no room; or a unit.
+/// The tree of a position and mover, by workers in threads and, where they come to no proof of a small position, by a
+/// full search. Else it is answered what was wanting: memory, if that ended some worker's search; or a slot, if a
+/// worker's proof found no room; or a unit.
 ///
 /// It may wait for a worker. Before each of its visits a worker calls the gate.
 pub fn solve<G: Gate + Sync, R: Threads + Wait + Sync>(
@@ -45,8 +45,8 @@ pub fn solve<G: Gate + Sync, R: Threads + Wait + Sync>(
     by_workers_or_sweep(rt, alloc, position, to_move, settings, gate, false)
 }
 
-/// As `solve`, but that the root of the tree names a winning move where one is found: not where the mover wins by a chain, at once or
-/// after fill-in, and not always else.
+/// As `solve`, but that the root of the tree names a winning move where one is found: not where the mover wins by a
+/// chain, at once or after fill-in, and not always else.
 pub fn solve_naming_move<G: Gate + Sync, R: Threads + Wait + Sync>(
     rt: &R,
     alloc: Global,

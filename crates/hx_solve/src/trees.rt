@@ -15,8 +15,8 @@ use hx_pool::Searched;
 use hx_tree::{Found, Node};
 use std::alloc::Global;
 
-/// The tree that the book has, where the end is a proof, and else what was wanting. Where a move is to be named, the root names one if
-/// one is found.
+/// The tree that the book has, where the end is a proof, and else what was wanting. Where a move is to be named, the
+/// root names one if one is found.
 pub(crate) fn conclude(
     alloc: Global,
     searched: Searched<Book, Found>,
@@ -55,7 +55,8 @@ pub(crate) fn tree_at(
     Ok(tree_of(alloc, nodes, root)?)
 }
 
-/// The place of the tree's root: of the entry itself, or where a move is to be named and one is found of a node that is added for it.
+/// The place of the tree's root: of the entry itself, or where a move is to be named and one is found of a node that is
+/// added for it.
 fn root_for(alloc: Global, nodes: &mut Vec<Entry>, place: u32, names_move: bool) -> u32
     requires right { AreRight nodes.old.items }
     requires few { length nodes.old.items ≤ MOST_SLOTS }

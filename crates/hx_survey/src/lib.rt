@@ -1,7 +1,7 @@
 //! The command `survey`: who wins after each opening of a board.
 //!
-//! All openings are proved into one book, by workers that go through them. The table is read from the closed book, whose entries
-//! name who wins, so nothing that a worker says is in it.
+//! All openings are proved into one book, by workers that go through them. The table is read from the closed book,
+//! whose entries name who wins, so nothing that a worker says is in it.
 #![tactic(auto)]
 
 mod openings;

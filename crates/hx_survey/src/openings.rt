@@ -1,6 +1,6 @@
-//! What the workers are sent for: each goes through the openings of its share first, in cell order, and then through all of them, from
-//! the middle of the board. What it finds proved, by itself or by another worker, it passes over, and so it does with an opening whose
-//! turned one is proved.
+//! What the workers are sent for: each goes through the openings of its share first, in cell order, and then through
+//! all of them, from the middle of the board. What it finds proved, by itself or by another worker, it passes over, and
+//! so it does with an opening whose turned one is proved.
 
 ghost use Rattle.std.specs.Prelude.{◌≡◌, ◌<◌, ℕ, true, IfOk, IfErr};
 ghost use Rattle.hx_board.specs.declared.colours.Colour.TheVariants.{White};
@@ -45,7 +45,8 @@ impl Errand for Openings {
       board = (has cell on).board;
       which = (has cell on).which;
       found = (has cell on).found;
-      first = found-later old new (has cell on).board White (has cell on).found more (has cell on).first;
+      first = found-later old new (has cell on).board White (has cell on).found
+          more (has cell on).first;
     } };
 
     fn run<G: Gate, R: Wait>(
@@ -80,8 +81,8 @@ pub(crate) fn opening(size: Size, cell: Cell) -> Position
 }
 
 impl Openings {
-    /// Goes through the share of a worker, in cell order, and then through all openings, from the middle of the board to its edge, up
-    /// to one that is left open.
+    /// Goes through the share of a worker, in cell order, and then through all openings, from the middle of the board
+    /// to its edge, up to one that is left open.
     fn go_through_both<G: Gate, R: Wait>(
         &self,
         rt: &R,
@@ -116,7 +117,8 @@ impl Openings {
         requires inside { (cell : ℕ) → has cells cell ≡ true → OnBoard self.now.size cell }
         ensures ready { IsReady job.new }
         ensures same { IsSameWorker job.old job.new }
-        ensures found { IfOk result (λ _. HasOpeningsOf job.new.proofs.seat.seen self.now.size cells) }
+        ensures found { IfOk result
+            (λ _. HasOpeningsOf job.new.proofs.seat.seen self.now.size cells) }
         ensures stopped { IfErr result (IsStopped job.new.proofs.seat.seen
             job.new.proofs.seat.made.slots job.new.seat) }
     {

@@ -1,8 +1,8 @@
-//! In which order openings are gone through. A worker's share comes in cell order; what is open then, from the middle of the board to its
-//! edge. Those in the middle are the easiest, and what is proved of them serves those at the edge.
+//! In which order openings are gone through. A worker's share comes in cell order; what is open then, from the middle
+//! of the board to its edge. Those in the middle are the easiest, and what is proved of them serves those at the edge.
 //!
-//! With one worker the share is the whole board. So a survey of 6 by 6 takes 7,425 units, and one of 7 by 7 431,135. With all openings from
-//! the middle these take 6,516 and 410,395; 6 by 6 takes 6,555 row by row from the middle, and 7,302 from the edge to the middle.
+//! With one worker the share is the whole board, so all openings come in cell order, which takes some units more than to
+//! go from the middle. `.ci/units` has the units of three boards.
 
 ghost use Rattle.std.specs.Prelude.{◌≡◌, ℕ, false, IfSome, MatchOption};
 ghost use Rattle.hx_board.specs.Cells.{OnBoard, IsLeastOn};
@@ -22,10 +22,11 @@ pub(crate) enum Order {
 }
 
 impl Order {
-    /// The one of these cells that comes first. None exactly where no cell of the board is among them. Which one is the middlemost no
-    /// clause says.
+    /// The one of these cells that comes first. None exactly where no cell of the board is among them. Which one is the
+    /// middlemost no clause says.
     pub(crate) fn first(self, size: Size, cells: Mask) -> Option<Cell>
-        ensures among { MatchOption result ((n : ℕ) → OnBoard size n → has cells n ≡ false) (IsAmong size cells) }
+        ensures among { MatchOption result
+            ((n : ℕ) → OnBoard size n → has cells n ≡ false) (IsAmong size cells) }
         ensures least { self ≡ Order.OfCells → IfSome result (IsLeastOn size cells) }
     {
         match self {
@@ -35,10 +36,11 @@ impl Order {
     }
 }
 
-/// The cell of these that is nearest to the middle of the board, and of several the first. None exactly where no cell of the board is
-/// among them.
+/// The cell of these that is nearest to the middle of the board, and of several the first. None exactly where no cell
+/// of the board is among them.
 fn middlemost(size: Size, cells: Mask) -> Option<Cell>
-    ensures { MatchOption result ((n : ℕ) → OnBoard size n → has cells n ≡ false) (IsAmong size cells) }
+    ensures { MatchOption result
+        ((n : ℕ) → OnBoard size n → has cells n ≡ false) (IsAmong size cells) }
 {
     // The proof takes from here that the board is one, so that its cells are below 128.
     let _rows = size.rows();

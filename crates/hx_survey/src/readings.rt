@@ -57,7 +57,8 @@ fn winner_after(size: Size, budget: u64, book: &Book, cell: Cell) -> Option<Colo
 
 /// Who wins a position with White to move by the book, where it has an entry of it or of the turned one.
 fn winner_in(book: &Book, position: &Position) -> Option<Colour>
-    ensures { MatchOption result (IsUnlisted book.now.nodes position.now) (λ winner. Wins winner position.now White) }
+    ensures { MatchOption result (IsUnlisted book.now.nodes position.now)
+        (λ winner. Wins winner position.now White) }
 {
     book_names_winners(book);
     match book.find(position, Colour::White) {
@@ -69,7 +70,8 @@ fn winner_in(book: &Book, position: &Position) -> Option<Colour>
 /// The same by an entry of the turned position, where the position itself has none.
 fn winner_by_turned(book: &Book, position: &Position) -> Option<Colour>
     requires { HasNoEntry book.now.nodes position.now White }
-    ensures { MatchOption result (IsUnlisted book.now.nodes position.now) (λ winner. Wins winner position.now White) }
+    ensures { MatchOption result (IsUnlisted book.now.nodes position.now)
+        (λ winner. Wins winner position.now White) }
 {
     book_names_winners(book);
     let other = turned(position);
@@ -84,7 +86,8 @@ fn winner_by_turned(book: &Book, position: &Position) -> Option<Colour>
 
 /// Who wins a position with White to move by a full search, where it is small.
 fn winner_if_small(budget: u64, position: &Position) -> Option<Colour>
-    ensures { MatchOption result (¬ IsSmall position.now budget) (λ winner. Wins winner position.now White) }
+    ensures { MatchOption result (¬ IsSmall position.now budget)
+        (λ winner. Wins winner position.now White) }
 {
     if is_small(position, budget) {
         let mut tried = *position;

@@ -8,7 +8,8 @@ use crate::openings::Openings;
 use hx_board::{Cell, Mask, Size};
 
 impl Openings {
-    /// The share of worker w of n: of all openings in cell order, counted from 0, those at the places w, w + n, w + 2n and so on.
+    /// The share of worker w of n: of all openings in cell order, counted from 0, those at the places w, w + n, w + 2n
+    /// and so on.
     pub(crate) fn share(&self, worker: u32) -> Mask
         ensures { IsShare self.now.size self.now.workers worker result }
     {

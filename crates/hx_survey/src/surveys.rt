@@ -20,9 +20,9 @@ use std::alloc::Global;
 use std::sync::Wait;
 use std::thread::Threads;
 
-/// Who wins after each opening of a board of this size, by workers that share one book and one budget for all openings. Else it is
-/// answered what was wanting, as by `solve`: what the foremost of the workers' ends says (`foremost` of hx_pool). An opening that no
-/// worker proved is solved by a full search where it is small.
+/// Who wins after each opening of a board of this size, by workers that share one book and one budget for all openings.
+/// Else it is answered what was wanting, as by `solve`: what the foremost of the workers' ends says (`foremost` of
+/// hx_pool). An opening that no worker proved is solved by a full search where it is small.
 ///
 /// It may wait for a worker. Before each of its visits a worker calls the gate.
 pub fn survey<G: Gate + Sync, R: Threads + Wait + Sync>(
@@ -52,8 +52,8 @@ pub fn survey<G: Gate + Sync, R: Threads + Wait + Sync>(
 
 /// The table, read from the closed book, or what was wanting.
 fn conclude(size: Size, settings: &Settings, searched: Searched<Book, ()>) -> Result<Table, RanOut>
-    requires { IsSearchEnd (λ nodes found. HasOpenings nodes size) (Unit {0}) settings.now searched.book
-        searched.totals.granted searched.end }
+    requires { IsSearchEnd (λ nodes found. HasOpenings nodes size) (Unit {0}) settings.now
+        searched.book searched.totals.granted searched.end }
     ensures size { IfOk result (λ table. table.size ≡ size) }
     ensures table { IfOk result (λ table. IsSurvey size table.cells_of_black) }
     ensures cause { IfErr result (HasCause settings.now) }

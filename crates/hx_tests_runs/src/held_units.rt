@@ -10,8 +10,8 @@ use std::test::Fail;
 /// How many units there are.
 const UNITS: u64 = 3;
 
-/// Holds worker 0 at its first turn until worker 1 had all units, and worker 1 at its second turn until worker 0 is held. So worker 0 asks
-/// while a unit is left, if it asks before it calls.
+/// Holds worker 0 at its first turn until worker 1 had all units, and worker 1 at its second turn until worker 0 is
+/// held. So worker 0 asks while a unit is left, if it asks before it calls.
 #[derive(Drop)]
 struct Hold {
     is_held: AtomicU64,

@@ -18,7 +18,8 @@ use std::cell::RefCell;
 use std::sync::Wait;
 use std::test::Fail;
 
-/// A seat that looks at the loss words, and how many holds it saw at the worker's first turn, and at the later turn that saw the fewest.
+/// A seat that looks at the loss words, and how many holds it saw at the worker's first turn, and at the later turn
+/// that saw the fewest.
 #[derive(Drop)]
 struct Watch<'a> {
     counts: &'a Counts,

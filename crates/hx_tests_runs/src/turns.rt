@@ -20,7 +20,8 @@ move white
 /// The most workers.
 const MOST_WORKERS: u32 = 64;
 
-/// A gate that counts the calls of each worker. A call is wrong where its turn is not the number of that worker's calls before it.
+/// A gate that counts the calls of each worker. A call is wrong where its turn is not the number of that worker's calls
+/// before it.
 #[derive(Drop)]
 struct Calls {
     of_workers: Vec<AtomicU64>,
@@ -66,8 +67,8 @@ impl Gate for Calls {
     }
 }
 
-/// These workers come to their turns, and no other one, so many times in all. Each unit has one turn, and so has the end of each worker,
-/// which is refused a unit.
+/// These workers come to their turns, and no other one, so many times in all. Each unit has one turn, and so has the
+/// end of each worker, which is refused a unit.
 pub(crate) fn assert_turns<R: Threads + Wait + Sync + Abort>(
     rt: &R,
     alloc: Global,
@@ -93,7 +94,8 @@ fn as_many_workers_search_as_were_asked_for(rt: HostRuntime) -> Result<(), Fail>
     assert_turns(&rt, rt.alloc(), &three, spent, 23, 0x7)
 }
 
-/// Where there is no unit, each worker is called once. So it is with each position that is drawn, of which the first is left open.
+/// Where there is no unit, each worker is called once. So it is with each position that is drawn, of which the first is
+/// left open.
 #[test]
 fn without_a_unit_each_worker_is_called_once(rt: HostRuntime) -> Result<(), Fail> {
     let none = "unknown budget 0\n";

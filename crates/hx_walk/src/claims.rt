@@ -58,6 +58,20 @@ fn all_stones(
     Ok(all)
 }
 
+/// The situation at a widened position, with what was filled in there.
+pub(crate) fn situation_at(
+    alloc: Global,
+    start: &Start,
+    wide: &Position,
+    winner: Colour,
+    filled: &Filled,
+) -> Result<Situation, Memory> {
+    let position = start.here.position();
+    let more = position.empties().minus(wide.empties());
+    let stones = all_stones(alloc, position.size(), winner.other(), more, filled)?;
+    Situation::of(alloc, start, &stones)
+}
+
 impl<K: Knows, G: Gate, R: Wait> Walk<'_, K, G, R, Workspace, LinkSet> {
     /// A position becomes known by the zone that claims it. Nothing where none does, or its claim could not be made good: then it is
     /// forgotten.
@@ -105,12 +119,11 @@ impl<K: Knows, G: Gate, R: Wait> Walk<'_, K, G, R, Workspace, LinkSet> {
         ensures stopped { IfErr result (Stops K.view self.new) }
     {
         let alloc = self.worker.alloc;
-        let position = start.here.position();
-        let more = position.empties().minus(wide.empties());
         let filled = self.known.fill_for(alloc, wide, self.winner)?;
-        let opponent = self.winner.other();
-        let stones = all_stones(alloc, position.size(), opponent, more, &filled)?;
-        let situation = Situation::of(alloc, start, &stones)?;
+        if let Known::Proved = self.by_links_unfilled(start, wide, &filled)? {
+            return Ok(Known::Proved);
+        }
+        let situation = situation_at(alloc, start, wide, self.winner, &filled)?;
         let key = self.mark_key(&situation.filled, situation.to_move);
         self.way.note(depth, key);
         let known = self.at_filled(&situation, depth)?;
@@ -122,6 +135,29 @@ impl<K: Knows, G: Gate, R: Wait> Walk<'_, K, G, R, Workspace, LinkSet> {
             }
             Known::Nothing => Ok(Known::Nothing),
         }
+    }
+
+    /// The widened position becomes known by a link, before anything is filled in there: then the link's node is enough, and none of
+    /// fill-in leads to it. Nothing where nothing is filled in.
+    fn by_links_unfilled(
+        &mut self,
+        start: &Start,
+        wide: &Position,
+        filled: &Filled,
+    ) -> Result<Known, RanOut>
+        ensures keeps { Keeps K.view self.old self.new }
+        ensures stopped { IfErr result (Stops K.view self.new) }
+    {
+        if filled.steps.is_empty() {
+            return Ok(Known::Nothing);
+        }
+        let alloc = self.worker.alloc;
+        let unfilled = Filled::none(alloc, wide);
+        let situation = situation_at(alloc, start, wide, self.winner, &unfilled)?;
+        let before = put(&mut self.set, &situation, self.winner)?;
+        let known = self.by_links(start.to_move);
+        take_back(&mut self.set, before);
+        known
     }
 
     /// The position after fill-in becomes known: it is looked up, and then its stones are put on the set of links.

@@ -13,6 +13,7 @@
 mod answers;
 mod claims;
 mod descents;
+mod passes;
 mod repairs;
 mod visits;
 mod walks;

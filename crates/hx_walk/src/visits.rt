@@ -102,13 +102,16 @@ impl<K: Knows, G: Gate, R: Wait> Walk<'_, K, G, R, Workspace, LinkSet> {
         self.by_chain(position, to_move, Colour::White)
     }
 
-    /// A visit. No more than `depth` moves are made.
+    /// A visit, which takes a unit where the position is not passed. No more than `depth` moves are made.
     #[cycle(walk)]
     pub(crate) fn visit(&mut self, start: &Start, depth: u32) -> Result<Known, RanOut>
         requires { MayHold self.old depth }
         ensures keeps { Keeps K.view self.old self.new }
         ensures stopped { IfErr result (Stops K.view self.new) }
     {
+        if let Known::Proved = self.pass(start, depth)? {
+            return Ok(Known::Proved);
+        }
         ask(self.worker, self.seat)?;
         self.visit_granted(start, depth)
     }

@@ -6,20 +6,39 @@ use Rattle.hx_walk.proofs.+walk.Goals as goal
 
 -- ---- a visit
 
+pub visits::Walk+K+G+R+Workspace+LinkSet::visit-pass-requires :
+    goal.visits::Walk+K+G+R+Workspace+LinkSet::visit-pass-requires
+visits::Walk+K+G+R+Workspace+LinkSet::visit-pass-requires g t c κs within = (omega arith, search c.requires)
+
 pub visits::Walk+K+G+R+Workspace+LinkSet::visit-visit_granted-requires :
     goal.visits::Walk+K+G+R+Workspace+LinkSet::visit-visit_granted-requires
 visits::Walk+K+G+R+Workspace+LinkSet::visit-visit_granted-requires g t c κs within =
-    (omega arith, search (kept-may-hold g.K.Knows.view _ _ _ (keeps-seat _ _ _ c.ask.ensures.seat) c.requires))
+    let may = kept-may-hold _ _ _ _ c.pass.ensures.keeps c.requires in
+    (omega arith, search (kept-may-hold g.K.Knows.view _ _ _ (keeps-seat _ _ _ c.ask.ensures.seat) may))
 
-pub visits::Walk+K+G+R+Workspace+LinkSet::visit_granted-try_zones-requires :
-    goal.visits::Walk+K+G+R+Workspace+LinkSet::visit_granted-try_zones-requires
-visits::Walk+K+G+R+Workspace+LinkSet::visit_granted-try_zones-requires g t c κs within =
-    (omega arith, search (kept-may-hold _ _ _ _ c.look_up.ensures.keeps c.requires))
+pub visits::Walk+K+G+R+Workspace+LinkSet::visit-returns-clause-keeps :
+    goal.visits::Walk+K+G+R+Workspace+LinkSet::visit-returns-clause-keeps
+visits::Walk+K+G+R+Workspace+LinkSet::visit-returns-clause-keeps g t c =
+    keeps-on _ _ _ _ c.pass.ensures.keeps
+    (keeps-on _ _ _ _ (keeps-seat _ _ _ c.ask.ensures.seat) c.visit_granted.ensures.keeps)
 
-pub visits::Walk+K+G+R+Workspace+LinkSet::visit_granted-returns-clause-keeps :
-    goal.visits::Walk+K+G+R+Workspace+LinkSet::visit_granted-returns-clause-keeps
-visits::Walk+K+G+R+Workspace+LinkSet::visit_granted-returns-clause-keeps g t c =
-    keeps-on _ _ _ _ c.look_up.ensures.keeps c.try_zones.ensures.keeps
+-- ---- the position where the winner is to move is passed
+
+pub passes::Walk+K+G+R+Workspace+LinkSet::pass-pass_at-requires :
+    goal.passes::Walk+K+G+R+Workspace+LinkSet::pass-pass_at-requires
+passes::Walk+K+G+R+Workspace+LinkSet::pass-pass_at-requires g t c κs within = (omega arith, search c.requires)
+
+pub passes::Walk+K+G+R+Workspace+LinkSet::pass_at-by_win-known-requires :
+    goal.passes::Walk+K+G+R+Workspace+LinkSet::pass_at-by_win-known-requires
+passes::Walk+K+G+R+Workspace+LinkSet::pass_at-by_win-known-requires g t c κs within =
+    let may = kept-may-hold g.K.Knows.view _ _ _ (keeps-way _ _ c.note.new.self) c.requires in
+    (omega arith, search (set-may-hold _ c.put.new.set _ may))
+
+pub passes::Walk+K+G+R+Workspace+LinkSet::pass_at-returns-clause-keeps :
+    goal.passes::Walk+K+G+R+Workspace+LinkSet::pass_at-returns-clause-keeps
+passes::Walk+K+G+R+Workspace+LinkSet::pass_at-returns-clause-keeps g t c =
+    put-set-keeps _ _ _ _ _ _ _ (keeps-way _ c.args.self.now c.note.new.self) c.in_ok-before.ensures.put
+    c.by_win-known.ensures.keeps c.take_back.ensures
 
 -- ---- zones are tried
 
@@ -87,7 +106,8 @@ claims::Walk+K+G+R+Workspace+LinkSet::by_zone-at_wide-requires g t c κs within 
 pub claims::Walk+K+G+R+Workspace+LinkSet::at_wide-at_filled-requires :
     goal.claims::Walk+K+G+R+Workspace+LinkSet::at_wide-at_filled-requires
 claims::Walk+K+G+R+Workspace+LinkSet::at_wide-at_filled-requires g t c κs within =
-    (omega arith, search (kept-may-hold g.K.Knows.view _ _ _ (keeps-way _ _ c.note.new.self) c.requires))
+    let may = kept-may-hold _ _ _ _ c.by_links_unfilled.ensures.keeps c.requires in
+    (omega arith, search (kept-may-hold g.K.Knows.view _ _ _ (keeps-way _ _ c.note.new.self) may))
 
 pub claims::Walk+K+G+R+Workspace+LinkSet::at_filled-at_set-known-requires :
     goal.claims::Walk+K+G+R+Workspace+LinkSet::at_filled-at_set-known-requires

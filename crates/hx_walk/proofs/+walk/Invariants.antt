@@ -15,6 +15,14 @@ abbrev pub decreases-visits::Walk+K+G+R+Workspace+LinkSet::try_zones :
     goal.decreases-visits::Walk+K+G+R+Workspace+LinkSet::try_zones
 decreases-visits::Walk+K+G+R+Workspace+LinkSet::try_zones g l = 11 * l.depth + 8
 
+abbrev pub decreases-passes::Walk+K+G+R+Workspace+LinkSet::pass :
+    goal.decreases-passes::Walk+K+G+R+Workspace+LinkSet::pass
+decreases-passes::Walk+K+G+R+Workspace+LinkSet::pass g l = 11 * l.depth + 4
+
+abbrev pub decreases-passes::Walk+K+G+R+Workspace+LinkSet::pass_at :
+    goal.decreases-passes::Walk+K+G+R+Workspace+LinkSet::pass_at
+decreases-passes::Walk+K+G+R+Workspace+LinkSet::pass_at g l = 11 * l.depth + 3
+
 abbrev pub decreases-claims::Walk+K+G+R+Workspace+LinkSet::by_zone :
     goal.decreases-claims::Walk+K+G+R+Workspace+LinkSet::by_zone
 decreases-claims::Walk+K+G+R+Workspace+LinkSet::by_zone g l = 11 * l.depth + 7

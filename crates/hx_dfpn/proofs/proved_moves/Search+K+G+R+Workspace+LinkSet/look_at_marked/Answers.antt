@@ -9,3 +9,9 @@ returns-in-Some-clause-keeps g c = keeps-on _ _ _ _ c.loop-left.invariant c.look
 
 pub loop-left-preserved : goal.loop-left-preserved
 loop-left-preserved g c = keeps-on _ _ _ _ c.loop-left.invariant c.look_at.ensures.keeps
+
+pub returns-in_err-outcome-clause-keeps : goal.returns-in_err-outcome-clause-keeps
+returns-in_err-outcome-clause-keeps g c = keeps-on _ _ _ _ c.loop-left.invariant c.look_at.ensures.keeps
+
+pub returns-clause-keeps : goal.returns-clause-keeps
+returns-clause-keeps g c = c.loop-left.invariant

@@ -5,7 +5,7 @@ use Rattle.hx_count.specs.declared.views.Limits.{Limits}
 use Rattle.hx_count.proofs.DealLaws.{length-new}
 use Rattle.hx_share.specs.Readers.{reader}
 use Rattle.hx_pool.proofs.ClosedEnds.{contained-closed, tried-closed}
-use Rattle.hx_pool.proofs.searches.run_all.Goals as goal
+use Rattle.hx_pool.proofs.searches.run_with_zones.Goals as goal
 
 pub deal-requires-clause-len : goal.deal-requires-clause-len
 deal-requires-clause-len g c =

@@ -5,7 +5,7 @@ use Rattle.hx_board.specs.Graph.{HasNoChain}
 use Rattle.hx_limits.specs.Causes.{LacksUnit}
 use Rattle.hx_solve.specs.Searches.{SaysWhy}
 use Rattle.hx_solve.proofs.TreeSolutions.{spent-by}
-use Rattle.hx_solve.proofs.winners.winner_by_workers.Goals as goal
+use Rattle.hx_solve.proofs.winners.winner_with.Goals as goal
 
 pub returns-in_err-found-clause-no_chain : goal.returns-in_err-found-clause-no_chain
 returns-in_err-found-clause-no_chain g c =
