@@ -43,6 +43,12 @@ module _ {K G R W : Type 0} (view : K → View) where
   keeps-seat walk now kept =
       keeps-parts walk walk.known.now now walk.set walk.way (goes-itself _) kept (stands-itself _)
 
+  -- where a set of links stands again
+  pub keeps-set : (walk : Walk K G R W Standing) (set : Standing) → StandsAgain walk.set set
+      → Keeps view walk (record walk { set = set })
+  keeps-set walk set stands =
+      keeps-parts walk walk.known.now walk.seat.now set walk.way (goes-itself _) (seat-itself _) stands
+
   -- the way down is no matter of what is kept
   pub keeps-way : (walk : Walk K G R W Standing) (way : Way) → Keeps view walk (record walk { way = way })
   keeps-way walk way =

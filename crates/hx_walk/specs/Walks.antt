@@ -13,8 +13,8 @@ use Rattle.hx_limits.specs.Causes.{IsStopped}
 use Rattle.hx_walk.specs.declared.walks.Walk.{Walk}
 
 module _ {K G R W : Type 0} where
-  -- what is known only grows, the seat holds what it held, and the set stands as it stood; the first argument is a member
-  -- of `K`
+  -- what is known only grows, the seat holds what it held, and the set stands as it stood; the first argument is a
+  -- member of `K`
   pub record Keeps (view : K → View) (old new : Walk K G R W Standing) : Type 0 where
     pub same_worker : new.worker.now.counts.now ≡ old.worker.now.counts.now
     pub same_known : new.known.ghost_name ≡ old.known.ghost_name
@@ -23,8 +23,8 @@ module _ {K G R W : Type 0} where
     pub seat : KeepsSeat old.seat.now new.seat.now
     pub set : StandsAgain old.set new.set
 
-  -- the seat is one of the worker's counts, which have a word for each number, and it may hold so many words more, and then
-  -- as many as a search of its own holds
+  -- the seat is one of the worker's counts, which have a word for each number, and it may hold so many words more, and
+  -- then as many as a search of its own holds
   pub record MayHold (walk : Walk K G R W Standing) (count : ℕ) : Type 0 where
     pub made : walk.seat.now.made ≡ walk.worker.now.counts.now
     pub words : walk.worker.now.counts.now.limits.words ≡ LOSS_WORDS

@@ -15,6 +15,15 @@ use hx_reach::Workspace;
 use std::alloc::Global;
 use std::sync::Wait;
 
+/// When the opponent's moves are answered.
+#[derive(Clone, Copy, PartialEq)]
+pub(crate) enum Answering {
+    Always,
+
+    /// Where zones refute each move that must be tried.
+    WhereAllAreRefuted,
+}
+
 /// Adds cells to an order.
 fn add_cells(order: &mut Vec<Cell>, position: &Position, cells: Mask) -> Result<(), Memory> {
     let size = position.size();
@@ -39,7 +48,8 @@ fn order_of(alloc: Global, position: &Position, first: Mask) -> Result<Vec<Cell>
 }
 
 impl<K: Knows, G: Gate, R: Wait> Walk<'_, K, G, R, Workspace, LinkSet> {
-    /// What must be tried by the winner's links, with a line for each cell than which another one is better, or with none.
+    /// What must be tried by the winner's links, with a line for each cell than which another one is better, or with
+    /// none.
     fn must_try(&self, order: &[Cell]) -> Result<Must, Memory> {
         if self.known.tries_all() {
             must_without_lines(&self.set)
@@ -48,7 +58,8 @@ impl<K: Knows, G: Gate, R: Wait> Walk<'_, K, G, R, Workspace, LinkSet> {
         }
     }
 
-    /// The moves to try, in an order: those that zones refute come first, so that the others are the ones to which they are better.
+    /// The moves to try, in an order: those that zones refute come first, so that the others are the ones to which they
+    /// are better.
     fn moves_to_answer(&mut self, position: &Position, order: &[Cell]) -> Result<Mask, RanOut>
         ensures keeps { Keeps K.view self.old self.new }
         ensures stopped { IfErr result (Stops K.view self.new) }
@@ -58,7 +69,8 @@ impl<K: Knows, G: Gate, R: Wait> Walk<'_, K, G, R, Workspace, LinkSet> {
         Ok(tried.meet(position.empties()))
     }
 
-    /// These moves without those that are known to lose with this one. Nothing is taken off where nothing is known against it.
+    /// These moves without those that are known to lose with this one. Nothing is taken off where nothing is known
+    /// against it.
     fn without_lost(&mut self, situation: &Situation, left: Mask, cell: Cell) -> Mask
         ensures keeps { Keeps K.view self.old self.new }
     {
@@ -112,8 +124,8 @@ impl<K: Knows, G: Gate, R: Wait> Walk<'_, K, G, R, Workspace, LinkSet> {
         Ok(kept)
     }
 
-    /// Answers the moves one after the other, the one with the smallest zone first. None where each of them is answered, and else the
-    /// end of the visit.
+    /// Answers the moves one after the other, the one with the smallest zone first. None where each of them is
+    /// answered, and else the end of the visit.
     #[cycle(walk)]
     fn answer(
         &mut self,
@@ -143,16 +155,26 @@ impl<K: Knows, G: Gate, R: Wait> Walk<'_, K, G, R, Workspace, LinkSet> {
 
     /// The opponent loses, whatever the move.
     #[cycle(walk)]
-    pub(crate) fn by_answers(&mut self, situation: &Situation, depth: u32) -> Result<Known, RanOut>
+    pub(crate) fn by_answers(
+        &mut self,
+        situation: &Situation,
+        depth: u32,
+        answering: Answering,
+    ) -> Result<Known, RanOut>
         requires { MayHold self.old depth }
         ensures keeps { Keeps K.view self.old self.new }
         ensures stopped { IfErr result (Stops K.view self.new) }
     {
         let (rt, alloc) = (self.worker.rt, self.worker.alloc);
         let (position, to_move) = (situation.filled.position(), situation.to_move);
+        self.add_threats(situation)?;
         let told = self.zones.tell(position, to_move);
         let order = order_of(alloc, position, told.refuted)?;
         let cells = self.moves_to_answer(position, order.as_slice())?;
+        let are_refuted = cells.minus(told.refuted).is_empty();
+        if answering == Answering::WhereAllAreRefuted && !are_refuted {
+            return Ok(Known::Nothing);
+        }
         let asked = self
             .known
             .of_moves(rt, alloc, position, to_move, order.as_slice(), cells)?;

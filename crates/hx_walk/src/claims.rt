@@ -3,6 +3,7 @@
 ghost use Rattle.std.specs.Prelude.{IfErr};
 ghost use Rattle.hx_walk.specs.Walks.{Keeps, MayHold, Stops};
 
+use crate::answers::Answering;
 use crate::walks::Walk;
 use hx_board::{CELLS, Colour, Mask, Memory, Position, Size};
 use hx_dfpn::{put, take_back};
@@ -43,7 +44,8 @@ fn add_stones(
     Ok(())
 }
 
-/// The opponent's stones on these cells and then what was filled in, as one list: all that the set of links does not have yet.
+/// The opponent's stones on these cells and then what was filled in, as one list: all that the set of links does not
+/// have yet.
 fn all_stones(
     alloc: Global,
     size: Size,
@@ -73,8 +75,8 @@ pub(crate) fn situation_at(
 }
 
 impl<K: Knows, G: Gate, R: Wait> Walk<'_, K, G, R, Workspace, LinkSet> {
-    /// A position becomes known by the zone that claims it. Nothing where none does, or its claim could not be made good: then it is
-    /// forgotten.
+    /// A position becomes known by the zone that claims it. Nothing where none does, or its claim could not be made
+    /// good: then it is forgotten.
     #[cycle(walk)]
     pub(crate) fn by_zone(&mut self, start: &Start, depth: u32) -> Result<Known, RanOut>
         requires { MayHold self.old depth }
@@ -120,7 +122,7 @@ impl<K: Knows, G: Gate, R: Wait> Walk<'_, K, G, R, Workspace, LinkSet> {
     {
         let alloc = self.worker.alloc;
         let filled = self.known.fill_for(alloc, wide, self.winner)?;
-        if let Known::Proved = self.by_links_unfilled(start, wide, &filled)? {
+        if let Known::Proved = self.by_unfilled(start, wide, &filled, depth)? {
             return Ok(Known::Proved);
         }
         let situation = situation_at(alloc, start, wide, self.winner, &filled)?;
@@ -135,29 +137,6 @@ impl<K: Knows, G: Gate, R: Wait> Walk<'_, K, G, R, Workspace, LinkSet> {
             }
             Known::Nothing => Ok(Known::Nothing),
         }
-    }
-
-    /// The widened position becomes known by a link, before anything is filled in there: then the link's node is enough, and none of
-    /// fill-in leads to it. Nothing where nothing is filled in.
-    fn by_links_unfilled(
-        &mut self,
-        start: &Start,
-        wide: &Position,
-        filled: &Filled,
-    ) -> Result<Known, RanOut>
-        ensures keeps { Keeps K.view self.old self.new }
-        ensures stopped { IfErr result (Stops K.view self.new) }
-    {
-        if filled.steps.is_empty() {
-            return Ok(Known::Nothing);
-        }
-        let alloc = self.worker.alloc;
-        let unfilled = Filled::none(alloc, wide);
-        let situation = situation_at(alloc, start, wide, self.winner, &unfilled)?;
-        let before = put(&mut self.set, &situation, self.winner)?;
-        let known = self.by_links(start.to_move);
-        take_back(&mut self.set, before);
-        known
     }
 
     /// The position after fill-in becomes known: it is looked up, and then its stones are put on the set of links.
@@ -179,7 +158,7 @@ impl<K: Knows, G: Gate, R: Wait> Walk<'_, K, G, R, Workspace, LinkSet> {
     }
 
     /// Brings the winner's links up to date, and tells of one that decides the position.
-    fn by_links(&mut self, to_move: Colour) -> Result<Known, RanOut>
+    pub(crate) fn by_links(&mut self, to_move: Colour) -> Result<Known, RanOut>
         ensures keeps { Keeps K.view self.old self.new }
         ensures stopped { IfErr result (Stops K.view self.new) }
     {
@@ -193,7 +172,8 @@ impl<K: Knows, G: Gate, R: Wait> Walk<'_, K, G, R, Workspace, LinkSet> {
         }
     }
 
-    /// The position of the set becomes known: by a link, or by moves. Where it does not it is sketched anew, and tried once more.
+    /// The position of the set becomes known: by a link, or by moves. Where it does not it is sketched anew, and tried
+    /// once more.
     #[cycle(walk)]
     fn at_set(&mut self, situation: &Situation, depth: u32) -> Result<Known, RanOut>
         requires { MayHold self.old depth }
@@ -221,7 +201,7 @@ impl<K: Knows, G: Gate, R: Wait> Walk<'_, K, G, R, Workspace, LinkSet> {
         if situation.to_move == self.winner {
             self.by_win(situation, depth)
         } else {
-            self.by_answers(situation, depth)
+            self.by_answers(situation, depth, Answering::Always)
         }
     }
 }

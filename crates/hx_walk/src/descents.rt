@@ -53,8 +53,8 @@ impl<K: Knows, G: Gate, R: Wait> Walk<'_, K, G, R, Workspace, LinkSet> {
         known
     }
 
-    /// How many cells the zone has that claims the position after a move, and how many workers are below it. No move has the word of
-    /// another position but by chance.
+    /// How many cells the zone has that claims the position after a move, and how many workers are below it. No move
+    /// has the word of another position but by chance.
     fn size_after(&mut self, situation: &Situation, cell: Cell) -> u64
         requires { MayHold self.old 0 }
         ensures keeps { Keeps K.view self.old self.new }

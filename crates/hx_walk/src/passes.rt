@@ -1,8 +1,9 @@
 //! Where the winner is to move after a move of the opponent's: the walk passes on to the answer.
 //!
-//! Nearly half of what a walk comes to are such positions, and the zone that claims one mostly names its answer. There the worker has no
-//! visit, and takes no unit: its stones and those of the answer are put on the set of links, the position after the answer is visited,
-//! and on the way back the node of the move is made. A position that does not become known so is visited as any other.
+//! Nearly half of what a walk comes to are such positions, and the zone that claims one mostly names its answer. There
+//! the worker has no visit, and takes no unit: its stones and those of the answer are put on the set of links, the
+//! position after the answer is visited, and on the way back the node of the move is made. A position that does not
+//! become known so is visited as any other.
 
 ghost use Rattle.std.specs.Prelude.{IfErr};
 ghost use Rattle.hx_walk.specs.Walks.{Keeps, MayHold, Stops};
@@ -21,8 +22,8 @@ use hx_zones::widened;
 use std::sync::Wait;
 
 impl<K: Knows, G: Gate, R: Wait> Walk<'_, K, G, R, Workspace, LinkSet> {
-    /// Passes on to the winner's answer. Nothing where the opponent is to move, no zone claims the position, or no move that zones name
-    /// is known to win then.
+    /// Passes on to the winner's answer. Nothing where the opponent is to move, no zone claims the position, or no move
+    /// that zones name is known to win then.
     #[cycle(walk)]
     pub(crate) fn pass(&mut self, start: &Start, depth: u32) -> Result<Known, RanOut>
         requires { MayHold self.old depth }

@@ -18,7 +18,8 @@ use std::sync::Wait;
 /// How often a position is tried by zones, each time but the first after it was sketched anew.
 const TRIES: u32 = 4;
 
-/// A mark of the walk says that there is a proof, and one of the sketch that there is a zone. So their keys differ by these digits.
+/// A mark of the walk says that there is a proof, and one of the sketch that there is a zone. So their keys differ by
+/// these digits.
 const OF_THE_WALK: u64 = 11053463214872509973;
 
 impl<K: Knows, G: Gate, R: Wait> Walk<'_, K, G, R, Workspace, LinkSet> {
@@ -47,8 +48,8 @@ impl<K: Knows, G: Gate, R: Wait> Walk<'_, K, G, R, Workspace, LinkSet> {
         }
     }
 
-    /// Asks what is known of a position that is marked: another worker may have proved it. A mark of which nothing is known was another
-    /// position's.
+    /// Asks what is known of a position that is marked: another worker may have proved it. A mark of which nothing is
+    /// known was another position's.
     pub(crate) fn look_at_marked(
         &mut self,
         here: &Orientations,
@@ -132,8 +133,8 @@ impl<K: Knows, G: Gate, R: Wait> Walk<'_, K, G, R, Workspace, LinkSet> {
         Ok(known)
     }
 
-    /// Tries zones, and sketches the position anew after each that fails; and at last searches without zones. Nothing only where
-    /// nobody waits for this position any more.
+    /// Tries zones, and sketches the position anew after each that fails; and at last searches without zones. Nothing
+    /// only where nobody waits for this position any more.
     #[cycle(walk)]
     fn try_zones(&mut self, start: &Start, depth: u32) -> Result<Known, RanOut>
         requires { MayHold self.old depth }

@@ -120,8 +120,8 @@ fn walk_at<'a, K: Knows, G: Gate, R: Wait>(
     walking.visit_granted(&start, DEPTH)
 }
 
-/// Makes the proof of a position that zones claim, or a unit, a slot or memory is wanting. A unit was granted. Where the walk does not
-/// come to it, the position is searched as it would be without zones.
+/// Makes the proof of a position that zones claim, or a unit, a slot or memory is wanting. A unit was granted. Where
+/// the walk does not come to it, the position is searched as it would be without zones.
 pub fn walk_position<'a, K: Knows, G: Gate, R: Wait>(
     worker: &'a Worker<'a, G, R>,
     zones: &'a Zones,

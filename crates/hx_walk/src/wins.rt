@@ -51,8 +51,8 @@ impl<K: Knows, G: Gate, R: Wait> Walk<'_, K, G, R, Workspace, LinkSet> {
         Ok(Known::Nothing)
     }
 
-    /// What is known of the position when the walk is back from a move, after which this is known. Another worker may have proved it
-    /// meanwhile.
+    /// What is known of the position when the walk is back from a move, after which this is known. Another worker may
+    /// have proved it meanwhile.
     fn won_after(
         &mut self,
         situation: &Situation,

@@ -1,5 +1,6 @@
--- An entry by which the opponent wins after a move serves the position after each move to a cell that the entry does not need: one that
--- was empty before the move, and is not in the entry's position. The mover's stone is there, since no stone of the winner's came.
+-- An entry by which the opponent wins after a move serves the position after each move to a cell that the entry does
+-- not need: one that was empty before the move, and is not in the entry's position. The mover's stone is there, since
+-- no stone of the winner's came.
 use Rattle.std.proofs.Common.{◌≡◌, ℕ, Bool, true, false, List, refl, sym, ap, ◌∙◌, subst, inr, ⊎_elim, ◌↔◌}
 use Rattle.std.proofs.lemmas.Bool.{false≢true, true_from_ne_false}
 use Rattle.hx_board.specs.declared.colours.Colour.{Colour}

@@ -1,4 +1,5 @@
--- A position that had no entry when it was looked up: so it stays, whatever comes to the list before and behind that look.
+-- A position that had no entry when it was looked up: so it stays, whatever comes to the list before and behind that
+-- look.
 use Rattle.std.proofs.Common.{Bool, true, false, List}
 use Rattle.hx_board.specs.declared.colours.Colour.{Colour}
 use Rattle.hx_board.specs.Positions.{Board}

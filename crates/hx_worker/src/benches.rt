@@ -1,7 +1,7 @@
 //! A worker's job at the bench that all workers share.
 //!
-//! A worker may go from position to position: its seats stay in one job, which gets new sets of links for each. The sets are made in
-//! its own thread, so that workers do not wait for one another's.
+//! A worker may go from position to position: its seats stay in one job, which gets new sets of links for each. The
+//! sets are made in its own thread, so that workers do not wait for one another's.
 
 ghost use Rattle.std.specs.Prelude.{◌≡◌, ◌<◌, IfOk};
 ghost use Rattle.hx_board.specs.Graph.{HasNoChain};

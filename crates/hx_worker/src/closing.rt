@@ -1,7 +1,7 @@
 //! The last look at the job's position, where a worker's units are spent: the job's own sets are closed for it.
 //!
-//! To close a set takes tens of milliseconds on a large board, and a search has no use for it, since it makes the useful links on
-//! sets of its own. So work that ends by a proof closes none.
+//! To close a set takes tens of milliseconds on a large board, and a search has no use for it, since it makes the
+//! useful links on sets of its own. So work that ends by a proof closes none.
 
 ghost use Rattle.std.specs.Prelude.{◌≡◌, IfOk, IfErr, IfSome, IfNone};
 ghost use Rattle.hx_board.specs.Graph.{HasChain};

@@ -1,7 +1,7 @@
 //! What is known of moves, asked one after the other.
 //!
-//! Who asks is a method of a form's that `Knows` wants, and a proof of it may not rest on that trait: so the loop asks by a trait of
-//! its own, in which there is one move at a time.
+//! Who asks is a method of a form's that `Knows` wants, and a proof of it may not rest on that trait: so the loop asks
+//! by a trait of its own, in which there is one move at a time.
 
 ghost use Rattle.std.specs.Prelude.{◌≡◌, ℕ, true, IfOk, IfErr};
 ghost use Rattle.hx_board.specs.declared.colours.Colour.{Colour};
@@ -40,7 +40,8 @@ pub(crate) trait KnowsMoves {
         ensures known { IfOk result (IfProved (won self.new position.now to_move)) }
         ensures stopped { IfErr result (LacksRoom (view self.new)) };
 
-    /// The moves that lose by what is known against this one, itself among them. No cell where nothing is known against it.
+    /// The moves that lose by what is known against this one, itself among them. No cell where nothing is known against
+    /// it.
     fn lost_with<R: Wait>(
         &mut self,
         rt: &R,

@@ -50,8 +50,8 @@ pub struct Job<'a, P: Proofs> {
 
 /// Searches until the position of the job is proved, or a unit, a slot or memory is wanting.
 ///
-/// The job's sets are closed at the job's position where its units are spent, and are never played on. Whatever the answer, the
-/// seat holds what it held, the sets stand at the job's position, and links that were live in them are.
+/// The job's sets are closed at the job's position where its units are spent, and are never played on. Whatever the
+/// answer, the seat holds what it held, the sets stand at the job's position, and links that were live in them are.
 pub fn work<P: Proofs, G: Gate, R: Wait>(rt: &R, job: &mut Job<'_, P>, gate: &G) -> Ended
     requires seat { job.old.seat.made ≡ job.old.counts.now }
     requires words { job.old.counts.now.limits.words ≡ LOSS_WORDS }

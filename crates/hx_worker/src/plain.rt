@@ -1,5 +1,5 @@
-//! A list of plain proofs as a search asks it and adds to it. Each proof is of a position itself, so that a player can be told by it
-//! what to play: nothing is filled in, and each move of the opponent has an answer.
+//! A list of plain proofs as a search asks it and adds to it. Each proof is of a position itself, so that a player can
+//! be told by it what to play: nothing is filled in, and each move of the opponent has an answer.
 
 ghost use Rattle.std.specs.Prelude.{◌≡◌};
 ghost use Rattle.hx_board.specs.Colours.{other_of};

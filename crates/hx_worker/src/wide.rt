@@ -1,5 +1,5 @@
-//! A list of proofs as a search asks it and adds to it, where a proof may serve many positions: it is stored where the opponent has
-//! all cells that it does not need, and looked for where the opponent has more stones.
+//! A list of proofs as a search asks it and adds to it, where a proof may serve many positions: it is stored where the
+//! opponent has all cells that it does not need, and looked for where the opponent has more stones.
 
 ghost use Rattle.std.specs.Prelude.{◌≡◌};
 ghost use Rattle.hx_board.specs.Colours.{other_of};
@@ -23,7 +23,8 @@ use hx_widen::{
 use std::alloc::Global;
 use std::sync::Wait;
 
-/// Proofs of wider positions are looked for and stored. It is for lists that are not plain: in a plain one it stores less.
+/// Proofs of wider positions are looked for and stored. It is for lists that are not plain: in a plain one it stores
+/// less.
 pub(crate) struct WideProofs<'a, P> {
     proofs: &'a mut P,
 }

@@ -103,10 +103,14 @@ claims::Walk+K+G+R+Workspace+LinkSet::by_zone-at_wide-requires g t c κs within 
 
 -- ---- by the zone that claims a position
 
+pub claims::Walk+K+G+R+Workspace+LinkSet::at_wide-by_unfilled-requires :
+    goal.claims::Walk+K+G+R+Workspace+LinkSet::at_wide-by_unfilled-requires
+claims::Walk+K+G+R+Workspace+LinkSet::at_wide-by_unfilled-requires g t c κs within = (omega arith, search c.requires)
+
 pub claims::Walk+K+G+R+Workspace+LinkSet::at_wide-at_filled-requires :
     goal.claims::Walk+K+G+R+Workspace+LinkSet::at_wide-at_filled-requires
 claims::Walk+K+G+R+Workspace+LinkSet::at_wide-at_filled-requires g t c κs within =
-    let may = kept-may-hold _ _ _ _ c.by_links_unfilled.ensures.keeps c.requires in
+    let may = kept-may-hold _ _ _ _ c.by_unfilled.ensures.keeps c.requires in
     (omega arith, search (kept-may-hold g.K.Knows.view _ _ _ (keeps-way _ _ c.note.new.self) may))
 
 pub claims::Walk+K+G+R+Workspace+LinkSet::at_filled-at_set-known-requires :
@@ -144,6 +148,31 @@ claims::Walk+K+G+R+Workspace+LinkSet::by_moves-by_win-requires g t c κs within 
 pub claims::Walk+K+G+R+Workspace+LinkSet::by_moves-by_answers-requires :
     goal.claims::Walk+K+G+R+Workspace+LinkSet::by_moves-by_answers-requires
 claims::Walk+K+G+R+Workspace+LinkSet::by_moves-by_answers-requires g t c κs within = (omega arith, search c.requires)
+
+-- ---- before anything is filled in
+
+pub unfilled::Walk+K+G+R+Workspace+LinkSet::by_unfilled-at_unfilled-known-requires :
+    goal.unfilled::Walk+K+G+R+Workspace+LinkSet::by_unfilled-at_unfilled-known-requires
+unfilled::Walk+K+G+R+Workspace+LinkSet::by_unfilled-at_unfilled-known-requires g t c κs within =
+    let may = kept-may-hold g.K.Knows.view _ _ _ (keeps-way _ _ c.note.new.self) c.requires in
+    (omega arith, search (set-may-hold _ c.put.new.set _ may))
+
+pub unfilled::Walk+K+G+R+Workspace+LinkSet::by_unfilled-returns-clause-keeps :
+    goal.unfilled::Walk+K+G+R+Workspace+LinkSet::by_unfilled-returns-clause-keeps
+unfilled::Walk+K+G+R+Workspace+LinkSet::by_unfilled-returns-clause-keeps g t c =
+    put-set-keeps _ _ _ _ _ _ _ (keeps-way _ c.args.self.now c.note.new.self) c.in_ok-before.ensures.put
+    c.at_unfilled-known.ensures.keeps c.take_back.ensures
+
+pub unfilled::Walk+K+G+R+Workspace+LinkSet::at_unfilled-by_answers-requires :
+    goal.unfilled::Walk+K+G+R+Workspace+LinkSet::at_unfilled-by_answers-requires
+unfilled::Walk+K+G+R+Workspace+LinkSet::at_unfilled-by_answers-requires g t c κs within =
+    let kept = keeps-on _ _ _ _ c.by_links.ensures.keeps c.look_up.ensures.keeps in
+    (omega arith, search (kept-may-hold _ _ _ _ kept c.requires))
+
+pub unfilled::Walk+K+G+R+Workspace+LinkSet::at_unfilled-returns-clause-keeps :
+    goal.unfilled::Walk+K+G+R+Workspace+LinkSet::at_unfilled-returns-clause-keeps
+unfilled::Walk+K+G+R+Workspace+LinkSet::at_unfilled-returns-clause-keeps g t c =
+    keeps-on _ _ _ _ (keeps-on _ _ _ _ c.by_links.ensures.keeps c.look_up.ensures.keeps) c.by_answers.ensures.keeps
 
 -- ---- the winner is to move
 
@@ -252,10 +281,28 @@ pub answers::Walk+K+G+R+Workspace+LinkSet::answer-returns-clause-keeps :
     goal.answers::Walk+K+G+R+Workspace+LinkSet::answer-returns-clause-keeps
 answers::Walk+K+G+R+Workspace+LinkSet::answer-returns-clause-keeps g t c = c.loop.invariant
 
+pub answers::Walk+K+G+R+Workspace+LinkSet::by_answers-returns-then-not-are_refuted-clause-keeps :
+    goal.answers::Walk+K+G+R+Workspace+LinkSet::by_answers-returns-then-not-are_refuted-clause-keeps
+answers::Walk+K+G+R+Workspace+LinkSet::by_answers-returns-then-not-are_refuted-clause-keeps g t c =
+    keeps-on _ _ _ _ c.add_threats.ensures.keeps c.moves_to_answer.ensures.keeps
+
+pub answers::Walk+K+G+R+Workspace+LinkSet::by_answers-returns-in_err-asked-clause-keeps :
+    goal.answers::Walk+K+G+R+Workspace+LinkSet::by_answers-returns-in_err-asked-clause-keeps
+answers::Walk+K+G+R+Workspace+LinkSet::by_answers-returns-in_err-asked-clause-keeps g t c =
+    let kept = keeps-on _ _ _ _ c.add_threats.ensures.keeps c.moves_to_answer.ensures.keeps in
+    keeps-on _ _ _ _ kept (keeps-known _ _ _ c.of_moves.ensures.goes)
+
+pub answers::Walk+K+G+R+Workspace+LinkSet::by_answers-returns-in-Proved-clause-keeps :
+    goal.answers::Walk+K+G+R+Workspace+LinkSet::by_answers-returns-in-Proved-clause-keeps
+answers::Walk+K+G+R+Workspace+LinkSet::by_answers-returns-in-Proved-clause-keeps g t c =
+    let kept = keeps-on _ _ _ _ c.add_threats.ensures.keeps c.moves_to_answer.ensures.keeps in
+    keeps-on _ _ _ _ kept (keeps-known _ _ _ c.of_moves.ensures.goes)
+
 pub answers::Walk+K+G+R+Workspace+LinkSet::by_answers-answer-requires :
     goal.answers::Walk+K+G+R+Workspace+LinkSet::by_answers-answer-requires
 answers::Walk+K+G+R+Workspace+LinkSet::by_answers-answer-requires g t c κs within =
-    let may = kept-may-hold _ _ _ _ c.moves_to_answer.ensures.keeps c.requires in
+    let kept = keeps-on _ _ _ _ c.add_threats.ensures.keeps c.moves_to_answer.ensures.keeps in
+    let may = kept-may-hold _ _ _ _ kept c.requires in
     (omega arith, search (known-may-hold c.moves_to_answer.new.self c.of_moves.new.self c.args.depth may))
 
 -- ---- the way down

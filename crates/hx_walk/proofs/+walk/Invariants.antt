@@ -31,6 +31,14 @@ abbrev pub decreases-claims::Walk+K+G+R+Workspace+LinkSet::at_wide :
     goal.decreases-claims::Walk+K+G+R+Workspace+LinkSet::at_wide
 decreases-claims::Walk+K+G+R+Workspace+LinkSet::at_wide g l = 11 * l.depth + 6
 
+abbrev pub decreases-unfilled::Walk+K+G+R+Workspace+LinkSet::by_unfilled :
+    goal.decreases-unfilled::Walk+K+G+R+Workspace+LinkSet::by_unfilled
+decreases-unfilled::Walk+K+G+R+Workspace+LinkSet::by_unfilled g l = 11 * l.depth + 4
+
+abbrev pub decreases-unfilled::Walk+K+G+R+Workspace+LinkSet::at_unfilled :
+    goal.decreases-unfilled::Walk+K+G+R+Workspace+LinkSet::at_unfilled
+decreases-unfilled::Walk+K+G+R+Workspace+LinkSet::at_unfilled g l = 11 * l.depth + 3
+
 abbrev pub decreases-claims::Walk+K+G+R+Workspace+LinkSet::at_filled :
     goal.decreases-claims::Walk+K+G+R+Workspace+LinkSet::at_filled
 decreases-claims::Walk+K+G+R+Workspace+LinkSet::at_filled g l = 11 * l.depth + 5
