@@ -1,46 +1,26 @@
 -- The text of a position tells the position, so at most one answer to it fits: it has no wrong line, and it is small
 -- under a budget or not.
-use Rattle.std.proofs.Common.{◌≡◌, ℕ, ◌+◌, ◌≤◌, List, [], ◌∷◌, length, refl, ap, subst, arith, length-append}
+use Rattle.std.proofs.Common.{◌≡◌, ℕ, ◌+◌, ◌≤◌, List, [], ◌∷◌, length, refl, sym, ap, ◌∙◌, subst, arith, length-append}
 use Rattle.std.specs.Fmt.{decimal}
-use Rattle.std.specs.declared.result.Result.{Result}
-use Rattle.std.specs.declared.result.Result.TheVariants.{Ok, Err}
 use Rattle.hx_board.specs.declared.colours.Colour.{Colour}
 use Rattle.hx_board.specs.declared.colours.Colour.TheVariants.{Black, White}
 use Rattle.hx_board.specs.Cells.{Extent, IsExtent}
 use Rattle.hx_board.specs.Positions.{Board, IsBoard}
 use Rattle.hx_board.specs.Counts.{IsSmall}
 use Rattle.hx_lines.specs.Lines.{longest}
-use Rattle.hx_parse.specs.declared.positions.TextFault.{TextFault}
 use Rattle.hx_lex.specs.Words.{spaced, mask_word, colour_word}
 use Rattle.hx_text.specs.Grammars.{text_of, IsFaultyLine}
-use Rattle.hx_text.specs.PositionTexts.{ArePositionLines, position_text, position_title, size_line, stones_line, move_line}
+use Rattle.hx_text.specs.PositionTexts.{ArePositionLines, position_lines, position_text, position_title, size_line, stones_line, move_line}
 use Rattle.hx_lex.proofs.Masks.{length-hex}
 use Rattle.hx_lex.proofs.WordLengths.{length-colour_word, length-small}
-use Rattle.hx_parse.proofs.WholeReads.{spelled_is_read}
+use Rattle.hx_text.proofs.LineGrammars.{text_not_faulty}
+use Rattle.hx_text.proofs.WholePositions.{AllLack-position, text_tells_position}
 use Rattle.hx_cmd_solve.specs.Positions.{IsPositionText, IsTextWhere}
-
-abbrev found : Board → Colour → Result (Board × Colour) TextFault
-found board mover = Ok (board, mover)
-
-abbrev failed : ℕ → Result (Board × Colour) TextFault
-failed line = Err (record { line = line })
-
--- the board that was found, and else this one
-abbrev board_or : Board → Result (Board × Colour) TextFault → Board
-board_or other (Ok read) = read.0
-board_or other (Err fault) = other
-
-same_found : (a b : Board) (m n : Colour) → found a m ≡ found b n → a ≡ b
-same_found a b m n e = ap (board_or a) e
-
-failed_not_found : (line : ℕ) (board : Board) (mover : Colour) → failed line ≡ found board mover → ⊥
-failed_not_found line board mover e = cc
 
 -- a text is that of one position
 pub same_position : (input : List ℕ) (a b : Board) (m n : Colour) → IsPositionText input a m → IsPositionText input b n → a ≡ b
-unfolding text_of
 same_position input a b m n is_a is_b =
-    same_found a b m n (spelled_is_read input (found a m) (is_a.is_board, is_a.same) b n is_b.is_board is_b.same)
+    (text_tells_position a b m n is_a.is_board is_b.is_board (sym is_a.same ∙ is_b.same)).0
 
 -- no position is small under a budget and also not
 pub small_not_open : (budget : ℕ) (input : List ℕ) → IsTextWhere (λ board. IsSmall board budget) input
@@ -52,9 +32,9 @@ small_not_open budget input small other =
 -- the text of a position has no wrong line
 pub not_bad : (input : List ℕ) (board : Board) (mover : Colour) (line : ℕ) → IsPositionText input board mover
     → IsFaultyLine ArePositionLines input line → ⊥
-unfolding text_of
 not_bad input board mover line is bad =
-    failed_not_found line board mover (spelled_is_read input (failed line) bad board mover is.is_board is.same)
+    text_not_faulty ArePositionLines AllLack-position (position_lines board mover) input line
+    (record { board = board; mover = mover; is_board = is.is_board; same = refl }) is.same bad
 
 -- ---- and it is short
 

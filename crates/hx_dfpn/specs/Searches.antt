@@ -32,5 +32,4 @@ module _ {K G R W : Type 0} where
 
   -- why the search stopped, where something ran out
   abbrev pub Stops : (K → View) → Search K G R W Standing → RanOut → Type 0
-  Stops view search why =
-      IsStopped (view search.known.now).sight.list (view search.known.now).sight.slots search.seat.now why
+  Stops view search why = IsStopped (view search.known.now).sight search.seat.now why

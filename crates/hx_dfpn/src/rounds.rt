@@ -91,8 +91,7 @@ pub fn search_position<'a, K: Knows, G: Gate, R: Wait>(
     ensures goes { Goes (K.view known.old) (K.view known.new) }
     ensures seat { KeepsSeat seat.old seat.new }
     ensures settled { IfOk result (λ _. K.settled known.new position.now to_move) }
-    ensures stopped { IfErr result (IsStopped (K.view known.new).sight.list
-        (K.view known.new).sight.slots seat.new) }
+    ensures stopped { IfErr result (IsStopped (K.view known.new).sight seat.new) }
 {
     let alloc = worker.alloc;
     let workspace = Workspace::new(alloc)?;

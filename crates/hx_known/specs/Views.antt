@@ -1,5 +1,5 @@
 -- What whoever knows is to a search, and what the answers say.
-use Rattle.std.specs.Prelude.{◌≡◌, List}
+use Rattle.std.specs.Prelude.{◌≡◌, List, [], ◌∷◌}
 use Rattle.std.specs.Borrow.{GName}
 use Rattle.hx_book.specs.Sights.{Sight, Grows}
 use Rattle.hx_limits.specs.declared.ran_out.RanOut.{RanOut}
@@ -11,6 +11,10 @@ use Rattle.hx_known.specs.declared.knows.Known.TheVariants.{Proved, Nothing}
 pub record View : Type 0 where
   pub sight : Sight
   pub behind : List GName
+
+-- a list of proofs that is seen so, behind one borrow
+abbrev pub seen_behind : Sight → GName → View
+seen_behind sight borrow = record { sight = sight; behind = borrow ∷ [] }
 
 -- what was seen only grew, behind the same borrows
 pub record Goes (old new : View) : Type 0 where
@@ -24,4 +28,4 @@ IfProved Fact Nothing = Unit {0}
 
 -- why nothing could be added: no slot was left, or memory ran out
 abbrev pub LacksRoom : View → RanOut → Type 0
-LacksRoom view why = IsUnstored view.sight.list view.sight.slots why
+LacksRoom view why = IsUnstored view.sight why

@@ -59,11 +59,13 @@ pub trait Knows {
 
     /// The position after fill-in, as far as a position is known by what is known after it.
     fn fill(&self, alloc: Global, position: &Position) -> Result<Filled, Memory>
-        ensures { IfOk result (λ filled. IsFillIn position.now filled.steps.items filled.position) };
+        ensures { IfOk result (λ filled.
+            IsFillIn position.now filled.steps.items filled.position) };
 
     /// The position after fill-in for one player alone, as far as a position is known by what is known after it.
     fn fill_for(&self, alloc: Global, position: &Position, player: Colour) -> Result<Filled, Memory>
-        ensures { IfOk result (λ filled. IsFillIn position.now filled.steps.items filled.position) };
+        ensures { IfOk result (λ filled.
+            IsFillIn position.now filled.steps.items filled.position) };
 
     /// What is known of a position.
     fn of_position<R: Wait>(
@@ -168,7 +170,8 @@ pub trait Knows {
     ) -> Mask
         requires { IsEmpty position.now cell }
         ensures goes { Goes (view self.old) (view self.new) }
-        ensures refuted { (cell : ℕ) → has result cell ≡ true → refuted self.new position.now to_move cell };
+        ensures refuted { (cell : ℕ) → has result cell ≡ true
+            → refuted self.new position.now to_move cell };
 
     /// What is known of a search's own position, and of that position itself where anything is.
     fn settle<R: Wait>(

@@ -4,6 +4,7 @@ use Rattle.hx_tree.specs.declared.nodes.Node.{Node}
 use Rattle.hx_tree.specs.Entries.{IsRefused}
 use Rattle.hx_book.specs.Entries.{contents, IsBook}
 use Rattle.hx_book.specs.Puts.{Refusal}
+use Rattle.hx_book.specs.Sights.{Sight}
 use Rattle.hx_count.specs.Seats.{Seat, own}
 use Rattle.hx_limits.specs.declared.settings.Settings.{Settings}
 use Rattle.hx_limits.specs.declared.ran_out.RanOut.{RanOut}
@@ -18,17 +19,17 @@ pub record IsSpent (seat : Seat) (taken : ℕ) : Type 0 where
   pub refused : (own seat).refused ≡ true
   pub budget : taken ≡ seat.made.limits.budget
 
--- why a proof was not stored in a list with so many slots: no slot was left, or memory ran out
-abbrev pub IsUnstored : List Node → ℕ → RanOut → Type 0
-IsUnstored list slots (Budget taken) = ⊥
-IsUnstored list slots (Slots refusal) = IsOutOfSlots list slots refusal
-IsUnstored list slots Memory = Unit {0}
+-- why a proof was not stored in a list of proofs that is seen so: no slot was left, or memory ran out
+abbrev pub IsUnstored : Sight → RanOut → Type 0
+IsUnstored sight (Budget taken) = ⊥
+IsUnstored sight (Slots refusal) = IsOutOfSlots sight.list sight.slots refusal
+IsUnstored sight Memory = Unit {0}
 
--- why a worker stopped that has this list and this seat: it was refused a unit or a slot, or memory ran out
-abbrev pub IsStopped : List Node → ℕ → Seat → RanOut → Type 0
-IsStopped list slots seat (Budget taken) = IsSpent seat taken
-IsStopped list slots seat (Slots refusal) = IsOutOfSlots list slots refusal
-IsStopped list slots seat Memory = Unit {0}
+-- why a worker stopped that sees the list of proofs so and has this seat: it was refused a unit or a slot, or memory ran out
+abbrev pub IsStopped : Sight → Seat → RanOut → Type 0
+IsStopped sight seat (Budget taken) = IsSpent seat taken
+IsStopped sight seat (Slots refusal) = IsOutOfSlots sight.list sight.slots refusal
+IsStopped sight seat Memory = Unit {0}
 
 -- what a book with so many slots may hold, where each slot is taken and the refused proof's position and mover have no
 -- entry

@@ -1,9 +1,10 @@
--- What became of a proof that was to be stored in a list of nodes with so many slots.
+-- What became of a proof that was to be stored.
 use Rattle.std.specs.Prelude.{ℕ, Bool, true, false, List}
 use Rattle.hx_board.specs.declared.colours.Colour.{Colour}
 use Rattle.hx_board.specs.Positions.{Board}
 use Rattle.hx_tree.specs.declared.nodes.Node.{Node}
 use Rattle.hx_tree.specs.Entries.{IsOf, IsEntry}
+use Rattle.hx_book.specs.Sights.{Sight}
 use Rattle.hx_book.specs.EitherEntry.{WasMissed, IsNeitherFound}
 use Rattle.hx_limits.specs.declared.ran_out.RanOut.{RanOut}
 use Rattle.hx_limits.specs.declared.ran_out.RanOut.TheVariants.{Budget, Slots, Memory}
@@ -20,11 +21,13 @@ abbrev pub IsStored : List Node → Board → Colour → Stored → Type 0
 IsStored list board mover Done = HasEntry list board mover
 IsStored list board mover Missing = Unit {0}
 
--- why no node of this position and mover was stored: a slot was refused to one, or memory ran out
-abbrev pub IsNotStored : List Node → ℕ → Board → Colour → RanOut → Type 0
-IsNotStored list slots board mover (Budget taken) = ⊥
-IsNotStored list slots board mover (Slots refusal) = IsOutOfSlots list slots refusal × IsOf board mover refusal.node
-IsNotStored list slots board mover Memory = Unit {0}
+-- why no node of this position and mover was stored in a list of proofs that is seen so: a slot was refused to one, or
+-- memory ran out
+abbrev pub IsNotStored : Sight → Board → Colour → RanOut → Type 0
+IsNotStored sight board mover (Budget taken) = ⊥
+IsNotStored sight board mover (Slots refusal) =
+    IsOutOfSlots sight.list sight.slots refusal × IsOf board mover refusal.node
+IsNotStored sight board mover Memory = Unit {0}
 
 -- it is not memory that ran out
 abbrev pub HadMemory : RanOut → Type 0

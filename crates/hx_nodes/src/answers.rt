@@ -27,9 +27,10 @@ pub fn store_answers<P: Proofs, R: Wait>(
     requires must { IsMust set.now found.threats found.cells found.under }
     requires no_lines { P.is_plain ≡ true → found.under ≡ [] }
     ensures grew { Grows (P.sight proofs.old) (P.sight proofs.new) }
-    ensures stored { IfOk result (IsStored (P.sight proofs.new).list set.now.present.board (other_of set.now.player)) }
-    ensures stopped { IfErr result (IsNotStored (P.sight proofs.new).list (P.sight proofs.new).slots
-        set.now.present.board (other_of set.now.player)) }
+    ensures stored { IfOk result (IsStored (P.sight proofs.new).list set.now.present.board
+        (other_of set.now.player)) }
+    ensures stopped { IfErr result (IsNotStored (P.sight proofs.new) set.now.present.board
+        (other_of set.now.player)) }
 {
     set.keeps();
     let winner = set.colour();

@@ -23,8 +23,7 @@ pub fn store_chain<P: Proofs, R: Wait>(
     requires { HasChain position.now winner }
     ensures grew { Grows (P.sight proofs.old) (P.sight proofs.new) }
     ensures stored { IfOk result (λ _. HasEntry (P.sight proofs.new).list position.now to_move) }
-    ensures stopped { IfErr result (IsNotStored (P.sight proofs.new).list (P.sight proofs.new).slots
-        position.now to_move) }
+    ensures stopped { IfErr result (IsNotStored (P.sight proofs.new) position.now to_move) }
     ensures memory { IfErr result HadMemory }
 {
     // The proof takes from here that the position's board is one.

@@ -27,8 +27,7 @@ pub fn store_fill<P: Proofs, R: Wait>(
     requires { IsFillIn position.now filled.now.steps.items filled.now.position }
     ensures grew { Grows (P.sight proofs.old) (P.sight proofs.new) }
     ensures stored { IfOk result (IsStored (P.sight proofs.new).list position.now to_move) }
-    ensures stopped { IfErr result (IsNotStored (P.sight proofs.new).list (P.sight proofs.new).slots
-        position.now to_move) }
+    ensures stopped { IfErr result (IsNotStored (P.sight proofs.new) position.now to_move) }
 {
     // The proof takes from here that the position's board is one.
     let _size = position.size();

@@ -23,9 +23,10 @@ pub fn store_links<P: Proofs, R: Wait>(
 ) -> Result<(), RanOut>
     requires { Decides set.now to_move index }
     ensures grew { Grows (P.sight proofs.old) (P.sight proofs.new) }
-    ensures stored { IfOk result (λ _. HasEntry (P.sight proofs.new).list set.now.present.board to_move) }
-    ensures stopped { IfErr result (IsNotStored (P.sight proofs.new).list (P.sight proofs.new).slots
-        set.now.present.board to_move) }
+    ensures stored { IfOk result (λ _. HasEntry (P.sight proofs.new).list set.now.present.board
+        to_move) }
+    ensures stopped { IfErr result (IsNotStored (P.sight proofs.new) set.now.present.board
+        to_move) }
 {
     set.keeps();
     let Derived { steps, places: _ } = set.derivation(&[index])?;

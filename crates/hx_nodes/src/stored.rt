@@ -32,8 +32,8 @@ pub fn store<P: Proofs, R: Wait>(rt: &R, proofs: &mut P, node: Node) -> Result<(
     ensures grew { Grows (P.sight proofs.old) (P.sight proofs.new) }
     ensures stored { IfOk result (λ _. HasEntry (P.sight proofs.new).list node.heading.position
         node.heading.to_move) }
-    ensures stopped { IfErr result (IsNotStored (P.sight proofs.new).list (P.sight proofs.new).slots
-        node.heading.position node.heading.to_move) }
+    ensures stopped { IfErr result (IsNotStored (P.sight proofs.new) node.heading.position
+        node.heading.to_move) }
     ensures memory { HasNoLinks node.rule → IfErr result HadMemory }
 {
     let offer = Offer::of(node)?;

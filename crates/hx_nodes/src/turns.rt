@@ -21,10 +21,9 @@ pub fn store_turned<P: Proofs, R: Wait>(
 ) -> Result<Stored, RanOut>
     ensures grew { Grows (P.sight proofs.old) (P.sight proofs.new) }
     ensures stored { IfOk result (IsStored (P.sight proofs.new).list position.now to_move) }
-    ensures stopped { IfErr result (IsNotStored (P.sight proofs.new).list (P.sight proofs.new).slots
-        position.now to_move) }
-    ensures missing { IfOk result (MissingFor (LacksEither P.is_plain (P.sight proofs.old).list (P.sight proofs.new).list
-        position.now to_move)) }
+    ensures stopped { IfErr result (IsNotStored (P.sight proofs.new) position.now to_move) }
+    ensures missing { IfOk result (MissingFor (LacksEither P.is_plain (P.sight proofs.old).list
+        (P.sight proofs.new).list position.now to_move)) }
     ensures memory { IfErr result HadMemory }
 {
     // The proof takes from here that the position's board is one.

@@ -12,6 +12,9 @@ pub mod BegunNodes
 pub mod Completions
 pub mod ReadVersions
 pub mod Faults
+pub mod UnreadLines
+pub mod StoneReads
+pub mod BoardFaults
 pub mod PositionFaults
 pub mod WholeNodes
 pub mod WholeReads

@@ -1,9 +1,8 @@
 //! The lines of the texts outside of nodes, with a reader for each kind. A line that is not of the kind is answered with None.
 
-ghost use Rattle.std.specs.Prelude.{◌≡◌, ◌↔◌, IsTrue};
 ghost use Rattle.hx_board.specs.Cells.{IsExtent};
 ghost use Rattle.hx_lex.specs.Words.{Reads, IsNumber, IsSet};
-ghost use Rattle.hx_text.specs.PositionTexts.{position_title, size_line, stones_line, move_line};
+ghost use Rattle.hx_text.specs.PositionTexts.{size_line, stones_line, move_line};
 ghost use Rattle.hx_text.specs.TreeTexts.{title_line, end_line};
 
 use hx_board::{Colour, Mask, Size};
@@ -15,17 +14,6 @@ use hx_text::Version;
 pub(crate) struct End {
     pub count: u32,
     pub winner: Colour,
-}
-
-/// Whether a line is the first one of a position's text.
-#[tactic(auto, unfolding(hx_lex::specs::Words::spaced))]
-pub(crate) fn is_position_title(line: &[u8]) -> bool
-    ensures { IsTrue result ↔ (line.now ≡ position_title) }
-{
-    match line {
-        b"hexpos 1" => true,
-        _ => false,
-    }
 }
 
 /// The first line of a tree's text, which tells its version.

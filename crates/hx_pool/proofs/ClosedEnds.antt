@@ -10,7 +10,7 @@ use Rattle.hx_tree.specs.declared.nodes.Node.{Node}
 use Rattle.hx_tree.specs.Entries.{Extends}
 use Rattle.hx_book.specs.Entries.{Contents, IsBook}
 use Rattle.hx_count.specs.Seats.{Origin, Seat, own}
-use Rattle.hx_share.specs.Readers.{Reader}
+use Rattle.hx_share.specs.Readers.{Origin as BookOrigin, Reader, sight_of}
 use Rattle.hx_limits.specs.declared.ran_out.RanOut.{RanOut}
 use Rattle.hx_limits.specs.declared.ran_out.RanOut.TheVariants.{Budget, Slots, Memory}
 use Rattle.hx_limits.specs.declared.settings.Settings.{Settings}
@@ -25,6 +25,7 @@ use Rattle.hx_pool.proofs.ForemostEnds.{IsBeforeAll, all-spent}
 -- the closed book and the closed counts, and the seats that they were closed with
 pub record AreClosed (settings : Settings) (books : List Reader) (counts : List Seat) (nodes : List Node) (granted : ℕ) : Type 0 where
   pub few : length nodes ≤ settings.slots
+  pub slots : All (λ (s : Reader). s.made.slots ≡ settings.slots) books
   pub seen : All (λ (s : Reader). Extends s.seen nodes) books
   pub budgets : All (λ (s : Seat). s.made.limits.budget ≡ settings.budget) counts
   pub full : Any (λ (s : Seat). (own s).refused ≡ true) counts → granted ≡ settings.budget
@@ -35,8 +36,8 @@ Stays F proved = (old new : List Node) (found : F) → Extends old new → prove
 
 module _ {F : Type 0} (proved : List Node → F → Type 0) (stays : Stays F proved) (settings : Settings) (books : List Reader)
     (counts : List Seat) (nodes : List Node) (granted : ℕ) where
-  closed : AreClosed settings books counts nodes granted → (end : Result F RanOut) (some : IsEndOfSome proved settings.slots books counts end)
-      → IsEndedBy proved some.book.seen settings.slots some.seat end → IsClosedEnd proved nodes granted settings end
+  closed : AreClosed settings books counts nodes granted → (end : Result F RanOut) (some : IsEndOfSome proved books counts end)
+      → IsEndedBy proved (sight_of some.book) some.seat end → IsClosedEnd proved nodes granted settings end
   closed are (Ok found) some is =
       stays some.book.seen nodes found
       (all-get (λ (s : Reader). Extends s.seen nodes) books some.place some.book are.seen some.book_there) is
@@ -45,39 +46,41 @@ module _ {F : Type 0} (proved : List Node → F → Type 0) (stays : Stays F pro
     are.full (any-get (λ (s : Seat). (own s).refused ≡ true) counts some.place some.seat some.seat_there is.refused),
   )
   closed are (Err (Slots refusal)) some is =
-      subst (λ (list : List Node). IsOutOfSlots list settings.slots refusal)
-      (sym (no_longer some.book.seen nodes
+      let same_slots : some.book.made.slots ≡ settings.slots =
+      all-get (λ (s : Reader). s.made.slots ≡ settings.slots) books some.place some.book are.slots some.book_there in
+      let same_list : nodes ≡ some.book.seen = no_longer some.book.seen nodes
       (all-get (λ (s : Reader). Extends s.seen nodes) books some.place some.book are.seen some.book_there)
-      (omega (arith, are.few, is.full))))
-      is
+      (omega (arith, are.few, is.full, same_slots)) in
+      subst (λ (list : List Node). IsOutOfSlots list settings.slots refusal) (sym same_list)
+      (subst (λ (slots : ℕ). IsOutOfSlots some.book.seen slots refusal) same_slots is)
   closed are (Err Memory) some is = tt
 
-  pub end-closed : AreClosed settings books counts nodes granted → (end : Result F RanOut) → IsEndOfSome proved settings.slots books counts end
+  pub end-closed : AreClosed settings books counts nodes granted → (end : Result F RanOut) → IsEndOfSome proved books counts end
       → IsClosedEnd proved nodes granted settings end
   end-closed are end some = closed are end some some.ended
 
 -- one of the ends, when the book and the counts are closed with all seats
-pub contained-closed : {F : Type 0} (proved : List Node → F → Type 0) → Stays F proved → (settings : Settings) (slots : ℕ) (made : Origin)
-    (books : List Reader) (counts : List Seat) (ends : List (Result F RanOut)) (end : Result F RanOut)
-    (book : Contents) (granted : ℕ) → slots ≡ settings.slots → made.limits.budget ≡ settings.budget
-    → All (λ (s : Seat). s.made ≡ made) counts
-    → All (IsEndOfSome proved slots books counts) ends → Contains ends end
-    → IsBook book → book.slots ≡ slots → All (λ (s : Reader). Extends s.seen book.nodes) books
+pub contained-closed : {F : Type 0} (proved : List Node → F → Type 0) → Stays F proved → (settings : Settings) (shared : BookOrigin)
+    (made : Origin) (books : List Reader) (counts : List Seat) (ends : List (Result F RanOut)) (end : Result F RanOut)
+    (book : Contents) (granted : ℕ) → shared.slots ≡ settings.slots → made.limits.budget ≡ settings.budget
+    → All (λ (s : Reader). s.made ≡ shared) books → All (λ (s : Seat). s.made ≡ made) counts
+    → All (IsEndOfSome proved books counts) ends → Contains ends end
+    → IsBook book → book.slots ≡ shared.slots → All (λ (s : Reader). Extends s.seen book.nodes) books
     → (Any (λ (s : Seat). (own s).refused ≡ true) counts → granted ≡ made.limits.budget)
     → IsClosedEnd proved book.nodes granted settings end
-contained-closed proved stays settings slots made books counts ends end book granted same_slots same_budget same_made all one is_book
-    book_slots seen refused =
+contained-closed proved stays settings shared made books counts ends end book granted same_slots same_budget same_shared same_made all one
+    is_book book_slots seen refused =
     end-closed proved stays settings books counts book.nodes granted
     (record {
       few = omega (arith, is_book.held, book_slots, same_slots);
+      slots = All-weaker (λ (s : Reader). s.made ≡ shared) (λ (s : Reader). s.made.slots ≡ settings.slots)
+          (λ s same. ap (λ (o : BookOrigin). o.slots) same ∙ same_slots) books same_shared;
       seen = seen;
       budgets = All-weaker (λ (s : Seat). s.made ≡ made) (λ (s : Seat). s.made.limits.budget ≡ settings.budget)
           (λ s same. ap (λ (o : Origin). o.limits.budget) same ∙ same_budget) counts same_made;
       full = λ some. refused some ∙ same_budget;
     })
-    end
-    (subst (λ (n : ℕ). IsEndOfSome proved n books counts end) same_slots
-    (All-contains (IsEndOfSome proved slots books counts) ends end all one))
+    end (All-contains (IsEndOfSome proved books counts) ends end all one)
 
 -- ---- want of a unit
 

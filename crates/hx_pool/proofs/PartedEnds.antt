@@ -6,8 +6,7 @@ use Rattle.std.proofs.lemmas.List.Elements.{All-pop, All-push, All-weaker}
 use Rattle.hx_board.proofs.ListLaws.{get-push_before, get-push_last}
 use Rattle.hx_tree.specs.declared.nodes.Node.{Node}
 use Rattle.hx_count.specs.Seats.{Origin, Seat, own}
-use Rattle.hx_share.specs.Readers.{Reader}
-use Rattle.hx_share.specs.Readers.{Origin as BookOrigin}
+use Rattle.hx_share.specs.Readers.{Origin as BookOrigin, Reader, sight_of}
 use Rattle.hx_limits.specs.declared.ran_out.RanOut.{RanOut}
 use Rattle.hx_pool.specs.Ends.{EndsSpent}
 use Rattle.hx_pool.specs.declared.seats.Done.{Done}
@@ -22,10 +21,10 @@ pub after-done : {F : Type 0} (proved : List Node → F → Type 0) (tried : Typ
     → IsAfter proved tried book counts place → IsDone proved tried book counts done
 after-done proved tried book counts place done same is = subst (IsAfter proved tried book counts) same is
 
-module _ {F : Type 0} (proved : List Node → F → Type 0) (slots : ℕ) (books : List Reader) (counts : List Seat) (book : Reader)
-    (seat : Seat) where
-  end-more : (end : Result F RanOut) → IsEndOfSome proved slots books counts end
-      → IsEndOfSome proved slots (books ++ book ∷ []) (counts ++ seat ∷ []) end
+module _ {F : Type 0} (proved : List Node → F → Type 0) (books : List Reader) (counts : List Seat) (book : Reader) (seat : Seat)
+    where
+  end-more : (end : Result F RanOut) → IsEndOfSome proved books counts end
+      → IsEndOfSome proved (books ++ book ∷ []) (counts ++ seat ∷ []) end
   end-more end some = record {
     place = some.place;
     book = some.book;
@@ -35,8 +34,8 @@ module _ {F : Type 0} (proved : List Node → F → Type 0) (slots : ℕ) (books
     ended = some.ended;
   }
 
-  end-last : (end : Result F RanOut) → length books ≡ length counts → IsEndedBy proved book.seen slots seat end
-      → IsEndOfSome proved slots (books ++ book ∷ []) (counts ++ seat ∷ []) end
+  end-last : (end : Result F RanOut) → length books ≡ length counts → IsEndedBy proved (sight_of book) seat end
+      → IsEndOfSome proved (books ++ book ∷ []) (counts ++ seat ∷ []) end
   end-last end same ended = record {
     place = length books;
     book = book;
@@ -47,11 +46,11 @@ module _ {F : Type 0} (proved : List Node → F → Type 0) (slots : ℕ) (books
   }
 
   pub ends-more : (ends : List (Result F RanOut)) (end : Result F RanOut) → length books ≡ length counts
-      → All (IsEndOfSome proved slots books counts) ends → IsEndedBy proved book.seen slots seat end
-      → All (IsEndOfSome proved slots (books ++ book ∷ []) (counts ++ seat ∷ [])) (ends ++ end ∷ [])
-  ends-more ends end same all ended = All-push (IsEndOfSome proved slots (books ++ book ∷ []) (counts ++ seat ∷ [])) ends end
-      (All-weaker (IsEndOfSome proved slots books counts)
-      (IsEndOfSome proved slots (books ++ book ∷ []) (counts ++ seat ∷ [])) end-more ends all)
+      → All (IsEndOfSome proved books counts) ends → IsEndedBy proved (sight_of book) seat end
+      → All (IsEndOfSome proved (books ++ book ∷ []) (counts ++ seat ∷ [])) (ends ++ end ∷ [])
+  ends-more ends end same all ended = All-push (IsEndOfSome proved (books ++ book ∷ []) (counts ++ seat ∷ [])) ends end
+      (All-weaker (IsEndOfSome proved books counts)
+      (IsEndOfSome proved (books ++ book ∷ []) (counts ++ seat ∷ [])) end-more ends all)
       (end-last end same ended)
 
 pub tried-more : {F : Type 0} (tried : Type 0) (counts : List Seat) (seat : Seat) (ends : List (Result F RanOut))

@@ -4,7 +4,7 @@ use Rattle.std.specs.List.{All}
 use Rattle.std.specs.declared.option.Option.TheVariants.{Some}
 use Rattle.hx_tree.specs.declared.nodes.Node.{Node}
 use Rattle.hx_count.specs.Seats.{Seat, own}
-use Rattle.hx_share.specs.Readers.{Reader}
+use Rattle.hx_share.specs.Readers.{Reader, sight_of}
 use Rattle.hx_limits.specs.declared.ran_out.RanOut.{RanOut}
 use Rattle.hx_pool.specs.Ends.{EndsSpent}
 use Rattle.hx_pool.specs.Seats.{IsEndedBy}
@@ -20,14 +20,14 @@ pub record HasRoom {F : Type 0} (workers : ℕ) (parts : Parts F) : Type 0 where
   pub room_for_ends : workers ≤ vec_capacity parts.ends
 
 -- the end of the worker whose seats stand at some place
-pub record IsEndOfSome {F : Type 0} (proved : List Node → F → Type 0) (slots : ℕ) (books : List Reader) (counts : List Seat)
+pub record IsEndOfSome {F : Type 0} (proved : List Node → F → Type 0) (books : List Reader) (counts : List Seat)
     (end : Result F RanOut) : Type 0 where
   pub place : ℕ
   pub book : Reader
   pub seat : Seat
   pub book_there : slice_get books place ≡ Some book
   pub seat_there : slice_get counts place ≡ Some seat
-  pub ended : IsEndedBy proved book.seen slots seat end
+  pub ended : IsEndedBy proved (sight_of book) seat end
 
 -- where all ended for want of a unit and some seat was granted one, its worker has found this
 abbrev pub HaveAllTried : {F : Type 0} → Type 0 → List Seat → List (Result F RanOut) → Type 0

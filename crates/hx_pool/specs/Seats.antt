@@ -1,9 +1,10 @@
 -- A worker's seats, before its work and after it.
-use Rattle.std.specs.Prelude.{◌≡◌, ◌<◌, ℕ, List, Result, Ok, Err}
+use Rattle.std.specs.Prelude.{◌≡◌, ◌<◌, List, Result, Ok, Err}
 use Rattle.hx_tree.specs.declared.nodes.Node.{Node}
+use Rattle.hx_book.specs.Sights.{Sight}
 use Rattle.hx_count.specs.Machine.{HasNothing}
 use Rattle.hx_count.specs.Seats.{Origin, Seat, own}
-use Rattle.hx_share.specs.Readers.{Origin as BookOrigin}
+use Rattle.hx_share.specs.Readers.{Origin as BookOrigin, sight_of}
 use Rattle.hx_limits.specs.declared.ran_out.RanOut.{RanOut}
 use Rattle.hx_limits.specs.Causes.{IsStopped}
 use Rattle.hx_pool.specs.Ends.{EndsSpent}
@@ -18,10 +19,10 @@ pub record AreNewSeats (book : BookOrigin) (counts : Origin) (seats : Seats) : T
   pub same_counts : seats.counts.made ≡ counts
   pub nothing : HasNothing (own seats.counts)
 
--- what an end says of the nodes that a worker has seen and of its seat; where something was found, the errand says what
-abbrev pub IsEndedBy : {F : Type 0} → (List Node → F → Type 0) → List Node → ℕ → Seat → Result F RanOut → Type 0
-IsEndedBy proved seen slots seat (Ok found) = proved seen found
-IsEndedBy proved seen slots seat (Err why) = IsStopped seen slots seat why
+-- what an end says of what a worker sees of the list and of its seat; where something was found, the errand says what
+abbrev pub IsEndedBy : {F : Type 0} → (List Node → F → Type 0) → Sight → Seat → Result F RanOut → Type 0
+IsEndedBy proved sight seat (Ok found) = proved sight.list found
+IsEndedBy proved sight seat (Err why) = IsStopped sight seat why
 
 -- a worker that was granted a unit and ended for want of another one has found this
 abbrev pub HasTried : {F : Type 0} → Type 0 → Seat → Result F RanOut → Type 0
@@ -32,7 +33,7 @@ pub record IsDone {F : Type 0} (proved : List Node → F → Type 0) (tried : Ty
     (done : Done F) : Type 0 where
   pub same_book : done.book.made ≡ book
   pub same_counts : done.counts.made ≡ counts
-  pub ended : IsEndedBy proved done.book.seen book.slots done.counts done.end
+  pub ended : IsEndedBy proved (sight_of done.book) done.counts done.end
   pub has_tried : HasTried tried done.counts done.end
 
 -- ---- words for the functions inside the crate alone

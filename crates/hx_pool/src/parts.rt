@@ -61,8 +61,8 @@ impl<E: Errand> Crew<'_, E> {
         ensures books { All (λ s. s.made ≡ self.now.bench.now.shared.now.made) result.books.items }
         ensures counts { All (λ s. s.made ≡ self.now.bench.now.counts.now) result.counts.items }
         ensures ends { All
-            (IsEndOfSome (E.proved self.now.errand.now) self.now.bench.now.shared.now.made.slots
-            result.books.items result.counts.items) result.ends.items }
+            (IsEndOfSome (E.proved self.now.errand.now) result.books.items result.counts.items)
+            result.ends.items }
         ensures tried { HaveAllTried (E.tried self.now.errand.now) result.counts.items
             result.ends.items }
     {

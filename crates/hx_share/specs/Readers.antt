@@ -1,8 +1,9 @@
 -- Shared books, seats and notes as contracts see them.
-use Rattle.std.specs.Prelude.{◌≡◌, ℕ, List, length}
+use Rattle.std.specs.Prelude.{◌≡◌, ℕ, List, length, Some}
 use Rattle.atomic_table.specs.Seated.{TableId}
 use Rattle.hx_tree.specs.declared.nodes.Node.{Node}
 use Rattle.hx_book.specs.Entries.{contents, IsBook}
+use Rattle.hx_book.specs.Sights.{Sight}
 use Rattle.hx_share.specs.declared.views.Role.{Role}
 use Rattle.hx_share.specs.declared.views.Role.TheVariants.{Waiting}
 use Rattle.hx_share.specs.declared.views.Part.{Part}
@@ -31,6 +32,10 @@ sharing made seats = record { made = made; seats = seats }
 
 abbrev pub reader : Origin → List Node → Reader
 reader made seen = record { made = made; seen = seen }
+
+-- what a seat has seen, as whoever goes by a list of proofs sees it
+abbrev pub sight_of : Reader → Sight
+sight_of seat = record { list = seat.seen; slots = seat.made.slots; over = Some seat.made.table }
 
 -- ---- the fields of a seat and of a note: words for the functions inside the crate alone
 

@@ -19,15 +19,12 @@ pub struct Desk<'a> {
 }
 
 impl<'a> Proofs for Desk<'a> {
-    ghost use Rattle.std.specs.Prelude.{Some, false};
+    ghost use Rattle.std.specs.Prelude.{false};
+    ghost use Rattle.hx_share.specs.Readers.{sight_of};
 
     ghost is_plain = { false };
 
-    ghost sight = { λ d. record {
-      list = d.seat.seen;
-      slots = d.seat.made.slots;
-      over = Some d.seat.made.table;
-    } };
+    ghost sight = { λ d. sight_of d.seat };
 
     fn plain(&self) -> bool {
         false

@@ -1,6 +1,6 @@
 -- What a search of one position comes to.
 use Rattle.std.specs.Prelude.{◌≡◌, ◌<◌, ◌≤◌, ℕ, List, length, slice_get, Result, Ok, Err}
-use Rattle.std.specs.declared.option.Option.TheVariants.{Some}
+use Rattle.std.specs.declared.option.Option.TheVariants.{Some, None}
 use Rattle.hx_board.specs.declared.colours.Colour.{Colour}
 use Rattle.hx_board.specs.Positions.{Board}
 use Rattle.hx_board.specs.Graph.{HasNoChain}
@@ -10,6 +10,7 @@ use Rattle.hx_tree.specs.Entries.{IsFirstFound}
 use Rattle.hx_tree.specs.Trees.{headings_of, IsValidTree, IsRoot}
 use Rattle.hx_book.specs.declared.books.TheConstants.{MOST_SLOTS}
 use Rattle.hx_book.specs.Entries.{Contents}
+use Rattle.hx_book.specs.Sights.{Sight}
 use Rattle.hx_limits.specs.declared.ran_out.RanOut.{RanOut}
 use Rattle.hx_limits.specs.declared.ran_out.RanOut.TheVariants.{Memory}
 use Rattle.hx_limits.specs.declared.settings.Settings.{Settings}
@@ -24,6 +25,10 @@ IsProofOf board mover nodes found = IsFirstFound nodes board mover found
 abbrev pub IsSearchedAlone : Board → Colour → Settings → Searched Contents Found → Type 0
 IsSearchedAlone board mover settings searched =
     IsSearchEnd (IsProofOf board mover) (HasNoChain board) settings searched.book searched.totals.granted searched.end
+
+-- a book as whoever goes by a list of proofs sees it
+abbrev pub sight_of : Contents → Sight
+sight_of book = record { list = book.nodes; slots = book.slots; over = None }
 
 -- where something was found, the list has its place
 abbrev pub HasEntryFor : List Node → Result Found RanOut → Type 0

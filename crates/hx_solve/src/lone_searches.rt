@@ -8,7 +8,7 @@ ghost use Rattle.hx_count.specs.Seats.{own};
 ghost use Rattle.hx_limits.specs.Settings.{AreSettings};
 ghost use Rattle.hx_worker.specs.Ends.{IsEnded, EndsSpent};
 ghost use Rattle.hx_worker.specs.Sets.{AreOn};
-ghost use Rattle.hx_solve.specs.Searches.{IsSearchedAlone};
+ghost use Rattle.hx_solve.specs.Searches.{IsSearchedAlone, sight_of};
 
 use hx_board::{Colour, Memory, Position};
 use hx_book::PlainBook;
@@ -90,8 +90,8 @@ fn work_off<G: Gate, R: Wait>(rt: &R, job: Job<'_, PlainBook>, gate: &G) -> Give
     requires sets { AreOn job.position job.black job.white }
     ensures slots { result.book.slots ≡ job.entry.proofs.slots }
     ensures made { result.seat.made ≡ job.entry.counts.now }
-    ensures ended { IsEnded result.book.nodes result.book.slots result.seat job.entry.position
-        job.entry.to_move result.ended }
+    ensures ended { IsEnded (sight_of result.book) result.seat job.entry.position job.entry.to_move
+        result.ended }
     ensures no_chain { EndsSpent result.ended → 0 < (own result.seat).granted
         → HasNoChain job.entry.position }
 {

@@ -8,6 +8,7 @@ ghost use Rattle.hx_board.specs.Cells.{OnBoard};
 ghost use Rattle.hx_board.specs.Sets.{has};
 ghost use Rattle.hx_openings.specs.Openings.{opening};
 ghost use Rattle.hx_limits.specs.Causes.{IsStopped};
+ghost use Rattle.hx_share.specs.Readers.{sight_of};
 ghost use Rattle.hx_worker.specs.Jobs.{IsReady, IsSameWorker};
 ghost use Rattle.hx_survey.specs.Surveys.{HasOpening, HasOpenings, HasOpeningsOf};
 ghost use Rattle.hx_survey.specs.Shares.{IsShare};
@@ -96,8 +97,7 @@ impl Openings {
         ensures ready { IsReady job.new }
         ensures same { IsSameWorker job.old job.new }
         ensures found { IfOk result (λ _. HasOpenings job.new.proofs.seat.seen self.now.size) }
-        ensures stopped { IfErr result (IsStopped job.new.proofs.seat.seen
-            job.new.proofs.seat.made.slots job.new.seat) }
+        ensures stopped { IfErr result (IsStopped (sight_of job.new.proofs.seat) job.new.seat) }
     {
         self.go_through(rt, alloc, gate, job, Order::OfCells, share)?;
         self.go_through(rt, alloc, gate, job, Order::FromMiddle, self.size.all())
@@ -119,8 +119,7 @@ impl Openings {
         ensures same { IsSameWorker job.old job.new }
         ensures found { IfOk result
             (λ _. HasOpeningsOf job.new.proofs.seat.seen self.now.size cells) }
-        ensures stopped { IfErr result (IsStopped job.new.proofs.seat.seen
-            job.new.proofs.seat.made.slots job.new.seat) }
+        ensures stopped { IfErr result (IsStopped (sight_of job.new.proofs.seat) job.new.seat) }
     {
         // The proof takes from here that the board is one, so that its cells are below 128.
         let _rows = self.size.rows();
@@ -146,8 +145,7 @@ impl Openings {
         ensures ready { IsReady job.new }
         ensures same { IsSameWorker job.old job.new }
         ensures found { IfOk result (λ _. HasOpening job.new.proofs.seat.seen self.now.size cell) }
-        ensures stopped { IfErr result (IsStopped job.new.proofs.seat.seen
-            job.new.proofs.seat.made.slots job.new.seat) }
+        ensures stopped { IfErr result (IsStopped (sight_of job.new.proofs.seat) job.new.seat) }
     {
         let position = opening(self.size, cell);
         if let Some(_either) = look_either(rt, &mut job.proofs, &position, Colour::White) {

@@ -1,6 +1,6 @@
 pub mod LineWords
 pub mod ToldTemplates
 pub mod Beginnings
-pub mod FaultyLines
+pub mod TemplateFaults
 pub mod Misfits
 pub mod WholeReads

@@ -1,3 +1,1 @@
 pub mod Templates
--- ---- words for the functions inside the crate alone
-pub mod Reads

@@ -1,11 +1,10 @@
 //! The lines that a template's text has besides those of its board, with a reader for each. A line that is not of the kind is
 //! answered with None.
 
-ghost use Rattle.std.specs.Prelude.{◌≡◌, ◌↔◌, IsTrue};
 ghost use Rattle.hx_board.specs.Cells.{IsExtent};
 ghost use Rattle.hx_board.specs.Graph.{IsVertex};
 ghost use Rattle.hx_lex.specs.Words.{Reads, IsSet};
-ghost use Rattle.hx_template_text.specs.Templates.{template_title, owner_line, kind_line, ends_line, carrier_line};
+ghost use Rattle.hx_template_text.specs.Templates.{owner_line, kind_line, ends_line, carrier_line};
 
 use hx_board::{Colour, Mask, Size, Vertex};
 use hx_lex::Words;
@@ -16,17 +15,6 @@ use hx_link::Kind;
 pub(crate) struct Ends {
     pub a: Vertex,
     pub b: Vertex,
-}
-
-/// Whether a line is the first one of a template's text.
-#[tactic(auto, unfolding(hx_lex::specs::Words::spaced))]
-pub(crate) fn is_title(line: &[u8]) -> bool
-    ensures { IsTrue result ↔ (line.now ≡ template_title) }
-{
-    match line {
-        b"hextemplate 1" => true,
-        _ => false,
-    }
 }
 
 /// The line `owner COLOUR`.

@@ -32,5 +32,4 @@ module _ {K G R W : Type 0} where
 
   -- why the walk stopped, where something ran out
   abbrev pub Stops : (K → View) → Walk K G R W Standing → RanOut → Type 0
-  Stops view walk why =
-      IsStopped (view walk.known.now).sight.list (view walk.known.now).sight.slots walk.seat.now why
+  Stops view walk why = IsStopped (view walk.known.now).sight walk.seat.now why

@@ -95,8 +95,7 @@ fn walk_at<'a, K: Knows, G: Gate, R: Wait>(
     requires room { held_in_all (own seat.old) + DEPTH + CELLS < MOST_HELD }
     ensures goes { Goes (K.view known.old) (K.view known.new) }
     ensures seat { KeepsSeat seat.old seat.new }
-    ensures stopped { IfErr result (IsStopped (K.view known.new).sight.list
-        (K.view known.new).sight.slots seat.new) }
+    ensures stopped { IfErr result (IsStopped (K.view known.new).sight seat.new) }
 {
     let winner = winner_of(zones, position, to_move);
     let workspace = Workspace::new(worker.alloc)?;
@@ -136,8 +135,7 @@ pub fn walk_position<'a, K: Knows, G: Gate, R: Wait>(
     ensures goes { Goes (K.view known.old) (K.view known.new) }
     ensures seat { KeepsSeat seat.old seat.new }
     ensures settled { IfOk result (λ _. K.settled known.new position.now to_move) }
-    ensures stopped { IfErr result (IsStopped (K.view known.new).sight.list
-        (K.view known.new).sight.slots seat.new) }
+    ensures stopped { IfErr result (IsStopped (K.view known.new).sight seat.new) }
 {
     // The worker and the zones are lent again, for as long as the walk goes.
     let _walked = walk_at(&*worker, &*zones, known, seat, position, to_move)?;

@@ -123,7 +123,7 @@ fn all_wide<P: Proofs, R: Wait>(
 ) -> Result<(), RanOut>
     requires { IsMust set.now found.now.threats found.now.cells found.now.under }
     ensures grew { Grows (P.sight proofs.old) (P.sight proofs.new) }
-    ensures stopped { IfErr result (IsUnstored (P.sight proofs.new).list (P.sight proofs.new).slots) }
+    ensures stopped { IfErr result (IsUnstored (P.sight proofs.new)) }
 {
     let alloc = set.allocator();
     let winner = set.colour();
@@ -164,7 +164,7 @@ fn store_each<P: Proofs, R: Wait>(
 ) -> Result<(), RanOut>
     requires { (cell : ℕ) → has cells cell ≡ true → IsEmpty position.now cell }
     ensures grew { Grows (P.sight proofs.old) (P.sight proofs.new) }
-    ensures stopped { IfErr result (IsUnstored (P.sight proofs.new).list (P.sight proofs.new).slots) }
+    ensures stopped { IfErr result (IsUnstored (P.sight proofs.new)) }
 {
     let size = position.size();
     let mut left = cells;
@@ -186,8 +186,9 @@ pub fn widen_all<P: Proofs, R: Wait>(
     order: &[Cell],
 ) -> Result<Stored, RanOut>
     ensures grew { Grows (P.sight proofs.old) (P.sight proofs.new) }
-    ensures served { IfOk result (IsServedIf P.is_plain (P.sight proofs.new).list set.now.present.board (other_of set.now.player)) }
-    ensures stopped { IfErr result (IsUnstored (P.sight proofs.new).list (P.sight proofs.new).slots) }
+    ensures served { IfOk result (IsServedIf P.is_plain (P.sight proofs.new).list
+        set.now.present.board (other_of set.now.player)) }
+    ensures stopped { IfErr result (IsUnstored (P.sight proofs.new)) }
 {
     if proofs.plain() {
         return Ok(Stored::Missing);

@@ -24,7 +24,7 @@ fn chain_wide<P: Proofs, R: Wait>(
     winner: Colour,
 ) -> Result<(), RanOut>
     ensures grew { Grows (P.sight proofs.old) (P.sight proofs.new) }
-    ensures stopped { IfErr result (IsUnstored (P.sight proofs.new).list (P.sight proofs.new).slots) }
+    ensures stopped { IfErr result (IsUnstored (P.sight proofs.new)) }
 {
     let Some(wide) = widened(position, winner, Mask::empty()) else {
         return Ok(());
@@ -46,8 +46,9 @@ pub fn widen_chain<P: Proofs, R: Wait>(
 ) -> Result<(), RanOut>
     requires { HasChain position.now winner }
     ensures grew { Grows (P.sight proofs.old) (P.sight proofs.new) }
-    ensures served { IfOk result (λ _. IsServed P.is_plain (P.sight proofs.new).list position.now to_move) }
-    ensures stopped { IfErr result (IsUnstored (P.sight proofs.new).list (P.sight proofs.new).slots) }
+    ensures served { IfOk result (λ _. IsServed P.is_plain (P.sight proofs.new).list position.now
+        to_move) }
+    ensures stopped { IfErr result (IsUnstored (P.sight proofs.new)) }
     ensures memory { IfErr result HadMemory }
 {
     let tried = chain_wide(rt, proofs, position, to_move, winner);

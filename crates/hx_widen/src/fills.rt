@@ -58,10 +58,10 @@ fn fill_wide<P: Proofs, R: Wait>(
     fills: &[Fill],
     wider: &Wider,
 ) -> Result<(), RanOut>
-    requires { (board : Board)
-        × IsWiderFound P.is_plain (P.sight proofs.old).list board to_move wider.now.found.winner wider.now }
+    requires { (board : Board) × IsWiderFound P.is_plain (P.sight proofs.old).list board to_move
+        wider.now.found.winner wider.now }
     ensures grew { Grows (P.sight proofs.old) (P.sight proofs.new) }
-    ensures stopped { IfErr result (IsUnstored (P.sight proofs.new).list (P.sight proofs.new).slots) }
+    ensures stopped { IfErr result (IsUnstored (P.sight proofs.new)) }
 {
     let winner = wider.found.winner;
     let steps = own_steps(alloc, fills, winner)?;
@@ -89,8 +89,9 @@ pub fn widen_fill<P: Proofs, R: Wait>(
 ) -> Result<Stored, RanOut>
     requires { IsFillIn position.now filled.now.steps.items filled.now.position }
     ensures grew { Grows (P.sight proofs.old) (P.sight proofs.new) }
-    ensures served { IfOk result (IsServedIf P.is_plain (P.sight proofs.new).list position.now to_move) }
-    ensures stopped { IfErr result (IsUnstored (P.sight proofs.new).list (P.sight proofs.new).slots) }
+    ensures served { IfOk result (IsServedIf P.is_plain (P.sight proofs.new).list position.now
+        to_move) }
+    ensures stopped { IfErr result (IsUnstored (P.sight proofs.new)) }
 {
     let Some(wider) = look_wider_either(rt, proofs, &filled.position, to_move) else {
         return Ok(Stored::Missing);

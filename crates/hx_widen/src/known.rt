@@ -79,8 +79,8 @@ pub(crate) fn store_known<P: Proofs, R: Wait>(
     ensures grew { Grows (P.sight proofs.old) (P.sight proofs.new) }
     ensures stored { IfOk result (IsStored (P.sight proofs.new).list node.heading.position
         node.heading.to_move) }
-    ensures stopped { IfErr result (IsNotStored (P.sight proofs.new).list (P.sight proofs.new).slots
-        node.heading.position node.heading.to_move) }
+    ensures stopped { IfErr result (IsNotStored (P.sight proofs.new) node.heading.position
+        node.heading.to_move) }
     ensures wrong { P.is_plain ≡ false → IfOk result
         (MissingFor (¬ IsRightNode known.now.headings.items node)) }
 {

@@ -27,7 +27,7 @@ fn links_wide<P: Proofs, R: Wait>(
 ) -> Result<(), RanOut>
     requires { Decides set.now to_move index }
     ensures grew { Grows (P.sight proofs.old) (P.sight proofs.new) }
-    ensures stopped { IfErr result (IsUnstored (P.sight proofs.new).list (P.sight proofs.new).slots) }
+    ensures stopped { IfErr result (IsUnstored (P.sight proofs.new)) }
 {
     let alloc = set.allocator();
     let winner = set.colour();
@@ -56,8 +56,9 @@ pub fn widen_links<P: Proofs, R: Wait>(
 ) -> Result<(), RanOut>
     requires { Decides set.now to_move index }
     ensures grew { Grows (P.sight proofs.old) (P.sight proofs.new) }
-    ensures served { IfOk result (λ _. IsServed P.is_plain (P.sight proofs.new).list set.now.present.board to_move) }
-    ensures stopped { IfErr result (IsUnstored (P.sight proofs.new).list (P.sight proofs.new).slots) }
+    ensures served { IfOk result (λ _. IsServed P.is_plain (P.sight proofs.new).list
+        set.now.present.board to_move) }
+    ensures stopped { IfErr result (IsUnstored (P.sight proofs.new)) }
 {
     let tried = links_wide(rt, proofs, set, to_move, index);
     if let Stored::Done = end_of(rt, proofs, set.position(), to_move, tried)? {

@@ -24,7 +24,7 @@ fn move_wide<P: Proofs, R: Wait>(
     cell: Cell,
 ) -> Result<(), RanOut>
     ensures grew { Grows (P.sight proofs.old) (P.sight proofs.new) }
-    ensures stopped { IfErr result (IsUnstored (P.sight proofs.new).list (P.sight proofs.new).slots) }
+    ensures stopped { IfErr result (IsUnstored (P.sight proofs.new)) }
 {
     let moved = Mask::empty().with(cell);
     let Some(wide) = lifted(&wider.position, to_move, moved) else {
@@ -51,8 +51,9 @@ pub fn widen_move<P: Proofs, R: Wait>(
 ) -> Result<Stored, RanOut>
     requires { IsEmpty position.now cell }
     ensures grew { Grows (P.sight proofs.old) (P.sight proofs.new) }
-    ensures served { IfOk result (IsServedIf P.is_plain (P.sight proofs.new).list position.now to_move) }
-    ensures stopped { IfErr result (IsUnstored (P.sight proofs.new).list (P.sight proofs.new).slots) }
+    ensures served { IfOk result (IsServedIf P.is_plain (P.sight proofs.new).list position.now
+        to_move) }
+    ensures stopped { IfErr result (IsUnstored (P.sight proofs.new)) }
 {
     let next = position.with(to_move, cell);
     let other = to_move.other();

@@ -24,8 +24,9 @@ pub fn widen_turned<P: Proofs, R: Wait>(
     to_move: Colour,
 ) -> Result<Stored, RanOut>
     ensures grew { Grows (P.sight proofs.old) (P.sight proofs.new) }
-    ensures served { IfOk result (IsServedIf P.is_plain (P.sight proofs.new).list position.now to_move) }
-    ensures stopped { IfErr result (IsUnstored (P.sight proofs.new).list (P.sight proofs.new).slots) }
+    ensures served { IfOk result (IsServedIf P.is_plain (P.sight proofs.new).list position.now
+        to_move) }
+    ensures stopped { IfErr result (IsUnstored (P.sight proofs.new)) }
     ensures memory { IfErr result HadMemory }
 {
     // The proof takes from here that the position's board is one.

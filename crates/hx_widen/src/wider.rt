@@ -30,8 +30,8 @@ pub fn look_wider_either<P: Proofs, R: Wait>(
     to_move: Colour,
 ) -> Option<Wider>
     ensures grew { Grows (P.sight proofs.old) (P.sight proofs.new) }
-    ensures found { IfSome result (λ wider.
-        IsWiderFound P.is_plain (P.sight proofs.new).list position.now to_move wider.found.winner wider) }
+    ensures found { IfSome result (λ wider. IsWiderFound P.is_plain (P.sight proofs.new).list
+        position.now to_move wider.found.winner wider) }
 {
     if let Some(wider) = proofs.look_wider(rt, position, to_move, to_move) {
         return Some(wider);
@@ -68,10 +68,11 @@ pub(crate) fn end_of<P: Proofs, R: Wait>(
     to_move: Colour,
     tried: Result<(), RanOut>,
 ) -> Result<Stored, RanOut>
-    requires { IfErr tried (IsUnstored (P.sight proofs.old).list (P.sight proofs.old).slots) }
+    requires { IfErr tried (IsUnstored (P.sight proofs.old)) }
     ensures grew { Grows (P.sight proofs.old) (P.sight proofs.new) }
-    ensures served { IfOk result (IsServedIf P.is_plain (P.sight proofs.new).list position.now to_move) }
-    ensures stopped { IfErr result (IsUnstored (P.sight proofs.new).list (P.sight proofs.new).slots) }
+    ensures served { IfOk result (IsServedIf P.is_plain (P.sight proofs.new).list position.now
+        to_move) }
+    ensures stopped { IfErr result (IsUnstored (P.sight proofs.new)) }
     ensures memory { IfErr result HadMemory }
 {
     if let Err(RanOut::Slots(refusal)) = tried {
@@ -117,8 +118,7 @@ pub fn store_wider<P: Proofs, R: Wait>(
 ) -> Result<Stored, RanOut>
     ensures grew { Grows (P.sight proofs.old) (P.sight proofs.new) }
     ensures stored { IfOk result (IsStored (P.sight proofs.new).list position.now to_move) }
-    ensures stopped { IfErr result (IsNotStored (P.sight proofs.new).list (P.sight proofs.new).slots
-        position.now to_move) }
+    ensures stopped { IfErr result (IsNotStored (P.sight proofs.new) position.now to_move) }
 {
     if let Some(_found) = proofs.look(rt, position, to_move) {
         return Ok(Stored::Done);
@@ -143,8 +143,7 @@ pub(crate) fn fill_missing<P: Proofs, R: Wait>(
         wider.now.found.winner wider.now }
     ensures grew { Grows (P.sight proofs.old) (P.sight proofs.new) }
     ensures stored { IfOk result (λ _. HasEntry (P.sight proofs.new).list position.now to_move) }
-    ensures stopped { IfErr result (IsNotStored (P.sight proofs.new).list (P.sight proofs.new).slots
-        position.now to_move) }
+    ensures stopped { IfErr result (IsNotStored (P.sight proofs.new) position.now to_move) }
 {
     if proofs.plain() {
         // The entry is of the position itself.
@@ -176,13 +175,12 @@ pub(crate) fn fill_to<P: Proofs, R: Wait>(
     to_move: Colour,
     steps: FillSteps,
 ) -> Result<Stored, RanOut>
-    requires found { (board : Board)
-        × IsWiderFound P.is_plain (P.sight proofs.old).list board to_move wider.now.found.winner wider.now }
+    requires found { (board : Board) × IsWiderFound P.is_plain (P.sight proofs.old).list board
+        to_move wider.now.found.winner wider.now }
     requires some { steps ≢ [] }
     ensures grew { Grows (P.sight proofs.old) (P.sight proofs.new) }
     ensures stored { IfOk result (IsStored (P.sight proofs.new).list position.now to_move) }
-    ensures stopped { IfErr result (IsNotStored (P.sight proofs.new).list (P.sight proofs.new).slots
-        position.now to_move) }
+    ensures stopped { IfErr result (IsNotStored (P.sight proofs.new) position.now to_move) }
     ensures wrong { P.is_plain ≡ false → IfOk result
         (MissingFor (¬ LeadTo position.now wider.now.found.winner steps wider.now.position)) }
 {

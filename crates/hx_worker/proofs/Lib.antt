@@ -1,3 +1,4 @@
 pub mod RefutedLaws
 pub mod StopLaws
 pub mod UnlistedLaws
+pub mod LookLaws

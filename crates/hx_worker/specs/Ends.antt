@@ -7,6 +7,7 @@ use Rattle.hx_tree.specs.declared.nodes.Node.{Node}
 use Rattle.hx_tree.specs.Entries.{IsFirstFound}
 use Rattle.hx_tree.specs.declared.entries.Found.{Found}
 use Rattle.hx_turn.specs.Turned.{IsTurned}
+use Rattle.hx_book.specs.Sights.{Sight}
 use Rattle.hx_book.specs.EitherEntry.{WasMissed}
 use Rattle.hx_linkset.specs.States.{Standing}
 use Rattle.hx_linkset.specs.declared.limits.TheConstants.{MOST_LINKS}
@@ -19,13 +20,13 @@ use Rattle.hx_limits.specs.Causes.{IsOutOfSlots, IsSpent}
 use Rattle.hx_worker.specs.declared.ended.Ended.{Ended}
 use Rattle.hx_worker.specs.declared.ended.Ended.TheVariants.{Proved, Spent, NoSlots, Memory}
 
--- what an end says of the list of proofs and the seat, where the work was on this position and mover
-abbrev pub IsEnded : List Node → ℕ → Seat → Board → Colour → Ended → Type 0
-IsEnded list slots seat board mover (Proved index winner) =
-    IsFirstFound list board mover (record { index = index; winner = winner })
-IsEnded list slots seat board mover (Spent taken) = IsSpent seat taken
-IsEnded list slots seat board mover (NoSlots refusal) = IsOutOfSlots list slots refusal
-IsEnded list slots seat board mover Memory = Unit {0}
+-- what an end says of what is seen of the list of proofs and of the seat, where the work was on this position and mover
+abbrev pub IsEnded : Sight → Seat → Board → Colour → Ended → Type 0
+IsEnded sight seat board mover (Proved index winner) =
+    IsFirstFound sight.list board mover (record { index = index; winner = winner })
+IsEnded sight seat board mover (Spent taken) = IsSpent seat taken
+IsEnded sight seat board mover (NoSlots refusal) = IsOutOfSlots sight.list sight.slots refusal
+IsEnded sight seat board mover Memory = Unit {0}
 
 -- the entry that was found, or what ran out, by the end of the work
 abbrev pub found_of : Ended → Result Found RanOut

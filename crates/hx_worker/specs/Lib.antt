@@ -3,3 +3,4 @@ pub mod Ends
 pub mod Jobs
 -- ---- words for the functions inside the crate alone
 pub mod Forms
+pub mod Looks

@@ -10,6 +10,7 @@ ghost use Rattle.hx_count.specs.Seats.{own};
 ghost use Rattle.hx_tree.specs.Entries.{Extends, IsFirstFound};
 ghost use Rattle.hx_pool.specs.Ends.{EndsSpent};
 ghost use Rattle.hx_pool.specs.Seats.{IsEndedBy};
+ghost use Rattle.hx_share.specs.Readers.{sight_of};
 ghost use Rattle.hx_worker.specs.Sets.{AreOn};
 
 use crate::jobs::{Job, work};
@@ -104,11 +105,11 @@ pub fn work_at<G: Gate, R: Wait>(
     ensures counts { result.counts.made ≡ bench.now.counts.now }
     ensures nothing_held { held_in_all (own result.counts) ≡ 0 }
     ensures grew { Extends seats.book.seen result.book.seen }
-    ensures ended { IsEndedBy (λ list. IsFirstFound list position.now to_move) result.book.seen
-        bench.now.shared.now.made.slots result.counts result.end }
+    ensures ended { IsEndedBy (λ list. IsFirstFound list position.now to_move)
+        (sight_of result.book) result.counts result.end }
     // Where units were granted in this call before one was refused, the position was looked at for a chain.
-    ensures no_chain { EndsSpent result.end → (own seats.counts).granted < (own result.counts).granted
-        → HasNoChain position.now }
+    ensures no_chain { EndsSpent result.end
+        → (own seats.counts).granted < (own result.counts).granted → HasNoChain position.now }
 {
     let Ok(sets) = new_sets(alloc, position) else {
         return Done {

@@ -3,15 +3,16 @@
 //! To close a set takes tens of milliseconds on a large board, and a search has no use for it, since it makes the
 //! useful links on sets of its own. So work that ends by a proof closes none.
 
-ghost use Rattle.std.specs.Prelude.{◌≡◌, IfOk, IfErr, IfSome, IfNone};
+ghost use Rattle.std.specs.Prelude.{◌≡◌, IfOk, IfErr};
 ghost use Rattle.hx_board.specs.Graph.{HasChain};
 ghost use Rattle.hx_book.specs.Sights.{Grows};
 ghost use Rattle.hx_count.specs.Seats.{Seat};
 ghost use Rattle.hx_reach.specs.Growth.{IsGrown};
 ghost use Rattle.hx_worker.specs.Sets.{AreOn};
 ghost use Rattle.hx_tree.specs.Entries.{IsFirstFound};
-ghost use Rattle.hx_limits.specs.Causes.{IsSpent, IsUnstored, IsStopped, LacksUnit};
+ghost use Rattle.hx_limits.specs.Causes.{IsSpent, IsStopped, LacksUnit};
 ghost use Rattle.hx_worker.specs.Ends.{IsTried, IsThrough, IsOpenSet, WasUnlisted};
+ghost use Rattle.hx_worker.specs.Looks.{Looks, IfNothing};
 
 use crate::listed::entry_of;
 use hx_board::{Colour, Memory, Position, chain};
@@ -36,110 +37,96 @@ fn close_one(set: &mut LinkSet) -> Result<(), Memory>
     }
 }
 
-/// Looks the position and the turned one up.
-fn by_entry<P: Proofs, R: Wait>(
-    rt: &R,
-    proofs: &mut P,
-    position: &Position,
+/// A position that is looked at for the last time.
+struct LastLook<'a, R> {
+    rt: &'a R,
+    position: &'a Position,
     to_move: Colour,
-) -> Result<Option<Found>, RanOut>
-    ensures grew { Grows (P.sight proofs.old) (P.sight proofs.new) }
-    ensures found { IfOk result (λ found. IfSome found
-        (IsFirstFound (P.sight proofs.new).list position.now to_move)) }
-    ensures stopped { IfErr result (IsUnstored (P.sight proofs.new).list (P.sight proofs.new).slots) }
-    ensures unlisted { IfOk result (λ found. IfNone found
-        (WasUnlisted P.is_plain (P.sight proofs.old).list (P.sight proofs.new).list position.now
-        to_move)) }
-{
-    match store_turned(rt, proofs, position, to_move)? {
-        Stored::Done => Ok(Some(entry_of(rt, proofs, position, to_move))),
-        Stored::Missing => Ok(None),
-    }
 }
 
-/// Stores the proof by a chain of a player's.
-fn by_chain<P: Proofs, R: Wait>(
-    rt: &R,
-    proofs: &mut P,
-    position: &Position,
-    to_move: Colour,
-    player: Colour,
-) -> Result<Option<Found>, RanOut>
-    ensures grew { Grows (P.sight proofs.old) (P.sight proofs.new) }
-    ensures found { IfOk result (λ found. IfSome found
-        (IsFirstFound (P.sight proofs.new).list position.now to_move)) }
-    ensures stopped { IfErr result (IsUnstored (P.sight proofs.new).list (P.sight proofs.new).slots) }
-    ensures no_chain { IfOk result (λ found. IfNone found (HasChain position.now player → ⊥)) }
-{
-    let has_chain = chain(position, player);
-    if !has_chain {
-        return Ok(None);
-    }
-    store_chain(rt, proofs, position, to_move, player)?;
-    Ok(Some(entry_of(rt, proofs, position, to_move)))
-}
-
-/// Closes a set, and stores the proof by a link that decides the position.
-fn by_closed<P: Proofs, R: Wait>(
-    rt: &R,
-    proofs: &mut P,
-    position: &Position,
-    to_move: Colour,
-    set: &mut LinkSet,
-) -> Result<Option<Found>, RanOut>
-    requires { set.old.present.board ≡ position.now }
-    ensures grew { Grows (P.sight proofs.old) (P.sight proofs.new) }
-    ensures set { IsGrown set.old set.new }
-    ensures found { IfOk result (λ found. IfSome found
-        (IsFirstFound (P.sight proofs.new).list position.now to_move)) }
-    ensures stopped { IfErr result (IsUnstored (P.sight proofs.new).list (P.sight proofs.new).slots) }
-    ensures open_set { IfOk result (λ found. IfNone found (IsOpenSet set.new to_move)) }
-{
-    close_one(set)?;
-    match decided(set, to_move) {
-        Reached::Open => Ok(None),
-        Reached::Decided(index) => {
-            store_links(rt, proofs, set, to_move, index)?;
-            Ok(Some(entry_of(rt, proofs, position, to_move)))
+impl<R: Wait> LastLook<'_, R> {
+    /// Looks the position and the turned one up.
+    fn by_entry<P: Proofs>(&self, proofs: &mut P) -> Result<Option<Found>, RanOut>
+        ensures looks { Looks self.now (P.sight proofs.old) (P.sight proofs.new) result }
+        ensures unlisted { IfNothing result
+            (WasUnlisted P.is_plain (P.sight proofs.old).list (P.sight proofs.new).list
+            self.now.position.now self.now.to_move) }
+    {
+        match store_turned(self.rt, proofs, self.position, self.to_move)? {
+            Stored::Done => Ok(Some(entry_of(self.rt, proofs, self.position, self.to_move))),
+            Stored::Missing => Ok(None),
         }
     }
-}
 
-/// What the proofs, the chains and the links of the closed sets say of the position.
-fn decide<P: Proofs, R: Wait>(
-    rt: &R,
-    proofs: &mut P,
-    position: &Position,
-    to_move: Colour,
-    black: &mut LinkSet,
-    white: &mut LinkSet,
-) -> Result<Option<Found>, RanOut>
-    requires { AreOn position.now black.old white.old }
-    ensures grew { Grows (P.sight proofs.old) (P.sight proofs.new) }
-    ensures black { IsGrown black.old black.new }
-    ensures white { IsGrown white.old white.new }
-    ensures found { IfOk result (λ found. IfSome found
-        (IsFirstFound (P.sight proofs.new).list position.now to_move)) }
-    ensures stopped { IfErr result (IsUnstored (P.sight proofs.new).list (P.sight proofs.new).slots) }
-    ensures tried { IfOk result (λ found. IfNone found
-        (IsTried position.now to_move black.new white.new)) }
-    ensures unlisted { IfOk result (λ found. IfNone found
-        (WasUnlisted P.is_plain (P.sight proofs.old).list (P.sight proofs.new).list position.now
-        to_move)) }
-{
-    if let Some(found) = by_entry(rt, proofs, position, to_move)? {
-        return Ok(Some(found));
+    /// Stores the proof by a chain of a player's.
+    fn by_chain<P: Proofs>(
+        &self,
+        proofs: &mut P,
+        player: Colour,
+    ) -> Result<Option<Found>, RanOut>
+        ensures looks { Looks self.now (P.sight proofs.old) (P.sight proofs.new) result }
+        ensures no_chain { IfNothing result (HasChain self.now.position.now player → ⊥) }
+    {
+        let has_chain = chain(self.position, player);
+        if !has_chain {
+            return Ok(None);
+        }
+        store_chain(self.rt, proofs, self.position, self.to_move, player)?;
+        Ok(Some(entry_of(self.rt, proofs, self.position, self.to_move)))
     }
-    if let Some(found) = by_chain(rt, proofs, position, to_move, Colour::Black)? {
-        return Ok(Some(found));
+
+    /// Closes a set, and stores the proof by a link that decides the position.
+    fn by_closed<P: Proofs>(
+        &self,
+        proofs: &mut P,
+        set: &mut LinkSet,
+    ) -> Result<Option<Found>, RanOut>
+        requires { set.old.present.board ≡ self.now.position.now }
+        ensures looks { Looks self.now (P.sight proofs.old) (P.sight proofs.new) result }
+        ensures set { IsGrown set.old set.new }
+        ensures open_set { IfNothing result (IsOpenSet set.new self.now.to_move) }
+    {
+        close_one(set)?;
+        match decided(set, self.to_move) {
+            Reached::Open => Ok(None),
+            Reached::Decided(index) => {
+                store_links(self.rt, proofs, set, self.to_move, index)?;
+                Ok(Some(entry_of(self.rt, proofs, self.position, self.to_move)))
+            }
+        }
     }
-    if let Some(found) = by_chain(rt, proofs, position, to_move, Colour::White)? {
-        return Ok(Some(found));
+
+    /// What the proofs, the chains and the links of the closed sets say of the position.
+    fn decide<P: Proofs>(
+        &self,
+        proofs: &mut P,
+        black: &mut LinkSet,
+        white: &mut LinkSet,
+    ) -> Result<Option<Found>, RanOut>
+        requires { AreOn self.now.position.now black.old white.old }
+        ensures looks { Looks self.now (P.sight proofs.old) (P.sight proofs.new) result }
+        ensures black { IsGrown black.old black.new }
+        ensures white { IsGrown white.old white.new }
+        ensures tried { IfNothing result
+            (IsTried self.now.position.now self.now.to_move black.new white.new) }
+        ensures unlisted { IfNothing result
+            (WasUnlisted P.is_plain (P.sight proofs.old).list (P.sight proofs.new).list
+            self.now.position.now self.now.to_move) }
+    {
+        if let Some(found) = self.by_entry(proofs)? {
+            return Ok(Some(found));
+        }
+        if let Some(found) = self.by_chain(proofs, Colour::Black)? {
+            return Ok(Some(found));
+        }
+        if let Some(found) = self.by_chain(proofs, Colour::White)? {
+            return Ok(Some(found));
+        }
+        if let Some(found) = self.by_closed(proofs, black)? {
+            return Ok(Some(found));
+        }
+        self.by_closed(proofs, white)
     }
-    if let Some(found) = by_closed(rt, proofs, position, to_move, black)? {
-        return Ok(Some(found));
-    }
-    by_closed(rt, proofs, position, to_move, white)
 }
 
 /// The end of the work where no further unit was granted: by what decides the position after all, or by that refusal.
@@ -158,14 +145,19 @@ pub(crate) fn close_and_end<P: Proofs, R: Wait>(
     ensures white { IsGrown white.old white.new }
     ensures found { IfOk result (IsFirstFound (P.sight proofs.new).list position.now to_move) }
     ensures stopped { (seat : Seat) → IsSpent seat spent
-        → IfErr result (IsStopped (P.sight proofs.new).list (P.sight proofs.new).slots seat) }
+        → IfErr result (IsStopped (P.sight proofs.new) seat) }
     ensures tried { IfErr result (λ why. LacksUnit why
         → IsTried position.now to_move black.new white.new) }
     ensures unlisted { IfErr result (λ why. LacksUnit why
         → WasUnlisted P.is_plain (P.sight proofs.old).list (P.sight proofs.new).list position.now
         to_move) }
 {
-    match decide(rt, proofs, position, to_move, black, white)? {
+    let look = LastLook {
+        rt,
+        position,
+        to_move,
+    };
+    match look.decide(proofs, black, white)? {
         Some(found) => Ok(found),
         None => Err(RanOut::Budget(spent)),
     }

@@ -51,7 +51,8 @@ pub(crate) trait KnowsMoves {
     ) -> Mask
         requires { IsEmpty position.now cell }
         ensures goes { Goes (view self.old) (view self.new) }
-        ensures lost { (cell : ℕ) → has result cell ≡ true → lost self.new position.now to_move cell };
+        ensures lost { (cell : ℕ) → has result cell ≡ true
+            → lost self.new position.now to_move cell };
 }
 
 /// The lost moves, with those that lose with a move, where that move is not among them.

@@ -68,8 +68,8 @@ pub fn work<P: Proofs, G: Gate, R: Wait>(rt: &R, job: &mut Job<'_, P>, gate: &G)
     ensures seat { KeepsSeat job.old.seat job.new.seat }
     ensures black { IsGrown job.old.black job.new.black }
     ensures white { IsGrown job.old.white job.new.white }
-    ensures ended { IsEnded (P.sight job.new.proofs).list (P.sight job.new.proofs).slots
-        job.new.seat job.old.position job.old.to_move result }
+    ensures ended { IsEnded (P.sight job.new.proofs) job.new.seat job.old.position job.old.to_move
+        result }
     // A spent budget ends the work before the first visit, or after all was tried that can be tried at once.
     ensures tried { EndsSpent result → (own job.old.seat).granted < (own job.new.seat).granted
         → IsTried job.old.position job.old.to_move job.new.black job.new.white }

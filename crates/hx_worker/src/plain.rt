@@ -43,14 +43,14 @@ impl<'a, P> Drop for PlainProofs<'a, P> {
 }
 
 impl<P: Proofs> KnowsMoves for PlainProofs<'_, P> {
-    ghost use Rattle.std.specs.Prelude.{[], ◌∷◌};
+    ghost use Rattle.hx_known.specs.Views.{seen_behind};
 
-    ghost view = { λ f. record { sight = P.sight f.proofs.now; behind = f.proofs.ghost_name ∷ [] } };
+    ghost view = { λ f. seen_behind (P.sight f.proofs.now) f.proofs.ghost_name };
 
     ghost won = { λ f board mover. HasEntry (P.sight f.proofs.now).list board mover };
 
-    ghost lost = { λ f board mover cell.
-        HasWin (P.sight f.proofs.now).list (put board mover cell) (other_of mover) (other_of mover) };
+    ghost lost = { λ f board mover cell. HasWin (P.sight f.proofs.now).list
+        (put board mover cell) (other_of mover) (other_of mover) };
 
     fn win_by<R: Wait>(
         &mut self,
@@ -83,16 +83,16 @@ impl<P: Proofs> KnowsMoves for PlainProofs<'_, P> {
 }
 
 impl<P: Proofs> Knows for PlainProofs<'_, P> {
-    ghost use Rattle.std.specs.Prelude.{[], ◌∷◌};
+    ghost use Rattle.hx_known.specs.Views.{seen_behind};
 
-    ghost view = { λ f. record { sight = P.sight f.proofs.now; behind = f.proofs.ghost_name ∷ [] } };
+    ghost view = { λ f. seen_behind (P.sight f.proofs.now) f.proofs.ghost_name };
 
     ghost proved = { λ f board mover. HasEntry (P.sight f.proofs.now).list board mover };
 
     ghost settled = { λ f board mover. HasEntry (P.sight f.proofs.now).list board mover };
 
-    ghost refuted = { λ f board mover cell.
-        HasWin (P.sight f.proofs.now).list (put board mover cell) (other_of mover) (other_of mover) };
+    ghost refuted = { λ f board mover cell. HasWin (P.sight f.proofs.now).list
+        (put board mover cell) (other_of mover) (other_of mover) };
 
     fn tries_all(&self) -> bool {
         true

@@ -40,8 +40,7 @@ fn in_two_walks<K: Knows, G: Gate, R: Wait>(
     ensures goes { Goes (K.view known.old) (K.view known.new) }
     ensures seat { KeepsSeat seat.old seat.new }
     ensures settled { IfOk result (λ _. K.settled known.new position.now to_move) }
-    ensures stopped { IfErr result (IsStopped (K.view known.new).sight.list
-        (K.view known.new).sight.slots seat.new) }
+    ensures stopped { IfErr result (IsStopped (K.view known.new).sight seat.new) }
 {
     search_position(
         &*worker,
@@ -69,7 +68,7 @@ pub(crate) fn search_by<P: Proofs, G: Gate, R: Wait>(
     ensures grew { Grows (P.sight proofs.old) (P.sight proofs.new) }
     ensures seat { KeepsSeat seat.old seat.new }
     ensures found { IfOk result (IsFirstFound (P.sight proofs.new).list position.now to_move) }
-    ensures stopped { IfErr result (IsStopped (P.sight proofs.new).list (P.sight proofs.new).slots seat.new) }
+    ensures stopped { IfErr result (IsStopped (P.sight proofs.new) seat.new) }
 {
     // The worker is lent again, for as long as the form lives.
     if proofs.plain() {

@@ -49,9 +49,9 @@ impl<'a, P> Drop for WideProofs<'a, P> {
 }
 
 impl<P: Proofs> KnowsMoves for WideProofs<'_, P> {
-    ghost use Rattle.std.specs.Prelude.{[], ◌∷◌};
+    ghost use Rattle.hx_known.specs.Views.{seen_behind};
 
-    ghost view = { λ f. record { sight = P.sight f.proofs.now; behind = f.proofs.ghost_name ∷ [] } };
+    ghost view = { λ f. seen_behind (P.sight f.proofs.now) f.proofs.ghost_name };
 
     ghost won = { λ f board mover. IsServed P.is_plain (P.sight f.proofs.now).list board mover };
 
@@ -89,9 +89,9 @@ impl<P: Proofs> KnowsMoves for WideProofs<'_, P> {
 }
 
 impl<P: Proofs> Knows for WideProofs<'_, P> {
-    ghost use Rattle.std.specs.Prelude.{[], ◌∷◌};
+    ghost use Rattle.hx_known.specs.Views.{seen_behind};
 
-    ghost view = { λ f. record { sight = P.sight f.proofs.now; behind = f.proofs.ghost_name ∷ [] } };
+    ghost view = { λ f. seen_behind (P.sight f.proofs.now) f.proofs.ghost_name };
 
     ghost proved = { λ f board mover. IsServed P.is_plain (P.sight f.proofs.now).list board mover };
 

@@ -33,10 +33,10 @@ returns g c =
     let errand = c.args.errand.now in let proved = g.E.Errand.proved errand in let tried = g.E.Errand.tried errand in
     let settings = c.args.settings.now in
     let laws = g.met.E.Errand g.world.𝓛 g.world.𝓜 g.world.𝓡 ((λ s x. x), (λ x. x), (λ x. x), λ x. x) in
-    let ended = contained-closed proved (laws.stays errand) settings c.in_ok-shared.shared.made.slots c.in_ok-counts.counts
+    let ended = contained-closed proved (laws.stays errand) settings c.in_ok-shared.shared.made c.in_ok-counts.counts
     parts.books.items parts.counts.items parts.ends.items c.foremost-end.result c.close-book.result c.close-totals.result.granted
-    c.in_ok-shared.ensures.limits.0 (ap (λ (l : Limits). l.budget) c.in_ok-counts.ensures.limits) c.take_apart-parts.ensures.counts
-    c.take_apart-parts.ensures.ends c.foremost-end.ensures.one
+    c.in_ok-shared.ensures.limits.0 (ap (λ (l : Limits). l.budget) c.in_ok-counts.ensures.limits) c.take_apart-parts.ensures.books
+    c.take_apart-parts.ensures.counts c.take_apart-parts.ensures.ends c.foremost-end.ensures.one
     c.keeps.ensures.book book.slots book.seen c.close-totals.ensures.refused in record {
       is_book = c.keeps.ensures.book;
       slots = book.slots ∙ c.in_ok-shared.ensures.limits.0;

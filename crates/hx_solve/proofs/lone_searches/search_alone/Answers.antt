@@ -8,7 +8,7 @@ use Rattle.hx_book.specs.Entries.{Contents}
 use Rattle.hx_count.specs.declared.views.Limits.{Limits}
 use Rattle.hx_count.specs.Seats.{Origin, Seat, own}
 use Rattle.hx_worker.specs.declared.ended.Ended.{Ended}
-use Rattle.hx_worker.specs.Ends.{IsEnded, found_of}
+use Rattle.hx_worker.specs.Ends.{found_of}
 use Rattle.hx_limits.specs.declared.ran_out.RanOut.{RanOut}
 use Rattle.hx_pool.specs.Ends.{EndsSpent}
 use Rattle.hx_pool.specs.Searches.{IsClosedEnd}
@@ -39,9 +39,8 @@ returns g c =
     let sum : granted ≡ (own seat).granted =
     close.granted.0 ∙ ap (λ (seats : List Seat). sum_by (λ (s : Seat). (own s).granted) seats) all ∙ omega arith in
     let same : c.found.result ≡ found_of end = c.found.ensures in
-    let closed = lone-closed settings board c.args.to_move nodes seat granted end
-    (ap (λ (o : Origin). o.limits.budget) work.made ∙ budget) full
-    (subst (λ (n : ℕ). IsEnded nodes n seat board c.args.to_move end) slots work.ended) in
+    let closed = lone-closed settings board c.args.to_move c.work_off-book.result.book seat granted end slots
+    (ap (λ (o : Origin). o.limits.budget) work.made ∙ budget) full work.ended in
     record {
       is_book = c.keeps.ensures.book;
       slots = slots;

@@ -34,4 +34,5 @@ returns-clause-grew g c =
     (grows-on _ _ _ c.store_each.ensures.grew c.store_answers.ensures.grew))
 
 pub returns-clause-stopped : goal.returns-clause-stopped
-returns-clause-stopped g c = if_err-unstored _ _ _ _ c.store_answers.result c.store_answers.ensures.stopped
+returns-clause-stopped g c =
+    if_err-unstored (g.P.Proofs.sight c.store_answers.new.proofs) _ _ c.store_answers.result c.store_answers.ensures.stopped

@@ -18,4 +18,5 @@ pub returns-clause-served : goal.returns-clause-served
 returns-clause-served g c = if_ok-entry_served _ _ _ _ c.store_chain.result c.store_chain.ensures.stored
 
 pub returns-clause-stopped : goal.returns-clause-stopped
-returns-clause-stopped g c = if_err-unstored _ _ _ _ c.store_chain.result c.store_chain.ensures.stopped
+returns-clause-stopped g c =
+    if_err-unstored (g.P.Proofs.sight c.store_chain.new.proofs) _ _ c.store_chain.result c.store_chain.ensures.stopped

@@ -41,4 +41,5 @@ returns-clause-grew g c =
     (grows-on _ _ _ c.fill_missing.ensures.grew c.store_fill.ensures.grew)))
 
 pub returns-clause-stopped : goal.returns-clause-stopped
-returns-clause-stopped g c = if_err-unstored _ _ _ _ c.store_fill.result c.store_fill.ensures.stopped
+returns-clause-stopped g c =
+    if_err-unstored (g.P.Proofs.sight c.store_fill.new.proofs) _ _ c.store_fill.result c.store_fill.ensures.stopped

@@ -43,4 +43,5 @@ returns-clause-grew g c =
     (grows-on _ _ _ c.fill_missing.ensures.grew c.store_move.ensures.grew)))
 
 pub returns-clause-stopped : goal.returns-clause-stopped
-returns-clause-stopped g c = if_err-unstored _ _ _ _ c.store_move.result c.store_move.ensures.stopped
+returns-clause-stopped g c =
+    if_err-unstored (g.P.Proofs.sight c.store_move.new.proofs) _ _ c.store_move.result c.store_move.ensures.stopped

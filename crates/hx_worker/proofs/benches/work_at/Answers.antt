@@ -4,7 +4,7 @@ use Rattle.hx_board.specs.Positions.{Board}
 use Rattle.hx_board.specs.Graph.{HasNoChain}
 use Rattle.hx_count.specs.Machine.{held_in_all}
 use Rattle.hx_count.specs.Seats.{Seat, own}
-use Rattle.hx_share.specs.Readers.{Reader}
+use Rattle.hx_share.specs.Readers.{Reader, sight_of}
 use Rattle.hx_tree.specs.Entries.{Extends}
 use Rattle.hx_pool.specs.Ends.{EndsSpent}
 use Rattle.hx_worker.proofs.StopLaws.{ended-found, found-spent}
@@ -32,9 +32,7 @@ returns-clause-grew g c =
 pub returns-clause-ended : goal.returns-clause-ended
 returns-clause-ended g c =
     let back = c.done_of.ensures in
-    let same_slots = c.work-ended.ensures.grew.slots in
-    let same_object = c.work-ended.ensures.grew.over in
-    let ended = ended-found _ _ _ _ _ _ c.work-ended.ensures.ended in search rules
+    let ended = ended-found (sight_of c.work-ended.new.job.proofs.seat) _ _ _ _ c.work-ended.ensures.ended in search rules
 
 pub returns-clause-no_chain : goal.returns-clause-no_chain
 returns-clause-no_chain g c =

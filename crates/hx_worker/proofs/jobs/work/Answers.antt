@@ -6,7 +6,9 @@ use Rattle.hx_worker.proofs.jobs.work.Goals as goal
 pub returns-clause-ended : goal.returns-clause-ended
 returns-clause-ended g c =
     let spent = rw c.in-Err-Budget.field-0-is at c.in-Err-Budget.ensures.stopped in
-    rw c.of-2.ensures (stopped-ended _ _ _ _ _ _ c.close_and_end.ensures.found (c.close_and_end.ensures.stopped _ spent))
+    rw c.of-2.ensures
+    (stopped-ended (g.P.Proofs.sight c.close_and_end.new.proofs) _ _ _ _ c.close_and_end.ensures.found
+    (c.close_and_end.ensures.stopped _ spent))
 
 pub returns-clause-unlisted : goal.returns-clause-unlisted
 returns-clause-unlisted g c = λ spent more.

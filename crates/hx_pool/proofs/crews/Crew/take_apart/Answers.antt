@@ -29,8 +29,8 @@ loop-place-preserved g c =
       same_counts = rw s.items
           (All-push (λ (s : Seat). s.made ≡ bench.counts.now) parts.counts.items done.counts i.same_counts last.same_counts);
       some_ends = rw (b.items, s.items, e.items)
-          (ends-more proved bench.shared.now.made.slots parts.books.items parts.counts.items done.book done.counts
-          parts.ends.items done.end as_many i.some_ends last.ended);
+          (ends-more proved parts.books.items parts.counts.items done.book done.counts parts.ends.items done.end as_many
+          i.some_ends last.ended);
       tried = rw (s.items, e.items)
           (tried-more tried parts.counts.items done.counts parts.ends.items done.end i.tried last.has_tried);
     }

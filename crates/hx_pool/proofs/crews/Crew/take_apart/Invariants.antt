@@ -15,8 +15,8 @@ invariant-loop-place g l = record {
       l.self.bench.now.counts.now) l.places.items;
   same_book : All (λ s. s.made ≡ l.self.bench.now.shared.now.made) l.parts.books.items;
   same_counts : All (λ s. s.made ≡ l.self.bench.now.counts.now) l.parts.counts.items;
-  some_ends : All (IsEndOfSome (g.E.Errand.proved l.self.errand.now) l.self.bench.now.shared.now.made.slots l.parts.books.items
-      l.parts.counts.items) l.parts.ends.items;
+  some_ends : All (IsEndOfSome (g.E.Errand.proved l.self.errand.now) l.parts.books.items l.parts.counts.items)
+      l.parts.ends.items;
   tried : HaveAllTried (g.E.Errand.tried l.self.errand.now) l.parts.counts.items l.parts.ends.items;
 }
 
