@@ -12,8 +12,8 @@ pub data IsWritten (before now : Writing) (text : List ℕ) (wanted status : ℕ
 abbrev pub IsReadToEnd : Option (List ℕ) → Option (List ℕ) → Type 0
 IsReadToEnd before now = IfSome before (λ input. now ≡ Some [])
 
--- The status of a read that failed, of a write that failed, or of want of memory. It is the status alone: that its cause
--- came is said elsewhere, and want of memory needs none.
+-- The status of a read that failed, of a write that failed, or of want of memory. It is the status alone: that its
+-- cause came is said elsewhere, and want of memory needs none.
 abbrev pub IsStopped : ℕ → Type 0
 IsStopped status = (status ≡ 5) ⊎ ((status ≡ 6) ⊎ (status ≡ 7))
 

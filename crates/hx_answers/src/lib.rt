@@ -1,5 +1,5 @@
-//! How one answer is written with its status, the answers that come in the place of any other one, and how an input is read up
-//! to a limit.
+//! How one answer is written with its status, the answers that come in the place of any other one, and how an input is
+//! read up to a limit.
 #![tactic(auto)]
 
 mod counted;

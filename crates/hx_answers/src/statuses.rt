@@ -1,5 +1,5 @@
-//! The answers that come in the place of another one, with the exit statuses that tell them: of faults, want of memory, limits
-//! and what is used up.
+//! The answers that come in the place of another one, with the exit statuses that tell them: of faults, want of memory,
+//! limits and what is used up.
 
 ghost use Rattle.hx_answers.specs.Texts.{out_of_memory_line, read_fault_line, too_long_line, unknown_budget_line, unknown_proofs_line};
 ghost use Rattle.hx_io.specs.Sinks.{WritesAll};

@@ -1,7 +1,8 @@
--- Whether any two vertices of a set are joined. With an own vertex in the set one flood tells, since what is joined with it is
--- joined over it. Without one the groups that touch the set are flooded one after the other, and each adds what it reaches of the
--- set to the sets of these vertices. Nothing is added that is not joined, and nothing is missing in the end: a walk that is more
--- than a touch begins with an own vertex that touches the set, and so leads through one of these groups.
+-- Whether any two vertices of a set are joined. With an own vertex in the set one flood tells, since what is joined
+-- with it is joined over it. Without one the groups that touch the set are flooded one after the other, and each adds
+-- what it reaches of the set to the sets of these vertices. Nothing is added that is not joined, and nothing is missing
+-- in the end: a walk that is more than a touch begins with an own vertex that touches the set, and so leads through one
+-- of these groups.
 use Rattle.std.proofs.Common.{◌≡◌, ℕ, ◌<◌, Bool, true, false, List, ◌∷◌, [], length, slice_index, replicate, refl, sym, ◌∙◌, subst}
 use Rattle.std.proofs.Common.{inl, inr, ⊎_elim}
 use Rattle.std.proofs.lemmas.Bool.{false≢true, false_from_ne_true}
@@ -57,7 +58,8 @@ touching-is size player extent vertex is near is_near = record { vertices = vert
         has-union_right (insert 0 (code_of vertex)) near (code_of v)
         ((is_near.members v is_v).1 (record { by = vertex; by_vertex = is; by_member = has-insert_same 0 (code_of vertex); touch = t }))
 
--- the own vertices that touch the set, those of them that still wait, and what the groups of the others reach of the set
+-- the own vertices that touch the set, those of them that still wait, and what the groups of the others reach of the
+-- set
 pub record AreGrouped (board : Board) (player : Colour) (set seeds waiting : ℕ) (sets : List ℕ) : Type 0 where
   pub count : length sets ≡ 123
   pub inside : IsSubset waiting seeds

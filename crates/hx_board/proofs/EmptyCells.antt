@@ -1,5 +1,5 @@
--- The laws of the number of empty cells. A stone on an empty cell changes the answer of `is_empty` at that cell alone, so
--- the count falls by one.
+-- The laws of the number of empty cells. A stone on an empty cell changes the answer of `is_empty` at that cell alone,
+-- so the count falls by one.
 use Rattle.std.proofs.Common.{◌≡◌, ◌≢◌, ℕ, zero, suc, ◌+◌, ◌*◌, ◌<◌, ◌≤◌, Bool, true, false, ◌||◌, ◌&&◌, not, ltb, refl, sym, ap, ◌∙◌}
 use Rattle.std.proofs.Common.{arith, ⊎_elim, ◌↔◌, eqb-true}
 use Rattle.std.proofs.lemmas.Bool.{false≢true, cases_lt, ltb-true, lt-ltb, not-true, not_from_false, and_from, false_from_ne_true}

@@ -1,7 +1,7 @@
 -- The sets that `Groups` keeps. At first each cell has itself and the cells that touch it; then one group after another
--- adds all that it reaches to the set of each vertex that it reaches. Nothing is added that is not joined, since a group's
--- vertices are own and what is joined is joined over them. And nothing is missing in the end, since a walk that is more
--- than a touch has an own inner vertex, with which both its ends are joined.
+-- adds all that it reaches to the set of each vertex that it reaches. Nothing is added that is not joined, since a
+-- group's vertices are own and what is joined is joined over them. And nothing is missing in the end, since a walk that
+-- is more than a touch has an own inner vertex, with which both its ends are joined.
 use Rattle.std.proofs.Common.{◌≡◌, ◌≢◌, ℕ, ◌<◌, Bool, true, false, not, ◌&&◌, List, [], ◌∷◌, length, slice_index, get_or}
 use Rattle.std.proofs.Common.{eqb, eq-eqb, refl, sym, ap, ◌∙◌, subst, arith, ◌⊎◌, inl, inr, ⊎_elim}
 use Rattle.std.proofs.Math.ListN.{set}

@@ -1,5 +1,5 @@
--- How many numbers below a bound pass a test: what the counts of members of a set and of empty cells have in common. Where one
--- test differs from another at one number alone, that is one more or one less.
+-- How many numbers below a bound pass a test: what the counts of members of a set and of empty cells have in common.
+-- Where one test differs from another at one number alone, that is one more or one less.
 use Rattle.std.proofs.Common.{◌≡◌, ◌≢◌, ℕ, zero, suc, ◌+◌, ◌<◌, ◌≤◌, Bool, true, false, ◌&&◌, not, eqb, eq-eqb, refl, sym, ap, ◌∙◌, arith}
 use Rattle.std.proofs.Common.{⊎_elim}
 use Rattle.std.specs.Prelude.{if◌then◌else◌}

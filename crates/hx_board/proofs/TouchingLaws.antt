@@ -1,5 +1,5 @@
--- The list of a cell's neighbours has each cell of the board that touches it, and no other. Each of its six parts stands for
--- one way of touching.
+-- The list of a cell's neighbours has each cell of the board that touches it, and no other. Each of its six parts
+-- stands for one way of touching.
 use Rattle.std.proofs.Common.{◌≡◌, ℕ, zero, suc, ◌+◌, ◌-◌, ◌*◌, ◌/◌, ◌%◌, ◌<◌, ◌≤◌, Bool, true, false, ◌&&◌}
 use Rattle.std.proofs.Common.{List, [], ◌∷◌, ◌++◌, get_or, refl, sym, arith, ◌↔◌, ltb, ⊎_elim}
 use Rattle.std.specs.Prelude.{Contains}

@@ -1,4 +1,5 @@
--- The laws of sets of vertices: each call gives a set of vertices again, and a member of the set of a board's vertices is one.
+-- The laws of sets of vertices: each call gives a set of vertices again, and a member of the set of a board's vertices
+-- is one.
 use Rattle.std.proofs.Common.{◌≡◌, ℕ, ◌<◌, true, refl, sym, ap, ◌∙◌, subst, arith, ⊎_elim}
 use Rattle.std.proofs.lemmas.Bool.{false≢true}
 use Rattle.hx_board.specs.declared.vertices.Vertex.{Vertex}

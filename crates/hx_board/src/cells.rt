@@ -1,8 +1,8 @@
 //! The cells of a board.
 //!
-//! A cell goes by one number, its index, which is eleven times its row plus its column on a board of every size. So
-//! the same cell has the same index on two boards, and its neighbours' indexes lie fixed steps away. It may lie on a board of
-//! one size and off a smaller one: `Size::cell` makes a cell of its board.
+//! A cell goes by one number, its index, which is eleven times its row plus its column on a board of every size. So the
+//! same cell has the same index on two boards, and its neighbours' indexes lie fixed steps away. It may lie on a board
+//! of one size and off a smaller one: `Size::cell` makes a cell of its board.
 
 ghost use Rattle.std.specs.Prelude.{◌≡◌, ◌<◌};
 ghost use Rattle.hx_board.specs.Cells.{row_of, col_of};

@@ -3,7 +3,8 @@
 ghost use Rattle.std.specs.Prelude.{◌≡◌};
 ghost use Rattle.hx_board.specs.Colours.{other_of};
 
-/// A player, and the colour of a stone. Black owns the top and the bottom side of the board, White the left and the right one.
+/// A player, and the colour of a stone. Black owns the top and the bottom side of the board, White the left and the
+/// right one.
 #[derive(Clone, Copy, PartialEq, Eq, Debug, Default)]
 pub enum Colour {
     #[default]

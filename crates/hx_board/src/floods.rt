@@ -31,8 +31,8 @@ pub(crate) fn flood(graph: &Graph, start: Vertex) -> VertexSet
     }
 }
 
-/// What a vertex is joined with, as `flood` tells it, or a part of that which has all of a set: the flood stops as soon as it has
-/// come to all of them. Three of four steps look at cells alone, which takes half as long.
+/// What a vertex is joined with, as `flood` tells it, or a part of that which has all of a set: the flood stops as soon
+/// as it has come to all of them. Three of four steps look at cells alone, which takes half as long.
 pub(crate) fn flood_to(graph: &Graph, start: Vertex, wanted: VertexSet) -> VertexSet
     requires { IsVertex graph.now.board.size start }
     ensures { IsReach graph.now.board graph.now.player start wanted result }

@@ -95,7 +95,8 @@ impl Graph {
     /// A vertex and the vertices that touch it.
     pub(crate) fn touching(&self, vertex: Vertex) -> VertexSet
         requires { IsVertex self.now.board.size vertex }
-        ensures { IsSetOf self.now.board.size (IsOrTouches self.now.board.size self.now.player vertex)
+        ensures { IsSetOf self.now.board.size
+            (IsOrTouches self.now.board.size self.now.player vertex)
             result }
     {
         // The proof takes from here that the board is one.

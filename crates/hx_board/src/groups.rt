@@ -32,7 +32,8 @@ impl Model for Groups {
 
     ghost view = { λ g. g.graph };
 
-    // It says that the table is exactly `Joined`, which is no proposition in the prover's sense; the toolchain takes it.
+    // It says that the table is exactly `Joined`, which is no proposition in the prover's sense; the toolchain takes
+    // it.
     ghost invariant = { λ g. AreJoined g.graph.board g.graph.player g.joined };
 }
 
@@ -58,8 +59,8 @@ impl Groups {
         set.has(b)
     }
 
-    /// All that a vertex is joined with in the player's graph, and so the vertex too. For an own vertex that is its group
-    /// and what touches the group; for any other cell what touches it and what its touching groups reach.
+    /// All that a vertex is joined with in the player's graph, and so the vertex too. For an own vertex that is its
+    /// group and what touches the group; for any other cell what touches it and what its touching groups reach.
     pub fn joined_with(&self, vertex: Vertex) -> VertexSet
         requires { IsVertex self.now.board.size vertex }
         ensures { IsSetOf self.now.board.size (Joined self.now.board self.now.player vertex)

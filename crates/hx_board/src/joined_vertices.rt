@@ -1,8 +1,8 @@
 //! Whether any two vertices of a set are joined.
 //!
-//! That is asked of a few vertices that lie close together, as the neighbours of a cell, on a board of which nothing else is
-//! asked. So no table of all groups is made: only groups that touch the set are flooded, each once, and a flood stops where it
-//! has come to all of the set.
+//! That is asked of a few vertices that lie close together, as the neighbours of a cell, on a board of which nothing
+//! else is asked. So no table of all groups is made: only groups that touch the set are flooded, each once, and a flood
+//! stops where it has come to all of the set.
 
 ghost use Rattle.std.specs.Prelude.{◌≡◌, ℕ, ◌↔◌, IsTrue, true};
 ghost use Rattle.hx_board.specs.Sets.{has};
@@ -31,8 +31,8 @@ pub fn all_joined(position: &Position, player: Colour, set: VertexSet) -> bool
     }
 }
 
-/// The same, with one flood of each group that touches the set. Of two vertices that are joined one is the other or touches it,
-/// or both touch or are in one of these groups.
+/// The same, with one flood of each group that touches the set. Of two vertices that are joined one is the other or
+/// touches it, or both touch or are in one of these groups.
 fn joined_by_groups(graph: &Graph, set: VertexSet) -> bool
     requires { (n : ℕ) → has set n ≡ true → IsVertexCode graph.now.board.size n }
     ensures { IsTrue result ↔ AreAllJoined graph.now.board graph.now.player set }

@@ -1,7 +1,7 @@
 //! The cells that touch those of a set, found by shifts of the whole set.
 //!
-//! Neighbours' indexes lie fixed steps away, so four shifts find the neighbours of all cells of a set at once. What a shift
-//! moves over the edge of the board is cut off by the board's own cells.
+//! Neighbours' indexes lie fixed steps away, so four shifts find the neighbours of all cells of a set at once. What a
+//! shift moves over the edge of the board is cut off by the board's own cells.
 
 ghost use Rattle.std.specs.Prelude.{◌≡◌, ℕ, ◌+◌, ◌<◌, ◌↔◌, true};
 ghost use Rattle.hx_board.specs.Sets.{has};
@@ -22,8 +22,8 @@ pub fn neighbour_set(size: Size, cell: Cell) -> Mask
     around(size, all, left_cells(size), Mask::empty().with(cell))
 }
 
-/// The cells that touch a cell of a set. Of the six neighbours of a cell two lie to the right of it and of the cell above it,
-/// and two to the left of it and of the cell below it, so two shifts sideways find these four.
+/// The cells that touch a cell of a set. Of the six neighbours of a cell two lie to the right of it and of the cell
+/// above it, and two to the left of it and of the cell below it, so two shifts sideways find these four.
 pub(crate) fn around(size: Size, all: Mask, left: Mask, set: Mask) -> Mask
     requires extent { IsExtent size.rows size.cols }
     requires all { (cell : ℕ) → (has all cell ≡ true) ↔ OnBoard size cell }

@@ -119,7 +119,8 @@ fn first_columns(cols: u8) -> Mask
     Mask::of((FIRST_COLUMN << cols) - FIRST_COLUMN)
 }
 
-/// The cells of the first rows and columns. The cells of the first rows are the numbers below the index of the next row.
+/// The cells of the first rows and columns. The cells of the first rows are the numbers below the index of the next
+/// row.
 pub(crate) fn block(rows: u8, cols: u8) -> Mask
     requires rows { rows ≤ 11 }
     requires cols { cols ≤ 11 }

@@ -115,8 +115,8 @@ impl VertexSet {
         self.members.is_empty()
     }
 
-    /// The first vertex in the set: cells come first, in cell order, then the first side and the last. None exactly where the set
-    /// is empty.
+    /// The first vertex in the set: cells come first, in cell order, then the first side and the last. None exactly
+    /// where the set is empty.
     pub fn lowest(self) -> Option<Vertex>
         ensures first { MatchOption result (self ≡ 0) (λ vertex. IsLowest self (code_of vertex)) }
         ensures some { IfSome result IsSomeVertex }

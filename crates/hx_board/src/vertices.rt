@@ -1,7 +1,7 @@
 //! The vertices of a player's graph: what a player's stones join.
 //!
-//! A vertex goes by one number, its code: a cell by its index, and the two sides come after the cells. So one set of 128
-//! numbers holds a whole graph, and a flood treats its sides as it treats its stones.
+//! A vertex goes by one number, its code: a cell by its index, and the two sides come after the cells. So one set of
+//! 128 numbers holds a whole graph, and a flood treats its sides as it treats its stones.
 
 ghost use Rattle.std.specs.Prelude.{◌≡◌, ◌<◌};
 ghost use Rattle.hx_board.specs.VertexSets.{code_of, IsSomeVertex};
@@ -17,7 +17,8 @@ pub(crate) const FIRST_CODE: u8 = CELLS as u8;
 /// The code of the last side.
 pub(crate) const LAST_CODE: u8 = FIRST_CODE + 1;
 
-/// A vertex of a player's graph: a cell, or one of the player's sides, of which the top is Black's first and the left White's.
+/// A vertex of a player's graph: a cell, or one of the player's sides, of which the top is Black's first and the left
+/// White's.
 #[derive(Clone, Copy, PartialEq, Eq, Debug)]
 pub enum Vertex {
     Of(Cell),

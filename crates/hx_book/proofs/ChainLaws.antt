@@ -1,5 +1,5 @@
--- The chain of a bucket, walked from its head: below the link that was reached stands what was not looked at yet. What is
--- looked for is a property of nodes, and each node that has it is in the bucket.
+-- The chain of a bucket, walked from its head: below the link that was reached stands what was not looked at yet. What
+-- is looked for is a property of nodes, and each node that has it is in the bucket.
 use Rattle.std.proofs.Common.{◌≡◌, ◌≢◌, ℕ, ◌-◌, ◌<◌, ◌≤◌, List, length, get_or, sym, ◌∙◌, subst, ⊎_elim, arith, Some, refl}
 use Rattle.std.proofs.lemmas.Option.{slice_get_read, slice_get_within, same_Some}
 use Rattle.std.specs.Prelude.{slice_get, slice_index}

@@ -1,5 +1,5 @@
--- A book with one node more. The node is right after the others, and of a position and mover that none of them is of; its
--- place becomes the head of its bucket's chain, in both sets of chains.
+-- A book with one node more. The node is right after the others, and of a position and mover that none of them is of;
+-- its place becomes the head of its bucket's chain, in both sets of chains.
 use Rattle.std.proofs.Common.{◌≡◌, ◌≢◌, ℕ, zero, suc, ◌+◌, ◌-◌, ◌<◌, ◌≤◌, List, [], ◌∷◌, ◌++◌, length, set, refl, sym, ap, ◌∙◌, subst, ◌⊎◌}
 use Rattle.std.proofs.Common.{inl, inr, ⊎_elim, arith, length-append}
 use Rattle.std.specs.Prelude.{slice_index}

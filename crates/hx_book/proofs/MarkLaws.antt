@@ -1,5 +1,5 @@
--- What a mark more changes: the marked places are those of before and the new one. So after a mark on each child of some lines
--- the marked ones are those of before and these.
+-- What a mark more changes: the marked places are those of before and the new one. So after a mark on each child of
+-- some lines the marked ones are those of before and these.
 use Rattle.std.proofs.Common.{◌≡◌, ℕ, ◌+◌, ◌<◌, List, [], ◌∷◌, ◌++◌, length, take, get_or, refl, sym, ◌∙◌, subst, inl, inr, Bool, ◌⊎◌}
 use Rattle.std.proofs.Common.{⊎_elim, Some, arith}
 use Rattle.std.proofs.lemmas.Option.{slice_get_read, slice_get_within}

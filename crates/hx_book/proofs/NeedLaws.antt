@@ -1,5 +1,5 @@
--- The marks from the root down. At each place below it the children of a marked node are marked, so at the end a marked node
--- has no child without a mark.
+-- The marks from the root down. At each place below it the children of a marked node are marked, so at the end a marked
+-- node has no child without a mark.
 use Rattle.std.proofs.Common.{◌≡◌, ℕ, ◌+◌, ◌<◌, ◌≤◌, List, [], ◌∷◌, length, refl, sym, ◌∙◌, subst, Some, Bool, ⊎_elim, arith}
 use Rattle.std.specs.Prelude.{slice_get}
 use Rattle.std.proofs.lemmas.Bool.{cases_eq}

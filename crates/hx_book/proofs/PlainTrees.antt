@@ -1,5 +1,5 @@
--- The tree of an entry has plain nodes alone, where the list that it is taken out of has. A node stays plain under new numbers for its
--- children.
+-- The tree of an entry has plain nodes alone, where the list that it is taken out of has. A node stays plain under new
+-- numbers for its children.
 use Rattle.std.proofs.Common.{◌≡◌, ℕ, ◌<◌, ◌≤◌, List, [], ◌∷◌, map, length, get_or, Option, Some, None, arith}
 use Rattle.std.specs.Prelude.{slice_get, option_map, IfSome, Result, Ok, Err, IfOk}
 use Rattle.std.proofs.lemmas.List.{length-map}

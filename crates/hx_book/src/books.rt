@@ -1,13 +1,13 @@
 //! A book of proofs.
 //!
-//! The nodes stand in the order in which they came. So that a position is found fast, each node has a bucket, computed from
-//! its position and mover, and a second one, from its winner's stones and mover; the entries of a bucket are chained. What
-//! `find` answers does not depend on the buckets, nor does whether `find_wider` answers. All memory is taken at the start, but
-//! for what `into_tree` takes.
+//! The nodes stand in the order in which they came. So that a position is found fast, each node has a bucket, computed
+//! from its position and mover, and a second one, from its winner's stones and mover; the entries of a bucket are
+//! chained. What `find` answers does not depend on the buckets, nor does whether `find_wider` answers. All memory is
+//! taken at the start, but for what `into_tree` takes.
 //!
-//! A full book with as many slots as buckets has the longest chains: a hit visits 1.5 entries and a miss 1, as numbers as
-//! good as random give them. An entry takes 112 bytes besides the lists of its rule: 96 for the node in little room, and in
-//! each of the two sets of chains 4 for its link and 4 for a bucket; with twice as many buckets 120.
+//! A full book with as many slots as buckets has the longest chains: a hit visits 1.5 entries and a miss 1, as numbers
+//! as good as random give them. An entry takes 112 bytes besides the lists of its rule: 96 for the node in little room,
+//! and in each of the two sets of chains 4 for its link and 4 for a bucket; with twice as many buckets 120.
 
 ghost use Rattle.std.specs.Prelude.{◌≡◌, ◌≢◌, ◌<◌, ◌≤◌, ◌↔◌, IsTrue, false, [], length, IfOk};
 ghost use Rattle.hx_tree.specs.Rules.{IsRightNode};
@@ -74,8 +74,8 @@ impl Book {
         Book::with_buckets(alloc, slots, slots.next_power_of_two())
     }
 
-    /// The same, with a number of buckets of the caller's choice, from 1 to 2,097,152, by position and as many by stones. More
-    /// buckets make shorter chains.
+    /// The same, with a number of buckets of the caller's choice, from 1 to 2,097,152, by position and as many by
+    /// stones. More buckets make shorter chains.
     pub fn with_buckets(alloc: Global, slots: u32, buckets: u32) -> Result<Book, Memory>
         requires slots { slots ≤ MOST_SLOTS }
         requires some { 0 < buckets }
@@ -136,8 +136,8 @@ impl Book {
         None
     }
 
-    /// An entry of this mover and winner that serves the position: its winner has the same stones, and the opponent's stones of
-    /// the position are all in the entry's. None exactly where there is no such entry.
+    /// An entry of this mover and winner that serves the position: its winner has the same stones, and the opponent's
+    /// stones of the position are all in the entry's. None exactly where there is no such entry.
     pub fn find_wider(&self, position: &Position, to_move: Colour, winner: Colour) -> Option<Wider>
         ensures { FindsWider false self.now.nodes position.now to_move winner result }
     {
@@ -156,8 +156,9 @@ impl Book {
         None
     }
 
-    /// Puts in a node that is right after those that are held. Its index, or that of the entry which its position and mover
-    /// have already: then nothing changes. The node comes back exactly where there is no such entry and each slot is taken.
+    /// Puts in a node that is right after those that are held. Its index, or that of the entry which its position and
+    /// mover have already: then nothing changes. The node comes back exactly where there is no such entry and each slot
+    /// is taken.
     pub fn put(&mut self, offer: Offer) -> Result<u32, NoSlot>
         requires { IsRightNode (headings_of self.old.nodes) offer }
         ensures slots { self.new.slots ≡ self.old.slots }
@@ -195,8 +196,8 @@ impl Book {
         self.nodes
     }
 
-    /// The tree of an entry: the nodes that it needs, in their order, with new numbers for their children. Where all nodes of the
-    /// book are plain those of the tree are.
+    /// The tree of an entry: the nodes that it needs, in their order, with new numbers for their children. Where all
+    /// nodes of the book are plain those of the tree are.
     pub fn into_tree(self, index: u32) -> Result<Vec<Node>, Memory>
         requires { index < length self.nodes }
         ensures tree { IfOk result (λ tree. IsTreeOf self.nodes index tree.items) }

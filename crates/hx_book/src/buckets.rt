@@ -10,8 +10,8 @@ use hx_turn::folded_key;
 /// 2^64.
 const HALF: u128 = 18446744073709551616;
 
-/// The bucket of a position and mover: as far into the buckets as their key is into all keys. A product is faster than a
-/// remainder by a number that is known only at run time.
+/// The bucket of a position and mover: as far into the buckets as their key is into all keys. A product is faster than
+/// a remainder by a number that is known only at run time.
 #[tactic(auto, unfolding(crate::specs::Buckets::bucket_of))]
 pub(crate) fn bucket(buckets: usize, position: &Position, mover: Colour) -> usize
     requires { 0 < buckets }

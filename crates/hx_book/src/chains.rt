@@ -1,7 +1,8 @@
 //! Chains of entries by their buckets.
 //!
-//! Each bucket has a link to its newest entry, and each entry a link to the next older one of its bucket. So a new entry is
-//! linked in by two writes, and a look walks its bucket alone, the newest first. All memory is taken at the start.
+//! Each bucket has a link to its newest entry, and each entry a link to the next older one of its bucket. So a new
+//! entry is linked in by two writes, and a look walks its bucket alone, the newest first. All memory is taken at the
+//! start.
 
 ghost use Rattle.std.specs.Prelude.{◌≡◌, ◌<◌, ◌≤◌, [], length, replicate, slice_index, IfOk};
 ghost use Rattle.hx_book.specs.declared.books.TheConstants.{MOST_SLOTS};

@@ -1,7 +1,7 @@
 //! A look in both orientations.
 //!
-//! Who wins a position wins the one turned by 180 degrees. So where the position itself has no entry, that of the turned one
-//! serves. The position is turned only then.
+//! Who wins a position wins the one turned by 180 degrees. So where the position itself has no entry, that of the
+//! turned one serves. The position is turned only then.
 
 ghost use Rattle.hx_book.specs.EitherEntry.{FindsEither};
 ghost use Rattle.hx_book.specs.Sights.{Grows};
@@ -19,8 +19,8 @@ pub struct Either {
     pub turned: bool,
 }
 
-/// The first entry of a position and mover, or, where there is none, that of the turned position and the same mover. None only where
-/// neither has one.
+/// The first entry of a position and mover, or, where there is none, that of the turned position and the same mover.
+/// None only where neither has one.
 pub fn look_either<P: Proofs, R: Wait>(
     rt: &R,
     proofs: &mut P,

@@ -1,10 +1,11 @@
 //! A list of proofs that only grows, over a book of one's own or one that is shared.
 //!
-//! That a list is plain is a fact of its type: `is_plain` takes no value of the type, so no contract has to say that it stays
-//! the same. `plain` has no body in the trait: one that answers false would have to be proved of every type.
+//! That a list is plain is a fact of its type: `is_plain` takes no value of the type, so no contract has to say that it
+//! stays the same. `plain` has no body in the trait: one that answers false would have to be proved of every type.
 //!
-//! That the nodes of a plain list are plain is a clause of `keeps`, and no law of the trait. A law would speak of each value that
-//! contracts may see of the type, and of a book they see slots and nodes alone, and not what is true of every book.
+//! That the nodes of a plain list are plain is a clause of `keeps`, and no law of the trait. A law would speak of each
+//! value that contracts may see of the type, and of a book they see slots and nodes alone, and not what is true of
+//! every book.
 
 ghost use Rattle.std.specs.Prelude.{◌≡◌, Bool, true};
 ghost use Rattle.hx_tree.specs.Plain.{IsPlain, ArePlain};
@@ -23,8 +24,8 @@ use hx_packed::Offer;
 use hx_tree::Found;
 use std::sync::Wait;
 
-/// Where proofs are looked for and stored. Others may store theirs in the same place: each call sees a list of nodes that
-/// begins with what was seen before.
+/// Where proofs are looked for and stored. Others may store theirs in the same place: each call sees a list of nodes
+/// that begins with what was seen before.
 pub trait Proofs {
     /// Whether the list holds plain nodes alone.
     ghost is_plain: { Bool };
@@ -45,9 +46,9 @@ pub trait Proofs {
         ensures grew { Grows (sight self.old) (sight self.new) }
         ensures found { FindsFirst (sight self.new).list position.now to_move result };
 
-    /// An entry of this mover and winner that serves the position, of the nodes that are now seen: where the list is plain, the
-    /// position's own, and else one whose winner has the same stones, and which has all of the opponent's stones of the position.
-    /// None exactly where there is none.
+    /// An entry of this mover and winner that serves the position, of the nodes that are now seen: where the list is
+    /// plain, the position's own, and else one whose winner has the same stones, and which has all of the opponent's
+    /// stones of the position. None exactly where there is none.
     fn look_wider<R: Wait>(
         &mut self,
         rt: &R,
@@ -56,10 +57,12 @@ pub trait Proofs {
         winner: Colour,
     ) -> Option<Wider>
         ensures grew { Grows (sight self.old) (sight self.new) }
-        ensures found { FindsWider is_plain (sight self.new).list position.now to_move winner result };
+        ensures found {
+            FindsWider is_plain (sight self.new).list position.now to_move winner result };
 
-    /// Stores a node that is right after those that were seen, and plain where the list is. The index of the entry of its position
-    /// and mover, of the nodes that are now seen. The node comes back exactly where there is no such entry and each slot is taken.
+    /// Stores a node that is right after those that were seen, and plain where the list is. The index of the entry of
+    /// its position and mover, of the nodes that are now seen. The node comes back exactly where there is no such entry
+    /// and each slot is taken.
     fn store<R: Wait>(&mut self, rt: &R, offer: Offer) -> Result<u32, NoSlot>
         requires right { IsRightNode (headings_of (sight self.old).list) offer }
         requires plain { is_plain ≡ true → IsPlain offer }

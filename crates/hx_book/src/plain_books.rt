@@ -1,5 +1,5 @@
-//! A book of plain nodes. Its trees tell what to play, since no node of them leads on by fill steps or by a turned position, and each
-//! move of the opponent has an answer.
+//! A book of plain nodes. Its trees tell what to play, since no node of them leads on by fill steps or by a turned
+//! position, and each move of the opponent has an answer.
 
 ghost use Rattle.std.specs.Prelude.{◌≡◌, ◌<◌, ◌≤◌, ◌↔◌, IsTrue, true, [], length, IfOk};
 ghost use Rattle.hx_tree.specs.Plain.{IsPlain, ArePlain};
@@ -61,7 +61,8 @@ impl PlainBook {
         self.book.into_entries()
     }
 
-    /// The tree of an entry: the nodes that it needs, in their order, with new numbers for their children. Each of them is plain.
+    /// The tree of an entry: the nodes that it needs, in their order, with new numbers for their children. Each of them
+    /// is plain.
     pub fn into_tree(self, index: u32) -> Result<Vec<Node>, Memory>
         requires { index < length self.nodes }
         ensures tree { IfOk result (λ tree. IsTreeOf self.nodes index tree.items) }

@@ -1,7 +1,7 @@
 //! The tree of an entry: of the nodes those that the entry needs, as one list of their own.
 //!
-//! A node names its children by places before it. So one pass from the entry down to the first node marks what is needed, and
-//! one pass up takes the marked nodes, each with the new numbers of its children.
+//! A node names its children by places before it. So one pass from the entry down to the first node marks what is
+//! needed, and one pass up takes the marked nodes, each with the new numbers of its children.
 
 ghost use Rattle.std.specs.Prelude.{◌≡◌, ◌<◌, ◌≤◌, ℕ, length, map, slice_index, IfOk, OnOk, true, false};
 ghost use Rattle.hx_tree.specs.Trees.{AreRight};

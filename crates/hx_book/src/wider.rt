@@ -1,8 +1,8 @@
 //! Entries that serve more positions than their own.
 //!
-//! A player who wins a position also wins it where the opponent lacks some of his stones. So an entry serves each position of
-//! its mover that has the same stones of its winner and whose stones of the opponent are all in the entry's position. A node
-//! that fills in the missing stones leads from such a position to the entry.
+//! A player who wins a position also wins it where the opponent lacks some of his stones. So an entry serves each
+//! position of its mover that has the same stones of its winner and whose stones of the opponent are all in the entry's
+//! position. A node that fills in the missing stones leads from such a position to the entry.
 
 ghost use Rattle.std.specs.Prelude.{◌↔◌, IsTrue};
 ghost use Rattle.hx_book.specs.WiderEntry.{IsWider};

@@ -1,5 +1,5 @@
--- Words are one command at most. The first word is the command's name, and no two names have the same first two letters; the words
--- behind it tell its seed, its size and its settings.
+-- Words are one command at most. The first word is the command's name, and no two names have the same first two
+-- letters; the words behind it tell its seed, its size and its settings.
 use Rattle.std.proofs.Common.{◌≡◌, ◌∙◌, ◌≢◌, ℕ, ◌+◌, ◌*◌, List, [], ◌∷◌, Bool, get_or, codes, refl, ap, arith}
 use Rattle.hx_board.specs.Cells.{Extent}
 use Rattle.hx_limits.specs.declared.settings.Settings.{Settings}

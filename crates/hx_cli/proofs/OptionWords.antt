@@ -1,5 +1,5 @@
--- That words are options says the same as that the calls go from option to option to the settings that are chosen. The names that
--- were taken are those of the settings for which a number was chosen.
+-- That words are options says the same as that the calls go from option to option to the settings that are chosen. The
+-- names that were taken are those of the settings for which a number was chosen.
 use Rattle.std.proofs.Common.{◌≡◌, ◌≢◌, ◌⊎◌, inl, inr, ℕ, ◌≤◌, ◌++◌, ◌∷◌, [], List, Bool, true, false, refl, sym, ap, ◌∙◌, subst, arith}
 use Rattle.std.specs.Prelude.{Option, None, Some}
 use Rattle.std.specs.List.{Contains}

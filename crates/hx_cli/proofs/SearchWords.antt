@@ -1,4 +1,5 @@
--- Words tell how a search is asked for in one way: no option begins at the flag, so it stands where the options before it end.
+-- Words tell how a search is asked for in one way: no option begins at the flag, so it stands where the options before
+-- it end.
 use Rattle.std.proofs.Common.{◌≡◌, ℕ, List, [], ◌∷◌, Bool, true, false, refl, sym, ap, ◌∙◌, subst}
 use Rattle.hx_limits.specs.declared.settings.Settings.{Settings}
 use Rattle.hx_limits.specs.Settings.{AreSettings}

@@ -1,4 +1,5 @@
--- Words tell one size and one choice of settings: the first two are the rows and the columns, and the others are the options.
+-- Words tell one size and one choice of settings: the first two are the rows and the columns, and the others are the
+-- options.
 use Rattle.std.proofs.Common.{◌≡◌, ℕ, List, ◌∷◌, ap, ◌∙◌}
 use Rattle.hx_board.specs.Cells.{Extent}
 use Rattle.hx_limits.specs.declared.settings.Settings.{Settings}

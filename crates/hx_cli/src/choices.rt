@@ -41,7 +41,8 @@ pub(crate) fn settings_after(before: Chosen, words: &[String]) -> Option<Setting
 /// What is chosen with all options that the words begin with, and the words after them, which begin with no option.
 pub(crate) fn take_options(before: Chosen, words: &[String]) -> Option<(Chosen, &[String])>
     ensures { MatchOption result
-        ((rest : List (List ℕ)) (now : ChosenNumbers) → LeadsAway (words_of words.now) before rest now → ⊥)
+        ((rest : List (List ℕ)) (now : ChosenNumbers)
+        → LeadsAway (words_of words.now) before rest now → ⊥)
         (λ found. LeadsAway (words_of words.now) before (words_of found.1.now) found.0) }
 {
     let mut chosen = before;

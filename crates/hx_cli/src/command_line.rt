@@ -1,4 +1,5 @@
-//! The words that the program was started with, as texts. No contract says which they are, since none can say what the environment gives.
+//! The words that the program was started with, as texts. No contract says which they are, since none can say what the
+//! environment gives.
 
 ghost use Rattle.std.specs.Prelude.{◌≤◌, All, IfOk, length, string_bytes};
 
@@ -12,7 +13,8 @@ const LONGEST_WORD: usize = 64;
 /// The words behind the program's name, which is not looked at: it may be no text. A word that is no text, or a longer
 /// one, stands in no command, so then there are no words at all.
 pub fn words_given(rt: &(impl Env + AllocGlobal)) -> Result<Vec<String>, AllocError>
-    ensures short { IfOk result (λ words. All (λ word. length (string_bytes word) ≤ 64) words.items) }
+    ensures short { IfOk result
+        (λ words. All (λ word. length (string_bytes word) ≤ 64) words.items) }
 {
     let mut words = Vec::new(rt.alloc());
     let mut buffer = [0u8; LONGEST_WORD];

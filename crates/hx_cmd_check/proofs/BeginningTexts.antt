@@ -1,5 +1,6 @@
--- An input that begins with the text of a tree, whatever follows its last line. No fault lies within the text: a line that is at
--- fault or too long is the one behind it, and no node of a valid tree is wrong. So a text with nothing behind it has no fault.
+-- An input that begins with the text of a tree, whatever follows its last line. No fault lies within the text: a line
+-- that is at fault or too long is the one behind it, and no node of a valid tree is wrong. So a text with nothing
+-- behind it has no fault.
 use Rattle.std.proofs.Common.{◌≡◌, ℕ, ◌≤◌, inl, inr, List, [], ◌∷◌, ◌++◌, length, refl, sym, ap, ◌∙◌, subst, arith, append_assoc}
 use Rattle.std.proofs.lemmas.List.{append-nil}
 use Rattle.hx_tree.specs.declared.nodes.Node.{Node}

@@ -1,5 +1,5 @@
--- Which fault is due, from what is known of the lines and nodes before a line and from what the next cut tells. The nodes before
--- the fault are the ones that are known, so it is due under each demand that they meet.
+-- Which fault is due, from what is known of the lines and nodes before a line and from what the next cut tells. The
+-- nodes before the fault are the ones that are known, so it is due under each demand that they meet.
 use Rattle.std.proofs.Common.{◌≡◌, ◌≢◌, ℕ, ◌+◌, ◌-◌, ◌<◌, ◌≤◌, ◌^◌, inl, inr, Bool, true, false, List, [], ◌∷◌, ◌++◌, length, refl, sym, ap}
 use Rattle.std.proofs.Common.{◌∙◌, subst, arith, append_assoc, append-nil, Option, Some, None}
 use Rattle.std.proofs.lemmas.Bool.{false≢true}

@@ -1,5 +1,5 @@
--- The nodes that ended in some lines: in lines as they are between nodes, inside a node, and behind the last line; and what
--- follows in the lines behind the nodes that ended.
+-- The nodes that ended in some lines: in lines as they are between nodes, inside a node, and behind the last line; and
+-- what follows in the lines behind the nodes that ended.
 use Rattle.std.proofs.Common.{◌≡◌, ◌≢◌, ℕ, ◌+◌, ◌<◌, ◌≤◌, List, [], ◌∷◌, ◌++◌, length, refl, sym, ap, ◌∙◌, subst, arith, append_assoc}
 use Rattle.std.proofs.Common.{length-append}
 use Rattle.std.proofs.lemmas.List.{append-nil}

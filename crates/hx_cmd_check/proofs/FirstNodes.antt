@@ -1,5 +1,5 @@
--- Nodes that ended in lines with which an input begins are the first ones of those that ended before a fault further on. So what the
--- fault asks of the nodes before it holds of them.
+-- Nodes that ended in lines with which an input begins are the first ones of those that ended before a fault further
+-- on. So what the fault asks of the nodes before it holds of them.
 use Rattle.std.proofs.Common.{◌≡◌, ℕ, ◌≤◌, inl, inr, List, [], ◌∷◌, ◌++◌, length, refl, sym, ap, ◌∙◌, subst, arith}
 use Rattle.std.proofs.lemmas.List.{append-nil}
 use Rattle.std.specs.Prelude.{◌⊎◌}

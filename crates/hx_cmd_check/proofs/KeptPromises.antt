@@ -1,5 +1,5 @@
--- What a run says with each status: each judgement fits its cause alone, since an input that one judgement is true of is not an
--- input that another is true of.
+-- What a run says with each status: each judgement fits its cause alone, since an input that one judgement is true of
+-- is not an input that another is true of.
 use Rattle.std.proofs.Common.{◌≡◌, ◌⊎◌, ℕ, ◌≤◌, inl, inr, List, refl, sym, ap, ◌∙◌, subst, arith}
 use Rattle.std.proofs.lemmas.Option.{IfSome_then}
 use Rattle.std.specs.Prelude.{Option, None, Some, IfSome}

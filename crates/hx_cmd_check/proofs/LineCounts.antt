@@ -1,5 +1,5 @@
--- How many lines the nodes of a text have. A node has no more entries than its first line may tell, and a text no more nodes than
--- it may have, so a count of lines never comes to its last value.
+-- How many lines the nodes of a text have. A node has no more entries than its first line may tell, and a text no more
+-- nodes than it may have, so a count of lines never comes to its last value.
 use Rattle.std.proofs.Common.{ℕ, ◌*◌, ◌<◌, ◌≤◌, ◌^◌, List, [], ◌∷◌, ◌++◌, length, ap, arith, length-append}
 use Rattle.std.specs.List.{All as EachItem}
 use Rattle.std.proofs.lemmas.List.{length-map}

@@ -1,5 +1,5 @@
--- A line that is too long comes first or not at all: the lines of a tree's text are short, so where a line is too long, each other
--- way to read the input has gone wrong before, or not yet.
+-- A line that is too long comes first or not at all: the lines of a tree's text are short, so where a line is too long,
+-- each other way to read the input has gone wrong before, or not yet.
 use Rattle.std.proofs.Common.{◌≡◌, ℕ, suc, zero, ◌<◌, ◌≤◌, List, [], ◌∷◌, ◌++◌, length, get_or, sym, ap, ◌∙◌, subst, arith, append_assoc}
 use Rattle.std.proofs.Common.{inl, inr, length-append}
 use Rattle.std.proofs.lemmas.List.{append-nil}

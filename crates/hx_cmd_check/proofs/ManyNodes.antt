@@ -1,5 +1,5 @@
--- One node more than `check` accepts: the lines before it are those of as many nodes as it accepts, and the next line is the
--- first one of a node.
+-- One node more than `check` accepts: the lines before it are those of as many nodes as it accepts, and the next line
+-- is the first one of a node.
 use Rattle.std.proofs.Common.{◌≡◌, ℕ, ◌≤◌, List, [], ◌∷◌, ◌++◌, length, map, refl, sym, ap, ◌∙◌, subst, arith, append_assoc, length-append}
 use Rattle.std.proofs.lemmas.List.{append-nil, nil_from_length}
 use Rattle.std.proofs.lemmas.List.Elements.{All-head}

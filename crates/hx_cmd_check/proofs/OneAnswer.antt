@@ -1,6 +1,6 @@
--- At most one fault with status 1 fits an input, with one number, under each demand that asks for right nodes. Nodes that ended in
--- the first lines are not more than those that ended in more lines; so where a node is wrong, no line after it is at fault with
--- right nodes before it.
+-- At most one fault with status 1 fits an input, with one number, under each demand that asks for right nodes. Nodes
+-- that ended in the first lines are not more than those that ended in more lines; so where a node is wrong, no line
+-- after it is at fault with right nodes before it.
 use Rattle.std.proofs.Common.{◌≡◌, ℕ, ◌<◌, ◌≤◌, List, [], ◌∷◌, ◌++◌, length, refl, sym, ap, ◌∙◌, subst, arith, ⊎_elim, append_assoc}
 use Rattle.std.proofs.Common.{length-append}
 use Rattle.std.proofs.lemmas.Bool.{cases_lt}

@@ -1,6 +1,6 @@
--- Of one input one fault is due, under each demand that asks for right nodes, unless a read fails or memory is wanting: no line at
--- fault comes after a wrong node, one line is the first that is at fault and one node the first that is wrong, and an input that is
--- above a limit has no other fault.
+-- Of one input one fault is due, under each demand that asks for right nodes, unless a read fails or memory is wanting:
+-- no line at fault comes after a wrong node, one line is the first that is at fault and one node the first that is
+-- wrong, and an input that is above a limit has no other fault.
 use Rattle.std.proofs.Common.{◌≡◌, ℕ, List, inl, inr, refl, sym, ap, arith}
 use Rattle.std.specs.Prelude.{◌⊎◌, Option, Some}
 use Rattle.hx_text.proofs.OneFault.{one_tree_fault}

@@ -1,5 +1,5 @@
--- A judge that reads an input which begins with the text of a tree, whatever follows: up to the last line of the text it hands on
--- the nodes of the tree and finds no fault.
+-- A judge that reads an input which begins with the text of a tree, whatever follows: up to the last line of the text
+-- it hands on the nodes of the tree and finds no fault.
 use Rattle.std.proofs.Common.{◌≡◌, ℕ, ◌<◌, ◌≤◌, inl, inr, List, [], ◌∷◌, ◌++◌, length, refl, sym, ap, ◌∙◌, subst, arith, length-append}
 use Rattle.std.proofs.Common.{Option, Some}
 use Rattle.std.proofs.lemmas.List.{append-nil, nil_from_length}

@@ -1,4 +1,5 @@
--- What is no proof is refused: each status but 1 and those of faults is that of a valid tree, or of an input above a limit.
+-- What is no proof is refused: each status but 1 and those of faults is that of a valid tree, or of an input above a
+-- limit.
 use Rattle.std.proofs.Common.{◌≡◌, ◌⊎◌, ℕ, ◌<◌, ◌≤◌, inl, inr, ⊎_elim, List, arith}
 use Rattle.std.specs.Prelude.{Option, None, Some, IfSome}
 use Rattle.std.proofs.lemmas.Bool.{cases_lt}

@@ -1,5 +1,5 @@
--- What the place of a reader in a text says of the lines that it has read: which nodes ended in them, that these are not
--- too many, and that the text is not whole before its last line.
+-- What the place of a reader in a text says of the lines that it has read: which nodes ended in them, that these are
+-- not too many, and that the text is not whole before its last line.
 use Rattle.std.proofs.Common.{◌≡◌, ℕ, ◌≤◌, List, [], ◌∷◌, ◌++◌, length, refl, sym, ap, ◌∙◌, subst, arith}
 use Rattle.std.proofs.lemmas.List.{append-nil}
 use Rattle.std.specs.Prelude.{flat_map}

@@ -1,5 +1,5 @@
-//! Why a text is not that of a valid tree, or could not be read: the text that is written for it, and the exit status that
-//! tells it.
+//! Why a text is not that of a valid tree, or could not be read: the text that is written for it, and the exit status
+//! that tells it.
 
 ghost use Rattle.std.specs.Prelude.{◌≡◌};
 ghost use Rattle.hx_io.specs.Sinks.{WritesAll};

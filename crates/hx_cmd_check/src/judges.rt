@@ -1,5 +1,6 @@
-//! Reading the text of a tree from a source, line by line, up to the one that ends it. A node is judged when its last line was
-//! read, and is handed on where it is right. Only its heading is kept, since a later node refers to no more than that.
+//! Reading the text of a tree from a source, line by line, up to the one that ends it. A node is judged when its last
+//! line was read, and is handed on where it is right. Only its heading is kept, since a later node refers to no more
+//! than that.
 
 ghost use Rattle.std.specs.Prelude.{◌≡◌, ◌+◌, ◌<◌, ◌≤◌, ◌^◌, ◌-◌, ◌++◌, ◌∷◌, ℕ, true, [], List, Option, length, slice_get, IsOk, Result};
 ghost use Rattle.hx_io.specs.Sources.{IsAtEnd, SomeReadFailed};
@@ -28,8 +29,8 @@ pub enum Brought {
     End,
 }
 
-/// Judges the lines and nodes of one text of a tree in their order, up to the first fault. It keeps the node that is being read
-/// and the headings of those before it.
+/// Judges the lines and nodes of one text of a tree in their order, up to the first fault. It keeps the node that is
+/// being read and the headings of those before it.
 #[derive(Drop)]
 pub struct Judge {
     reader: TreeReader,
@@ -55,7 +56,8 @@ impl Judge {
         self.reader.lines()
     }
 
-    /// The heading of the last node, which is the root's where the text has ended. None exactly where no node has ended.
+    /// The heading of the last node, which is the root's where the text has ended. None exactly where no node has
+    /// ended.
     pub fn root(&self) -> Option<Heading>
         ensures { result ≡ slice_get self.now.checker (length self.now.checker - 1) }
     {

@@ -19,8 +19,8 @@ pub fn one_fault()
         → status_of a ≡ 1 → status_of b ≡ 1 → a ≡ b }
 {}
 
-/// `check` answers 1 to each input within the limits that is the text of no valid tree, unless a fault or want of memory comes
-/// in its place.
+/// `check` answers 1 to each input within the limits that is the text of no valid tree, unless a fault or want of
+/// memory comes in its place.
 pub fn what_is_no_proof_is_refused()
     ensures { (source source_now : Reading) (sink sink_now : Writing) (status : ℕ)
         → KeepsPromises source source_now sink sink_now status

@@ -1,8 +1,8 @@
 //! The command `check`: whether the text of a tree proves who wins the position of its root.
 //!
-//! The lines and nodes are judged in their order while they are read, up to the first fault. It is settled what is to be said
-//! before any of it is written, so that a fault of the sink never changes what is said. `Judge` reads a tree up to the line that
-//! ends it, for whoever goes on behind it.
+//! The lines and nodes are judged in their order while they are read, up to the first fault. It is settled what is to
+//! be said before any of it is written, so that a fault of the sink never changes what is said. `Judge` reads a tree up
+//! to the line that ends it, for whoever goes on behind it.
 #![tactic(auto)]
 
 mod check;

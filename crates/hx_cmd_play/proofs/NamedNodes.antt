@@ -1,5 +1,6 @@
--- A node that is named at fault is wrong or not plain, and nothing before it is at fault. What else may be said of the same input asks
--- that the nodes before it are right and plain, and where it is said further on, the named node would be among them.
+-- A node that is named at fault is wrong or not plain, and nothing before it is at fault. What else may be said of the
+-- same input asks that the nodes before it are right and plain, and where it is said further on, the named node would
+-- be among them.
 use Rattle.std.proofs.Common.{◌≡◌, ◌⊎◌, inl, inr, ℕ, ◌≤◌, List, [], ◌∷◌, ◌++◌, length, sym, ap, ◌∙◌, subst, arith, length-append}
 use Rattle.std.proofs.lemmas.List.{append-nil}
 use Rattle.std.proofs.lemmas.List.Elements.{All-head, All-tail}
@@ -26,7 +27,8 @@ use Rattle.hx_cmd_play.specs.Trees.{ArePlayable, IsNoPlain, IsPlayable, IsTooLar
 pub playable_asks : AsksRight ArePlayable
 playable_asks lines nodes meets = meets.right
 
--- this node ends in lines with which the input begins, and what is asked of the lines and nodes before its last line is met
+-- this node ends in lines with which the input begins, and what is asked of the lines and nodes before its last line is
+-- met
 pub record EndsNode (input : List ℕ) (earlier : List Node) (node : Node) : Type 0 where
   pub front : List (List ℕ)
   pub last : List ℕ

@@ -1,5 +1,5 @@
--- Of one input one refusal is due, unless a read fails or memory is wanting; and of one that begins with the text of a tree to be played
--- by, none.
+-- Of one input one refusal is due, unless a read fails or memory is wanting; and of one that begins with the text of a
+-- tree to be played by, none.
 use Rattle.std.proofs.Common.{◌≡◌, ◌⊎◌, inl, inr, ℕ, ◌≤◌, List, [], ◌++◌, length, refl, sym, ap, ◌∙◌, subst}
 use Rattle.std.proofs.lemmas.List.{append-nil}
 use Rattle.std.specs.Prelude.{Option, Some}

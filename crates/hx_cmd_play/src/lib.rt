@@ -1,7 +1,7 @@
 //! The command `play`: the text of a tree, and then a game against it, from one input.
 //!
-//! The tree is read to its last line and judged as `check` does; its nodes are kept, and all have to be plain. Before that nothing is
-//! written, so a fault in it is the only thing said. The lines behind it are the opponent's moves.
+//! The tree is read to its last line and judged as `check` does; its nodes are kept, and all have to be plain. Before
+//! that nothing is written, so a fault in it is the only thing said. The lines behind it are the opponent's moves.
 #![tactic(auto)]
 
 mod play;

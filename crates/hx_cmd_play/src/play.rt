@@ -18,19 +18,20 @@ use hx_lines::LineCutter;
 use hx_play::{Player, Served, serve};
 use std::alloc::Global;
 
-/// Reads the text of a tree, and then plays by it, for its winner, against the moves that follow, one cell a line. Answers the exit
-/// status.
+/// Reads the text of a tree, and then plays by it, for its winner, against the moves that follow, one cell a line.
+/// Answers the exit status.
 ///
-/// It keeps the tree, three lines of the longest, and what play needs; and it makes no read once the game has ended or a fault of the
-/// tree is known.
+/// It keeps the tree, three lines of the longest, and what play needs; and it makes no read once the game has ended or
+/// a fault of the tree is known.
 pub fn run_play<S: Source, K: Sink>(alloc: Global, source: &mut S, sink: &mut K) -> u8
     // A game was served, or some refusal is due, and it was written whole, or the sink failed before it took all of it.
     ensures run { IsPlayRun
         (S.reading source.old) (S.reading source.new)
         (K.writing sink.old) (K.writing sink.new) result }
 
-    // With status 0 the winner of the tree that the input begins with has played to a chain. Each input gets the game or the refusal
-    // that is due to it, unless a fault or want of memory comes in its place; each fault has its cause, and no other status comes.
+    // With status 0 the winner of the tree that the input begins with has played to a chain. Each input gets the game
+    // or the refusal that is due to it, unless a fault or want of memory comes in its place; each fault has its cause,
+    // and no other status comes.
     ensures promises { KeepsPromises
         (S.reading source.old) (S.reading source.new)
         (K.writing sink.old) (K.writing sink.new) result }

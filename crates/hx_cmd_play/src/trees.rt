@@ -1,4 +1,5 @@
-//! Reading the text of a tree that is to be played by. Its nodes are kept, each has to be plain, and the text may not be large.
+//! Reading the text of a tree that is to be played by. Its nodes are kept, each has to be plain, and the text may not
+//! be large.
 
 ghost use Rattle.std.specs.Prelude.{◌≡◌, ◌+◌, ◌<◌, ◌≤◌, ◌++◌, ◌∷◌, ℕ, true, [], List, Option, length, MatchResult, IfOk, false};
 ghost use Rattle.hx_io.specs.Sources.{IsAtEnd, SomeReadFailed};

@@ -1,5 +1,5 @@
--- A run of `template` keeps its promises: an answer that was written whole is the one that is due, of which an input has one, and each
--- status is that of few answers, whose causes it tells.
+-- A run of `template` keeps its promises: an answer that was written whole is the one that is due, of which an input
+-- has one, and each status is that of few answers, whose causes it tells.
 use Rattle.std.proofs.Common.{◌≡◌, ℕ, ◌<◌, ◌≤◌, inl, inr, List, length, refl, sym, ap, ◌∙◌, subst, arith}
 use Rattle.std.specs.Prelude.{Option, None, Some, IfSome}
 use Rattle.hx_io.specs.Sources.{Reading, SomeReadFailed}

@@ -1,5 +1,6 @@
--- An input has one answer, besides those that come in the place of any other: a text tells its template and has no faulty line, and bytes
--- have one faulty line at the most. These three are laws of hx_template_text, and stand here as what is given.
+-- An input has one answer, besides those that come in the place of any other: a text tells its template and has no
+-- faulty line, and bytes have one faulty line at the most. These three are laws of hx_template_text, and stand here as
+-- what is given.
 use Rattle.std.proofs.Common.{◌≡◌, ◌⊎◌, ℕ, ◌<◌, ◌≤◌, inl, inr, List, length, refl, sym, ap, ◌∙◌, subst, arith}
 use Rattle.std.specs.Prelude.{Option, Some}
 use Rattle.hx_template.specs.Limits.{most_cells}

@@ -22,8 +22,8 @@ most_bytes = 4096
 abbrev pub cells_of : Template → ℕ
 cells_of template = count_below 128 template.carrier
 
--- The template holds: its owner has the local game between its ends on its carrier, where the opponent moves first if it
--- is Full, and the owner if it is Semi.
+-- The template holds: its owner has the local game between its ends on its carrier, where the opponent moves first if
+-- it is Full, and the owner if it is Semi.
 abbrev pub Holds : Template → Type 0
 Holds template =
     Secures template.owner template.carrier template.a template.b template.position

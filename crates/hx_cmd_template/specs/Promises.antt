@@ -24,8 +24,8 @@ OfTemplates left says =
 abbrev pub IsNoTemplate : List ℕ → Type 0
 IsNoTemplate input = (template : Template) → IsTextOf input template → ⊥
 
--- The promises of `template`, by how far its source was read before and is now, how far was written to its sink, and the
--- exit status. What is said of an input is said of sources that tell what they have left.
+-- The promises of `template`, by how far its source was read before and is now, how far was written to its sink, and
+-- the exit status. What is said of an input is said of sources that tell what they have left.
 pub record KeepsPromises (source source_now : Reading) (sink sink_now : Writing) (status : ℕ) : Type 0 where
   -- a template whose carrier has no more cells than are tried is told whether it holds
   pub holds : OfTemplates source.left (λ template. cells_of template ≤ most_cells → Holds template

@@ -26,8 +26,9 @@ pub fn run_template<S: Source, K: Sink>(alloc: Global, source: &mut S, sink: &mu
         (S.reading source.old) (S.reading source.new)
         (K.writing sink.old) (K.writing sink.new) result }
 
-    // Each text of a template with a carrier that is not too large is told exactly whether its owner can join the ends; each
-    // other input gets its refusal, unless a fault or want of memory comes in its place; and each status tells what is so.
+    // Each text of a template with a carrier that is not too large is told exactly whether its owner can join the ends;
+    // each other input gets its refusal, unless a fault or want of memory comes in its place; and each status tells
+    // what is so.
     ensures promises { KeepsPromises
         (S.reading source.old) (S.reading source.new)
         (K.writing sink.old) (K.writing sink.new) result }

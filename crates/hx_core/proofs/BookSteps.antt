@@ -1,5 +1,5 @@
--- What each step of the book keeps, and that the book only grows. A step lets the list grow or leaves it, and then some worker has
--- seen so many nodes.
+-- What each step of the book keeps, and that the book only grows. A step lets the list grow or leaves it, and then some
+-- worker has seen so many nodes.
 use Rattle.std.proofs.Common.{◌≡◌, ℕ, ◌+◌, ◌<◌, ◌≤◌, List, [], ◌∷◌, ◌++◌, length, max, refl, sym, ap, ◌∙◌, subst, ⊎_elim, arith}
 use Rattle.std.proofs.Common.{length-append}
 use Rattle.std.specs.Prelude.{take}

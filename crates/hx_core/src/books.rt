@@ -1,5 +1,5 @@
-//! What workers do with the list of nodes: look, store, and tell each other. This is the plain way, which reads the list from
-//! its front.
+//! What workers do with the list of nodes: look, store, and tell each other. This is the plain way, which reads the
+//! list from its front.
 
 ghost use Rattle.std.specs.Prelude.{◌≡◌, ◌≤◌, ◌↔◌, IsTrue, length};
 ghost use Rattle.hx_tree.specs.declared.checkers.TheConstants.{MOST_NODES};

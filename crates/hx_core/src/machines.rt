@@ -34,8 +34,8 @@ pub fn apply(state: &mut State, event: Event) -> Reply
     }
 }
 
-/// Whether an event may happen. It takes memory for the headings of the nodes that a storing worker has seen, and to check
-/// the node, and lets it go again.
+/// Whether an event may happen. It takes memory for the headings of the nodes that a storing worker has seen, and to
+/// check the node, and lets it go again.
 pub fn can_happen(alloc: Global, state: &State, event: &Event) -> Result<bool, Memory>
     ensures { IfOk result (λ answer. IsTrue answer ↔ CanHappen state.now event.now) }
 {

@@ -11,8 +11,8 @@ use hx_tree::Node;
 use std::alloc::Global;
 use std::marker::Model;
 
-/// What workers share: the list of nodes and how many of them each worker has seen, and the budget and each worker's account.
-/// All memory is taken at the start.
+/// What workers share: the list of nodes and how many of them each worker has seen, and the budget and each worker's
+/// account. All memory is taken at the start.
 #[derive(Drop)]
 pub struct State {
     pub(crate) slots: u32,

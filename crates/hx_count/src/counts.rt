@@ -1,10 +1,10 @@
 //! The counts, and what workers do with them.
 //!
-//! Word 0 of the table counts the spends, and each other word is a loss word. A spend adds one to word 0 and looks at the number
-//! before it: so no two spends take the same unit, and no worker waits for another.
+//! Word 0 of the table counts the spends, and each other word is a loss word. A spend adds one to word 0 and looks at
+//! the number before it: so no two spends take the same unit, and no worker waits for another.
 //!
-//! When the program runs a spend is that one addition and nothing beside it: what a seat knows of the history is there for
-//! the proof alone.
+//! When the program runs a spend is that one addition and nothing beside it: what a seat knows of the history is there
+//! for the proof alone.
 
 ghost use Rattle.std.specs.Prelude.{◌≡◌, ◌<◌, ◌≤◌, ◌^◌, [], true, false, map, sum_by, slice_index, IfOk, IfErr, IsErr, length};
 ghost use Rattle.std.specs.List.{All, Any};
@@ -46,8 +46,8 @@ impl Model for Counts {
 }
 
 impl Counts {
-    /// Counts with so many units and loss words, and a seat for each worker, in the order of their numbers. Nothing is granted
-    /// and nothing held. At most 2^40 units, 1 to 65,536 words, 1 to 64 seats.
+    /// Counts with so many units and loss words, and a seat for each worker, in the order of their numbers. Nothing is
+    /// granted and nothing held. At most 2^40 units, 1 to 65,536 words, 1 to 64 seats.
     pub fn start(
         alloc: Global,
         budget: u64,
@@ -99,8 +99,8 @@ impl Counts {
         Ok(seats)
     }
 
-    /// Asks for a unit of the budget. `Spent` comes exactly where all units were granted, and tells how many that are. A seat
-    /// that was refused once is refused from then on, and makes no further step.
+    /// Asks for a unit of the budget. `Spent` comes exactly where all units were granted, and tells how many that are.
+    /// A seat that was refused once is refused from then on, and makes no further step.
     pub fn spend(&self, seat: &mut CountSeat) -> Result<(), Spent>
         requires { seat.old.made ≡ self.now }
         ensures made { seat.new.made ≡ seat.old.made }

@@ -1,14 +1,16 @@
-//! Proof numbers that workers leave for one another, as a search depth first by proof numbers keeps them in a table of positions
-//! (Nagai, 2002). They are hints: a word may be overwritten at any time, also by the numbers of another position, and no proof rests
-//! on one.
+//! Proof numbers that workers leave for one another, as a search depth first by proof numbers keeps them in a table of
+//! positions (Nagai, 2002). They are hints: a word may be overwritten at any time, also by the numbers of another
+//! position, and no proof rests on one.
 //!
-//! A word has the two numbers of a hint, so what is read was left by one worker, and a mark of the position that they are of: the
-//! upper twenty binary digits of its key, whose lower ones find the word. The word of a position with another mark reads as one
-//! that nobody wrote. Without marks a search fails once it has more units than words (docs/tried.md).
+//! A word has the two numbers of a hint, so what is read was left by one worker, and a mark of the position that they
+//! are of: the upper twenty binary digits of its key, whose lower ones find the word. The word of a position with
+//! another mark reads as one that nobody wrote. Without marks a search fails once it has more units than words
+//! (docs/tried.md).
 //!
-//! No search leaves a word of zeros, so a worker can tell that a word was never written. No clause can say what a word holds
-//! later, while others step; so a store answers with a value that no other call makes, and that tells which word got which
-//! numbers. A seat at the hints for each worker would say no more, and would go through every call of hx_ordering and hx_worker.
+//! No search leaves a word of zeros, so a worker can tell that a word was never written. No clause can say what a word
+//! holds later, while others step; so a store answers with a value that no other call makes, and that tells which word
+//! got which numbers. A seat at the hints for each worker would say no more, and would go through every call of
+//! hx_ordering and hx_worker.
 
 ghost use Rattle.std.specs.Prelude.{◌≡◌, ◌≢◌, ◌<◌, ◌≤◌, ◌%◌, ℕ, IfOk};
 ghost use Rattle.hx_pn.specs.declared.proof_numbers.Numbers.{Numbers as PlainNumbers};
@@ -84,8 +86,8 @@ impl Model for Left {
     ghost view = { λ l. left_by l.seat.table_id l.seat.me.0 };
 }
 
-/// The numbers that a table keeps in place of these: each is brought into 1 to `HIGHEST_KEPT`. So they are never `UNSEEN`, and a
-/// word that was written can be told from one that was not.
+/// The numbers that a table keeps in place of these: each is brought into 1 to `HIGHEST_KEPT`. So they are never
+/// `UNSEEN`, and a word that was written can be told from one that was not.
 pub fn kept(numbers: Numbers) -> Numbers
     ensures value { result ≡ kept_of numbers }
     ensures kept { AreKept result }
@@ -114,8 +116,8 @@ fn word_of(key: u64, numbers: Numbers) -> u64
     mark_of(key) * A_MARK + u64::from(numbers.phi) * A_NUMBER + u64::from(numbers.delta)
 }
 
-/// The numbers that a word tells of the position that has this key: `UNSEEN` where nobody wrote the word, or for a position
-/// with another mark.
+/// The numbers that a word tells of the position that has this key: `UNSEEN` where nobody wrote the word, or for a
+/// position with another mark.
 fn numbers_of(key: u64, word: u64) -> Numbers
     ensures value { result ≡ numbers_of key word }
     ensures open { AreOpen result }
@@ -149,8 +151,9 @@ impl Hints {
         Ok(Hints { table, words })
     }
 
-    /// The numbers of the position that has this key. Both are at least 1 and below `INF`. They are `UNSEEN` where nobody wrote
-    /// the word for a position with its mark, and else what `kept` gives for the numbers that were left so last.
+    /// The numbers of the position that has this key. Both are at least 1 and below `INF`. They are `UNSEEN` where
+    /// nobody wrote the word for a position with its mark, and else what `kept` gives for the numbers that were left so
+    /// last.
     pub fn get(&self, key: u64) -> Numbers
         ensures phi { (1 ≤ result.phi) × (result.phi < INF) }
         ensures delta { (1 ≤ result.delta) × (result.delta < INF) }

@@ -1,8 +1,9 @@
-//! What many workers share beside their proofs: units of a budget, loss words, which workers hold and release, and hints.
+//! What many workers share beside their proofs: units of a budget, loss words, which workers hold and release, and
+//! hints.
 //!
-//! A call that a worker makes is one step on one word at the most, and takes no lock. One thread alone takes the memory for all
-//! words, before the workers begin (`start`, `with_words`), and adds up what they were granted and hold when they have ended
-//! (`close`).
+//! A call that a worker makes is one step on one word at the most, and takes no lock. One thread alone takes the memory
+//! for all words, before the workers begin (`start`, `with_words`), and adds up what they were granted and hold when
+//! they have ended (`close`).
 #![tactic(auto)]
 
 mod counts;

@@ -1,5 +1,5 @@
-//! What the table of the counts is told once, and what a seat knows of it. Of a view no value is made: views stand in the rule
-//! of the table and in contracts.
+//! What the table of the counts is told once, and what a seat knows of it. Of a view no value is made: views stand in
+//! the rule of the table and in contracts.
 
 use crate::events::CountEvent;
 use std::collections::LinkedList;

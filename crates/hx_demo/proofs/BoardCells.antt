@@ -1,5 +1,5 @@
--- The 25 cells of a drawn board: what stands at each place, that each is on the board, and that none stands there twice. Each is
--- tried.
+-- The 25 cells of a drawn board: what stands at each place, that each is on the board, and that none stands there
+-- twice. Each is tried.
 use Rattle.std.proofs.Common.{◌≡◌, ℕ, ◌+◌, ◌/◌, ◌%◌, ◌<◌, Bool, true, ◌&&◌, not, eqb, ltb, eqb-true, eq-eqb, List, [], ◌∷◌, ◌++◌, length}
 use Rattle.std.proofs.Common.{take, get_or, refl, sym, ap, ◌∙◌, subst, inl, inr, arith}
 use Rattle.std.proofs.lemmas.List.{take_more, length-take-le}

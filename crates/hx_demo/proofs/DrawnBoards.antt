@@ -1,5 +1,5 @@
--- The position that sixteen words draw: its stones are those of the first eight words and, from what these leave, of the next
--- eight. Put one by one, each of them comes to an empty cell.
+-- The position that sixteen words draw: its stones are those of the first eight words and, from what these leave, of
+-- the next eight. Put one by one, each of them comes to an empty cell.
 use Rattle.std.proofs.Common.{◌≡◌, ℕ, suc, ◌+◌, ◌<◌, ◌≤◌, List, [], ◌∷◌, ◌++◌, length, take, drop, refl, sym, ap, ◌∙◌, inl, inr, arith}
 use Rattle.std.proofs.Common.{lit≤, subst}
 use Rattle.std.proofs.lemmas.List.{take_at, drop_at, length-append}

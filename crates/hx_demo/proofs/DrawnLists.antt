@@ -1,5 +1,5 @@
--- Cells that are drawn from a list: one after the other, from what is left after those before. So each is of the list, and none is
--- drawn twice where none stands in the list twice.
+-- Cells that are drawn from a list: one after the other, from what is left after those before. So each is of the list,
+-- and none is drawn twice where none stands in the list twice.
 use Rattle.std.proofs.Common.{◌≡◌, ℕ, zero, suc, ◌+◌, ◌<◌, ◌≤◌, List, [], ◌∷◌, ◌++◌, length, refl, sym, ap, subst, ◌⊎◌, inl, inr, arith}
 use Rattle.std.specs.Prelude.{slice_index, remove}
 use Rattle.std.proofs.lemmas.List.Edits.{length-remove}

@@ -11,7 +11,8 @@ use Rattle.hx_demo.proofs.WordLaws.{next_words-none, next_words-one, words_later
 use Rattle.hx_demo.proofs.DrawnLists.{drawn_from-append, left_after-append, length-left}
 use Rattle.hx_demo.proofs.DrawnSets.{set_of-push}
 
--- so many cells are drawn from a list by the words of a generator: the set of them, the cells that are left, and the generator now
+-- so many cells are drawn from a list by the words of a generator: the set of them, the cells that are left, and the
+-- generator now
 pub record AreDrawn (cells : List ℕ) (first : Lcg) (count set : ℕ) (left : List ℕ) (now : Lcg) : Type 0 where
   pub drawn : set ≡ set_of (drawn_from cells (next_words count first))
   pub rest : left ≡ left_after cells (next_words count first)

@@ -1,7 +1,7 @@
 //! Positions drawn one after the other.
 //!
-//! Each takes sixteen words of PCG32, the generator of Melissa O'Neill. A word stands for a place in the list of the cells that
-//! are left, so no cell is drawn twice and no word is thrown away.
+//! Each takes sixteen words of PCG32, the generator of Melissa O'Neill. A word stands for a place in the list of the
+//! cells that are left, so no cell is drawn twice and no word is thrown away.
 
 ghost use Rattle.std.specs.Prelude.{◌≡◌, ◌<◌, ◌≤◌, slice_index, remove};
 ghost use Rattle.arrayvec.specs.ArrayVec.{array_vec_len};

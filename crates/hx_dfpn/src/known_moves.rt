@@ -1,7 +1,8 @@
 //! Moves of which it is known who wins after them, though nobody came there.
 //!
-//! What was found of one position may tell of many. So each move is asked about before the visit goes down, and once a move is
-//! refuted those that lose by the same proof are left out with it. In a hard search these are 2,000 to 40,000 moves.
+//! What was found of one position may tell of many. So each move is asked about before the visit goes down, and once a
+//! move is refuted those that lose by the same proof are left out with it. In a hard search these are 2,000 to 40,000
+//! moves.
 
 ghost use Rattle.std.specs.Prelude.{IfErr};
 ghost use Rattle.hx_dfpn.specs.Searches.{Keeps, Stops};
@@ -18,7 +19,8 @@ use hx_reach::Workspace;
 use std::sync::Wait;
 
 impl<K: Knows, G: Gate, R: Wait> Search<'_, K, G, R, Workspace, LinkSet> {
-    /// The moves that lose by what is known against this one, itself among them. No cell where nothing is known against it.
+    /// The moves that lose by what is known against this one, itself among them. No cell where nothing is known against
+    /// it.
     fn refuted_with(&mut self, situation: &Situation, cell: Cell) -> Mask
         ensures keeps { Keeps K.view self.old self.new }
     {

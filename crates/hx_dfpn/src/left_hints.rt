@@ -1,5 +1,5 @@
-//! What a visit leaves for whoever comes to its position again: the numbers of an open end, or the mark of a proof (`marks.rt` of
-//! hx_ordering). How a visit ends is known here alone, so this stands here.
+//! What a visit leaves for whoever comes to its position again: the numbers of an open end, or the mark of a proof
+//! (`marks.rt` of hx_ordering). How a visit ends is known here alone, so this stands here.
 
 use crate::outcomes::Outcome;
 use hx_board::Colour;

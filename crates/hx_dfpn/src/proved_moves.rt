@@ -22,8 +22,8 @@ use std::sync::Wait;
 const LOST: Numbers = Numbers { phi: INF, delta: 0 };
 
 impl<K: Knows, G: Gate, R: Wait> Search<'_, K, G, R, Workspace, LinkSet> {
-    /// Looks for the visit's own position, where it is marked, and then for the marked moves in focus: another worker may have
-    /// proved them since. Some where that ends the visit.
+    /// Looks for the visit's own position, where it is marked, and then for the marked moves in focus: another worker
+    /// may have proved them since. Some where that ends the visit.
     pub(crate) fn look_again(
         &mut self,
         situation: &Situation,
@@ -39,8 +39,8 @@ impl<K: Knows, G: Gate, R: Wait> Search<'_, K, G, R, Workspace, LinkSet> {
         self.look_at_marked(situation, moves, count)
     }
 
-    /// Looks for the visit's own position, where it is marked. A mark of which nothing is known was another position's, and is
-    /// written anew.
+    /// Looks for the visit's own position, where it is marked. A mark of which nothing is known was another position's,
+    /// and is written anew.
     fn look_at_own(&mut self, situation: &Situation) -> Result<Option<Outcome>, RanOut>
         ensures keeps { Keeps K.view self.old self.new }
         ensures stopped { IfErr result (Stops K.view self.new) }
@@ -83,8 +83,8 @@ impl<K: Knows, G: Gate, R: Wait> Search<'_, K, G, R, Workspace, LinkSet> {
         Ok(None)
     }
 
-    /// Looks for the move at a place, where it is marked. A mark of which nothing is known was another position's, and is written
-    /// anew.
+    /// Looks for the move at a place, where it is marked. A mark of which nothing is known was another position's, and
+    /// is written anew.
     fn look_at(
         &mut self,
         situation: &Situation,
@@ -172,8 +172,8 @@ impl<K: Knows, G: Gate, R: Wait> Search<'_, K, G, R, Workspace, LinkSet> {
                 Ok(known)
             }
             Outcome::Open(numbers) => {
-                // The visit left them as a hint too, but by now the hint's word may be another position's. Without this three of
-                // the eight boards of `.ci/units` take another number of units.
+                // The visit left them as a hint too, but by now the hint's word may be another position's. Without this
+                // three of the eight boards of `.ci/units` take another number of units.
                 moves.note(down.place, open(numbers));
                 Ok(None)
             }

@@ -1,8 +1,9 @@
-//! The search at a position, on sets of its own: round after round, until the position is proved or something is wanting.
+//! The search at a position, on sets of its own: round after round, until the position is proved or something is
+//! wanting.
 //!
-//! At a visit further down it is enough that a position is known by another one that serves it. At the search's own position
-//! alone what is known is settled of the position itself, and whoever stores answers to all moves settles each of them. That takes
-//! fewer slots than a node for each position, since proofs are fewer.
+//! At a visit further down it is enough that a position is known by another one that serves it. At the search's own
+//! position alone what is known is settled of the position itself, and whoever stores answers to all moves settles each
+//! of them. That takes fewer slots than a node for each position, since proofs are fewer.
 
 ghost use Rattle.std.specs.Prelude.{◌≡◌, ◌+◌, ◌<◌, IfOk, IfErr};
 ghost use Rattle.hx_count.specs.declared.events.TheConstants.{MOST_HELD};

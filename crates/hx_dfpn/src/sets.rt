@@ -1,8 +1,8 @@
 //! The sets of links on which visits play and take back.
 //!
-//! To play on a set and take back is faster than a new set for each position by two to three, and stronger too, since links that
-//! were found higher up stay. But the links of many visits fill a set. So a set with many links is not played on; the visit gets a
-//! new one.
+//! To play on a set and take back is faster than a new set for each position by two to three, and stronger too, since
+//! links that were found higher up stay. But the links of many visits fill a set. So a set with many links is not
+//! played on; the visit gets a new one.
 
 ghost use Rattle.std.specs.Prelude.{◌≡◌, IfOk, OnErr};
 ghost use Rattle.hx_dfpn.specs.Sets.{HasPlay, IsPut, IsBack};

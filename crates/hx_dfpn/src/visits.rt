@@ -1,11 +1,11 @@
 //! A worker's visits: the position of a player to move is proved, or its numbers come to a limit.
 //!
-//! A visit asks for a unit, and looks the position up. Then it fills in, and puts the move that led to it and what was filled on
-//! both sets of links, the mover's first; links and the moves that must be tried tell where to go down. Whatever a visit meets, it
-//! takes back all that it put, and releases all that it held.
+//! A visit asks for a unit, and looks the position up. Then it fills in, and puts the move that led to it and what was
+//! filled on both sets of links, the mover's first; links and the moves that must be tried tell where to go down.
+//! Whatever a visit meets, it takes back all that it put, and releases all that it held.
 //!
-//! A visit ends open, too, where another worker proved a position further up on its way (`ways.rt`): the visit there will look that
-//! proof up, and has no use for what is below. So a worker goes back up to that position at once.
+//! A visit ends open, too, where another worker proved a position further up on its way (`ways.rt`): the visit there
+//! will look that proof up, and has no use for what is below. So a worker goes back up to that position at once.
 
 ghost use Rattle.std.specs.Prelude.{IfErr};
 ghost use Rattle.hx_fill.specs.Fills.{IsFillIn};
@@ -78,7 +78,8 @@ impl<K: Knows, G: Gate, R: Wait> Search<'_, K, G, R, Workspace, LinkSet> {
         outcome
     }
 
-    /// Brings the mover's links up to date, and goes on with the visit's stones on the other player's set, or with a new set.
+    /// Brings the mover's links up to date, and goes on with the visit's stones on the other player's set, or with a
+    /// new set.
     #[cycle(search)]
     fn with_others(&mut self, situation: &Situation, depth: u32) -> Result<Outcome, RanOut>
         requires { MayHold self.old depth }
@@ -131,8 +132,8 @@ impl<K: Knows, G: Gate, R: Wait> Search<'_, K, G, R, Workspace, LinkSet> {
         Ok(Outcome::Open(situation.limit))
     }
 
-    /// Looks for what others proved, and goes down to the move that the numbers choose, or ends the visit where nobody waits for it.
-    /// None where the visit goes on after that.
+    /// Looks for what others proved, and goes down to the move that the numbers choose, or ends the visit where nobody
+    /// waits for it. None where the visit goes on after that.
     #[cycle(search)]
     fn go_on(
         &mut self,

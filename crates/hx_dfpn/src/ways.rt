@@ -1,10 +1,11 @@
 //! The way down to a visit: which positions are above it, and whether one of them is proved meanwhile.
 //!
-//! Another worker may prove a position while this one searches below it. Then nobody waits for what this one finds there, so it
-//! goes back up to that position. With four workers this takes 7 units in 100 off; one worker takes as many as without.
+//! Another worker may prove a position while this one searches below it. Then nobody waits for what this one finds
+//! there, so it goes back up to that position. With four workers this takes 7 units in 100 off; one worker takes as
+//! many as without.
 //!
-//! What tells of a proof is a mark (`marks.rt` of hx_ordering), which is seldom that of another position. Then the visit there writes
-//! it anew when the worker has come back up to it, and the search goes on.
+//! What tells of a proof is a mark (`marks.rt` of hx_ordering), which is seldom that of another position. Then the
+//! visit there writes it anew when the worker has come back up to it, and the search goes on.
 
 use hx_board::CELLS;
 use hx_count::Hints;
@@ -13,8 +14,9 @@ use hx_ordering::is_marked;
 /// A place for each depth. The visit at the root has as much as a board has cells.
 const PLACES: usize = CELLS + 1;
 
-/// The keys of the positions on a way down, each at the place of its visit's depth. The place of the root is the last one, so
-/// behind a visit's own place there are those of the visits above it alone. It can be copied, since it has no memory of its own.
+/// The keys of the positions on a way down, each at the place of its visit's depth. The place of the root is the last
+/// one, so behind a visit's own place there are those of the visits above it alone. It can be copied, since it has no
+/// memory of its own.
 #[derive(Clone, Copy)]
 pub struct Way {
     keys: [u64; PLACES],

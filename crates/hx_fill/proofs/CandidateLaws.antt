@@ -1,4 +1,5 @@
--- The sets of what each cell can be better than, as a worse cell is written down with each cell that can be better than it.
+-- The sets of what each cell can be better than, as a worse cell is written down with each cell that can be better than
+-- it.
 use Rattle.std.proofs.Common.{◌≡◌, ◌≢◌, ℕ, ◌<◌, true, false, List, length, slice_index, sym, ◌∙◌, subst, ⊎_elim}
 use Rattle.std.proofs.Math.ListN.{set}
 use Rattle.std.proofs.lemmas.Bool.{false≢true}

@@ -1,5 +1,6 @@
--- A cell comes. It gives a line to each cell that it dominates and that has none and is no better cell, so afterwards it dominates
--- no other one of these; and cells without a line only become fewer. What came before comes before what still waits.
+-- A cell comes. It gives a line to each cell that it dominates and that has none and is no better cell, so afterwards
+-- it dominates no other one of these; and cells without a line only become fewer. What came before comes before what
+-- still waits.
 use Rattle.std.proofs.Common.{◌≡◌, ◌≢◌, ℕ, ◌+◌, ◌<◌, ◌≤◌, true, false, List, length, refl, sym, ◌∙◌, subst, Some, ◌⊎◌}
 use Rattle.std.proofs.Common.{inl, inr, ⊎_elim, arith}
 use Rattle.std.specs.Prelude.{slice_get, slice_index}

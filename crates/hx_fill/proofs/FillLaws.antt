@@ -1,5 +1,5 @@
--- Steps that are right for their own players: those of two lists one after the other, the board that they lead to, and how many
--- cells they leave empty.
+-- Steps that are right for their own players: those of two lists one after the other, the board that they lead to, and
+-- how many cells they leave empty.
 use Rattle.std.proofs.Common.{◌≡◌, ◌+◌, ◌<◌, ◌≤◌, List, [], ◌∷◌, ◌++◌, length, sym, ap, subst, arith}
 use Rattle.hx_board.specs.declared.colours.Colour.{Colour}
 use Rattle.hx_board.specs.Colours.{other_of}

@@ -1,5 +1,5 @@
--- A board with more stones. What is dead or a pair stays so while its cells are empty: no neighbour becomes open, and what is joined
--- stays joined.
+-- A board with more stones. What is dead or a pair stays so while its cells are empty: no neighbour becomes open, and
+-- what is joined stays joined.
 use Rattle.std.proofs.Common.{ℕ, refl, sym, ◌∙◌, inl, inr, ⊎_elim}
 use Rattle.std.proofs.lemmas.Bool.{false≢true, false_from_ne_true}
 use Rattle.hx_board.specs.declared.colours.Colour.{Colour}

@@ -1,5 +1,5 @@
--- What is joined after one more stone of the player: what was joined before, and any two that both were joined with the stone's
--- cell. A walk that comes over the cell leads to it and goes on from it.
+-- What is joined after one more stone of the player: what was joined before, and any two that both were joined with the
+-- stone's cell. A walk that comes over the cell leads to it and goes on from it.
 use Rattle.std.proofs.Common.{◌≡◌, ℕ, List, [], ◌∷◌, refl, ap, subst, ◌⊎◌, inl, inr, ⊎_elim}
 use Rattle.hx_board.specs.declared.colours.Colour.{Colour}
 use Rattle.hx_board.specs.declared.vertices.Vertex.{Vertex}

@@ -1,5 +1,6 @@
--- Which moves can kill a cell. A stone of the mover's joins nothing for the opponent, so what it makes dead for him it touches. What it
--- joins for the mover was joined with its cell: so a pair that is new with it has an open neighbour that was joined with its cell.
+-- Which moves can kill a cell. A stone of the mover's joins nothing for the opponent, so what it makes dead for him it
+-- touches. What it joins for the mover was joined with its cell: so a pair that is new with it has an open neighbour
+-- that was joined with its cell.
 use Rattle.std.proofs.Common.{◌≡◌, ◌≢◌, ℕ, ◌<◌, true, false, ◌&&◌, sym, ◌∙◌, subst, ⊎_elim, ◌↔◌, ltb}
 use Rattle.std.specs.declared.option.Option.{Option}
 use Rattle.std.specs.declared.option.Option.TheVariants.{None, Some}

@@ -1,5 +1,6 @@
--- The makers of a cell. With a further stone of the player the cell is dead where each of its open neighbours is joined with all of
--- them, or with the stone's cell: two that were not joined are both joined with that cell, and so with each other.
+-- The makers of a cell. With a further stone of the player the cell is dead where each of its open neighbours is joined
+-- with all of them, or with the stone's cell: two that were not joined are both joined with that cell, and so with each
+-- other.
 use Rattle.std.proofs.Common.{◌≡◌, ◌≢◌, ℕ, true, false, ◌&&◌, sym, ◌∙◌, subst, inl, inr, ⊎_elim, ◌↔◌, IsTrue, ltb}
 use Rattle.std.proofs.lemmas.Bool.{false≢true, lt-ltb, and_from}
 use Rattle.hx_board.specs.declared.cells.TheConstants.{CELLS}

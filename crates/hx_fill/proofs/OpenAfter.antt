@@ -1,5 +1,5 @@
--- The open neighbours of a cell, as a set, and after one stone more: an own stone leaves them as they are, and the opponent's takes its
--- own cell away from them.
+-- The open neighbours of a cell, as a set, and after one stone more: an own stone leaves them as they are, and the
+-- opponent's takes its own cell away from them.
 use Rattle.std.proofs.Common.{◌≡◌, ◌≢◌, ℕ, ◌<◌, true, sym, ◌∙◌, subst, inl, inr, ⊎_elim, arith, ◌↔◌}
 use Rattle.std.proofs.lemmas.Bool.{false≢true, false_from_ne_true}
 use Rattle.hx_board.specs.declared.colours.Colour.{Colour}

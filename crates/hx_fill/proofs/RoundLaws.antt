@@ -1,4 +1,5 @@
--- A round: cell by cell it either fills something, or the cell is settled on the board of its start, which is then still the board.
+-- A round: cell by cell it either fills something, or the cell is settled on the board of its start, which is then
+-- still the board.
 use Rattle.std.proofs.Common.{◌≡◌, ◌≢◌, ℕ, suc, ◌+◌, ◌<◌, Bool, true, false, List, [], ◌∷◌, ◌++◌, length, length-append, append_assoc, refl}
 use Rattle.std.proofs.Common.{sym, ap, ◌∙◌, subst, ◌⊎◌, ⊎_elim, arith, ◌↔◌}
 use Rattle.std.proofs.lemmas.Bool.{false≢true, cases_lt}

@@ -1,4 +1,5 @@
--- Lines for dominated cells, one for each cell that got a better one. They are pushed cell by cell, so they come in cell order.
+-- Lines for dominated cells, one for each cell that got a better one. They are pushed cell by cell, so they come in
+-- cell order.
 use Rattle.std.proofs.Common.{◌≡◌, ◌≢◌, ℕ, ◌<◌, true, false, zero, suc, List, [], ◌∷◌, ◌++◌, map, length, get_or, refl, sym, ap, ◌∙◌, subst}
 use Rattle.std.proofs.Common.{Some, None, ⊎_elim, arith}
 use Rattle.std.specs.Prelude.{Contains}

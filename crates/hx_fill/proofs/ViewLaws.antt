@@ -1,5 +1,5 @@
--- What is joined after one stone more, told by what was joined before. A stone of the opponent's changes nothing, since the player
--- has the same stones. An own stone joins what was joined with its cell.
+-- What is joined after one stone more, told by what was joined before. A stone of the opponent's changes nothing, since
+-- the player has the same stones. An own stone joins what was joined with its cell.
 use Rattle.std.proofs.Common.{◌≡◌, ◌≢◌, ℕ, Bool, true, false, refl, sym, ◌∙◌, subst, ⊎_elim}
 use Rattle.std.specs.declared.option.Option.{Option}
 use Rattle.std.specs.declared.option.Option.TheVariants.{None, Some}

@@ -1,5 +1,5 @@
--- The steps for a winner. The winner's steps are the same, and the stones of another player's step come one by one onto empty cells;
--- the board after them is the same.
+-- The steps for a winner. The winner's steps are the same, and the stones of another player's step come one by one onto
+-- empty cells; the board after them is the same.
 use Rattle.std.proofs.Common.{◌≡◌, ℕ, ◌+◌, ◌<◌, List, [], ◌∷◌, ◌++◌, length, take, get_or, refl, sym, ap, ◌∙◌, subst, append_assoc, ◌↔◌}
 use Rattle.std.proofs.lemmas.List.{append-nil, take_more}
 use Rattle.std.proofs.lemmas.List.Elements.{All-head, All-tail}

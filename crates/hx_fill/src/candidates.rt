@@ -1,7 +1,7 @@
 //! Which cells a cell can be better than.
 //!
-//! It is found for each worse cell, and asked for each better one. So what is found for a worse cell is written down with
-//! each cell that can be better than it.
+//! It is found for each worse cell, and asked for each better one. So what is found for a worse cell is written down
+//! with each cell that can be better than it.
 
 ghost use Rattle.std.specs.Prelude.{◌≡◌, ℕ, true, length, slice_index};
 ghost use Rattle.hx_board.specs.Sets.{has};

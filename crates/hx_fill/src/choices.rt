@@ -1,6 +1,7 @@
 //! Which better cell each cell got.
 //!
-//! It is looked up by the cell's index, so that lines come in cell order in whatever order the better cells were gone through.
+//! It is looked up by the cell's index, so that lines come in cell order in whatever order the better cells were gone
+//! through.
 
 ghost use Rattle.std.specs.Prelude.{◌≡◌, ◌≢◌, ℕ};
 ghost use Rattle.std.specs.declared.option.Option.TheVariants.{None, Some};

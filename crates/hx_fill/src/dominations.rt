@@ -1,8 +1,8 @@
 //! Moves that another move is better than.
 //!
-//! Where the mover takes the better cell, the worse one is dead for the opponent, or one of a captured pair of the mover. What is
-//! joined after the move is told by what was joined before it, so no group is flooded again for a move. And a move kills only what
-//! it touches, or what is joined with its cell, so most moves need not be tried.
+//! Where the mover takes the better cell, the worse one is dead for the opponent, or one of a captured pair of the
+//! mover. What is joined after the move is told by what was joined before it, so no group is flooded again for a move.
+//! And a move kills only what it touches, or what is joined with its cell, so most moves need not be tried.
 
 ghost use Rattle.std.specs.Prelude.{◌≡◌, ◌≢◌, ℕ, true, ◌↔◌, IsTrue};
 ghost use Rattle.hx_board.specs.Finds.{Finds};
@@ -44,8 +44,9 @@ impl BothGroups {
         }
     }
 
-    /// The cells that can make a cell dead for the opponent, where the mover takes one of them: its open neighbours, or any cell where
-    /// it is dead already. A stone of the mover's joins nothing for the opponent, and takes its own cell alone from him.
+    /// The cells that can make a cell dead for the opponent, where the mover takes one of them: its open neighbours, or
+    /// any cell where it is dead already. A stone of the mover's joins nothing for the opponent, and takes its own cell
+    /// alone from him.
     fn killers_by_dead(&self, cell: Cell, around: VertexSet) -> Mask
         requires empty { IsEmpty self.now.position cell }
         requires around { IsSetOf self.now.position.size
@@ -63,8 +64,9 @@ impl BothGroups {
         around.cells()
     }
 
-    /// The cells that can make a cell part of a pair, where the mover takes one of them: those that an open neighbour of it, or of a
-    /// maker of it, is joined with, or any cell where it is part of a pair already. A stone joins only what was joined with its cell.
+    /// The cells that can make a cell part of a pair, where the mover takes one of them: those that an open neighbour
+    /// of it, or of a maker of it, is joined with, or any cell where it is part of a pair already. A stone joins only
+    /// what was joined with its cell.
     fn killers_by_pair(&self, cell: Cell, around: VertexSet) -> Mask
         requires empty { IsEmpty self.now.position cell }
         requires around { IsSetOf self.now.position.size
@@ -86,7 +88,8 @@ impl BothGroups {
         }
     }
 
-    /// The cells that can be better than a cell. Most cells touch nothing that the cell's fate hangs on, and need not be tried.
+    /// The cells that can be better than a cell. Most cells touch nothing that the cell's fate hangs on, and need not
+    /// be tried.
     pub(crate) fn killers(&self, worse: Cell) -> Mask
         requires { IsEmpty self.now.position worse }
         ensures { AreKillers self.now.position self.now.mover worse result }

@@ -1,5 +1,5 @@
-//! What need not be searched: cells that are filled before a search goes on, and moves that a link answers or another move is
-//! better than.
+//! What need not be searched: cells that are filled before a search goes on, and moves that a link answers or another
+//! move is better than.
 #![tactic(auto)]
 
 mod candidates;

@@ -1,8 +1,8 @@
 //! Which further stone of a player would make a cell dead for that player.
 //!
-//! A stone on b joins two vertices that were not joined exactly where both were joined with b. So with a stone on b a cell is
-//! dead where each of its open neighbours is joined with all of them, or is joined with b. To know all such b takes one look
-//! at each open neighbour, and no flood. Two cells are a captured pair where each makes the other dead.
+//! A stone on b joins two vertices that were not joined exactly where both were joined with b. So with a stone on b a
+//! cell is dead where each of its open neighbours is joined with all of them, or is joined with b. To know all such b
+//! takes one look at each open neighbour, and no flood. Two cells are a captured pair where each makes the other dead.
 
 ghost use Rattle.std.specs.Prelude.{◌≡◌, ℕ, true, false, IsTrue};
 ghost use Rattle.hx_board.specs.Finds.{Finds};
@@ -21,15 +21,17 @@ use hx_inferior::open_around;
 /// What is known of an empty cell, for one player.
 #[derive(Clone, Copy)]
 pub(crate) struct Makers {
-    /// The other empty cells, of those that were asked about, on which a stone of the player makes the cell dead, or leaves it so.
+    /// The other empty cells, of those that were asked about, on which a stone of the player makes the cell dead, or
+    /// leaves it so.
     pub(crate) cells: Mask,
 
     /// Whether the cell is dead.
     pub(crate) is_dead: bool,
 }
 
-/// What is known of an empty cell with these open neighbours, and its makers among some empty cells. The fewer these are, the sooner
-/// none of them is left: so a partner's are asked about one cell, and whether a cell is dead about none.
+/// What is known of an empty cell with these open neighbours, and its makers among some empty cells. The fewer these
+/// are, the sooner none of them is left: so a partner's are asked about one cell, and whether a cell is dead about
+/// none.
 pub(crate) fn makers_of(view: &View, cell: Cell, around: VertexSet, among: Mask) -> Makers
     requires empty { IsEmpty view.now.board cell }
     requires around { IsSetOf view.now.board.size

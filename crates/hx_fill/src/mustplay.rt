@@ -12,12 +12,13 @@ use hx_board::{Cell, Memory};
 use hx_linkset::LinkSet;
 use hx_tree::{Lines, Threats};
 
-/// What the opponent of the set's player must try: the cells that all live links between the player's two sides share, and which of
-/// them another one is better than. The threats share the same cells, and are few.
+/// What the opponent of the set's player must try: the cells that all live links between the player's two sides share,
+/// and which of them another one is better than. The threats share the same cells, and are few.
 ///
-/// Of two cells each of which is better than the other, the one that comes first in the order needs no line. A search gives the
-/// order in which it tries moves, so that it keeps those that it likes best. Cells that the order leaves out come last, in cell
-/// order: so with an empty order the cells are gone through in cell order. Cells that are not among those to try are passed over.
+/// Of two cells each of which is better than the other, the one that comes first in the order needs no line. A search
+/// gives the order in which it tries moves, so that it keeps those that it likes best. Cells that the order leaves out
+/// come last, in cell order: so with an empty order the cells are gone through in cell order. Cells that are not among
+/// those to try are passed over.
 pub fn must(set: &LinkSet, order: &[Cell]) -> Result<musts::Must, Memory>
     ensures must { IfOk result (λ must. IsMust set.now must.threats must.cells must.under) }
     ensures none_dominated { IfOk result (λ must. LeaveNoneDominated set.now.present.board
@@ -36,7 +37,8 @@ pub fn must(set: &LinkSet, order: &[Cell]) -> Result<musts::Must, Memory>
     })
 }
 
-/// The same cells and threats, with a line for none of the cells: so each of them is to be tried, also where another one is better.
+/// The same cells and threats, with a line for none of the cells: so each of them is to be tried, also where another
+/// one is better.
 pub fn must_without_lines(set: &LinkSet) -> Result<musts::Must, Memory>
     ensures must { IfOk result (λ must. IsMust set.now must.threats must.cells must.under) }
     ensures no_lines { IfOk result (λ must. must.under ≡ []) }

@@ -1,10 +1,11 @@
-//! What a player's opponent must answer. It stands apart from `must`, since the prover makes a file of each name and does not
-//! tell them apart by case.
+//! What a player's opponent must answer. It stands apart from `must`, since the prover makes a file of each name and
+//! does not tell them apart by case.
 
 use hx_board::Mask;
 use hx_tree::{Lines, Threats};
 
-/// The opponent's moves that no threat answers. Hayward, van Rijswijck, Arneson and Henderson call their cells the mustplay region.
+/// The opponent's moves that no threat answers. Hayward, van Rijswijck, Arneson and Henderson call their cells the
+/// mustplay region.
 #[derive(Drop)]
 pub struct Must {
     /// Places of live links between the player's two sides.

@@ -1,9 +1,9 @@
 //! Fill-in, in rounds.
 //!
-//! A round goes once over the empty cells for one player, with what was joined at its start, and fills what is dead or a captured
-//! pair. That stays right when stones come elsewhere, so a round may fill many cells without a further flood. Rounds for
-//! the one and for the other player alternate, until two in a row have filled nothing. To ask both players again after each
-//! round that filled something took a fifteenth more rounds in a search.
+//! A round goes once over the empty cells for one player, with what was joined at its start, and fills what is dead or
+//! a captured pair. That stays right when stones come elsewhere, so a round may fill many cells without a further
+//! flood. Rounds for the one and for the other player alternate, until two in a row have filled nothing. To ask both
+//! players again after each round that filled something took a fifteenth more rounds in a search.
 
 ghost use Rattle.std.specs.Prelude.{◌≡◌, IfOk, OnOk, true};
 ghost use Rattle.hx_board.specs.Sets.{has};
@@ -17,8 +17,8 @@ use hx_board::{Cell, Colour, Groups, Mask, Memory, Position};
 use hx_inferior::{FillStep, open_around};
 use std::alloc::Global;
 
-/// Fills what is dead or a captured pair, for either player, until no such cells are left. Each step is right for its own player
-/// where it is done. Hayward, van Rijswijck, Arneson and Henderson call this fill-in.
+/// Fills what is dead or a captured pair, for either player, until no such cells are left. Each step is right for its
+/// own player where it is done. Hayward, van Rijswijck, Arneson and Henderson call this fill-in.
 pub fn fill_in(alloc: Global, position: &Position) -> Result<Filled, Memory>
     ensures fills { IfOk result (λ filled.
         IsFillIn position.now filled.steps.items filled.position) }
@@ -79,8 +79,8 @@ fn fill_round(filled: &mut Filled, colour: Colour) -> Result<(), Memory>
     Ok(())
 }
 
-/// Fills an empty cell, or it and a partner, where that was right at the start of the round. Given the cells that are empty, it
-/// answers those that are left.
+/// Fills an empty cell, or it and a partner, where that was right at the start of the round. Given the cells that are
+/// empty, it answers those that are left.
 fn fill_at(
     filled: &mut Filled,
     view: &View,

@@ -1,8 +1,8 @@
 //! Threats, which tell the cells that all live links between the two sides of a player share.
 //!
-//! A link is kept as a threat only where it takes a cell away from what those before it share. So there are no more threats
-//! than cells, and they share what all of the links share. Links with few cells are looked at first, since each of them takes
-//! many cells away; so few of the links are kept.
+//! A link is kept as a threat only where it takes a cell away from what those before it share. So there are no more
+//! threats than cells, and they share what all of the links share. Links with few cells are looked at first, since each
+//! of them takes many cells away; so few of the links are kept.
 
 ghost use Rattle.std.specs.Prelude.{IfOk, OnOk};
 ghost use Rattle.hx_fill.specs.Musts.{IsBetween, AreBetween, AreKept, IsTaken, AreAllTaken};

@@ -1,11 +1,11 @@
 //! Lines for moves that need no answer of their own, since another move is better.
 //!
-//! The cells come one by one in a given order, which is that in which a search tries them: so it keeps the moves that it
-//! likes best. A cell that has no line when it comes gives one to each cell that it dominates, unless that cell has one or is the
-//! better one of a line. So no better cell ever gets a line itself.
+//! The cells come one by one in a given order, which is that in which a search tries them: so it keeps the moves that
+//! it likes best. A cell that has no line when it comes gives one to each cell that it dominates, unless that cell has
+//! one or is the better one of a line. So no better cell ever gets a line itself.
 //!
-//! By cell order a quarter more units were searched on a hard opening of 7 by 7. The contract tells which better cell is kept,
-//! so a body that passes over the order is refused.
+//! By cell order a quarter more units were searched on a hard opening of 7 by 7. The contract tells which better cell
+//! is kept, so a body that passes over the order is refused.
 
 ghost use Rattle.std.specs.Prelude.{◌≡◌, ◌≢◌, ℕ, ◌+◌, ◌++◌, ◌∷◌, [], List, length, slice_get, true, false, IfOk, OnOk};
 ghost use Rattle.std.specs.declared.option.Option.{Option};

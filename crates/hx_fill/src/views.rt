@@ -1,7 +1,7 @@
 //! A position as one player sees it: what is joined in the player's graph, there or after one stone more.
 //!
-//! A stone of the opponent's on an empty cell changes nothing of that. An own stone joins all that was joined with its cell, and
-//! changes nothing else. So after a stone more no group is flooded again.
+//! A stone of the opponent's on an empty cell changes nothing of that. An own stone joins all that was joined with its
+//! cell, and changes nothing else. So after a stone more no group is flooded again.
 
 ghost use Rattle.std.specs.Prelude.{◌≡◌, ◌≢◌};
 ghost use Rattle.hx_board.specs.Positions.{IsEmpty, put};

@@ -1,7 +1,7 @@
 //! The steps of fill-in, as a proof that one player wins may make them.
 //!
-//! For the winner the own dead cells and pairs are steps of such a proof as they are. The other player's are the opponent's stones
-//! on empty cells, which may come one by one.
+//! For the winner the own dead cells and pairs are steps of such a proof as they are. The other player's are the
+//! opponent's stones on empty cells, which may come one by one.
 
 ghost use Rattle.std.specs.Prelude.{◌≡◌, ◌∷◌, ◌++◌, [], ◌↔◌, IfOk, OnOk};
 ghost use Rattle.hx_board.specs.Positions.{Board};
@@ -14,9 +14,9 @@ use hx_inferior::FillStep;
 use hx_tree::FillSteps;
 use std::alloc::Global;
 
-/// The steps as those of a proof that this player wins: the player's own as they are, and the stones of the opponent's cell by cell.
-/// From each position from which the steps are right for their own players, these are right for the winner, and lead to the same
-/// position. There are none exactly where nothing was filled.
+/// The steps as those of a proof that this player wins: the player's own as they are, and the stones of the opponent's
+/// cell by cell. From each position from which the steps are right for their own players, these are right for the
+/// winner, and lead to the same position. There are none exactly where nothing was filled.
 pub fn steps_for(alloc: Global, filled: &Filled, winner: Colour) -> Result<FillSteps, Memory>
     requires { AreDeadOrPairs filled.now.steps.items }
     ensures steps { IfOk result (λ steps. steps ≡ winner_steps_all winner filled.now.steps.items) }

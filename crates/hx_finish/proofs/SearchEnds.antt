@@ -1,5 +1,5 @@
--- What a run that searches and reads nothing says with each status: each of its answers has a status of its own, or its line
--- tells it.
+-- What a run that searches and reads nothing says with each status: each of its answers has a status of its own, or its
+-- line tells it.
 use Rattle.std.proofs.Common.{◌≡◌, ◌⊎◌, ℕ, inl, inr, ⊎_elim, List, refl, sym, ◌∙◌, arith}
 use Rattle.hx_io.specs.Sinks.{Writing, SomeWriteFailed, append}
 use Rattle.hx_limits.specs.declared.settings.Settings.{Settings}

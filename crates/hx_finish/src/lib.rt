@@ -1,5 +1,5 @@
-//! How a run ends that searches: who wins by the tree that it came to, or what is told where it came to none, and its exit status with
-//! the refusals that were counted.
+//! How a run ends that searches: who wins by the tree that it came to, or what is told where it came to none, and its
+//! exit status with the refusals that were counted.
 #![tactic(auto)]
 
 mod finishes;

@@ -1,5 +1,5 @@
--- Who is named wins, and the other player does not. The states of a run have boards of the game, since each of their moves was
--- to an empty cell; and on those not both players win.
+-- Who is named wins, and the other player does not. The states of a run have boards of the game, since each of their
+-- moves was to an empty cell; and on those not both players win.
 use Rattle.std.proofs.Common.{◌≡◌, ℕ, List, [], ◌∷◌, ◌++◌, Result, Ok, Err, Option, Some, refl, sym, ap, subst, inl, inr, arith}
 use Rattle.hx_board.specs.declared.colours.Colour.{Colour}
 use Rattle.hx_board.specs.Cells.{IsExtent}

@@ -1,5 +1,6 @@
--- Passing the moves of a player, one after the other. Either the other player was told to win after each of them, and then he wins
--- the position; or one was left open, and as all positions after one move have as many empty cells, each is as large.
+-- Passing the moves of a player, one after the other. Either the other player was told to win after each of them, and
+-- then he wins the position; or one was left open, and as all positions after one move have as many empty cells, each
+-- is as large.
 use Rattle.std.proofs.Common.{◌≡◌, ◌⊎◌, inl, inr, ℕ, ◌≤◌, Bool, true, false, ◌&&◌, not, eqb, refl, sym, ap, ◌∙◌, subst, arith}
 use Rattle.std.proofs.lemmas.Bool.{eqb-true, true≢false}
 use Rattle.hx_board.specs.declared.colours.Colour.{Colour}

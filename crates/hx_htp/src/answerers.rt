@@ -38,8 +38,8 @@ pub trait Answerer {
         requires { IsSync R.row }
         // Budget and slots stay and no count falls, after want of memory too.
         ensures continues { Continues (account self.old) (account self.new) }
-        // A winner that is named wins. What is told to be used up is what there was of it, its count rose in this call, and
-        // the position is not small under the budget.
+        // A winner that is named wins. What is told to be used up is what there was of it, its count rose in this call,
+        // and the position is not small under the budget.
         ensures told { IfOk result
             (MayTell (account self.old) (account self.new) position.now to_move) };
 }

@@ -1,5 +1,5 @@
-//! The names of the commands: how each is spelled, and in which order they are listed. A line's command is looked up here,
-//! `known_command` asks here, and `list_commands` lists what stands here.
+//! The names of the commands: how each is spelled, and in which order they are listed. A line's command is looked up
+//! here, `known_command` asks here, and `list_commands` lists what stands here.
 
 ghost use Rattle.std.specs.Prelude.{◌≡◌, ◌≤◌, length};
 ghost use Rattle.hx_htp.specs.Commands.{name_word, name_of};

@@ -1,5 +1,5 @@
-//! A session: its board and moves, and the requests that change them. The position stands beside the moves, so that no move is
-//! made again: `undo` lifts the last stone.
+//! A session: its board and moves, and the requests that change them. The position stands beside the moves, so that no
+//! move is made again: `undo` lifts the last stone.
 
 ghost use Rattle.std.specs.Prelude.{◌≡◌, ◌≤◌, ◌↔◌, IsTrue, MatchOption, Ok, [], length};
 ghost use Rattle.hx_board.specs.Positions.{IsEmpty, IsFull};
@@ -28,8 +28,8 @@ use std::marker::Model;
 use std::sync::Wait;
 use std::thread::Threads;
 
-/// A board and the moves that were made on it, seen as the board's size and the moves from the first to the last. Each move fills
-/// a cell.
+/// A board and the moves that were made on it, seen as the board's size and the moves from the first to the last. Each
+/// move fills a cell.
 #[derive(Drop)]
 pub struct Session {
     position: Position,

@@ -1,5 +1,5 @@
-//! The text of a reply, put together in place. The longest shows a board of eleven rows and columns behind a number of ten
-//! digits, and has 358 bytes. Players, cells and numbers are spelled as in the texts of positions and trees.
+//! The text of a reply, put together in place. The longest shows a board of eleven rows and columns behind a number of
+//! ten digits, and has 358 bytes. Players, cells and numbers are spelled as in the texts of positions and trees.
 
 ghost use Rattle.std.specs.Prelude.{◌≡◌, ◌+◌, ◌≤◌, ◌<◌, ◌++◌, [], length, replicate, codes};
 ghost use Rattle.std.specs.Fmt.{decimal};

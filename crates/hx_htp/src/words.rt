@@ -1,5 +1,5 @@
-//! The words of a line. A word may have had bytes inside that do not count, so the bytes that count are copied first, and
-//! words are parts of the copy.
+//! The words of a line. A word may have had bytes inside that do not count, so the bytes that count are copied first,
+//! and words are parts of the copy.
 
 ghost use Rattle.std.specs.Prelude.{◌≡◌, ◌≤◌, ◌∷◌, [], MatchOption, length};
 ghost use Rattle.std.specs.List.{position_or_len};

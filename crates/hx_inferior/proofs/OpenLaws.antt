@@ -1,5 +1,5 @@
--- The open neighbours of a cell as a set: the cells that touch it without those of the opponent's stones, and the sides that it
--- lies along. Each of the three parts has numbers of its own.
+-- The open neighbours of a cell as a set: the cells that touch it without those of the opponent's stones, and the sides
+-- that it lies along. Each of the three parts has numbers of its own.
 use Rattle.std.proofs.Common.{◌≡◌, ℕ, ◌<◌, Bool, true, false, ◌&&◌, ◌||◌, not, eqb, ltb}
 use Rattle.std.proofs.Common.{refl, sym, ap, ◌∙◌, ⊎_elim, ◌↔◌, eq-eqb, eqb-true, arith}
 use Rattle.std.proofs.lemmas.Bool.{lt-ltb, not-true, and_from, or_left, or_right, or_cases}

@@ -1,5 +1,5 @@
--- The cells of a pair, and a dominated cell, are empty and differ from the cell that the player takes: a cell that is dead once a
--- stone is there is empty then, and so it was empty before, and is another one.
+-- The cells of a pair, and a dominated cell, are empty and differ from the cell that the player takes: a cell that is
+-- dead once a stone is there is empty then, and so it was empty before, and is another one.
 use Rattle.std.proofs.Common.{◌≢◌, ℕ}
 use Rattle.hx_board.specs.declared.colours.Colour.{Colour}
 use Rattle.hx_board.specs.Positions.{Board, IsEmpty, put}

@@ -1,4 +1,5 @@
-//! What a player's walk can come to from a cell: its neighbours in the player's graph that are no stones of the opponent.
+//! What a player's walk can come to from a cell: its neighbours in the player's graph that are no stones of the
+//! opponent.
 //!
 //! A cell matters to the player only where it joins two of these that are not joined without it.
 

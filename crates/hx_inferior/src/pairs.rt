@@ -1,8 +1,8 @@
 //! Captured pairs.
 //!
-//! Two empty cells are a pair of a player where each is dead once the player has the other. So the player answers on the one
-//! where the opponent takes the other, and both count as the player's from the start. Hayward, van Rijswijck, Arneson and
-//! Henderson call such cells captured.
+//! Two empty cells are a pair of a player where each is dead once the player has the other. So the player answers on
+//! the one where the opponent takes the other, and both count as the player's from the start. Hayward, van Rijswijck,
+//! Arneson and Henderson call such cells captured.
 
 ghost use Rattle.std.specs.Prelude.{◌↔◌, IsTrue};
 ghost use Rattle.hx_inferior.specs.Inferior.{IsPair};
@@ -10,7 +10,8 @@ ghost use Rattle.hx_inferior.specs.Inferior.{IsPair};
 use crate::dead_cells::dead;
 use hx_board::{Cell, Colour, Position};
 
-/// Whether two cells are a pair of a player: they are empty, and each is dead for the player after the player takes the other.
+/// Whether two cells are a pair of a player: they are empty, and each is dead for the player after the player takes the
+/// other.
 pub fn pair(position: &Position, colour: Colour, a: Cell, b: Cell) -> bool
     ensures { IsTrue result ↔ IsPair position.now colour a b }
 {

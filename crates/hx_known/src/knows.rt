@@ -1,7 +1,7 @@
 //! What a search asks of whoever knows.
 //!
-//! Each call has one contract: what was seen only grew, and what was answered is true of it. What it is that a position is known by,
-//! each type says: an entry of the position itself, or one that serves it, or whatever else.
+//! Each call has one contract: what was seen only grew, and what was answered is true of it. What it is that a position
+//! is known by, each type says: an entry of the position itself, or one that serves it, or whatever else.
 
 ghost use Rattle.std.specs.Prelude.{◌≡◌, ℕ, true, IfOk, IfErr};
 ghost use Rattle.hx_board.specs.declared.colours.Colour.{Colour};
@@ -40,7 +40,8 @@ pub struct OfMoves {
     pub refuted: Mask,
 }
 
-/// Whoever knows of positions who wins them, and learns it from what a search finds. Others may teach the same one at any time.
+/// Whoever knows of positions who wins them, and learns it from what a search finds. Others may teach the same one at
+/// any time.
 pub trait Knows {
     /// What was seen, and the borrows behind which it is.
     ghost view: { Self → View };
@@ -118,7 +119,8 @@ pub trait Knows {
         ensures known { IfOk result (IfProved (proved self.new position.now to_move)) }
         ensures stopped { IfErr result (LacksRoom (view self.new)) };
 
-    /// What is known of the moves to these cells, before any of them is made. Those that come last in the order are asked about first.
+    /// What is known of the moves to these cells, before any of them is made. Those that come last in the order are
+    /// asked about first.
     fn of_moves<R: Wait>(
         &mut self,
         rt: &R,
@@ -133,8 +135,8 @@ pub trait Knows {
             (λ moves. IfProved (proved self.new position.now to_move) moves.known) }
         ensures stopped { IfErr result (LacksRoom (view self.new)) };
 
-    /// The player of a set wins with the opponent to move, where that is known after each move that must be tried. Better cells are
-    /// looked for in this order.
+    /// The player of a set wins with the opponent to move, where that is known after each move that must be tried.
+    /// Better cells are looked for in this order.
     fn by_answers<R: Wait>(
         &mut self,
         rt: &R,
@@ -160,7 +162,8 @@ pub trait Knows {
         ensures known { IfOk result (IfProved (proved self.new position.now to_move)) }
         ensures stopped { IfErr result (LacksRoom (view self.new)) };
 
-    /// The moves that lose by what is known against this one, itself among them. No cell where nothing is known against it.
+    /// The moves that lose by what is known against this one, itself among them. No cell where nothing is known against
+    /// it.
     fn refuted_with<R: Wait>(
         &mut self,
         rt: &R,

@@ -1,5 +1,5 @@
--- A board in the corner of a triangle: the points of the triangle under the board are Black's, those beside it White's, and
--- a cell without a black stone is White's too. So behind a player's last side lies a line of the player's points.
+-- A board in the corner of a triangle: the points of the triangle under the board are Black's, those beside it White's,
+-- and a cell without a black stone is White's too. So behind a player's last side lies a line of the player's points.
 use Rattle.std.proofs.Common.{◌≡◌, ℕ, ◌+◌, ◌<◌, ◌≤◌, Bool, true, false, refl, sym, ◌∙◌, arith}
 use Rattle.std.specs.Prelude.{if◌then◌else◌, nat_le}
 use Rattle.std.proofs.lemmas.Bool.{false≢true, le-leb, lt-leb, false_from_ne_true, true_from_ne_false}

@@ -1,5 +1,5 @@
--- Not both players have a chain, and on a full board one has. With the board in the corner of a triangle, a player with a
--- chain connects the line behind the last side to all three sides of the triangle: to the player's first side by the
+-- Not both players have a chain, and on a full board one has. With the board in the corner of a triangle, a player with
+-- a chain connects the line behind the last side to all three sides of the triangle: to the player's first side by the
 -- chain, to the two others by the line itself. Only one player can. On a full board the way goes back: what a player
 -- connects to all three sides has a path from the first side to the line behind the last, and that is a chain.
 use Rattle.std.proofs.Common.{◌≡◌, ℕ, zero, suc, ◌+◌, ◌-◌, ◌<◌, ◌≤◌, List, [], ◌∷◌, true, sym, ap, ◌∙◌, subst, arith, ◌⊎◌, inl, inr, ⊎_elim}

@@ -1,5 +1,5 @@
--- Cells and points by their depth from a player's first side, which is the row for Black and the column for White. What is
--- said by depths is said for both players at once.
+-- Cells and points by their depth from a player's first side, which is the row for Black and the column for White. What
+-- is said by depths is said for both players at once.
 use Rattle.std.proofs.Common.{◌≡◌, ℕ, suc, ◌+◌, ◌<◌, ◌≤◌, refl, arith, ◌⊎◌, inl, inr, ◌↔◌}
 use Rattle.hx_board.specs.declared.colours.Colour.{Colour}
 use Rattle.hx_board.specs.declared.colours.Colour.TheVariants.{Black, White}

@@ -1,5 +1,6 @@
--- Play on a board ends, since each stone leaves one empty cell less. So a law of the game goes by induction on the boards
--- after one stone more. And of two outcomes for each empty cell, some cell has the first or all cells have the second.
+-- Play on a board ends, since each stone leaves one empty cell less. So a law of the game goes by induction on the
+-- boards after one stone more. And of two outcomes for each empty cell, some cell has the first or all cells have the
+-- second.
 use Rattle.std.proofs.Common.{◌≡◌, ℕ, zero, suc, ◌+◌, ◌*◌, ◌/◌, ◌<◌, ◌≤◌, Bool, true, false, refl, sym, ◌∙◌, subst, arith, ◌⊎◌, inl, inr}
 use Rattle.std.proofs.Common.{⊎_elim}
 use Rattle.std.proofs.lemmas.Bool.{false≢true, cases_lt}

@@ -1,6 +1,6 @@
--- Exactly one player wins, by induction on the boards after one stone more. Some player does: on a full board the one with
--- a chain; else either some move leads to a win of the mover, or all lead to a win of the opponent. Not both do: played
--- against one another, two winning plays end in two chains.
+-- Exactly one player wins, by induction on the boards after one stone more. Some player does: on a full board the one
+-- with a chain; else either some move leads to a win of the mover, or all lead to a win of the opponent. Not both do:
+-- played against one another, two winning plays end in two chains.
 use Rattle.std.proofs.Common.{◌≡◌, ℕ, refl, sym, ◌∙◌, ◌⊎◌, inl, inr, ⊎_elim}
 use Rattle.std.proofs.Math.Logic.{⊎_swap}
 use Rattle.hx_board.specs.declared.colours.Colour.{Colour}

@@ -1,7 +1,7 @@
--- A goal that more stones of the player do not spoil stays in reach on a better board: one with more of the player's stones,
--- fewer of the opponent's and more room; and it stays in reach with a move more. Both by one induction on the boards after
--- the better one, and in it on the play. The player moves and answers as on the first board; where that cell is taken
--- already, or the opponent's was not to be had there, the player has a move more.
+-- A goal that more stones of the player do not spoil stays in reach on a better board: one with more of the player's
+-- stones, fewer of the opponent's and more room; and it stays in reach with a move more. Both by one induction on the
+-- boards after the better one, and in it on the play. The player moves and answers as on the first board; where that
+-- cell is taken already, or the opponent's was not to be had there, the player has a move more.
 use Rattle.std.proofs.Common.{◌≡◌, ◌≢◌, ℕ, Bool, true, false, refl, sym, ◌∙◌, ◌⊎◌, inl, inr, ⊎_elim, ◌↔◌}
 use Rattle.std.proofs.lemmas.Bool.{false≢true, cases_Bool}
 use Rattle.std.proofs.Math.Decide.{ℕ_discrete}
@@ -112,7 +112,8 @@ module _ (player : Colour) where
     goal_of_full after mover full (By_answers _ _ some _ free _) = absurd (full some free)
 
     module _ (after : Board) (next : (who : Colour) (cell : ℕ) → IsEmpty after cell → Kept (put after who cell)) where
-      -- ---- with a move more the player makes the move that answers some cell of the opponent's, and the opponent has no stone there
+      -- ---- with a move more the player makes the move that answers some cell of the opponent's, and the opponent has no
+      -- stone there
 
       without : (cell : ℕ) → IsAsGood larger larger (put after other cell) after
       without cell = as_good_less larger larger after after (as_good_itself larger after) other cell

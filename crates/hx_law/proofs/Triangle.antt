@@ -1,6 +1,7 @@
--- In a triangle of two colours exactly one colour has a point that it connects to all three sides. Give each small triangle
--- the colour that two of its corners have: these are the points of a triangle with one row less. A colour meets all sides
--- there if and only if it does here, since a path goes over from one to the other. At the end one point is left.
+-- In a triangle of two colours exactly one colour has a point that it connects to all three sides. Give each small
+-- triangle the colour that two of its corners have: these are the points of a triangle with one row less. A colour
+-- meets all sides there if and only if it does here, since a path goes over from one to the other. At the end one point
+-- is left.
 use Rattle.std.proofs.Common.{◌≡◌, ◌≢◌, ℕ, zero, suc, ◌+◌, ◌<◌, ◌≤◌, max, refl, sym, ap, ◌∙◌, arith, ◌⊎◌, inl, inr, ⊎_elim}
 use Rattle.std.proofs.lemmas.Bool.{cases_lt}
 use Rattle.std.proofs.Math.Decide.{ℕ_discrete}

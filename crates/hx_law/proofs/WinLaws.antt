@@ -1,5 +1,5 @@
--- A stone more and a move more keep a win: the game is play on the whole board with a chain as the goal, and a chain stays
--- when the player gets stones.
+-- A stone more and a move more keep a win: the game is play on the whole board with a chain as the goal, and a chain
+-- stays when the player gets stones.
 use Rattle.std.proofs.Common.{ℕ, Bool, true, refl, inl}
 use Rattle.hx_board.specs.declared.colours.Colour.{Colour}
 use Rattle.hx_board.specs.declared.vertices.Vertex.TheVariants.{First, Last}

@@ -1,5 +1,5 @@
--- The word of a cell is the letter of its column and the number of its row, so what is read from the letter and from the
--- number is read from the word.
+-- The word of a cell is the letter of its column and the number of its row, so what is read from the letter and from
+-- the number is read from the word.
 use Rattle.std.proofs.Common.{Some, None, ◌∷◌, ◌≡◌, ℕ, ◌+◌, ◌≤◌, List, sym, ap, ◌∙◌, arith, Option}
 use Rattle.std.specs.Fmt.{decimal}
 use Rattle.std.proofs.lemmas.Fmt.{decimal_injective}

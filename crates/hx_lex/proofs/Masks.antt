@@ -1,5 +1,5 @@
--- Masks in 32 digits: different sets have different words. A loop over half the digits reads that half of a set, or finds
--- that some byte is no digit; the two halves are those of one set.
+-- Masks in 32 digits: different sets have different words. A loop over half the digits reads that half of a set, or
+-- finds that some byte is no digit; the two halves are those of one set.
 use Rattle.std.proofs.Common.{◌≡◌, ℕ, zero, suc, ◌+◌, ◌*◌, ◌/◌, ◌%◌, ◌<◌, ◌≤◌, ◌^◌, List, [], ◌∷◌, ◌++◌, length, get_or, take, drop, refl}
 use Rattle.std.proofs.Common.{sym, ap, ◌∙◌, arith, add-one, add-zero, add-suc, append_assoc, length-append, Bool, true, false, ltb, ◌&&◌}
 use Rattle.std.proofs.lemmas.List.{take_more, append-nil, take-append-drop}

@@ -1,5 +1,5 @@
--- Bytes cut at a mark into parts, as a line is cut at its spaces: there is a part always, and the bytes before the first
--- mark are the first part.
+-- Bytes cut at a mark into parts, as a line is cut at its spaces: there is a part always, and the bytes before the
+-- first mark are the first part.
 use Rattle.std.proofs.Common.{◌≡◌, ℕ, List, [], ◌∷◌, ◌++◌, refl, ap, Bool, true, false, eqb, cond}
 use Rattle.std.proofs.lemmas.Bool.{eq-eqb, ne_eqb}
 use Rattle.hx_lex.specs.Words.{in_first, split_at_marks}

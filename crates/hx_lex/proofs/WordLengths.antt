@@ -1,5 +1,5 @@
--- How long the words of a player and of a small number are. The digits of a mask are put from the most significant down, each
--- the remainder of what is above its place.
+-- How long the words of a player and of a small number are. The digits of a mask are put from the most significant
+-- down, each the remainder of what is above its place.
 use Rattle.std.proofs.Common.{◌≡◌, ℕ, suc, ◌+◌, ◌*◌, ◌-◌, ◌/◌, ◌%◌, ◌<◌, ◌≤◌, ◌^◌, List, [], ◌∷◌, ◌++◌, length, refl, sym, ap, ◌∙◌, arith}
 use Rattle.std.proofs.Common.{append_assoc, length-append}
 use Rattle.std.specs.Fmt.{decimal}

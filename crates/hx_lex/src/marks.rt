@@ -1,5 +1,5 @@
-//! Bytes cut at a mark: a text is cut into lines at each LF, and a line into words at each space. Each cut goes on from the
-//! bytes after the last one, so no byte is looked at twice.
+//! Bytes cut at a mark: a text is cut into lines at each LF, and a line into words at each space. Each cut goes on from
+//! the bytes after the last one, so no byte is looked at twice.
 
 ghost use Rattle.std.specs.Prelude.{MatchOption};
 ghost use Rattle.hx_lex.specs.Marks.{IsCut, Lacks};

@@ -1,5 +1,5 @@
-//! The text that is spelled in place. It keeps what was put into it until that is written at once, and takes no memory. Its
-//! words are those of the formats: colours, cells, numbers and masks.
+//! The text that is spelled in place. It keeps what was put into it until that is written at once, and takes no memory.
+//! Its words are those of the formats: colours, cells, numbers and masks.
 
 ghost use Rattle.std.specs.Prelude.{◌≡◌, ◌+◌, ◌≤◌, ◌++◌, ◌<◌, [], length, ◌↔◌, IsTrue};
 ghost use Rattle.std.specs.Fmt.{decimal};

@@ -33,8 +33,8 @@ fn is_canonical(word: &[u8]) -> bool
     }
 }
 
-/// The number that decimal digits stand for. Leading zeros count nothing, and no digit at all stands for 0. Nineteen digits are
-/// always less than 64 bits hold.
+/// The number that decimal digits stand for. Leading zeros count nothing, and no digit at all stands for 0. Nineteen
+/// digits are always less than 64 bits hold.
 pub fn read_digits(word: &[u8]) -> Option<u64>
     requires { length word.now ≤ 19 }
     ensures { Finds result (λ value. AllDigits 10 word.now × (value ≡ digits_value 10 word.now)) }
@@ -77,8 +77,8 @@ pub(crate) fn mask(word: &[u8]) -> Option<Mask>
 /// What a digit in the first half of a mask counts more than the one in the same place of the second.
 const HALF: u128 = 18_446_744_073_709_551_616;
 
-/// The number of half a mask. Its digits differ from mask to mask, so nothing here branches on them. They are taken as an array, whose
-/// length the compiler knows: so it goes over them without a loop, which takes less than half the time.
+/// The number of half a mask. Its digits differ from mask to mask, so nothing here branches on them. They are taken as
+/// an array, whose length the compiler knows: so it goes over them without a loop, which takes less than half the time.
 fn half_mask(digits: &[u8]) -> Option<u64>
     requires { length digits.now ≡ 16 }
     ensures { Reads (hex 16) (λ n. n < 2 ^ 64) digits.now result }

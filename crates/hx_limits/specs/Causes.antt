@@ -25,7 +25,8 @@ IsUnstored sight (Budget taken) = ⊥
 IsUnstored sight (Slots refusal) = IsOutOfSlots sight.list sight.slots refusal
 IsUnstored sight Memory = Unit {0}
 
--- why a worker stopped that sees the list of proofs so and has this seat: it was refused a unit or a slot, or memory ran out
+-- why a worker stopped that sees the list of proofs so and has this seat: it was refused a unit or a slot, or memory
+-- ran out
 abbrev pub IsStopped : Sight → Seat → RanOut → Type 0
 IsStopped sight seat (Budget taken) = IsSpent seat taken
 IsStopped sight seat (Slots refusal) = IsOutOfSlots sight.list sight.slots refusal

@@ -1,7 +1,7 @@
 //! How many refusals of a unit and of a slot were counted.
 //!
-//! A refusal is made where a unit or a slot is refused, and nowhere else, and nobody can copy it. A tally takes in the refusals
-//! that it counts, so each is counted once.
+//! A refusal is made where a unit or a slot is refused, and nowhere else, and nobody can copy it. A tally takes in the
+//! refusals that it counts, so each is counted once.
 
 ghost use Rattle.std.specs.Prelude.{◌≡◌};
 ghost use Rattle.hx_limits.specs.Tallies.{tallied, counting, IsCountedBy, NoCountFalls};

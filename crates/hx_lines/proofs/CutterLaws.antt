@@ -1,6 +1,6 @@
--- What a cutter holds after a read and after a cut.
--- A read moves the line last cut and the held bytes to the front of the buffer, from `line_start` on, and reads behind them. So
--- the front of the new buffer is the old one from `line_start` on, and line and held bytes are parts of that front.
+-- What a cutter holds after a read and after a cut. A read moves the line last cut and the held bytes to the front of
+-- the buffer, from `line_start` on, and reads behind them. So the front of the new buffer is the old one from
+-- `line_start` on, and line and held bytes are parts of that front.
 use Rattle.std.proofs.Common.{◌≡◌, refl, ℕ, ◌+◌, ◌-◌, ◌<◌, ◌≤◌, List, [], ◌∷◌, ◌++◌, true, take, drop, length, get_or, suc, length-take}
 use Rattle.std.proofs.Common.{subst, ap, sym, ◌∙◌, append_assoc, append-nil, arith}
 use Rattle.std.proofs.Math.Seq.{take-add, drop-cons}

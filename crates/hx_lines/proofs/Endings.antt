@@ -1,6 +1,5 @@
--- How a service ends, from how it stands before a line: one lemma an end.
--- What the next cut tells of a told input (`tells_next`) gives its first lines, or all of them, or those before a limit; what ran is then
--- an answer to them.
+-- How a service ends, from how it stands before a line: one lemma an end. What the next cut tells of a told input
+-- (`tells_next`) gives its first lines, or all of them, or those before a limit; what ran is then an answer to them.
 use Rattle.std.proofs.Common.{◌≤◌, ◌≡◌, ◌≢◌, ℕ, ◌+◌, ◌<◌, Bool, true, false, cond, List, [], ◌∷◌, ◌++◌, length, Option, Some}
 use Rattle.std.proofs.Common.{None, refl, sym, ap, ◌∙◌, subst, append_assoc, append-nil, length-append, arith}
 use Rattle.std.proofs.lemmas.Option.{IfSome_then}

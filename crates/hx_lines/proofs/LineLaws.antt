@@ -1,5 +1,5 @@
--- The lines of bytes that begin with a line, and what cuts tell of them.
--- Each lemma goes over the bytes of one line; none of them is an LF, so `lines_of` puts each to the front of the first line.
+-- The lines of bytes that begin with a line, and what cuts tell of them. Each lemma goes over the bytes of one line;
+-- none of them is an LF, so `lines_of` puts each to the front of the first line.
 use Rattle.std.proofs.Common.{◌≡◌, ℕ, suc, ◌<◌, ◌≤◌, Bool, true, false, cond, List, [], ◌∷◌, ◌++◌, length, eqb, refl, sym, ap, ◌∙◌, subst}
 use Rattle.std.proofs.Common.{append_assoc, append-nil, arith}
 use Rattle.std.proofs.lemmas.Bool.{eqb-true, false_from_ne_true}

@@ -1,5 +1,5 @@
--- The lines of an input of which some were read, with some bytes behind them: where the source tells its input, these are its
--- first lines, and a cut tells the next.
+-- The lines of an input of which some were read, with some bytes behind them: where the source tells its input, these
+-- are its first lines, and a cut tells the next.
 use Rattle.std.proofs.Common.{◌≡◌, ℕ, List, [], ◌∷◌, ◌++◌, Option, Some, None, ap, ◌∙◌, append_assoc, append-nil}
 use Rattle.std.proofs.lemmas.List.Concat.{flat_map-append}
 use Rattle.std.proofs.lemmas.Option.{same_Some}
@@ -16,7 +16,8 @@ ended_lines-push lines line =
     flat_map-append (λ (l : List ℕ). l ++ 10 ∷ []) lines (line ∷ [])
     ∙ ap (λ bytes. ended_lines lines ++ bytes) (append-nil (line ++ 10 ∷ []))
 
--- What a cut tells of the lines of an input: behind those that were read come these, and the cut tells the first of them.
+-- What a cut tells of the lines of an input: behind those that were read come these, and the cut tells the first of
+-- them.
 pub record TellsNext (lines : List (List ℕ)) (new : Cutter) (then_left : Option (List ℕ)) (cut : Cut) (input : List ℕ) : Type 0 where
   pub others : List (List ℕ)
   pub rest : List ℕ

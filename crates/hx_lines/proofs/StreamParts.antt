@@ -1,6 +1,6 @@
--- The bytes of an input of which some were cut off, with those that are held behind them.
--- What a cut does to the held bytes and to what the source has left is put behind the bytes that were cut off before; where the
--- source tells what it has left, the cut tells the next of its lines.
+-- The bytes of an input of which some were cut off, with those that are held behind them. What a cut does to the held
+-- bytes and to what the source has left is put behind the bytes that were cut off before; where the source tells what
+-- it has left, the cut tells the next of its lines.
 use Rattle.std.proofs.Common.{◌≡◌, ℕ, List, [], ◌++◌, Option, Some, None, refl, sym, ap, ◌∙◌, append_assoc, append-nil}
 use Rattle.hx_io.specs.Sources.{prepend}
 use Rattle.hx_io.proofs.SourceLaws.{prepend-prepend}

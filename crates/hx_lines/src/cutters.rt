@@ -1,6 +1,6 @@
-//! A cutter reads into its buffer until a line is whole, and hands the line out where it lies. The buffer has room for the line
-//! last cut, which its caller may still be reading, for as many bytes of the next line as a line may have, and for some more
-//! at each read. Before a read, and only then, these two lines are moved to its front.
+//! A cutter reads into its buffer until a line is whole, and hands the line out where it lies. The buffer has room for
+//! the line last cut, which its caller may still be reading, for as many bytes of the next line as a line may have, and
+//! for some more at each read. Before a read, and only then, these two lines are moved to its front.
 
 ghost use Rattle.std.specs.Prelude.{◌≡◌, ◌+◌, ◌-◌, ◌<◌, ◌≤◌, ◌⊎◌, ℕ, [], ◌∷◌, ◌++◌, true, false, List, Option, take, drop, length, slice_index, IsOk, IfOk, IfSome, IfNone, OnOk, OnErr, MatchOption};
 ghost use Rattle.hx_io.specs.Causes.{HasCause};
@@ -92,8 +92,8 @@ impl LineCutter {
             (IsCut self.old self.new (S.reading source.old).left (S.reading source.new).left) }
         ensures met_end { self.new.met_end ≡ true → IsAtEnd (S.reading source.new).left }
 
-        // A fault loses nothing, and comes only when all lines whose LF was read have been cut and no line is known to be too
-        // long.
+        // A fault loses nothing, and comes only when all lines whose LF was read have been cut and no line is known to
+        // be too long.
         ensures failed { OnErr result
             (Stays self.old self.new (S.reading source.old).left (S.reading source.new).left) }
         ensures plain { OnErr result (¬ HasLf self.new.held) }

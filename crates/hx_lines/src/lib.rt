@@ -1,4 +1,5 @@
-//! Lines out of a source, one after the other, through a buffer of fixed size; and how a service ends that answers them.
+//! Lines out of a source, one after the other, through a buffer of fixed size; and how a service ends that answers
+//! them.
 #![tactic(auto)]
 
 mod cutters;

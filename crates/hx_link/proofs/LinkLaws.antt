@@ -1,4 +1,5 @@
--- Laws of links that the crates above share: ends, the parts of an Or and their carriers, and how many links steps give.
+-- Laws of links that the crates above share: ends, the parts of an Or and their carriers, and how many links steps
+-- give.
 use Rattle.std.proofs.Common.{◌≡◌, ◌≢◌, ℕ, zero, suc, ◌+◌, true, List, [], ◌∷◌, ◌++◌, length, length-append, map, refl, sym, ap, ◌∙◌, Some}
 use Rattle.std.proofs.Common.{Option, inl, inr, arith}
 use Rattle.std.specs.Prelude.{slice_get, Contains}

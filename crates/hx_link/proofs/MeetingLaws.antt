@@ -1,8 +1,8 @@
 -- How two links meet, and that what the And rules give depends on the meeting alone.
 --
 -- Two links whose ends are given in either order meet at one end at the most (`meets_once`, by the sixteen cases of the
--- four orders). So two places have one meeting at the most (`met-same`), and what a rule says of some meeting holds of the
--- one that was found: `stone-from` and `stone-to`, `cell-from` and `cell-to` go from the one to the other and back.
+-- four orders). So two places have one meeting at the most (`met-same`), and what a rule says of some meeting holds of
+-- the one that was found: `stone-from` and `stone-to`, `cell-from` and `cell-to` go from the one to the other and back.
 use Rattle.std.proofs.Common.{◌≡◌, ◌≢◌, ℕ, List, refl, sym, ap, ◌∙◌, subst, inl, inr, Some, None, Option}
 use Rattle.std.proofs.lemmas.Option.{same_Some}
 use Rattle.std.specs.Prelude.{slice_get}

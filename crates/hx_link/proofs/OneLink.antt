@@ -1,7 +1,8 @@
 -- A step gives one link at most.
 --
--- Two links of the same kind, ends and carrier are one, since both have the lower end first (`same_link`). Each rule fixes
--- the kind, the carrier and the ends: an And since two places have one meeting, an Or since places have one list of links.
+-- Two links of the same kind, ends and carrier are one, since both have the lower end first (`same_link`). Each rule
+-- fixes the kind, the carrier and the ends: an And since two places have one meeting, an Or since places have one list
+-- of links.
 use Rattle.std.proofs.Common.{◌≡◌, ℕ, ◌<◌, List, refl, sym, ap, ◌∙◌, subst, inl, inr, arith}
 use Rattle.std.specs.Prelude.{Contains}
 use Rattle.hx_board.specs.declared.colours.Colour.{Colour}

@@ -1,8 +1,8 @@
 -- What is known of the parts of an Or while they are read, and that it is what the rule asks in the end.
 --
--- Each further part keeps `PartsSoFar` (`parts_more`): the cells that are in the start and in all carriers, and those that
--- are in some. The start is the first part's carrier, so a cell outside it is missing there (`lacking`). The ends of the
--- first part are those of the result, since all parts have the same ends (`ends_along`).
+-- Each further part keeps `PartsSoFar` (`parts_more`): the cells that are in the start and in all carriers, and those
+-- that are in some. The start is the first part's carrier, so a cell outside it is missing there (`lacking`). The ends
+-- of the first part are those of the result, since all parts have the same ends (`ends_along`).
 use Rattle.std.proofs.lemmas.List.{take_more, take_all}
 use Rattle.std.proofs.lemmas.Option.{slice_get-get_or, same_Some}
 use Rattle.std.proofs.Common.{◌≡◌, ◌≢◌, ℕ, zero, suc, ◌≤◌, ◌<◌, ◌+◌, take, get_or, Bool, true, false, ◌||◌, List, [], ◌∷◌, ◌++◌, map}

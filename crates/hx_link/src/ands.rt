@@ -1,6 +1,6 @@
-//! Anshelevich's And rule: two links that meet at one end and share no cell lead from the one's other end to the other's.
-//! Over a stone or a side of the player that gives a Full link. Over an empty cell the player first has to move there, and
-//! so that gives a Semi link.
+//! Anshelevich's And rule: two links that meet at one end and share no cell lead from the one's other end to the
+//! other's. Over a stone or a side of the player that gives a Full link. Over an empty cell the player first has to
+//! move there, and so that gives a Semi link.
 
 ghost use Rattle.hx_board.specs.declared.colours.Colour.{Colour};
 ghost use Rattle.hx_board.specs.Finds.{Finds};

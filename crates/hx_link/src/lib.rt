@@ -1,8 +1,8 @@
 //! What link a step makes.
 //!
-//! A link says that a player can join two vertices of the board inside a set of cells, whatever the opponent does. Steps
-//! make links from what is joined and from earlier links. Here a step gives its link, or none; that what it gives is true
-//! is no matter of this crate.
+//! A link says that a player can join two vertices of the board inside a set of cells, whatever the opponent does.
+//! Steps make links from what is joined and from earlier links. Here a step gives its link, or none; that what it gives
+//! is true is no matter of this crate.
 #![tactic(auto)]
 
 mod ands;

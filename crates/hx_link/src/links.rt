@@ -22,7 +22,8 @@ pub enum Kind {
     Semi,
 }
 
-/// A claim that the player can join two vertices by moves to the cells of the carrier alone; `a` comes first in vertex order.
+/// A claim that the player can join two vertices by moves to the cells of the carrier alone; `a` comes first in vertex
+/// order.
 #[derive(Clone, Copy, PartialEq, Eq, Debug)]
 pub struct Link {
     pub kind: Kind,
@@ -63,8 +64,8 @@ pub fn is_outside(cells: Mask, vertex: &Vertex) -> bool
     }
 }
 
-/// What a player's links may have on a position: the empty cells in their carriers, and these vertices as ends. Who asks for
-/// many links takes it once.
+/// What a player's links may have on a position: the empty cells in their carriers, and these vertices as ends. Who
+/// asks for many links takes it once.
 #[derive(Clone, Copy)]
 pub struct Allowed {
     pub empties: Mask,

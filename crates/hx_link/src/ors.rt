@@ -1,5 +1,5 @@
-//! Anshelevich's Or rule: where the player, to move, can join two ends in several ways, and no one cell is needed in all of
-//! them, a move of the opponent leaves one way, and so the ends are joined whoever moves first.
+//! Anshelevich's Or rule: where the player, to move, can join two ends in several ways, and no one cell is needed in
+//! all of them, a move of the opponent leaves one way, and so the ends are joined whoever moves first.
 
 ghost use Rattle.std.specs.Prelude.{◌≡◌, MatchOption, slice_get};
 ghost use Rattle.hx_board.specs.declared.colours.Colour.{Colour};

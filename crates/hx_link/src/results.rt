@@ -12,17 +12,17 @@ use crate::steps::Step;
 use hx_board::{Colour, Groups, Mask, Position, Vertex};
 
 /// The link that a step of the player gives after the links before it. None where it gives none: where it names a place
-/// at which no link stands before it, where the links it names are not as its rule needs them, where an end of the result
-/// is a stone of the opponent or lies off the board, or where the result's carrier has an empty end of it. `groups` must
-/// be those of the position and the player. It takes no memory.
+/// at which no link stands before it, where the links it names are not as its rule needs them, where an end of the
+/// result is a stone of the opponent or lies off the board, or where the result's carrier has an empty end of it.
+/// `groups` must be those of the position and the player. It takes no memory.
 ///
 /// - `Base`, of two ends that are joined: `Full`, on no cell.
-/// - `AndStone`, of two `Full` links that share exactly one end, which is a stone or a side of the player, and no cell of
-///   their carriers: `Full` between their other ends, on both carriers.
-/// - `AndCell`, of two `Full` links that share exactly one end, which is an empty cell in neither carrier, and no cell of
-///   their carriers: `Semi` between their other ends, on both carriers and that cell.
-/// - `Or`, of 2 to 128 `Semi` links of the same ends, such that no cell is in all their carriers: `Full` of these ends, on
-///   all their carriers.
+/// - `AndStone`, of two `Full` links that share exactly one end, which is a stone or a side of the player, and no cell
+///   of their carriers: `Full` between their other ends, on both carriers.
+/// - `AndCell`, of two `Full` links that share exactly one end, which is an empty cell in neither carrier, and no cell
+///   of their carriers: `Semi` between their other ends, on both carriers and that cell.
+/// - `Or`, of 2 to 128 `Semi` links of the same ends, such that no cell is in all their carriers: `Full` of these ends,
+///   on all their carriers.
 pub fn result_of(
     position: &Position,
     colour: Colour,
@@ -64,7 +64,8 @@ pub fn result_among(
 fn base_link(groups: &Groups, allowed: &Allowed, a: &Vertex, b: &Vertex) -> Option<Link>
     requires { IsAllowed allowed.now groups.now.board groups.now.player }
     ensures { (before : List Link)
-        → Finds result (StepGives groups.now.board groups.now.player before (Step.Base a.now b.now)) }
+        → Finds result
+        (StepGives groups.now.board groups.now.player before (Step.Base a.now b.now)) }
 {
     let Some(link) = made(allowed, Kind::Full, a, b, Mask::empty()) else {
         return None;

@@ -1,7 +1,7 @@
 //! The steps that make links. Each names what it starts from; what it gives, `result_of` says.
 //!
-//! They are Anshelevich's: his And rule, once over a vertex that the player owns and once over an empty cell, and his Or
-//! rule, on a base of what is joined.
+//! They are Anshelevich's: his And rule, once over a vertex that the player owns and once over an empty cell, and his
+//! Or rule, on a base of what is joined.
 
 use crate::parts::Parts;
 use hx_board::Vertex;
@@ -12,7 +12,8 @@ pub enum Step {
     /// A Full link of two vertices that are joined already.
     Base { a: Vertex, b: Vertex },
 
-    /// The And rule over a stone or a side of the player: a Full link of the other ends of two Full links that share it.
+    /// The And rule over a stone or a side of the player: a Full link of the other ends of two Full links that share
+    /// it.
     AndStone { left: u32, right: u32 },
 
     /// The And rule over an empty cell, to which the player has to move: a Semi link of the other ends.

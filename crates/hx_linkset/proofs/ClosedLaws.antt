@@ -1,5 +1,5 @@
--- The pass down: where what the last marked step names is marked too, the marks are closed from its place on, since a step
--- names links that stand before it.
+-- The pass down: where what the last marked step names is marked too, the marks are closed from its place on, since a
+-- step names links that stand before it.
 use Rattle.std.proofs.Common.{◌≡◌, ℕ, zero, suc, ◌<◌, ◌≤◌, List, [], ◌∷◌, length, take, sym, ap, ◌∙◌, subst, inl, inr, Some, ◌⊎◌, ⊎_elim}
 use Rattle.std.proofs.Common.{arith}
 use Rattle.std.specs.Prelude.{slice_get}

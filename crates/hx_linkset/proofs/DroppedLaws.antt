@@ -1,5 +1,5 @@
--- The links that plays dropped. A list of them may be reversed; no play drops none; and those of two plays, one after the
--- other, are those of the first and then those of the second.
+-- The links that plays dropped. A list of them may be reversed; no play drops none; and those of two plays, one after
+-- the other, are those of the first and then those of the second.
 use Rattle.std.proofs.lemmas.Bool.{false≢true, or_left, or_right, or_cases}
 use Rattle.std.proofs.lemmas.List.{take-append-drop}
 use Rattle.std.proofs.lemmas.List.Folds.{list_any-append}

@@ -1,8 +1,8 @@
 -- The live ones of the list of a vertex are exactly the live Full links that end there, in rising order.
 --
--- The plan: of the links from a place on, the entries that are live are exactly those of the live Full links at the vertex
--- whose place is not below (`AreFullFrom`). One link before these brings one entry in front of them or none, and is the only
--- link at its place.
+-- The plan: of the links from a place on, the entries that are live are exactly those of the live Full links at the
+-- vertex whose place is not below (`AreFullFrom`). One link before these brings one entry in front of them or none, and
+-- is the only link at its place.
 use Rattle.std.proofs.Common.{◌≡◌, ℕ, zero, suc, ◌+◌, ◌<◌, ◌≤◌, ◌-◌, Bool, true, false, cond, List, [], ◌∷◌, ◌++◌, map, refl, sym, ap, ◌∙◌}
 use Rattle.std.proofs.Common.{subst, inl, inr, Some, ◌⊎◌, ⊎_elim, ◌↔◌, arith, eq-eqb, eqb-true}
 use Rattle.std.proofs.lemmas.Bool.{cases_lt, cases_eq, false≢true, and_from}

@@ -1,7 +1,7 @@
 -- Of the live Full links at a vertex those that some cells and vertices hold.
 --
--- The plan: to hold them is a test of each entry, so a list of them is the list of all, filtered; and to be live and held is to be
--- live on the empty cells and open ends that are held.
+-- The plan: to hold them is a test of each entry, so a list of them is the list of all, filtered; and to be live and
+-- held is to be live on the empty cells and open ends that are held.
 use Rattle.std.proofs.Common.{◌≡◌, ℕ, zero, suc, ◌+◌, ◌<◌, Bool, true, false, ◌&&◌, cond, List, [], ◌∷◌, map, length, get_or, refl, sym, ap}
 use Rattle.std.proofs.Common.{◌∙◌, subst, arith, eq-eqb, eqb-true}
 use Rattle.std.proofs.lemmas.Bool.{cond_both, and_from}

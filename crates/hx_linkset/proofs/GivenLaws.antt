@@ -1,5 +1,6 @@
 -- Given by live links and live are one: a live link that is given is given by live links (`given-from_live`), and what
--- live links give is live (`from_live-live`), since each cell of its carrier is in a carrier of theirs or is an empty middle.
+-- live links give is live (`from_live-live`), since each cell of its carrier is in a carrier of theirs or is an empty
+-- middle.
 use Rattle.std.proofs.Common.{◌≡◌, ℕ, zero, suc, true, List, [], ◌∷◌, refl, sym, ap, ◌∙◌, subst, inl, inr, Some, ⊎_elim}
 use Rattle.std.specs.Prelude.{slice_get}
 use Rattle.std.proofs.lemmas.Bool.{false≢true}

@@ -1,5 +1,5 @@
--- What a stone on an empty cell keeps. A link is live after it exactly where it was live and the stone leaves it alone, and
--- a step that gave such a link gives it still.
+-- What a stone on an empty cell keeps. A link is live after it exactly where it was live and the stone leaves it alone,
+-- and a step that gave such a link gives it still.
 use Rattle.std.proofs.Common.{◌≡◌, ◌≢◌, ℕ, true, false, List, refl, sym, ap, ◌∙◌, subst, inl, inr, ⊎_elim}
 use Rattle.std.proofs.lemmas.Bool.{false≢true, false_from_ne_true}
 use Rattle.hx_board.specs.declared.colours.Colour.{Colour}

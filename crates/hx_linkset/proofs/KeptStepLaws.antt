@@ -1,5 +1,5 @@
--- The pass up: the step of the next marked link, renamed, gives that link after the kept ones, since what it names is marked
--- and stands before it, and so is kept.
+-- The pass up: the step of the next marked link, renamed, gives that link after the kept ones, since what it names is
+-- marked and stands before it, and so is kept.
 use Rattle.std.proofs.Common.{◌≡◌, ℕ, zero, suc, ◌+◌, ◌<◌, ◌≤◌, List, [], ◌∷◌, ◌++◌, length, take, map, set, refl, sym, ap, ◌∙◌, subst, inl}
 use Rattle.std.proofs.Common.{inr, Some, ◌⊎◌, ⊎_elim, arith, length-append}
 use Rattle.std.specs.Prelude.{slice_get, slice_index}

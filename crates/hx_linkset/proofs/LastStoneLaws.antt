@@ -1,5 +1,5 @@
--- What stood before the stones that were put since the last link came, and which links they dropped: play by play back to the
--- first of them, the boards are those before these stones, and the log has what they dropped.
+-- What stood before the stones that were put since the last link came, and which links they dropped: play by play back
+-- to the first of them, the boards are those before these stones, and the log has what they dropped.
 use Rattle.std.proofs.lemmas.Bool.{ne_eqb}
 use Rattle.std.proofs.lemmas.Bool.Decides.{eqb_tells}
 use Rattle.std.proofs.lemmas.List.{length-take-le, take_all, drop_all, take-append-drop, drop-append-le}

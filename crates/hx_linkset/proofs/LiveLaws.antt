@@ -1,7 +1,7 @@
 -- What a step names for a live link is live, so no mark has to be kept for it.
 --
--- The carriers of the parts are inside the link's. Their outer ends are the link's ends, and the middle of an And is an own
--- vertex or an empty cell, so it is no stone of the opponent either.
+-- The carriers of the parts are inside the link's. Their outer ends are the link's ends, and the middle of an And is an
+-- own vertex or an empty cell, so it is no stone of the opponent either.
 use Rattle.std.proofs.Common.{◌≡◌, ℕ, true, List, sym, ap, ◌∙◌, inl, inr, ⊎_elim}
 use Rattle.std.proofs.lemmas.Bool.{false≢true, false_from_ne_true}
 use Rattle.std.specs.Prelude.{slice_get}

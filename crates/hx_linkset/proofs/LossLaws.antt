@@ -1,5 +1,5 @@
--- What a play takes from a link that was live: where it fills no cell of the carrier and takes no end, the link is live still, and
--- else it is not.
+-- What a play takes from a link that was live: where it fills no cell of the carrier and takes no end, the link is live
+-- still, and else it is not.
 use Rattle.std.proofs.Common.{◌≡◌, ℕ, Bool, true, false, refl, sym, ◌∙◌, subst}
 use Rattle.std.proofs.lemmas.Bool.{false≢true}
 use Rattle.hx_board.specs.declared.colours.Colour.{Colour}

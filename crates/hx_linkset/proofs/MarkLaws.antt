@@ -1,5 +1,5 @@
--- What a mark more changes: the marked places are those of before and the new one. So after a mark on each of some places
--- the marked ones are those of before and these.
+-- What a mark more changes: the marked places are those of before and the new one. So after a mark on each of some
+-- places the marked ones are those of before and these.
 use Rattle.std.proofs.Common.{◌≡◌, ℕ, zero, suc, ◌+◌, ◌-◌, ◌<◌, ◌≤◌, List, [], ◌∷◌, ◌++◌, length, take, drop, set, get_or, sym, ap, ◌∙◌}
 use Rattle.std.proofs.Common.{subst, inl, inr, Some, ◌⊎◌, ⊎_elim, arith, eq-eqb, eqb-true}
 use Rattle.std.specs.Prelude.{slice_index}

@@ -1,5 +1,5 @@
--- The next link of the same kind and ends. The ring of a head has exactly the live links of its kind and ends, so the node
--- after one of them, or after the head, is the next of them; and where it is a head, no more come.
+-- The next link of the same kind and ends. The ring of a head has exactly the live links of its kind and ends, so the
+-- node after one of them, or after the head, is the next of them; and where it is a head, no more come.
 use Rattle.std.proofs.Common.{◌≡◌, ℕ, ◌+◌, ◌-◌, ◌<◌, ◌≤◌, get_or, refl, sym, ap, ◌∙◌, inl, inr, Some, ◌⊎◌, ⊎_elim, arith}
 use Rattle.std.specs.Prelude.{slice_get}
 use Rattle.std.proofs.lemmas.Bool.{cases_lt}

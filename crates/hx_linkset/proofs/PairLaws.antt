@@ -1,8 +1,8 @@
 -- The walk along two rings finds each link of either, once and in rising order.
 --
--- The plan: from a number on, both walks have come to the first node of their ring that is not below it (`Reaches`). The
--- lower of the two nodes is then the next link of either ring, and after it both walks reach on from the next number. No
--- more come than there are links, so the bound on their number never cuts the walk short.
+-- The plan: from a number on, both walks have come to the first node of their ring that is not below it (`Reaches`).
+-- The lower of the two nodes is then the next link of either ring, and after it both walks reach on from the next
+-- number. No more come than there are links, so the bound on their number never cuts the walk short.
 use Rattle.std.proofs.lemmas.Bool.{cases_lt, cases_eq, ltb-true, ltb-false}
 use Rattle.std.proofs.lemmas.Option.{slice_get_within}
 use Rattle.std.proofs.Common.{◌≡◌, ◌≢◌, ℕ, zero, suc, ◌+◌, ◌-◌, ◌<◌, ◌≤◌, Bool, true, false, List, [], ◌∷◌, length}

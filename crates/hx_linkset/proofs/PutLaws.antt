@@ -1,5 +1,5 @@
--- What a call says that looks for no cover is what `add` says, where no live link covers the step's link: the step gives
--- one link alone.
+-- What a call says that looks for no cover is what `add` says, where no live link covers the step's link: the step
+-- gives one link alone.
 use Rattle.std.proofs.Common.{subst}
 use Rattle.hx_link.specs.declared.links.Link.{Link}
 use Rattle.hx_link.specs.declared.steps.Step.{Step}

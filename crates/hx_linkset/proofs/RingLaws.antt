@@ -1,6 +1,6 @@
--- The laws of rings. What is pointwise comes first: rings without a node, and with a node at the end of a ring, are rings.
--- Then the two lists: to put back undoes to take out, and to cut undoes to grow, exactly, so that undoing needs no law of
--- rings at all.
+-- The laws of rings. What is pointwise comes first: rings without a node, and with a node at the end of a ring, are
+-- rings. Then the two lists: to put back undoes to take out, and to cut undoes to grow, exactly, so that undoing needs
+-- no law of rings at all.
 use Rattle.std.proofs.lemmas.List.{get_or_push, length-set, get_or-set_other, set-set, set-get_or, set-append_left, take_all}
 use Rattle.std.proofs.lemmas.List.{take-append-le, length-take}
 use Rattle.std.proofs.lemmas.Bool.{cases_eq}

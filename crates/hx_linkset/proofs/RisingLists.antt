@@ -1,4 +1,5 @@
--- The list of all numbers that have a property: it rises, each of its numbers has the property, and no other number has it.
+-- The list of all numbers that have a property: it rises, each of its numbers has the property, and no other number has
+-- it.
 use Rattle.std.proofs.lemmas.Bool.{cases_lt, cases_eq}
 use Rattle.std.proofs.Common.{◌≡◌, ℕ, zero, suc, ◌+◌, ◌<◌, ◌≤◌, List, [], ◌∷◌, length, get_or, sym, ⊎_elim, arith}
 use Rattle.std.specs.Prelude.{All, Contains}

@@ -1,5 +1,5 @@
--- The plays that stand. A play and its taking back cancel, and a link more does not change what was before a play; so what
--- the fields keep they keep after each call, and contracts see of them what they should.
+-- The plays that stand. A play and its taking back cancel, and a link more does not change what was before a play; so
+-- what the fields keep they keep after each call, and contracts see of them what they should.
 use Rattle.std.proofs.lemmas.List.{reverse-append, length-reverse, take_all, take-append-le}
 use Rattle.std.proofs.Common.{◌≡◌, ℕ, suc, ◌≤◌, ◌<◌, ◌+◌, List, [], ◌∷◌, ◌++◌, length, take, reverse, refl, sym, ap}
 use Rattle.std.proofs.Common.{◌∙◌, subst, arith, length-append}

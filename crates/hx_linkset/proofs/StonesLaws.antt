@@ -1,4 +1,5 @@
--- Stones that are put one after the other, each on an empty cell. What holds of one stone holds of all of them together.
+-- Stones that are put one after the other, each on an empty cell. What holds of one stone holds of all of them
+-- together.
 use Rattle.std.proofs.Common.{◌≡◌, ◌≢◌, ℕ, zero, suc, ◌+◌, ◌<◌, ◌≤◌, List, [], ◌∷◌, ◌++◌, length, take, get_or, refl, sym, ap, ◌∙◌, subst}
 use Rattle.std.proofs.Common.{arith}
 use Rattle.hx_board.specs.declared.colours.Colour.{Colour}

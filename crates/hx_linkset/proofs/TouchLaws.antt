@@ -1,5 +1,5 @@
--- The sets beside the links, as links come and go; and a link with whose set a play shares nothing, which is live after it if it
--- was before.
+-- The sets beside the links, as links come and go; and a link with whose set a play shares nothing, which is live after
+-- it if it was before.
 use Rattle.std.proofs.Common.{◌≡◌, ℕ, zero, suc, ◌<◌, true, List, [], ◌∷◌, ◌++◌, length, take, refl, sym, ap, ◌∙◌, Some}
 use Rattle.std.specs.Prelude.{slice_get}
 use Rattle.std.proofs.lemmas.Bool.{false≢true, false_from_ne_true}

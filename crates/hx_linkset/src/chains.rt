@@ -1,7 +1,8 @@
 //! Rings of nodes, linked in both directions in two vectors, with their heads in the same vectors.
 //!
-//! They are the dancing links of Knuth, who took them from Hitotumatu and Noshita: a node that was taken out remembers its
-//! neighbours, so that it is put back by two writes, in opposite order. With heads among the nodes neither has a branch.
+//! They are the dancing links of Knuth, who took them from Hitotumatu and Noshita: a node that was taken out remembers
+//! its neighbours, so that it is put back by two writes, in opposite order. With heads among the nodes neither has a
+//! branch.
 
 ghost use Rattle.std.specs.Prelude.{◌≡◌, ◌+◌, ◌-◌, ◌<◌, ◌≤◌, length, slice_index, OnOk, OnErr, IfOk};
 ghost use Rattle.hx_linkset.specs.Rings.{unlinked, relinked, grown, cut, IsInside};

@@ -1,7 +1,7 @@
 //! The steps that some links of a set need, as one list of their own.
 //!
-//! A step names links that stand before it. So one pass from the last link down to the first marks what is needed, and one
-//! pass up takes the marked steps, each with the new numbers of the links that it names.
+//! A step names links that stand before it. So one pass from the last link down to the first marks what is needed, and
+//! one pass up takes the marked steps, each with the new numbers of the links that it names.
 
 ghost use Rattle.std.specs.Prelude.{◌≡◌, ℕ, ◌≤◌, length, IfOk};
 ghost use Rattle.hx_board.specs.Lists.{StandsIn};
@@ -110,8 +110,8 @@ fn kept_for(
     Ok(Kept { steps: kept, names })
 }
 
-/// The steps that these live links need, as one list of their own, where the links of a player on a position are right. Of
-/// one link alone the last step gives it.
+/// The steps that these live links need, as one list of their own, where the links of a player on a position are right.
+/// Of one link alone the last step gives it.
 pub(crate) fn derivation_of(
     alloc: Global,
     position: &Position,

@@ -1,11 +1,11 @@
 //! The Full links at each vertex.
 //!
 //! A search joins a new Full link with those at its ends, and asks at each cell which Full links end there. So for each
-//! vertex they stand in one list, in the order in which they came, and each entry has the other end and the carrier with
-//! it: who goes along a list looks up no link.
+//! vertex they stand in one list, in the order in which they came, and each entry has the other end and the carrier
+//! with it: who goes along a list looks up no link.
 //!
-//! A link stands in the lists of its ends, live or not, for as long as it is held. Which of them are live is read off the
-//! entries as they are gone along. Lists that are chained by index were slower.
+//! A link stands in the lists of its ends, live or not, for as long as it is held. Which of them are live is read off
+//! the entries as they are gone along. Lists that are chained by index were slower.
 
 ghost use Rattle.std.specs.Prelude.{◌≡◌, ◌<◌, List, [], ◌∷◌, ◌++◌, length, filter, slice_set, slice_index_or, IfOk, OnOk, OnErr};
 ghost use Rattle.hx_board.specs.VertexSets.{IsSomeVertex};
@@ -177,7 +177,8 @@ fn seen(index: u32, link: &Link, to: &Vertex) -> FullLink
     }
 }
 
-/// The live Full links at a vertex, in rising order of their indices. Contracts see it as the list of those that are left.
+/// The live Full links at a vertex, in rising order of their indices. Contracts see it as the list of those that are
+/// left.
 #[derive(Drop)]
 pub struct FullIter<'a> {
     rest: &'a [FullLink],

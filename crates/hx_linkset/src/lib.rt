@@ -1,7 +1,7 @@
 //! The links of one player on a position, as stones are put and taken back.
 //!
-//! A link stays in the set for as long as it may be wanted: a stone that touches its carrier or takes an end only makes it
-//! dead, and once the stone is taken back it is live again.
+//! A link stays in the set for as long as it may be wanted: a stone that touches its carrier or takes an end only makes
+//! it dead, and once the stone is taken back it is live again.
 #![tactic(auto)]
 
 mod chains;

@@ -1,11 +1,11 @@
 //! Which links are live.
 //!
-//! A link is live exactly where its carrier is empty on the board and neither end is a stone of the opponent. So live is a
-//! function of the board and the link, and needs no mark: the links that a live link was made from are live with it, since
-//! their carriers are inside its own and their ends are its ends, own stones, or in its carrier.
+//! A link is live exactly where its carrier is empty on the board and neither end is a stone of the opponent. So live
+//! is a function of the board and the link, and needs no mark: the links that a live link was made from are live with
+//! it, since their carriers are inside its own and their ends are its ends, own stones, or in its carrier.
 //!
-//! What is allowed on a position tells it for all links: the empty cells, and the vertices that may be ends. It is taken once
-//! for a position, so that a pass over many links has it at hand.
+//! What is allowed on a position tells it for all links: the empty cells, and the vertices that may be ends. It is
+//! taken once for a position, so that a pass over many links has it at hand.
 
 ghost use Rattle.std.specs.Prelude.{◌≡◌, ◌↔◌, IsTrue, false};
 ghost use Rattle.hx_board.specs.declared.colours.Colour.{Colour};
@@ -41,8 +41,8 @@ pub(crate) struct Losses {
     pub(crate) taken: VertexSet,
 }
 
-/// What a play takes away, by what is allowed before it and after it. It is taken once for a pass over all links, and not made
-/// again at each of them.
+/// What a play takes away, by what is allowed before it and after it. It is taken once for a pass over all links, and
+/// not made again at each of them.
 #[inline(never)]
 pub(crate) fn losses_of(before: &Allowed, after: &Allowed) -> Losses
     ensures { AreLosses result before.now after.now }

@@ -2,11 +2,10 @@
 //!
 //! Links and steps stand in the order in which they came, and none is taken away before the play that it came after is
 //! taken back. The live ones of each kind and pair of ends are chained, so `add` looks for a cover in one chain alone.
-//! A play, of one stone or of several, is one pass over all links: it takes those that are
-//! live no more out of their chains and writes them on a log. `undo` cuts off what came since, and puts
-//! the logged ones back in opposite order, which makes the chains what they were. The stones of a turn, its own and those of
-//! fill-in, are one play, so that they cost one pass and one making of the groups. The Full links stand once more in a list for
-//! each of their ends.
+//! A play, of one stone or of several, is one pass over all links: it takes those that are live no more out of their
+//! chains and writes them on a log. `undo` cuts off what came since, and puts the logged ones back in opposite order,
+//! which makes the chains what they were. The stones of a turn, its own and those of fill-in, are one play, so that
+//! they cost one pass and one making of the groups. The Full links stand once more in a list for each of their ends.
 //!
 //! Of the calls that change the set `add` alone takes memory, and `new` takes all that `play` and `undo`
 //! need; `derivation` takes the memory of what it answers. A board has at most `CELLS` empty cells and
@@ -180,8 +179,8 @@ impl LinkSet {
         self.links.len() as u32
     }
 
-    /// The law that every set keeps: the board is that of a position, each live link is given by its step from live links
-    /// before it, and no more links are held than `MOST_LINKS`. The call does nothing.
+    /// The law that every set keeps: the board is that of a position, each live link is given by its step from live
+    /// links before it, and no more links are held than `MOST_LINKS`. The call does nothing.
     pub fn keeps(&self)
         ensures right { IsRight self.now.player self.now.present }
         ensures few { length self.now.present.links ≤ MOST_LINKS }
@@ -230,9 +229,9 @@ impl LinkSet {
         self.steps.as_slice()
     }
 
-    /// A key of how the set came to be: of its player, of its position and how many links it holds, and of the same before
-    /// each play that stands. Sets that came about otherwise hardly ever share it. It is the key of a hint, so no clause says
-    /// which key it is, and no proof rests on it.
+    /// A key of how the set came to be: of its player, of its position and how many links it holds, and of the same
+    /// before each play that stands. Sets that came about otherwise hardly ever share it. It is the key of a hint, so
+    /// no clause says which key it is, and no proof rests on it.
     pub fn key(&self) -> u64 {
         let now = stage_of(&self.position, self.links.as_slice(), self.log.as_slice());
         key_of(self.colour, &now, self.plays.as_slice())
@@ -267,8 +266,8 @@ impl LinkSet {
         FullIter::new(list, &vertex, self.allowed.empties, self.allowed.ends)
     }
 
-    /// Those of the live Full links that end at a vertex whose carriers are inside `cells` and whose other ends are in `to`,
-    /// each once and in rising order of their indices.
+    /// Those of the live Full links that end at a vertex whose carriers are inside `cells` and whose other ends are in
+    /// `to`, each once and in rising order of their indices.
     #[inline(always)]
     pub fn full_at_within(&self, vertex: Vertex, cells: Mask, to: VertexSet) -> FullIter<'_>
         ensures { AreFullWithin self.now vertex cells to result }
@@ -285,8 +284,8 @@ impl LinkSet {
         PairIter::new(&self.chains, &low, &high, most)
     }
 
-    /// The steps that the live links at these indices need, as one list of their own. Of one link alone the last step gives
-    /// it.
+    /// The steps that the live links at these indices need, as one list of their own. Of one link alone the last step
+    /// gives it.
     pub fn derivation(&self, links: &[u32]) -> Result<Derived, Memory>
         requires { (index : ℕ) → StandsIn links.now index
             → IsLiveAt self.now.present.board self.now.player self.now.present.links index }
@@ -356,9 +355,9 @@ impl LinkSet {
         self.put(link, step)
     }
 
-    /// Adds the link that a step gives from live links, where there is room, and looks for no cover: that is for callers who
-    /// did. It never answers Covered. After any other answer than New, want of memory included, the set is as before, and the
-    /// step is dropped.
+    /// Adds the link that a step gives from live links, where there is room, and looks for no cover: that is for
+    /// callers who did. It never answers Covered. After any other answer than New, want of memory included, the set is
+    /// as before, and the step is dropped.
     pub fn add_unlooked(&mut self, step: Step) -> Result<Added, Memory>
         ensures added { IfOk result (IsPut self.old self.new step) }
         ensures memory { OnErr result (self.new ≡ self.old) }
@@ -369,8 +368,8 @@ impl LinkSet {
         self.put(link, step)
     }
 
-    /// Puts a link that a step gives from live links after the others, where there is room. After any other answer than New,
-    /// want of memory included, the set is as before, and the step is dropped.
+    /// Puts a link that a step gives from live links after the others, where there is room. After any other answer than
+    /// New, want of memory included, the set is as before, and the step is dropped.
     fn put(&mut self, link: Link, step: Step) -> Result<Added, Memory>
         requires { Gives self.old step link }
         ensures put { IfOk result (IsPut self.old self.new step) }
@@ -388,8 +387,8 @@ impl LinkSet {
         }
     }
 
-    /// Puts a link that a step gives from live links after the others, and answers its index. Where memory is wanting the set
-    /// is as before, and the step is dropped.
+    /// Puts a link that a step gives from live links after the others, and answers its index. Where memory is wanting
+    /// the set is as before, and the step is dropped.
     fn append(&mut self, link: Link, step: Step) -> Result<u32, Memory>
         requires gives { Gives self.old step link }
         requires room { length self.old.present.links < MOST_LINKS }
@@ -418,7 +417,8 @@ impl LinkSet {
         Ok(count as u32)
     }
 
-    /// Puts a stone of either colour on an empty cell. Of the live links those stay live that it leaves alone, and no others.
+    /// Puts a stone of either colour on an empty cell. Of the live links those stay live that it leaves alone, and no
+    /// others.
     pub fn play(&mut self, colour: Colour, cell: Cell)
         requires { IsEmpty self.old.present.board cell }
         ensures set { self.new ≡ record {

@@ -1,8 +1,9 @@
 //! The links that are held, and beside each one all that a stone may take of it.
 //!
-//! A play fills cells, and takes ends away by the opponent's stones. Of most links it takes nothing. So beside each link stands
-//! one set, of the cells of its carrier and of both ends: a play that fills none of these leaves the link as it is. The pass of a
-//! play over all links looks at these sets, and at a link itself only where its set shares something with the stones.
+//! A play fills cells, and takes ends away by the opponent's stones. Of most links it takes nothing. So beside each
+//! link stands one set, of the cells of its carrier and of both ends: a play that fills none of these leaves the link
+//! as it is. The pass of a play over all links looks at these sets, and at a link itself only where its set shares
+//! something with the stones.
 
 ghost use Rattle.std.specs.Prelude.{◌≡◌, ◌++◌, ◌∷◌, ◌<◌, [], take, length, slice_get, IsTrue, false, IfOk, OnOk, OnErr};
 ghost use Rattle.std.specs.declared.option.Option.TheVariants.{Some};

@@ -1,4 +1,5 @@
--- A list to which right nodes are added is one that goes on from it, is right and small enough, and is plain where each of these is.
+-- A list to which right nodes are added is one that goes on from it, is right and small enough, and is plain where each
+-- of these is.
 use Rattle.std.proofs.Common.{◌≡◌, ◌<◌, ◌≤◌, ℕ, Bool, true, List, [], ◌∷◌, ◌++◌, length, sym, ap, ◌∙◌, subst, arith, Option, Some, None, length-append}
 use Rattle.std.specs.Prelude.{slice_get, option_map, IfSome, IfNone}
 use Rattle.std.proofs.lemmas.List.{length-map}

@@ -26,7 +26,8 @@ pub(crate) fn headings_of(alloc: Global, nodes: &[Entry]) -> Result<Vec<Heading>
     Ok(headings)
 }
 
-/// Adds these nodes behind the others, one after the other, as long as each is right there, and answers whether all were added.
+/// Adds these nodes behind the others, one after the other, as long as each is right there, and answers whether all
+/// were added.
 pub(crate) fn add_all(
     alloc: Global,
     nodes: &mut Vec<Entry>,
@@ -48,8 +49,8 @@ pub(crate) fn add_all(
     true
 }
 
-/// Adds a node behind the others, where it is right there and there is room, and answers its place. Where it must be plain no other
-/// node is added.
+/// Adds a node behind the others, where it is right there and there is room, and answers its place. Where it must be
+/// plain no other node is added.
 pub(crate) fn add(
     alloc: Global,
     nodes: &mut Vec<Entry>,

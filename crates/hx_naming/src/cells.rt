@@ -1,7 +1,7 @@
 //! The moves after which links may decide a position, as they do before it.
 //!
-//! A Full link needs no move, and stays where a move is outside its carrier. A Semi link comes of two Full links that share an empty
-//! cell: a stone there joins them.
+//! A Full link needs no move, and stays where a move is outside its carrier. A Semi link comes of two Full links that
+//! share an empty cell: a stone there joins them.
 
 use hx_board::{CELLS, Mask, Vertex};
 use hx_link::Kind;

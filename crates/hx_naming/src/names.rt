@@ -13,9 +13,9 @@ use hx_packed::Entry;
 use hx_tree::{Heading, Node, Rule, plain};
 use std::alloc::Global;
 
-/// Adds nodes to a list of right nodes, so that one with the heading of the node at `root` names a winning move, and tells its place.
-/// It is `root` where that node names one, where its mover does not win, or wins by a chain, at once or after fill-in, where none was
-/// found, or where room or memory for the further nodes is wanting.
+/// Adds nodes to a list of right nodes, so that one with the heading of the node at `root` names a winning move, and
+/// tells its place. It is `root` where that node names one, where its mover does not win, or wins by a chain, at once
+/// or after fill-in, where none was found, or where room or memory for the further nodes is wanting.
 pub fn name_move(alloc: Global, nodes: &mut Vec<Entry>, root: u32) -> u32
     requires right { AreRight nodes.old.items }
     requires inside { root < length nodes.old.items }

@@ -1,7 +1,7 @@
 //! The way from a node down to the one that names a move, or has links to find one by.
 //!
-//! A node by fill steps and one by the turned position lead to one child each, with the same mover and winner. So where the mover
-//! wins, the way ends at a node by a move, by links or by a chain.
+//! A node by fill steps and one by the turned position lead to one child each, with the same mover and winner. So where
+//! the mover wins, the way ends at a node by a move, by links or by a chain.
 
 use hx_board::{Cell, Position};
 use hx_link::Steps;

@@ -6,8 +6,8 @@ use hx_linkset::{Added, LinkSet};
 use smallvec::SmallVec;
 use std::alloc::Global;
 
-/// The links that steps give on a position. A step that gives none there is left out, and so is each that names it. None where memory
-/// is wanting.
+/// The links that steps give on a position. A step that gives none there is left out, and so is each that names it.
+/// None where memory is wanting.
 pub(crate) fn set_of(
     alloc: Global,
     position: &Position,

@@ -1,7 +1,7 @@
 //! The nodes of the positions after the move, from the end of the way back up to its first node.
 //!
-//! The winner's own fill steps stay right after a further stone of his, and the opponent's fill any cell that is empty. So what leads
-//! from a position to another leads, with the stone on both, from the one to the other too.
+//! The winner's own fill steps stay right after a further stone of his, and the opponent's fill any cell that is empty.
+//! So what leads from a position to another leads, with the stone on both, from the one to the other too.
 
 use crate::moves::{WinningMove, linked_move};
 use crate::paths::{End, Leads, Passed, Path};
@@ -27,8 +27,8 @@ struct Begun {
     made: Vec<Node>,
 }
 
-/// A move of the winner's from the first position of the way, the nodes that prove what is after it, in their order, and the place of
-/// the last one, or of a node that is there.
+/// A move of the winner's from the first position of the way, the nodes that prove what is after it, in their order,
+/// and the place of the last one, or of a node that is there.
 #[derive(Drop)]
 pub(crate) struct Found {
     pub(crate) cell: Cell,

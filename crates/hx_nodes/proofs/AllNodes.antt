@@ -1,5 +1,5 @@
--- A node that answers each move of the opponent is right: its threats are links of the derivation, its lines are for the cells
--- that all threats share, and a better cell has a line with a child.
+-- A node that answers each move of the opponent is right: its threats are links of the derivation, its lines are for
+-- the cells that all threats share, and a better cell has a line with a child.
 use Rattle.std.proofs.Common.{◌≡◌, ℕ, ◌<◌, ◌≤◌, true, List, [], length, get_or}
 use Rattle.std.proofs.Common.{refl, sym, ap, ◌∙◌, subst, arith, inl, Option, Some, None, ◌↔◌}
 use Rattle.std.specs.Prelude.{slice_get, IfSome, IsSomeAnd, Contains}

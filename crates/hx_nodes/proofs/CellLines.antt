@@ -1,4 +1,5 @@
--- The line of a cell: the one that names a better cell, where some line is for the cell, and else one that leads to a child.
+-- The line of a cell: the one that names a better cell, where some line is for the cell, and else one that leads to a
+-- child.
 use Rattle.std.proofs.Common.{◌≡◌, ℕ, ◌+◌, ◌<◌, ◌≤◌, List, [], ◌∷◌, ◌++◌, length, take, get_or, refl, sym, ap, ◌∙◌, subst, arith, ⊎_elim}
 use Rattle.std.specs.Prelude.{Contains}
 use Rattle.std.specs.List.{All}

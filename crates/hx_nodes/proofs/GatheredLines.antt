@@ -1,5 +1,5 @@
--- Lines are gathered in cell order: those so far are of the cells that are not left, which come before those that are left. So
--- when no cell is left, there is a line for each cell, in cell order.
+-- Lines are gathered in cell order: those so far are of the cells that are not left, which come before those that are
+-- left. So when no cell is left, there is a line for each cell, in cell order.
 use Rattle.std.proofs.Common.{◌≡◌, ℕ, zero, suc, ◌<◌, true, false, List, [], ◌∷◌, ◌++◌, sym, ◌∙◌, arith, inl, inr, ⊎_elim}
 use Rattle.std.specs.Prelude.{slice_get, IfSome}
 use Rattle.std.proofs.lemmas.Bool.{false≢true, cases_lt}

@@ -15,9 +15,9 @@ use hx_linkset::{Derived, LinkSet};
 use hx_tree::{Heading, Node, Rule, Threats};
 use std::sync::Wait;
 
-/// Stores that a set's player wins with the opponent to move, where an entry says so of the position after each move that has to be
-/// answered. It is Missing where the board is full, or no entry says so after the move to one of the cells that has no line by a
-/// better one.
+/// Stores that a set's player wins with the opponent to move, where an entry says so of the position after each move
+/// that has to be answered. It is Missing where the board is full, or no entry says so after the move to one of the
+/// cells that has no line by a better one.
 pub fn store_answers<P: Proofs, R: Wait>(
     rt: &R,
     proofs: &mut P,

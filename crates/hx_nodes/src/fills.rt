@@ -14,8 +14,8 @@ use hx_tree::{Heading, Node, Rule};
 use std::alloc::Global;
 use std::sync::Wait;
 
-/// Stores who wins a position, where an entry says who wins it after fill-in. It is Missing where none says so, where nothing was
-/// filled, or where the list is plain.
+/// Stores who wins a position, where an entry says who wins it after fill-in. It is Missing where none says so, where
+/// nothing was filled, or where the list is plain.
 pub fn store_fill<P: Proofs, R: Wait>(
     rt: &R,
     alloc: Global,

@@ -1,7 +1,7 @@
 //! Proofs that a search stores: nodes that are made of what is certain at that moment.
 //!
-//! Each is made of a chain, of a live link, or of entries that are looked up in the list of proofs. So it is right whatever the
-//! search believes of the position, and nothing that a search remembers is in a proof.
+//! Each is made of a chain, of a live link, or of entries that are looked up in the list of proofs. So it is right
+//! whatever the search believes of the position, and nothing that a search remembers is in a proof.
 #![tactic(auto, using(hx_book::proofs::SightLaws::growth))]
 
 mod answers;

@@ -15,8 +15,8 @@ use hx_tree::{Line, Lines};
 use std::alloc::Global;
 use std::sync::Wait;
 
-/// A line for each of the cells, in cell order. None where after the opponent's move to one of them no entry says that the winner
-/// wins.
+/// A line for each of the cells, in cell order. None where after the opponent's move to one of them no entry says that
+/// the winner wins.
 pub(crate) fn lines_for<P: Proofs, R: Wait>(
     rt: &R,
     alloc: Global,
@@ -50,8 +50,8 @@ pub(crate) fn lines_for<P: Proofs, R: Wait>(
     Ok(Some(Lines::new(lines)))
 }
 
-/// The line of a cell: the one that names a better cell, where there is one, and else one with a child, where an entry says that
-/// the winner wins the position after the opponent's move to the cell.
+/// The line of a cell: the one that names a better cell, where there is one, and else one with a child, where an entry
+/// says that the winner wins the position after the opponent's move to the cell.
 fn line_for<P: Proofs, R: Wait>(
     rt: &R,
     proofs: &mut P,

@@ -12,8 +12,8 @@ use hx_limits::RanOut;
 use hx_tree::{Heading, Node, Rule};
 use std::sync::Wait;
 
-/// Stores that the player to move wins by a move to the cell, where an entry says that this player wins the position after it. It is
-/// Missing where none says so.
+/// Stores that the player to move wins by a move to the cell, where an entry says that this player wins the position
+/// after it. It is Missing where none says so.
 pub fn store_move<P: Proofs, R: Wait>(
     rt: &R,
     proofs: &mut P,

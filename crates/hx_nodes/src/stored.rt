@@ -24,8 +24,9 @@ pub enum Stored {
     Missing,
 }
 
-/// Stores a right node, which is plain where the list is. Then the list of proofs has an entry of its position and mover, be it this
-/// node or an earlier one; or no slot was left, and the refusal has the node. Memory is wanted for a node with links alone.
+/// Stores a right node, which is plain where the list is. Then the list of proofs has an entry of its position and
+/// mover, be it this node or an earlier one; or no slot was left, and the refusal has the node. Memory is wanted for a
+/// node with links alone.
 pub fn store<P: Proofs, R: Wait>(rt: &R, proofs: &mut P, node: Node) -> Result<(), RanOut>
     requires right { IsRightNode (headings_of (P.sight proofs.old).list) node }
     requires plain { P.is_plain ≡ true → IsPlain node }

@@ -11,8 +11,9 @@ use hx_limits::RanOut;
 use hx_tree::{Heading, Node, Rule};
 use std::sync::Wait;
 
-/// Looks the position up in both orientations, and where the turned one alone has an entry stores who wins by it. Missing only
-/// where neither has one. In a plain list, which takes no such node, the position itself is looked up alone.
+/// Looks the position up in both orientations, and where the turned one alone has an entry stores who wins by it.
+/// Missing only where neither has one. In a plain list, which takes no such node, the position itself is looked up
+/// alone.
 pub fn store_turned<P: Proofs, R: Wait>(
     rt: &R,
     proofs: &mut P,

@@ -1,4 +1,5 @@
--- How many cells are empty: on the board without a stone all, so many in each row as it has columns; and after an opening one less.
+-- How many cells are empty: on the board without a stone all, so many in each row as it has columns; and after an
+-- opening one less.
 use Rattle.std.proofs.Common.{◌≡◌, ℕ, zero, suc, ◌+◌, ◌-◌, ◌*◌, ◌<◌, ◌≤◌, Bool, true, ltb, refl, sym, ap, ◌∙◌}
 use Rattle.std.proofs.Common.{arith, ◌↔◌}
 use Rattle.std.proofs.lemmas.Bool.{ltb-true, lt-ltb, false_from_ne_true}

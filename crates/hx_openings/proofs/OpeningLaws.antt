@@ -1,5 +1,5 @@
--- The turned opening is the opening on the turned cell, since the empty board is its own turned board. And Black's best move is
--- an opening; where Black had a chain without a move, any opening would do.
+-- The turned opening is the opening on the turned cell, since the empty board is its own turned board. And Black's best
+-- move is an opening; where Black had a chain without a move, any opening would do.
 use Rattle.std.proofs.Common.{◌≡◌, ℕ, true, refl, sym, ◌∙◌, arith}
 use Rattle.std.proofs.lemmas.Bool.{false≢true}
 use Rattle.hx_board.specs.declared.colours.Colour.{Colour}

@@ -34,8 +34,8 @@ IsWonByAnOpening size =
 abbrev pub empties_left : Extent → ℕ
 empties_left size = size.rows * size.cols - 1
 
--- The openings of a board are small under a budget: at most nine cells are empty after each, and a full search of a position with so
--- many has no more nodes than the budget has units.
+-- The openings of a board are small under a budget: at most nine cells are empty after each, and a full search of a
+-- position with so many has no more nodes than the budget has units.
 pub record OpeningsAreSmall (size : Extent) (budget : ℕ) : Type 0 where
   pub few : empties_left size ≤ 9
   pub within : sweep_size (empties_left size) ≤ budget

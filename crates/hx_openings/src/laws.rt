@@ -7,8 +7,8 @@ ghost use Rattle.hx_openings.specs.Openings.{opening, HaveOneWinner, IsWonByAnOp
 
 use hx_board::{Cell, Position, Size};
 
-/// After an opening on a cell and after one on the turned cell the same player wins. So a survey of all openings of a board has to
-/// look at half of them.
+/// After an opening on a cell and after one on the turned cell the same player wins. So a survey of all openings of a
+/// board has to look at half of them.
 pub fn openings_turned(size: Size, cell: Cell)
     requires { OnBoard size cell }
     ensures { HaveOneWinner size cell }
@@ -27,8 +27,8 @@ pub fn first_player(size: Size)
     let _size = empty.size();
 }
 
-/// All openings of a board are small under a budget, or none is, since as many cells are empty after one as after another: it goes by
-/// the numbers of rows and columns and by the budget.
+/// All openings of a board are small under a budget, or none is, since as many cells are empty after one as after
+/// another: it goes by the numbers of rows and columns and by the budget.
 pub fn openings_small(size: Size, budget: u64)
     ensures { (cell : ℕ) → OnBoard size cell
         → IsSmall (opening size cell) budget ↔ OpeningsAreSmall size budget }

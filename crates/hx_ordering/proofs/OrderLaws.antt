@@ -1,5 +1,5 @@
--- The cells of a set are listed by taking the lowest one out of what is left. So each is above those that are listed, and
--- after as many turns as the largest board has cells none is left.
+-- The cells of a set are listed by taking the lowest one out of what is left. So each is above those that are listed,
+-- and after as many turns as the largest board has cells none is left.
 use Rattle.std.proofs.Common.{◌≡◌, ◌≢◌, ℕ, ◌+◌, ◌<◌, ◌≤◌, true, false, List, [], ◌∷◌, ◌++◌, length, get_or, sym, ◌∙◌}
 use Rattle.std.proofs.Common.{subst, ◌⊎◌, inl, inr, ⊎_elim, arith, ◌↔◌, length-append}
 use Rattle.std.specs.Prelude.{Contains, nat_lt, ◌&&◌}

@@ -1,5 +1,5 @@
--- The cells of the order come one by one, and each that must be tried and is empty becomes a move. A cell that all links of the
--- other player's share must be tried unless it has a line, and the better cell of a line has none.
+-- The cells of the order come one by one, and each that must be tried and is empty becomes a move. A cell that all
+-- links of the other player's share must be tried unless it has a line, and the better cell of a line has none.
 use Rattle.std.proofs.Common.{◌≡◌, ℕ, suc, ◌+◌, ◌<◌, ◌≤◌, true, List, [], ◌∷◌, ◌++◌, length, get_or, refl, sym, ap, ◌∙◌, subst}
 use Rattle.std.proofs.Common.{◌⊎◌, inl, inr, ⊎_elim, arith}
 use Rattle.std.specs.Prelude.{Contains, take, map}

@@ -13,8 +13,8 @@ use Rattle.hx_ordering.specs.declared.situations.Situation.{Situation}
 abbrev pub Tries : List Child → ℕ → Type 0
 Tries moves cell = Contains (map (λ child. child.cell) moves) cell
 
--- a cell that is empty in the situation and for the mover's links, and that all links of the other player's share: so none
--- of them answers a move to it
+-- a cell that is empty in the situation and for the mover's links, and that all links of the other player's share: so
+-- none of them answers a move to it
 pub record IsUnanswered (own others : Standing) (situation : Situation) (cell : ℕ) : Type 0 where
   pub empty : IsEmpty situation.filled cell
   pub own_empty : IsEmpty own.present.board cell

@@ -14,8 +14,8 @@ pub struct Child {
     /// The key of the position after the move, which the turned position shares.
     pub key: u64,
 
-    /// The numbers of the position after the move, seen from the player to move there: the first ones of a move that nobody
-    /// looked at, those of its hint, or those that the last visit after it came to.
+    /// The numbers of the position after the move, seen from the player to move there: the first ones of a move that
+    /// nobody looked at, those of its hint, or those that the last visit after it came to.
     pub numbers: Numbers,
     ghost within: { IsNumbers numbers },
 }

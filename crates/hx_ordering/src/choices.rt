@@ -1,9 +1,10 @@
 //! What a visit does next: which move it goes down to, and how far.
 //!
-//! Of the moves in focus the visit goes down to the one with the least delta, as df-pn does. Those out of focus count together as
-//! one move more (`rest.rt`).
+//! Of the moves in focus the visit goes down to the one with the least delta, as df-pn does. Those out of focus count
+//! together as one move more (`rest.rt`).
 //!
-//! One call reads hints and losses, `told_by`. What follows, `choice_by`, is a function of what was told, as its clause says.
+//! One call reads hints and losses, `told_by`. What follows, `choice_by`, is a function of what was told, as its clause
+//! says.
 
 ghost use Rattle.std.specs.Prelude.{◌≡◌, ◌<◌, ◌≤◌, length, take, MatchOption};
 ghost use Rattle.std.specs.List.{All};
@@ -30,7 +31,8 @@ pub enum Choice {
     /// Each move is known to lose.
     AllLose,
 
-    /// The visit ends with these numbers. They have come to its limit, or the move to go down to has a stone on its cell.
+    /// The visit ends with these numbers. They have come to its limit, or the move to go down to has a stone on its
+    /// cell.
     Limit(Numbers),
 
     /// It goes down.

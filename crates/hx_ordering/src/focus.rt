@@ -1,7 +1,7 @@
 //! Which moves are in focus.
 //!
-//! Of the moves that are left the first ones alone are looked at, a quarter of them and one more: with all in focus a search
-//! of 7 by 7 takes twice the units.
+//! Of the moves that are left the first ones alone are looked at, a quarter of them and one more: with all in focus a
+//! search of 7 by 7 takes twice the units.
 
 ghost use Rattle.std.specs.Prelude.{◌≡◌, ◌<◌, ◌≤◌, length, take};
 ghost use Rattle.hx_ordering.specs.Given.{focused_of};

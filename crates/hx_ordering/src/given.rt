@@ -16,7 +16,8 @@ use hx_pn::{Numbers, UNSEEN};
 /// Room for the numbers of the moves in focus, and of the rest.
 pub(crate) const MOST_GIVEN: usize = MOST_IN_FOCUS + 1;
 
-/// The numbers that some moves tell: their own ones or those of their hints, with losses. Behind them is room for one more.
+/// The numbers that some moves tell: their own ones or those of their hints, with losses. Behind them is room for one
+/// more.
 pub(crate) fn told_by(
     counts: &Counts,
     hints: &Hints,

@@ -1,7 +1,7 @@
 //! The moves of a visit: in which order they are tried, with which numbers, and which one a search goes down to.
 //!
-//! All of this only says where to look. Nothing here is in a proof of a position, so each heuristic may be wrong. Each stands in a
-//! file of its own that says what it brings.
+//! All of this only says where to look. Nothing here is in a proof of a position, so each heuristic may be wrong. Each
+//! stands in a file of its own that says what it brings.
 //!
 //! What a file says that its heuristic brings was measured with an unverified program of the same heuristics, but for
 //! `replies.rt` and `rest.rt`, whose figures are of the search of hx_dfpn.

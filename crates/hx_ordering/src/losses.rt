@@ -1,7 +1,8 @@
-//! Losses: while a worker is below a move, each worker sees the move as harder by one, so that they go down to different ones.
+//! Losses: while a worker is below a move, each worker sees the move as harder by one, so that they go down to
+//! different ones.
 //!
-//! Without them four workers take two to three times the units of one worker on 7 by 7, and no less time; with them a third more, and
-//! 0.43 of the time.
+//! Without them four workers take two to three times the units of one worker on 7 by 7, and no less time; with them a
+//! third more, and 0.43 of the time.
 
 ghost use Rattle.std.specs.Prelude.{◌≡◌, ℕ, ◌<◌};
 ghost use Rattle.hx_pn.specs.Numbers.{IsNumbers, worse_of};

@@ -1,11 +1,12 @@
 //! Hints, and the marks of positions that are proved.
 //!
-//! Each position and mover has a word of hints, which the turned position shares. A visit that ends open leaves its numbers
-//! there. A visit that ends with a proof leaves a mark, and whoever comes to the position again looks among the proofs at
-//! once, with no unit: on 7 by 7 that takes off three units of ten. To look for an entry of the position after each move,
-//! marked or not, brings no more and takes four to six times the looks.
+//! Each position and mover has a word of hints, which the turned position shares. A visit that ends open leaves its
+//! numbers there. A visit that ends with a proof leaves a mark, and whoever comes to the position again looks among the
+//! proofs at once, with no unit: on 7 by 7 that takes off three units of ten. To look for an entry of the position
+//! after each move, marked or not, brings no more and takes four to six times the looks.
 //!
-//! A hint may be of another position, though seldom. So a mark is no proof, and one that proves to be wrong is written anew.
+//! A hint may be of another position, though seldom. So a mark is no proof, and one that proves to be wrong is written
+//! anew.
 
 ghost use Rattle.std.specs.Prelude.{◌≡◌, ◌⊎◌};
 ghost use Rattle.hx_pn.specs.Numbers.{IsNumbers};
@@ -21,7 +22,8 @@ const PROVED: Numbers = Numbers {
     delta: 1,
 };
 
-/// The nearest numbers of a position that is not proved: at least 1, and below the highest that a hint has. No mark has them.
+/// The nearest numbers of a position that is not proved: at least 1, and below the highest that a hint has. No mark has
+/// them.
 pub fn open(numbers: Numbers) -> Numbers
     ensures value { result ≡ open_of numbers }
     ensures numbers { IsNumbers result }

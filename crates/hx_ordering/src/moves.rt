@@ -35,8 +35,8 @@ pub struct Moves {
 }
 
 impl Moves {
-    /// The moves that must be tried, by the links of both players: no link of the other player answers them, and no other move
-    /// is better. Where all are tried, a move is tried though another one is better.
+    /// The moves that must be tried, by the links of both players: no link of the other player answers them, and no
+    /// other move is better. Where all are tried, a move is tried though another one is better.
     pub fn of(
         hints: &Hints,
         replies: &Replies,
@@ -75,7 +75,8 @@ impl Moves {
         Ok(Moves { order, children })
     }
 
-    /// The move at this place among the children is known to lose, and is left out. Where there is no such place, nothing changes.
+    /// The move at this place among the children is known to lose, and is left out. Where there is no such place,
+    /// nothing changes.
     pub fn leave_out(&mut self, place: usize)
         ensures order { self.new.order ≡ self.old.order }
         ensures gone { place < length self.old.children.items
@@ -117,7 +118,8 @@ impl Moves {
     }
 }
 
-/// What must be tried by the other player's links, with a line for each cell than which another one is better, or with none.
+/// What must be tried by the other player's links, with a line for each cell than which another one is better, or with
+/// none.
 fn must_try(others: &LinkSet, order: &[Cell], tries_all: bool) -> Result<Must, Memory>
     ensures must { IfOk result (λ must. IsMust others.now must.threats must.cells must.under) }
     ensures no_lines { IfOk result (λ must. tries_all ≡ true → must.under ≡ []) }

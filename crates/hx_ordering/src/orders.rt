@@ -1,9 +1,9 @@
-//! The order in which moves are tried: by the sum of both players' distances to their sides, less what a move's wins as a reply
-//! take off it, and then from the centre.
+//! The order in which moves are tried: by the sum of both players' distances to their sides, less what a move's wins as
+//! a reply take off it, and then from the centre.
 //!
-//! A cell is one step from what it is joined with and from what a Full link leads to. Of all that was tried nothing counts for
-//! more: in cell order the openings of 6 by 6 take more than fifteen times the units, and from the centre alone one and a half
-//! times; by the distances of one player alone the empty 7 by 7 takes twice the units.
+//! A cell is one step from what it is joined with and from what a Full link leads to. Of all that was tried nothing
+//! counts for more: in cell order the openings of 6 by 6 take more than fifteen times the units, and from the centre
+//! alone one and a half times; by the distances of one player alone the empty 7 by 7 takes twice the units.
 
 ghost use Rattle.std.specs.Prelude.{◌≡◌, ◌<◌, ◌≤◌, IfOk, MatchOption};
 ghost use Rattle.hx_board.specs.declared.vertices.Vertex.TheVariants.{Of};
@@ -127,8 +127,8 @@ fn add(cells: VertexSet, distance: u32, sums: &mut [u32; CELLS]) {
     }
 }
 
-/// Adds the distances of all empty cells from a side. A step leads both ways, so the cells at the next distance are those of the
-/// rest that are one step from cells at the last one.
+/// Adds the distances of all empty cells from a side. A step leads both ways, so the cells at the next distance are
+/// those of the rest that are one step from cells at the last one.
 fn add_distances(set: &LinkSet, side: Vertex, sums: &mut [u32; CELLS])
     requires { IsVertex set.now.present.board.size side }
 {

@@ -1,12 +1,12 @@
 //! Replies: which moves have won after a move of the opponent's.
 //!
-//! A move that won after some move of the opponent's often wins after the same move elsewhere in the search. So for each mover and
-//! each last cell of the opponent's it is counted how often a cell was the winning move, and such cells are tried earlier.
-//! Only wins that a visit itself came to are counted.
+//! A move that won after some move of the opponent's often wins after the same move elsewhere in the search. So for
+//! each mover and each last cell of the opponent's it is counted how often a cell was the winning move, and such cells
+//! are tried earlier. Only wins that a visit itself came to are counted.
 //!
-//! On the openings of 6 by 6 this takes a twelfth of the units off. On 7 by 7 it takes off a third after e6, a fifth after g4, and a fifth
-//! after a5, a6 and b4 together. Counts by cell alone, not after the opponent's last move, brought nothing, and shares by the
-//! root or the logarithm of a count are no better.
+//! On the openings of 6 by 6 this takes a twelfth of the units off. On 7 by 7 it takes off a third after e6, a fifth
+//! after g4, and a fifth after a5, a6 and b4 together. Counts by cell alone, not after the opponent's last move,
+//! brought nothing, and shares by the root or the logarithm of a count are no better.
 //!
 //! A count is a hint: it decides in which order moves are tried, and no proof rests on it.
 
@@ -33,15 +33,15 @@ const WORDS: u32 = 2 * WORDS_OF_MOVER;
 /// No word counts further.
 const HIGHEST: u32 = 1_000_000;
 
-/// How often each cell was the winning move after each cell of the opponent's. Workers share it without an order: where two count
-/// the same move at once, one of the two may be lost.
+/// How often each cell was the winning move after each cell of the opponent's. Workers share it without an order: where
+/// two count the same move at once, one of the two may be lost.
 #[derive(Drop)]
 pub struct Replies {
     counts: Hints,
 }
 
-/// The word of a mover's move to a cell after the opponent's to the last cell. It stands for the key of a position, and since it
-/// is below the words of the table no two share one.
+/// The word of a mover's move to a cell after the opponent's to the last cell. It stands for the key of a position, and
+/// since it is below the words of the table no two share one.
 fn word(mover: Colour, last: Cell, cell: Cell) -> u64
     ensures { result < WORDS }
 {

@@ -1,5 +1,5 @@
-//! What is offered to a book: an entry, and the steps of its node as they were, so that a refusal gives the node back without
-//! memory.
+//! What is offered to a book: an entry, and the steps of its node as they were, so that a refusal gives the node back
+//! without memory.
 
 ghost use Rattle.std.specs.Prelude.{◌≡◌, IfOk, IsOk, None};
 ghost use Rattle.hx_tree.specs.declared.nodes.Rule.TheVariants.{Links, All};

@@ -1,8 +1,8 @@
 //! Steps in little room.
 //!
-//! A step takes 6 bytes here, and a `Step` has room for eight parts of an Or in itself. The parts of all Ors stand in one list, one
-//! after the other, and an Or says where its own begin and how many they are. The list only grows, so an Or stays what it is
-//! while further steps are put in.
+//! A step takes 6 bytes here, and a `Step` has room for eight parts of an Or in itself. The parts of all Ors stand in
+//! one list, one after the other, and an Or says where its own begin and how many they are. The list only grows, so an
+//! Or stays what it is while further steps are put in.
 
 ghost use Rattle.std.specs.Prelude.{◌≡◌, ◌≤◌, ◌++◌, ℕ, List, [], ◌∷◌, length, IfOk, OnOk, OnErr, IfSome};
 ghost use Rattle.hx_link.specs.declared.steps.Step.TheVariants.{Or};

@@ -1,5 +1,5 @@
--- What is read from the line of an answer. After its cell the first word of the reason tells what its other words are: the
--- reasons `child`, `dead` and `pair` begin with different letters.
+-- What is read from the line of an answer. After its cell the first word of the reason tells what its other words are:
+-- the reasons `child`, `dead` and `pair` begin with different letters.
 use Rattle.std.proofs.Common.{◌≡◌, ℕ, List, [], ◌∷◌, refl, sym, ap, ◌∙◌, arith, Option, Some, None}
 use Rattle.std.specs.Prelude.{codes}
 use Rattle.std.specs.Fmt.{decimal}

@@ -1,5 +1,6 @@
--- Inside a node no line is right but that of an entry of the kind that is due: a text that begins with the lines before it
--- goes on with a node whose first line is the same, so it has as many entries of each kind, and this line is the next of them.
+-- Inside a node no line is right but that of an entry of the kind that is due: a text that begins with the lines before
+-- it goes on with a node whose first line is the same, so it has as many entries of each kind, and this line is the
+-- next of them.
 use Rattle.std.proofs.Common.{◌≡◌, ℕ, ◌<◌, List, [], ◌∷◌, ◌++◌, length, map, refl, sym, ap, ◌∙◌, subst, arith, append_assoc, Some}
 use Rattle.std.specs.Prelude.{flat_map, slice_get, All}
 use Rattle.std.proofs.lemmas.List.Elements.{All-head}

@@ -1,8 +1,7 @@
--- A node that lacks some of its entries is the front of a whole node: of the one that has the base of the first side with
--- itself, the threat 0, the answer by the child 0 at the cell a1, or the opponent's stone at a1 in place of each entry that
--- it lacks. So the lines so far are
--- those of whole nodes, and a front of one node's lines. They are no whole text, since no front of a node's lines is a list of
--- whole nodes' lines and a last line.
+-- A node that lacks some of its entries is the front of a whole node: of the one that has the base of the first side
+-- with itself, the threat 0, the answer by the child 0 at the cell a1, or the opponent's stone at a1 in place of each
+-- entry that it lacks. So the lines so far are those of whole nodes, and a front of one node's lines. They are no whole
+-- text, since no front of a node's lines is a list of whole nodes' lines and a last line.
 use Rattle.std.proofs.Common.{◌≡◌, ◌≢◌, ℕ, zero, suc, ◌-◌, ◌<◌, ◌≤◌, List, [], ◌∷◌, ◌++◌, length, map, refl}
 use Rattle.std.proofs.Common.{sym, ap, ◌∙◌, subst, arith, replicate, append_assoc, length-append, ⊎_elim}
 use Rattle.std.proofs.lemmas.Bool.{cases_lt}

@@ -1,5 +1,5 @@
--- One more entry of a node whose entries come one by one. It is of the kind that is due, so the lists after its own are empty,
--- and it comes at the end of the entries. When none is missing, the node is whole.
+-- One more entry of a node whose entries come one by one. It is of the kind that is due, so the lists after its own are
+-- empty, and it comes at the end of the entries. When none is missing, the node is whole.
 use Rattle.std.proofs.Common.{◌≡◌, ℕ, ◌+◌, ◌-◌, ◌<◌, ◌≤◌, Bool, true, false, List, [], ◌∷◌, ◌++◌, length, map}
 use Rattle.std.proofs.Common.{refl, sym, ap, ◌∙◌, subst, arith, append_assoc, length-append, nat_lt, ⊎_elim}
 use Rattle.std.specs.Prelude.{if◌then◌else◌}

@@ -1,5 +1,5 @@
--- From each place of a tree's text it can be gone on: with the lines that a node lacks, or with a node on an empty board, if
--- need be, and a last line. So the lines that a reader has read begin some text.
+-- From each place of a tree's text it can be gone on: with the lines that a node lacks, or with a node on an empty
+-- board, if need be, and a last line. So the lines that a reader has read begin some text.
 use Rattle.std.proofs.Common.{◌≡◌, ℕ, ◌≤◌, List, [], ◌∷◌, ◌++◌, length, refl, sym, ap, ◌∙◌, subst, arith, append_assoc, length-append}
 use Rattle.std.proofs.lemmas.List.{append-nil}
 use Rattle.std.proofs.lemmas.List.Elements.{All-nil, All-push}

@@ -1,5 +1,5 @@
--- What is added to a list of entries of one kind, while the lists after it are empty, comes at the end of the entries; and which
--- kind of entry stands at a place follows from how many there are of each kind.
+-- What is added to a list of entries of one kind, while the lists after it are empty, comes at the end of the entries;
+-- and which kind of entry stands at a place follows from how many there are of each kind.
 use Rattle.std.proofs.Common.{◌≡◌, ℕ, zero, suc, ◌+◌, ◌<◌, ◌≤◌, List, [], ◌∷◌, ◌++◌, length, map, refl}
 use Rattle.std.proofs.Common.{sym, ap, ◌∙◌, arith, append_assoc, Some, ◌⊎◌, inl, inr, ⊎_elim}
 use Rattle.std.proofs.lemmas.Bool.{cases_lt, lt-ltb, le-ltb}

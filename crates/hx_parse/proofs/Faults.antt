@@ -1,5 +1,5 @@
--- The three ways in which the first faulty line of a tree's text is found: it is missing or has no LF, it is not right, or no
--- line may follow those before it.
+-- The three ways in which the first faulty line of a tree's text is found: it is missing or has no LF, it is not right,
+-- or no line may follow those before it.
 use Rattle.std.proofs.Common.{◌≡◌, ◌≢◌, ℕ, ◌+◌, List, [], ◌∷◌, ◌++◌, length, refl}
 use Rattle.hx_lex.specs.Marks.{Lacks}
 use Rattle.hx_text.specs.Grammars.{text_of, Begins, IsFaultyLine}

@@ -1,5 +1,5 @@
--- What is read from the line of a fill step. The first word tells what the other words are: `other`, `dead` and `pair` begin with
--- different letters.
+-- What is read from the line of a fill step. The first word tells what the other words are: `other`, `dead` and `pair`
+-- begin with different letters.
 use Rattle.std.proofs.Common.{◌≡◌, ℕ, List, [], ◌∷◌, refl, sym, ap, ◌∙◌, arith, Option, Some, None}
 use Rattle.std.specs.Prelude.{codes}
 use Rattle.hx_board.specs.Cells.{Extent, IsExtent, OnBoard}

@@ -1,6 +1,6 @@
--- The first word of a line tells what its other words are: those of a step, or those of a rule's opening. Where the other words
--- are none of that kind, the line's words are those of no step and of no opening, since the first words of each kind begin with
--- different letters.
+-- The first word of a line tells what its other words are: those of a step, or those of a rule's opening. Where the
+-- other words are none of that kind, the line's words are those of no step and of no opening, since the first words of
+-- each kind begin with different letters.
 use Rattle.std.proofs.Common.{◌≡◌, ℕ, ◌<◌, ◌≤◌, List, [], ◌∷◌, length, map, refl}
 use Rattle.std.proofs.Common.{sym, ap, ◌∙◌, arith, Option, Some, None, Result, Ok, Err}
 use Rattle.std.specs.Prelude.{codes}

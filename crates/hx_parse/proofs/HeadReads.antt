@@ -1,4 +1,5 @@
--- What the words of a node's first line spell is read from them, since the two masks of the line are those of its position.
+-- What the words of a node's first line spell is read from them, since the two masks of the line are those of its
+-- position.
 use Rattle.std.proofs.Common.{◌≡◌, ℕ, List, ◌∷◌, refl}
 use Rattle.std.specs.Prelude.{codes}
 use Rattle.hx_board.specs.declared.colours.Colour.{Colour}

@@ -1,5 +1,6 @@
--- The words of an `or` line after its first, read one by one: those taken are the numbers of its parts so far. At a word that
--- is no number the words are those of no list of numbers, and after the most parts that there may be no further word is left.
+-- The words of an `or` line after its first, read one by one: those taken are the numbers of its parts so far. At a
+-- word that is no number the words are those of no list of numbers, and after the most parts that there may be no
+-- further word is left.
 use Rattle.std.proofs.Common.{◌≡◌, ◌≢◌, ℕ, ◌+◌, ◌≤◌, List, [], ◌∷◌, ◌++◌, length, map}
 use Rattle.std.proofs.Common.{sym, ap, ◌∙◌, subst, arith, append_assoc, length-append}
 use Rattle.std.proofs.lemmas.List.{append-nil, map-append}

@@ -1,5 +1,5 @@
--- What the reader of a size's line answers once it has taken all its words: the size that the line spells, and none only
--- where there is no board of that size.
+-- What the reader of a size's line answers once it has taken all its words: the size that the line spells, and none
+-- only where there is no board of that size.
 use Rattle.std.proofs.Common.{◌≡◌, ℕ, List, Option, Some, None, refl, sym, ap, ◌∙◌, arith}
 use Rattle.std.specs.Fmt.{decimal}
 use Rattle.std.specs.Prelude.{SomeIff}

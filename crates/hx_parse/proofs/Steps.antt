@@ -1,5 +1,5 @@
--- One more line at each place of a tree's text outside of its nodes: after a node's last line the lines are those of one node
--- more, and a line that no reader takes is not of the grammar in its place.
+-- One more line at each place of a tree's text outside of its nodes: after a node's last line the lines are those of
+-- one node more, and a line that no reader takes is not of the grammar in its place.
 use Rattle.std.proofs.Common.{◌≡◌, ℕ, ◌+◌, ◌<◌, List, [], ◌∷◌, ◌++◌, length, refl, sym, ap, ◌∙◌}
 use Rattle.std.proofs.Common.{subst, arith, append_assoc, length-append, Option, Some, None}
 use Rattle.std.proofs.lemmas.List.{append-nil}

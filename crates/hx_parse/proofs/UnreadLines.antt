@@ -1,5 +1,5 @@
--- A text that is read line by line: where it goes on behind one line more, and that a line that is not read is its first
--- faulty one.
+-- A text that is read line by line: where it goes on behind one line more, and that a line that is not read is its
+-- first faulty one.
 use Rattle.std.proofs.Common.{◌≡◌, ◌≢◌, ℕ, List, [], ◌∷◌, ◌++◌, Bor, refl, sym, ap, ◌∙◌, subst, arith, length-append}
 use Rattle.std.proofs.lemmas.List.{append-nil}
 use Rattle.hx_lex.specs.Marks.{Lacks, IsCut}

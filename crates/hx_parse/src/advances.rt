@@ -28,8 +28,8 @@ pub(crate) fn advance(alloc: Global, place: Place, line: &[u8]) -> Result<Next, 
     }
 }
 
-/// Takes a line that changes little, so that the place can stay where it is: one of a node that more lines of it follow, or a node
-/// of one line. What it brought. None where it is another line; then the place is as it was.
+/// Takes a line that changes little, so that the place can stay where it is: one of a node that more lines of it
+/// follow, or a node of one line. What it brought. None where it is another line; then the place is as it was.
 pub(crate) fn take_in_place(alloc: Global, place: &mut Place, line: &[u8]) -> Option<Fed>
     ensures yes { IfSome result (λ fed.
         Goes place.old line.now (Ok (record { fed = fed; place = place.new }))) }

@@ -37,7 +37,8 @@ fn read_title(title: &[u8], line: &[u8]) -> Option<()>
     if line == title { Some(()) } else { None }
 }
 
-/// The line `black MASK`: Black's stones on a board of this size. None where the line is not so, or a stone is off the board.
+/// The line `black MASK`: Black's stones on a board of this size. None where the line is not so, or a stone is off the
+/// board.
 pub fn black_stones(size: Size, line: &[u8]) -> Option<Mask>
     requires { IsExtent size.rows size.cols }
     ensures { Reads (stones_line Black) (λ black. IsPosition size black 0) line.now result }
@@ -47,8 +48,8 @@ pub fn black_stones(size: Size, line: &[u8]) -> Option<Mask>
     Some(black)
 }
 
-/// The line `white MASK`: the position that White's stones and these black ones make on a board of this size. None where the line is
-/// not so, or the stones make none: one is off the board, or two share a cell.
+/// The line `white MASK`: the position that White's stones and these black ones make on a board of this size. None
+/// where the line is not so, or the stones make none: one is off the board, or two share a cell.
 pub fn with_white_stones(size: Size, black: Mask, line: &[u8]) -> Option<Position>
     requires { IsExtent size.rows size.cols }
     ensures { Finds result (λ position. IsBoard position × (position.size ≡ size)

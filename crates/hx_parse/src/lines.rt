@@ -1,4 +1,5 @@
-//! The lines of the texts outside of nodes, with a reader for each kind. A line that is not of the kind is answered with None.
+//! The lines of the texts outside of nodes, with a reader for each kind. A line that is not of the kind is answered
+//! with None.
 
 ghost use Rattle.hx_board.specs.Cells.{IsExtent};
 ghost use Rattle.hx_lex.specs.Words.{Reads, IsNumber, IsSet};
@@ -28,7 +29,8 @@ pub(crate) fn read_title(line: &[u8]) -> Option<Version>
     }
 }
 
-/// The line `size ROWS COLUMNS`, with numbers from 1 to 11, as each text with a board has it. None where the line is not so.
+/// The line `size ROWS COLUMNS`, with numbers from 1 to 11, as each text with a board has it. None where the line is
+/// not so.
 pub fn read_size(line: &[u8]) -> Option<Size>
     ensures { Reads size_line (λ s. IsExtent s.rows s.cols) line.now result }
 {

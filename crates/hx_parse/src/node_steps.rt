@@ -1,5 +1,5 @@
-//! A node whose lines come one by one. Its first line tells how many entries of each kind follow, and it is handed out with
-//! the last of them.
+//! A node whose lines come one by one. Its first line tells how many entries of each kind follow, and it is handed out
+//! with the last of them.
 
 ghost use Rattle.std.specs.Prelude.{◌≡◌, ◌<◌, ◌≤◌, [], IsTrue, IfSome, IfNone, false, vec_capacity};
 ghost use Rattle.hx_parse.specs.EntryReads.{rule_for};
@@ -95,8 +95,8 @@ pub(crate) fn goes_on(alloc: Global, begun: &mut Begun, line: &[u8]) -> bool
     }
 }
 
-// Most lines of a text are entries that more entries follow. Each kind has a function of its own, since an entry of any kind
-// would be handed over through memory.
+// Most lines of a text are entries that more entries follow. Each kind has a function of its own, since an entry of any
+// kind would be handed over through memory.
 
 /// Takes the line of a step, where one is due and more entries follow.
 fn step_goes_on(alloc: Global, begun: &mut Begun, line: &[u8]) -> bool

@@ -1,4 +1,5 @@
-//! The places in the text of a tree. A place holds all that the next line is judged by, so no earlier line is read again.
+//! The places in the text of a tree. A place holds all that the next line is judged by, so no earlier line is read
+//! again.
 
 ghost use Rattle.std.specs.Prelude.{◌≡◌};
 ghost use Rattle.hx_parse.specs.Places.{version_at};

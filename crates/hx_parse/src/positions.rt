@@ -11,8 +11,8 @@ use crate::lines::read_mover;
 use crate::text_lines::{TextFault, TextLines};
 use hx_board::{Colour, Position};
 
-/// Reads the text of a position and of the player to move, which takes no memory. A line that is missing or is not ended
-/// by LF is wrong at its own number, and whatever follows the fifth line is wrong as the sixth.
+/// Reads the text of a position and of the player to move, which takes no memory. A line that is missing or is not
+/// ended by LF is wrong at its own number, and whatever follows the fifth line is wrong as the sixth.
 pub fn read_position(bytes: &[u8]) -> Result<(Position, Colour), TextFault>
     // What is read is spelled so.
     ensures read { IfOk result (λ found.

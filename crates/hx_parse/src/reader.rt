@@ -59,9 +59,9 @@ impl TreeReader {
         self.place.version()
     }
 
-    /// Takes one more line, without its LF, and whether an LF followed. Memory is wanting only at a line that takes it: a right
-    /// first line of a node that tells of entries, or a line of a step that begins as that of an Or with more than eight
-    /// parts.
+    /// Takes one more line, without its LF, and whether an LF followed. Memory is wanting only at a line that takes it:
+    /// a right first line of a node that tells of entries, or a line of a step that begins as that of an Or with more
+    /// than eight parts.
     pub fn feed(&mut self, line: &[u8], ended: bool) -> Result<Fed, TreeFault>
         ensures count { lines_fed self.new ≡ next_count (lines_fed self.old) }
         ensures says { (nodes : List TreeNode) (lines : List (List ℕ))

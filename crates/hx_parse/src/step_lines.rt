@@ -15,8 +15,8 @@ use hx_link::{MOST_PARTS, Parts, Step};
 use smallvec::SmallVec;
 use std::alloc::Global;
 
-/// The line of a step: `base VERTEX VERTEX`, `stone NUMBER NUMBER`, `cell NUMBER NUMBER`, or `or` and at most 128 numbers.
-/// It takes memory for the parts of an Or with more than eight alone.
+/// The line of a step: `base VERTEX VERTEX`, `stone NUMBER NUMBER`, `cell NUMBER NUMBER`, or `or` and at most 128
+/// numbers. It takes memory for the parts of an Or with more than eight alone.
 pub(crate) fn read_step(alloc: Global, size: Size, line: &[u8]) -> Result<Option<Step>, Memory>
     ensures reads { IfOk result (Reads step_line (StepFits size) line.now) }
     ensures memory { OnErr result (BeginsLongOr line.now) }
@@ -30,7 +30,8 @@ pub(crate) fn read_step(alloc: Global, size: Size, line: &[u8]) -> Result<Option
 /// The words of a step's line.
 fn read_words(alloc: Global, size: Size, words: &mut Words<'_>) -> Result<Option<Step>, Memory>
     ensures reads { IfOk result (Reads step_words (StepFits size) words.old) }
-    ensures memory { OnErr result ((parts : List (List ℕ)) × (words.old ≡ codes "or" ∷ parts) × (8 < length parts)) }
+    ensures memory { OnErr result ((parts : List (List ℕ)) × (words.old ≡ codes "or" ∷ parts)
+        × (8 < length parts)) }
 {
     if words.keyword(b"base").is_some() {
         return Ok(read_base(size, words));

@@ -1,5 +1,6 @@
-//! Nodes that are whole with their first line: those by the rules chain, move and turned. The reader takes such a line where it stands
-//! and changes two numbers of its place: to move the place out and back took more than a quarter of the time.
+//! Nodes that are whole with their first line: those by the rules chain, move and turned. The reader takes such a line
+//! where it stands and changes two numbers of its place: to move the place out and back took more than a quarter of the
+//! time.
 
 ghost use Rattle.std.specs.Prelude.{◌≡◌, ◌<◌, IfSome, IfNone};
 ghost use Rattle.hx_text.specs.Lengths.{most_nodes};
@@ -10,8 +11,8 @@ use crate::so_far::SoFar;
 use hx_text::{Head, Opening};
 use hx_tree::{MOST_NODES, Node, Rule};
 
-/// Where the word of the rule begins in a node's first line: behind `node`, two masks and two players, whose words have five letters
-/// each.
+/// Where the word of the rule begins in a node's first line: behind `node`, two masks and two players, whose words have
+/// five letters each.
 const RULE: usize = 83;
 
 /// The node that a first line tells whole. None where entries may follow.
@@ -28,7 +29,8 @@ pub(crate) fn whole_node(head: &Head) -> Option<Node>
     Some(Node { heading, rule })
 }
 
-/// Takes the first line of a node that is whole with it, and hands the node out. None where it did not; then all is as it was.
+/// Takes the first line of a node that is whole with it, and hands the node out. None where it did not; then all is as
+/// it was.
 pub(crate) fn take_node(so_far: &mut SoFar, line: &[u8]) -> Option<Node>
     ensures yes { IfSome result (TakesNode so_far.old line.now so_far.new) }
     ensures no { IfNone result (so_far.new ≡ so_far.old) }

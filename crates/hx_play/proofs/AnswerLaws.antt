@@ -1,5 +1,5 @@
--- A node with answers: the child of the cell's line is where the player stands next, and without such a line some threat leaves the cell
--- out, by whose link it starts.
+-- A node with answers: the child of the cell's line is where the player stands next, and without such a line some
+-- threat leaves the cell out, by whose link it starts.
 use Rattle.std.proofs.Common.{◌≡◌, ℕ, zero, suc, ◌<◌, ◌≤◌, List, [], ◌∷◌, length, take, get_or, refl, sym, ap, ◌∙◌, subst, Option, Some}
 use Rattle.std.proofs.Common.{⊎_elim, arith}
 use Rattle.std.specs.Prelude.{slice_get, IsSomeAnd, Contains}

@@ -1,5 +1,5 @@
--- What becomes of the kept links. A kept link is taken out and is due; what is due gives way to links inside it that join its ends once
--- they are joined, or to one of its parts; and a stone is put on the board.
+-- What becomes of the kept links. A kept link is taken out and is due; what is due gives way to links inside it that
+-- join its ends once they are joined, or to one of its parts; and a stone is put on the board.
 use Rattle.std.proofs.Common.{◌≡◌, ◌≢◌, ℕ, Bool, false, List, refl, sym, ap, ◌∙◌, subst, Some, None, Option, ◌⊎◌, inl, inr, ⊎_elim}
 use Rattle.std.specs.Prelude.{slice_get, IfSome}
 use Rattle.std.proofs.lemmas.Bool.{false≢true, false_from_ne_true}

@@ -1,5 +1,5 @@
--- Who keeps such links wins: each link holds on its own cells, and they share none, so all hold together; once the ends of each are joined
--- there is a chain.
+-- Who keeps such links wins: each link holds on its own cells, and they share none, so all hold together; once the ends
+-- of each are joined there is a chain.
 use Rattle.std.proofs.Common.{◌≡◌, ℕ, zero, suc, Bool, true, false, ◌||◌, List, [], ◌∷◌, refl, sym, ◌∙◌, Some, None, inl, ⊎_elim}
 use Rattle.std.specs.Prelude.{slice_get}
 use Rattle.std.proofs.lemmas.Bool.{false≢true, or_cases, or_left, or_right}

@@ -1,5 +1,6 @@
--- How a move changes what is kept: a kept link over a stone gives way to its two parts, one whose ends are joined to nothing; an Or gives
--- way to a part that the stone leaves alone, and that part, once the player has the cell that it goes over, to its two links.
+-- How a move changes what is kept: a kept link over a stone gives way to its two parts, one whose ends are joined to
+-- nothing; an Or gives way to a part that the stone leaves alone, and that part, once the player has the cell that it
+-- goes over, to its two links.
 use Rattle.std.proofs.Common.{◌≡◌, ◌≢◌, ℕ, Bool, true, false, List, [], refl, sym, ap, ◌∙◌, subst, Some, None, Option, ◌⊎◌, inl, inr}
 use Rattle.std.specs.Prelude.{slice_get, Contains}
 use Rattle.std.proofs.lemmas.Bool.{false≢true, false_from_ne_true}

@@ -1,5 +1,5 @@
--- What the step at a place gives. The links of right steps begin with those from before the place, and the step there gives the next one
--- after them; so a link that it names stands at an earlier place of all the links.
+-- What the step at a place gives. The links of right steps begin with those from before the place, and the step there
+-- gives the next one after them; so a link that it names stands at an earlier place of all the links.
 use Rattle.std.proofs.Common.{◌≡◌, ℕ, zero, suc, ◌+◌, ◌<◌, List, [], ◌∷◌, ◌++◌, length, refl, sym, ap, ◌∙◌, subst, Some, arith}
 use Rattle.std.proofs.Common.{append_assoc, length-append}
 use Rattle.std.specs.Prelude.{slice_get}

@@ -55,8 +55,8 @@ pub record NamesEmpty (board : Board) (line : List ℕ) (cell : ℕ) : Type 0 wh
   pub empty : IsEmpty board cell
   pub spelled : line ≡ cell_word cell
 
--- A line that is the word of an empty cell puts the opponent's stone there, and a move of the winner's follows. Any other
--- line changes nothing.
+-- A line that is the word of an empty cell puts the opponent's stone there, and a move of the winner's follows. Any
+-- other line changes nothing.
 pub data AnswersLine (old : Game) (line text : List ℕ) (new : Game) (ended : Bool) : Type 0 where
   Plays : (cell : ℕ) → NamesEmpty old.position line cell
       → IsOwnMove old.winner (put old.position (other_of old.winner) cell) text new ended
@@ -64,8 +64,8 @@ pub data AnswersLine (old : Game) (line text : List ℕ) (new : Game) (ended : B
   IsIllegal : ((cell : ℕ) → NamesEmpty old.position line cell → ⊥) → text ≡ illegal_line → new ≡ old → ended ≡ false
       → AnswersLine old line text new ended
 
--- A game: an opening, and then lines one after the other as long as it has not ended. It leads from the start to where the
--- game is now.
+-- A game: an opening, and then lines one after the other as long as it has not ended. It leads from the start to where
+-- the game is now.
 pub data GameRun (start : Game) : List (List ℕ) → List ℕ → Game → Bool → Type 0 where
   Opened : (lines : List (List ℕ)) (text : List ℕ) (now : Game) (ended : Bool) → lines ≡ []
       → Opens start text now ended → GameRun start lines text now ended

@@ -32,10 +32,10 @@ end_of ReadFault = ended.ReadFault
 end_of WriteFault = ended.WriteFault
 end_of TooLong = ended.TooLong
 
--- What each end says: the game when it was begun and now, what the stream of lines had left and what the source has left,
--- and what the sink had taken and has taken. By a chain, a game of first lines that ended so; unfinished, a game of all
--- lines, none of which ended it; at a read that failed, of all lines whose LF was read; at a limit, of all lines before it;
--- at a write that failed, a front of such a text.
+-- What each end says: the game when it was begun and now, what the stream of lines had left and what the source has
+-- left, and what the sink had taken and has taken. By a chain, a game of first lines that ended so; unfinished, a game
+-- of all lines, none of which ended it; at a read that failed, of all lines whose LF was read; at a limit, of all lines
+-- before it; at a write that failed, a front of such a text.
 abbrev pub Ends : Game → Game → Option (List ℕ) → Option (List ℕ) → Option (List ℕ) → Option (List ℕ) → Served → Type 0
 Ends start now before left taken taken_now served =
     services.Ends game_service (game_answers start now) before left taken taken_now (end_of served)

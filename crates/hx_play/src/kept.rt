@@ -1,15 +1,16 @@
 //! Links that a player keeps, by marks on the places of a node's links.
 //!
-//! The rules are Anshelevich's: a Full link joins its two ends even where the opponent moves first, and a Semi link does where
-//! the player moves first. An Or unites Semi links of the same ends, no cell of which is in all, so the opponent's stone leaves
-//! one of them alone. What is kept are Full links that share no cell and on whose cells the opponent has no stone. When the
-//! opponent has moved, the player moves in the link that the stone touches: it takes the cell over which a part that the stone
-//! leaves alone goes. The two links of that part are Full, and are kept in place of the Or.
+//! The rules are Anshelevich's: a Full link joins its two ends even where the opponent moves first, and a Semi link
+//! does where the player moves first. An Or unites Semi links of the same ends, no cell of which is in all, so the
+//! opponent's stone leaves one of them alone. What is kept are Full links that share no cell and on whose cells the
+//! opponent has no stone. When the opponent has moved, the player moves in the link that the stone touches: it takes
+//! the cell over which a part that the stone leaves alone goes. The two links of that part are Full, and are kept in
+//! place of the Or.
 //!
 //! A list of places would want a bound on its length, which only a count of carriers that share no cell gives.
 //!
-//! A call that moves in links answers a cell, or None where the player has a chain. So none of them requires that there is no
-//! chain; `answer` of players.rt alone does, with a branch that is never taken.
+//! A call that moves in links answers a cell, or None where the player has a chain. So none of them requires that there
+//! is no chain; `answer` of players.rt alone does, with a branch that is never taken.
 
 ghost use Rattle.std.specs.Prelude.{◌≡◌, ◌+◌, ◌<◌, ◌≤◌, ℕ, List, [], length, false, Some, None, Option, MatchOption, Contains, slice_get};
 ghost use Rattle.hx_board.specs.Positions.{Board};
@@ -22,8 +23,8 @@ use hx_board::{Cell, Colour, Mask, Position, Size};
 use hx_link::{Kind, Link, Step};
 use hx_tree::Heading;
 
-/// Moves in the link at a place, which joins the two sides and on whose cells there is no stone yet. None only where the player
-/// has a chain.
+/// Moves in the link at a place, which joins the two sides and on whose cells there is no stone yet. None only where
+/// the player has a chain.
 pub(crate) fn move_in_link(
     heading: &Heading,
     steps: &[Step],

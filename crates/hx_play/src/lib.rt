@@ -1,4 +1,5 @@
-//! A player of a tree: it moves so that after each move of its own the tree's winner wins. And the text of a game that it plays.
+//! A player of a tree: it moves so that after each move of its own the tree's winner wins. And the text of a game that
+//! it plays.
 #![tactic(auto)]
 
 mod kept;

@@ -1,7 +1,8 @@
 //! Playing by a valid tree of plain nodes, for its winner.
 //!
-//! The player follows the tree as long as its nodes say which move to make, and then moves in links. Whenever it is asked, the
-//! winner wins from the board that it has, so there is a move to answer with, and no game ends without a chain.
+//! The player follows the tree as long as its nodes say which move to make, and then moves in links. Whenever it is
+//! asked, the winner wins from the board that it has, so there is a move to answer with, and no game ends without a
+//! chain.
 
 ghost use Rattle.std.specs.Prelude.{◌≡◌, ◌↔◌, IsTrue, IsNone, IfOk, IfSome, IfNone};
 ghost use Rattle.hx_board.specs.Colours.{other_of};
@@ -42,8 +43,8 @@ impl Model for Player {
 }
 
 impl Player {
-    /// A player at the root of a tree, whose nodes all tell what to play (`plain` of hx_tree). It takes all the memory that play
-    /// needs, so no later call can want any.
+    /// A player at the root of a tree, whose nodes all tell what to play (`plain` of hx_tree). It takes all the memory
+    /// that play needs, so no later call can want any.
     pub fn new(alloc: Global, nodes: Vec<Node>) -> Result<Player, Memory>
         requires valid { IsValidTree nodes.items }
         requires plain { ArePlain nodes.items }
@@ -97,8 +98,8 @@ impl Player {
         chain(&self.stand.position, self.stand.winner)
     }
 
-    /// Makes the game's first move where the winner is to move at the root. None where there is none to make: the opponent is to
-    /// move, as after each call of `first` and `answer`, or the winner has a chain.
+    /// Makes the game's first move where the winner is to move at the root. None where there is none to make: the
+    /// opponent is to move, as after each call of `first` and `answer`, or the winner has a chain.
     pub fn first(&mut self) -> Option<Cell>
         ensures none { IsNone result ↔ NeedsNoMove self.old }
         ensures same { IfNone result (self.new ≡ self.old) }

@@ -1,7 +1,8 @@
-//! Serving a game: each of the opponent's lines is answered before the next read, up to a chain, the end, a fault or a limit.
+//! Serving a game: each of the opponent's lines is answered before the next read, up to a chain, the end, a fault or a
+//! limit.
 //!
-//! What stands behind the line that is answered by a chain is not looked at, and a last piece without LF is a line. Behind the
-//! most lines one more is cut and not answered: it tells whether the input was over.
+//! What stands behind the line that is answered by a chain is not looked at, and a last piece without LF is a line.
+//! Behind the most lines one more is cut and not answered: it tells whether the input was over.
 
 ghost use Rattle.std.specs.Prelude.{◌≡◌, ◌≢◌, ◌+◌, ◌<◌, ◌≤◌, ℕ, true, false, List, [], Option, Some, None, MatchOption, IfNone};
 ghost use Rattle.hx_io.specs.Causes.{Rose};
@@ -34,11 +35,11 @@ pub enum Served {
     TooLong,
 }
 
-/// Plays a game whose opponent's moves are the lines that are held and those of the source, one cell a line. First of all it
-/// names the player, and makes its first move where it is its turn.
+/// Plays a game whose opponent's moves are the lines that are held and those of the source, one cell a line. First of
+/// all it names the player, and makes its first move where it is its turn.
 ///
-/// It asks nothing of what was played before, and goes on from the game that the player has: from the root where the player was
-/// just made.
+/// It asks nothing of what was played before, and goes on from the game that the player has: from the root where the
+/// player was just made.
 ///
 /// Each answer is written before the next read, and no read follows a chain. It takes no memory.
 pub fn serve<S: Source, K: Sink>(
@@ -48,8 +49,8 @@ pub fn serve<S: Source, K: Sink>(
     player: &mut Player,
 ) -> Served
     requires met_end { lines.old.met_end ≡ true → IsAtEnd (S.reading source.old).left }
-    // Which lines were answered, and what was written: a whole game of them with the words of its end, or a front of that
-    // where a write failed.
+    // Which lines were answered, and what was written: a whole game of them with the words of its end, or a front of
+    // that where a write failed.
     ensures ends { Ends player.old player.new
         (prepend lines.old.held (S.reading source.old).left) (S.reading source.new).left
         (K.writing sink.old).taken (K.writing sink.new).taken result }
@@ -119,8 +120,8 @@ fn serve_lines<S: Source, K: Sink>(
     ensures ends { (start : Game) (before taken : Option (List ℕ))
         → Stands start before taken 0 lines.old.held
         (S.reading source.old).left (K.writing sink.old).taken player.old
-        → services.Ends game_service (game_answers start player.new) before
-        (S.reading source.new).left taken (K.writing sink.new).taken result }
+        → services.Ends game_service (game_answers start player.new)
+        before (S.reading source.new).left taken (K.writing sink.new).taken result }
     ensures read_fault { result ≡ ReadFault
         → SomeReadFailed (S.reading source.old) (S.reading source.new) }
     ensures write_fault { result ≡ WriteFault
@@ -153,7 +154,8 @@ fn serve_line<S: Source, K: Sink>(
         → MatchOption result
         (Stands start before taken (count + 1) lines.new.held
         (S.reading source.new).left (K.writing sink.new).taken player.new)
-        (services.Ends game_service (game_answers start player.new) before (S.reading source.new).left taken
+        (services.Ends game_service (game_answers start player.new)
+        before (S.reading source.new).left taken
         (K.writing sink.new).taken) }
     ensures read_fault { result ≡ Some ReadFault
         → SomeReadFailed (S.reading source.old) (S.reading source.new) }
@@ -209,7 +211,8 @@ fn after_most_lines<S: Source, K: Sink>(
     ensures ends { (start now : Game) (before taken : Option (List ℕ))
         → Stands start before taken most_lines lines.old.held
         (S.reading source.old).left (K.writing sink.old).taken now
-        → services.Ends game_service (game_answers start now) before (S.reading source.new).left taken
+        → services.Ends game_service (game_answers start now)
+        before (S.reading source.new).left taken
         (K.writing sink.new).taken result }
     ensures read_fault { result ≡ ReadFault
         → SomeReadFailed (S.reading source.old) (S.reading source.new) }

@@ -1,10 +1,10 @@
 //! Where a player stands in its tree, and how it moves there.
 //!
-//! It is at a node whose position is on the board, and follows the tree by moves and child lines. From a node by links, or from a
-//! threat that the opponent's stone leaves alone, on it keeps links and reads no node any more.
+//! It is at a node whose position is on the board, and follows the tree by moves and child lines. From a node by links,
+//! or from a threat that the opponent's stone leaves alone, on it keeps links and reads no node any more.
 //!
-//! The links of a node's steps are made when play comes to the node, which is most of the time of an answer; an answer in
-//! links that are kept looks at marks alone.
+//! The links of a node's steps are made when play comes to the node, which is most of the time of an answer; an answer
+//! in links that are kept looks at marks alone.
 
 ghost use Rattle.std.specs.Prelude.{◌≡◌, ◌≤◌, ℕ, [], List, length, Some, MatchOption, slice_get, IfNone};
 ghost use Rattle.std.specs.Vec.{vec_capacity};
@@ -123,8 +123,8 @@ fn reply_at_node(nodes: &[Node], node: &Node, stand: &mut Stand, cell: Cell) -> 
     }
 }
 
-/// Answers the opponent's move to a cell at a node with answers: by the line for the cell, or by a threat that leaves it out. None
-/// only where the player has a chain.
+/// Answers the opponent's move to a cell at a node with answers: by the line for the cell, or by a threat that leaves
+/// it out. None only where the player has a chain.
 fn reply_at_answers(
     nodes: &[Node],
     node: &Node,
@@ -278,7 +278,8 @@ fn child_for(lines: &[Line], cell: Cell) -> Option<u32>
 
 /// The first threat that leaves a cell out.
 fn threat_without(links: &[Link], threats: &[u32], cell: Cell) -> Option<u32>
-    ensures { MatchOption result ((place : ℕ) → IsThreatWithout links.now threats.now cell place → ⊥)
+    ensures { MatchOption result
+        ((place : ℕ) → IsThreatWithout links.now threats.now cell place → ⊥)
         (IsThreatWithout links.now threats.now cell) }
 {
     for place in threats {

@@ -1,5 +1,6 @@
--- One child more: the least delta and the sum of phi so far, and the best child so far with the least delta of the others. Where
--- the new child's delta is below the best so far, it is the best, and the least delta of the others is that of the old best.
+-- One child more: the least delta and the sum of phi so far, and the best child so far with the least delta of the
+-- others. Where the new child's delta is below the best so far, it is the best, and the least delta of the others is
+-- that of the old best.
 use Rattle.std.proofs.Common.{◌≡◌, ℕ, zero, suc, ◌+◌, ◌<◌, ◌≤◌, List, [], ◌∷◌, ◌++◌, take, length, get_or, refl, sym, ap, ◌∙◌, arith, Some}
 use Rattle.std.proofs.Common.{◌⊎◌, inl, inr, ⊎_elim}
 use Rattle.std.specs.Prelude.{min, sum_by, slice_get}

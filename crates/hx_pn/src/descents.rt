@@ -1,7 +1,7 @@
 //! Which child a search goes down to, and how far.
 //!
-//! This is the step of Nagai's df-pn: down to the child with the least delta, until that child is no longer the best one, or
-//! the node itself has reached a threshold.
+//! This is the step of Nagai's df-pn: down to the child with the least delta, until that child is no longer the best
+//! one, or the node itself has reached a threshold.
 
 ghost use Rattle.std.specs.Prelude.{◌≡◌, ◌<◌, [], ◌∷◌, ◌++◌, List, length, MatchOption, IfSome};
 ghost use Rattle.std.specs.List.{All};
@@ -57,11 +57,12 @@ fn better(best: Best, place: usize, child: Numbers) -> Best
     }
 }
 
-/// The child to go down to from a node with these thresholds and children, and the child's thresholds. None exactly where phi
-/// or delta of the node has reached its threshold.
+/// The child to go down to from a node with these thresholds and children, and the child's thresholds. None exactly
+/// where phi or delta of the node has reached its threshold.
 ///
-/// The child is the one with the least delta, the earlier one on a tie. Its delta may come up to the second least delta and one
-/// more, or to the node's phi threshold where that is less; its phi up to what makes the node's delta reach its threshold.
+/// The child is the one with the least delta, the earlier one on a tie. Its delta may come up to the second least delta
+/// and one more, or to the node's phi threshold where that is less; its phi up to what makes the node's delta reach its
+/// threshold.
 pub fn thresholds(limit: Numbers, children: &[Numbers]) -> Option<(usize, Numbers)>
     requires limit { IsNumbers limit }
     requires children { All IsNumbers children.now }

@@ -1,7 +1,8 @@
 //! The numbers of a node.
 //!
-//! Proof numbers are Allis's. They stand here as Nagai writes them for his depth-first search, df-pn: seen from the player
-//! who is to move, phi is what he must prove to win and delta what the opponent must, so that one rule serves both players.
+//! Proof numbers are Allis's. They stand here as Nagai writes them for his depth-first search, df-pn: seen from the
+//! player who is to move, phi is what he must prove to win and delta what the opponent must, so that one rule serves
+//! both players.
 
 ghost use Rattle.std.specs.Prelude.{◌≡◌, ◌≤◌, ◌↔◌, IsTrue};
 ghost use Rattle.std.specs.List.{All};
@@ -17,8 +18,8 @@ pub struct Numbers {
     pub delta: u32,
 }
 
-/// The numbers that stand for a position that nobody looked at yet: for each player as much is to be proved as there can be in
-/// a position whose winner is not known.
+/// The numbers that stand for a position that nobody looked at yet: for each player as much is to be proved as there
+/// can be in a position whose winner is not known.
 pub const UNSEEN: Numbers = Numbers {
     phi: INF - 1,
     delta: INF - 1,
@@ -33,8 +34,9 @@ impl Numbers {
     }
 }
 
-/// The numbers of a node with these children, each seen from its own mover: phi is the least delta of a child, and delta
-/// the sum of the children's phi, which stops at `INF`. Without children the mover has lost: phi is `INF` and delta 0.
+/// The numbers of a node with these children, each seen from its own mover: phi is the least delta of a child, and
+/// delta the sum of the children's phi, which stops at `INF`. Without children the mover has lost: phi is `INF` and
+/// delta 0.
 pub fn combine(children: &[Numbers]) -> Numbers
     requires { All IsNumbers children.now }
     ensures value { result ≡ record { phi = phi_of children.now; delta = delta_of children.now } }

@@ -1,7 +1,7 @@
--- The And rule is sound. Two goals, each in reach in its own region, are both in reach in the two regions together, where
--- these share no cell: the player answers each move of the opponent's in the region in which it was made. By induction on
--- the boards after one stone more, with the opponent to move, or the player to move in one of the two. Two ends that are
--- joined with one vertex of the player's are joined with each other.
+-- The And rule is sound. Two goals, each in reach in its own region, are both in reach in the two regions together,
+-- where these share no cell: the player answers each move of the opponent's in the region in which it was made. By
+-- induction on the boards after one stone more, with the opponent to move, or the player to move in one of the two. Two
+-- ends that are joined with one vertex of the player's are joined with each other.
 use Rattle.std.proofs.Common.{◌≡◌, ℕ, Bool, true, false, refl, sym, ◌∙◌, ◌⊎◌, inl, inr, ⊎_elim}
 use Rattle.std.proofs.lemmas.Bool.{false≢true}
 use Rattle.hx_board.specs.declared.colours.Colour.{Colour}
@@ -44,7 +44,8 @@ module _ (player : Colour) where
   abbrev other : Colour
   other = other_of player
 
-  -- both goals are in reach together, where the first is with this player to move and the second with the opponent to move
+  -- both goals are in reach together, where the first is with this player to move and the second with the opponent to
+  -- move
   abbrev pub BothInReach : Colour → Board → Type 1
   BothInReach mover board = (G H K : Goal) → Stays player G → Stays player H → ((b : Board) → G b → H b → K b)
       → (first second whole : ℕ → Bool) → AreParts first second whole

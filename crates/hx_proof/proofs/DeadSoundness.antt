@@ -1,6 +1,7 @@
--- The colour of a stone on a dead cell does not matter. A walk over the cell is led round it: the vertices before and after the
--- cell are open neighbours of it, and joined without it. So the player's stone there makes no chain. The cell stays dead when
--- other stones come, and by induction on the play the player wins with the opponent's stone there as with an own one.
+-- The colour of a stone on a dead cell does not matter. A walk over the cell is led round it: the vertices before and
+-- after the cell are open neighbours of it, and joined without it. So the player's stone there makes no chain. The cell
+-- stays dead when other stones come, and by induction on the play the player wins with the opponent's stone there as
+-- with an own one.
 use Rattle.std.proofs.Common.{◌≡◌, ◌≢◌, ℕ, List, [], ◌∷◌, sym, ap, ◌∙◌, subst, ◌⊎◌, inl, inr, ⊎_elim, arith}
 use Rattle.std.proofs.lemmas.Bool.{false≢true, false_from_ne_true}
 use Rattle.std.proofs.Math.Decide.{ℕ_discrete}
@@ -84,7 +85,8 @@ module _ (board : Board) (player : Colour) (cell : ℕ) (is : IsBoard board) (de
       (let P : Vertex → Type 0 = λ z. Touches board.size player (Of cell) z in subst P also from_cell) in
       not_touching_itself cell to_cell.2
 
-  -- the end of a walk is joined without the stone: with its start, or where that is the cell, with each open neighbour of it
+  -- the end of a walk is joined without the stone: with its start, or where that is the cell, with each open neighbour
+  -- of it
   record IsLedRound (from to : Vertex) : Type 0 where
     from_start : from ≢ Of cell → IsOpen board player from → Joined board player from to
     from_neighbours : from ≡ Of cell → (u : Vertex) → IsOpenNeighbour board player cell u → Joined board player u to

@@ -1,5 +1,6 @@
--- The carrier of each link that right steps give has empty cells alone, by induction on the steps, and in it by the rule of the
--- step. A Base has no cell, the And over an empty cell adds that cell, and the other rules only unite carriers.
+-- The carrier of each link that right steps give has empty cells alone, by induction on the steps, and in it by the
+-- rule of the step. A Base has no cell, the And over an empty cell adds that cell, and the other rules only unite
+-- carriers.
 use Rattle.std.proofs.Common.{◌≡◌, ℕ, zero, suc, List, [], ◌∷◌, ◌++◌, true, refl, sym, ◌∙◌, ⊎_elim, Some, subst}
 use Rattle.std.proofs.lemmas.Bool.{false≢true}
 use Rattle.std.specs.Prelude.{slice_get}

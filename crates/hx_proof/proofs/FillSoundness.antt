@@ -1,6 +1,7 @@
--- Who wins after a fill step wins before it. Take a stone of the opponent's away: if the opponent won without it, then with it
--- too, and both would win. A dead cell may have the opponent's stone as well, which is then taken away. A pair may count as
--- the player's own. So who wins after fill steps one after the other wins before them, by induction on the steps.
+-- Who wins after a fill step wins before it. Take a stone of the opponent's away: if the opponent won without it, then
+-- with it too, and both would win. A dead cell may have the opponent's stone as well, which is then taken away. A pair
+-- may count as the player's own. So who wins after fill steps one after the other wins before them, by induction on the
+-- steps.
 use Rattle.std.proofs.Common.{ℕ, List, [], ◌∷◌, refl, ◌⊎◌, ⊎_elim}
 use Rattle.std.proofs.Math.Logic.{⊎_swap}
 use Rattle.hx_board.specs.declared.colours.Colour.{Colour}

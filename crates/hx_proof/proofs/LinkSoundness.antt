@@ -1,6 +1,6 @@
--- Each link that right steps give holds, by induction on the steps, and in it by the rule of the step. The player wins where
--- a link between the two sides holds: the local game is play in a region, and the board is as good for play anywhere. What
--- holds with the opponent to move does so with the move too, so a Full link wins whoever is to move.
+-- Each link that right steps give holds, by induction on the steps, and in it by the rule of the step. The player wins
+-- where a link between the two sides holds: the local game is play in a region, and the board is as good for play
+-- anywhere. What holds with the opponent to move does so with the move too, so a Full link wins whoever is to move.
 use Rattle.std.proofs.Common.{◌≡◌, ℕ, zero, suc, List, [], ◌∷◌, ◌++◌, refl, ◌⊎◌, inl, inr, ⊎_elim, Some}
 use Rattle.std.specs.Prelude.{slice_get}
 use Rattle.hx_board.specs.declared.colours.Colour.{Colour}

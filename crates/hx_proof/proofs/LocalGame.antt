@@ -1,6 +1,6 @@
--- Play in a region of the board, for a goal that further stones of the player do not spoil: it stays in reach in a larger
--- region, with a move more, after a stone outside the region, and together with what is reached already. All but the last by
--- the laws of play on a board that is as good, the last by induction on the play.
+-- Play in a region of the board, for a goal that further stones of the player do not spoil: it stays in reach in a
+-- larger region, with a move more, after a stone outside the region, and together with what is reached already. All but
+-- the last by the laws of play on a board that is as good, the last by induction on the play.
 use Rattle.std.proofs.Common.{◌≡◌, ℕ, Bool, true, refl, inl, inr}
 use Rattle.hx_board.specs.declared.colours.Colour.{Colour}
 use Rattle.hx_board.specs.declared.vertices.Vertex.{Vertex}

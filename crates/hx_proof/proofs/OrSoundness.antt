@@ -1,5 +1,5 @@
--- The Or rule is sound. Where the player with the move secures two ends in several carriers, of which no cell is in all, a
--- move of the opponent's leaves a carrier in which the player with the move secures them still.
+-- The Or rule is sound. Where the player with the move secures two ends in several carriers, of which no cell is in
+-- all, a move of the opponent's leaves a carrier in which the player with the move secures them still.
 use Rattle.std.proofs.Common.{◌≡◌, ℕ, false, refl, sym, ◌∙◌}
 use Rattle.std.proofs.lemmas.Bool.{false≢true}
 use Rattle.hx_board.specs.declared.colours.Colour.{Colour}

@@ -1,6 +1,6 @@
--- Both cells of a pair may count as the player's own. By induction on the play on the board with both: the player plays as
--- there, and where the opponent takes one cell of the pair, the player takes the other. Then the opponent's stone is on a
--- dead cell, where its colour does not matter. With a chain already, one cell of the pair is enough for it.
+-- Both cells of a pair may count as the player's own. By induction on the play on the board with both: the player plays
+-- as there, and where the opponent takes one cell of the pair, the player takes the other. Then the opponent's stone is
+-- on a dead cell, where its colour does not matter. With a chain already, one cell of the pair is enough for it.
 use Rattle.std.proofs.Common.{◌≡◌, ◌≢◌, ℕ, refl, sym, ap, ◌∙◌, subst, ⊎_elim}
 use Rattle.std.proofs.Math.Decide.{ℕ_discrete}
 use Rattle.hx_board.specs.declared.colours.Colour.{Colour}

@@ -1,5 +1,5 @@
--- A move of the opponent's that leaves a threat whole loses. A threat is a link of the player's between the two sides; with
--- the move the player secures its ends in its carrier, and does so still after a stone outside the carrier.
+-- A move of the opponent's that leaves a threat whole loses. A threat is a link of the player's between the two sides;
+-- with the move the player secures its ends in its carrier, and does so still after a stone outside the carrier.
 use Rattle.std.proofs.Common.{◌≡◌, ℕ, List, false, sym, ◌∙◌, subst, Option}
 use Rattle.std.proofs.lemmas.Bool.{false≢true}
 use Rattle.std.specs.Prelude.{slice_get, IfSome, IsSomeAnd}

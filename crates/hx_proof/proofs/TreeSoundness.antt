@@ -1,6 +1,6 @@
--- The winner of a right node wins, where the winners before it do, by the rule of the game tree that its own rule stands
--- for. So the winner of each node of a valid tree wins, by induction on its place. The other player does not, since one
--- player wins each position.
+-- The winner of a right node wins, where the winners before it do, by the rule of the game tree that its own rule
+-- stands for. So the winner of each node of a valid tree wins, by induction on its place. The other player does not,
+-- since one player wins each position.
 use Rattle.std.proofs.Common.{◌≡◌, ℕ, zero, suc, ◌<◌, List, [], ◌∷◌, take, length, get_or, subst, ⊎_elim, Option, Some, None, arith}
 use Rattle.std.specs.Prelude.{slice_get, IfSome, IsSomeAnd}
 use Rattle.hx_board.specs.declared.colours.Colour.{Colour}

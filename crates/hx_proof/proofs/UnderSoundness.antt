@@ -1,7 +1,7 @@
--- Who wins after the opponent's better move wins after the worse one. Where the worse cell is dead for the player once the
--- opponent has the better one, the opponent may have both, and the better one's stone is taken away. Where it is one of a pair
--- of the opponent's, the opponent has as much after the better move as after both: if the opponent won after the worse one, then
--- after the better one too, and both would win.
+-- Who wins after the opponent's better move wins after the worse one. Where the worse cell is dead for the player once
+-- the opponent has the better one, the opponent may have both, and the better one's stone is taken away. Where it is
+-- one of a pair of the opponent's, the opponent has as much after the better move as after both: if the opponent won
+-- after the worse one, then after the better one too, and both would win.
 use Rattle.std.proofs.Common.{◌≢◌, ℕ, refl, sym, subst, ⊎_elim}
 use Rattle.hx_board.specs.declared.colours.Colour.{Colour}
 use Rattle.hx_board.specs.Colours.{other_of}

@@ -1,5 +1,5 @@
-//! The rules of proof are sound: what each of them shows holds in the game tree. The laws are functions that do nothing;
-//! what they say stands in their contracts.
+//! The rules of proof are sound: what each of them shows holds in the game tree. The laws are functions that do
+//! nothing; what they say stands in their contracts.
 #![tactic(auto)]
 
 mod dominations;

@@ -8,8 +8,8 @@ ghost use Rattle.hx_proof.specs.Links.{EndInChainLink, ShowChain};
 use hx_board::{Colour, Position};
 use hx_link::Step;
 
-/// Where the last link of right steps joins the player's two sides, the player wins with the move, and where that link is
-/// Full with the opponent's move too.
+/// Where the last link of right steps joins the player's two sides, the player wins with the move, and where that link
+/// is Full with the opponent's move too.
 pub fn link_sound(position: &Position, colour: Colour, steps: &[Step])
     requires { ShowChain position.now colour steps.now }
     ensures with_the_move { Wins colour position.now colour }

@@ -1,7 +1,7 @@
 //! Links that may be added, the smallest first.
 //!
-//! What a step gives is never smaller than its parts. So where a link is added only when it is taken out of here, all that
-//! could cover it has been added before, and the set holds no link that a later one makes idle.
+//! What a step gives is never smaller than its parts. So where a link is added only when it is taken out of here, all
+//! that could cover it has been added before, and the set holds no link that a later one makes idle.
 //!
 //! Most candidates are covered when they are taken out. So one is small and copied about, and its
 //! step, which may need memory, is made only for those that are wanted.
@@ -44,8 +44,8 @@ impl Candidate {
         }
     }
 
-    /// The cells that it shares with all live links of its kind and ends. None where one of them covers it, or there is no
-    /// room for it among them.
+    /// The cells that it shares with all live links of its kind and ends. None where one of them covers it, or there is
+    /// no room for it among them.
     pub(crate) fn shared_where_wanted(&self, set: &LinkSet, caps: &Caps) -> Option<Mask> {
         shared_where_wanted(set, caps, self.kind(), &self.a, &self.b, self.carrier)
     }

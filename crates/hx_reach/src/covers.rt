@@ -17,8 +17,8 @@ impl Caps {
         Caps { full: 0, semi: 0 }
     }
 
-    /// Small boards are searched to the end with many links. On large ones a set has no room for as many, and with fewer of
-    /// each pair of ends it holds links of more pairs.
+    /// Small boards are searched to the end with many links. On large ones a set has no room for as many, and with
+    /// fewer of each pair of ends it holds links of more pairs.
     pub(crate) fn of(position: &Position) -> Caps {
         let size = position.size();
         if size.rows() <= 8 && size.cols() <= 8 {
@@ -60,8 +60,8 @@ pub(crate) fn is_covered(set: &LinkSet, kind: Kind, a: &Vertex, b: &Vertex, carr
     false
 }
 
-/// The cells of the carrier that all live links of this kind and these ends have. None where one of them lies inside the
-/// carrier, or they are many.
+/// The cells of the carrier that all live links of this kind and these ends have. None where one of them lies inside
+/// the carrier, or they are many.
 pub(crate) fn shared_where_wanted(
     set: &LinkSet,
     caps: &Caps,

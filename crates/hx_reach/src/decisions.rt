@@ -1,4 +1,5 @@
-//! Whether a live link decides a position: it joins the sides of the set's player, and he needs no move more, or has it.
+//! Whether a live link decides a position: it joins the sides of the set's player, and he needs no move more, or has
+//! it.
 
 ghost use Rattle.std.specs.Prelude.{◌≡◌, ◌↔◌, IsTrue};
 ghost use Rattle.hx_reach.specs.Decided.{IsReached};
@@ -10,8 +11,8 @@ use hx_linkset::LinkSet;
 /// What the live links of a set show of its position.
 #[derive(Clone, Copy, PartialEq, Eq, Debug)]
 pub enum Reached {
-    /// The set's player wins: the live link at this index joins the player's two sides, and it is Full, or the player is to
-    /// move.
+    /// The set's player wins: the live link at this index joins the player's two sides, and it is Full, or the player
+    /// is to move.
     Decided(u32),
 
     /// No such link is live.

@@ -1,8 +1,8 @@
 //! Between which vertices useful links are made.
 //!
 //! The stones of a group lead to the same vertices, so links of each of them would multiply all links without a new
-//! connection. One vertex stands for a group: a side, where the group has one, and else its first stone in cell order. Links
-//! are made between empty cells, sides and these stones alone.
+//! connection. One vertex stands for a group: a side, where the group has one, and else its first stone in cell order.
+//! Links are made between empty cells, sides and these stones alone.
 
 ghost use Rattle.std.specs.Prelude.{◌≡◌};
 

@@ -1,11 +1,11 @@
 //! Useful links are added to a set, for positions inside a search.
 //!
-//! A set that is closed under the rules holds very many links, and most of them are of no use. Here links are made only between
-//! vertices that stand for their groups, and few of each pair of ends; the smallest come first, and the first one that decides
-//! the position may end it.
+//! A set that is closed under the rules holds very many links, and most of them are of no use. Here links are made only
+//! between vertices that stand for their groups, and few of each pair of ends; the smallest come first, and the first
+//! one that decides the position may end it.
 //!
-//! A set that a call has left Open can be played on, and taken back, with nothing kept beside it. Of one that is decided not
-//! all links were tried, and a later call does not catch up with what was left.
+//! A set that a call has left Open can be played on, and taken back, with nothing kept beside it. Of one that is
+//! decided not all links were tried, and a later call does not catch up with what was left.
 
 ghost use Rattle.std.specs.Prelude.{IfOk};
 ghost use Rattle.hx_linkset.specs.States.{IsRight};
@@ -24,8 +24,8 @@ use hx_linkset::{Added, LinkSet};
 /// What became of the candidates of one size.
 #[derive(Clone, Copy)]
 enum Taken {
-    /// One was added at this index; and whether all live links of its kind and ends, it too, share a cell. (Not the cells:
-    /// the proof of a loop takes no mask out of a value.)
+    /// One was added at this index; and whether all live links of its kind and ends, it too, share a cell. (Not the
+    /// cells: the proof of a loop takes no mask out of a value.)
     New(u32, bool),
 
     /// None is left.
@@ -152,8 +152,8 @@ fn add_useful(set: &mut LinkSet, workspace: &mut Workspace, until: Until) -> Res
     grow(set, workspace, until)
 }
 
-/// Adds all useful links, also where one decides the position, in a workspace that is let go at the end. It is for whoever
-/// then adds other links too (`close` of hx_search), so that a set that gets full holds the useful ones.
+/// Adds all useful links, also where one decides the position, in a workspace that is let go at the end. It is for
+/// whoever then adds other links too (`close` of hx_search), so that a set that gets full holds the useful ones.
 pub fn add_all_useful(set: &mut LinkSet) -> Result<(), Memory>
     ensures { IsGrown set.old set.new }
 {
@@ -163,8 +163,8 @@ pub fn add_all_useful(set: &mut LinkSet) -> Result<(), Memory>
     }
 }
 
-/// Adds the links that a call added before to a set in this state; or useful ones, until one decides the position, and keeps
-/// their steps.
+/// Adds the links that a call added before to a set in this state; or useful ones, until one decides the position, and
+/// keeps their steps.
 fn add_or_replay(
     set: &mut LinkSet,
     workspace: &mut Workspace,
@@ -186,10 +186,10 @@ fn add_or_replay(
     added
 }
 
-/// Adds useful links until one decides the position, or none is left that this call looks for, or there is no room. Whatever
-/// the answer, want of memory included, the links that were live stay live at their indices, and position, player and plays
-/// are as before; each live link comes by a step from live links before it. The answer says whether a live link is there
-/// that decides the position for the set's player, where `to_move` is to move.
+/// Adds useful links until one decides the position, or none is left that this call looks for, or there is no room.
+/// Whatever the answer, want of memory included, the links that were live stay live at their indices, and position,
+/// player and plays are as before; each live link comes by a step from live links before it. The answer says whether a
+/// live link is there that decides the position for the set's player, where `to_move` is to move.
 ///
 /// A set that a call has left Open may be played on and reached again: what is new then is what the stones since then
 /// change. A set that is decided, and stays so, needs no more links, and gets none.

@@ -1,14 +1,14 @@
 //! The steps that reaches added, for the next reach from the same state of a set.
 //!
-//! A search comes back to positions that it left, by the same moves, and then its sets stand as they stood there before. A
-//! reach adds the same links again. So its steps are kept, and the next reach from that state adds them one after the other,
-//! and looks for no others.
+//! A search comes back to positions that it left, by the same moves, and then its sets stand as they stood there
+//! before. A reach adds the same links again. So its steps are kept, and the next reach from that state adds them one
+//! after the other, and looks for no others.
 //!
-//! A state is known by its key alone. Where two states share one, steps may be added that a reach would not have found, and
-//! others left out; the set judges each step as ever, so no claim rests on a key.
+//! A state is known by its key alone. Where two states share one, steps may be added that a reach would not have found,
+//! and others left out; the set judges each step as ever, so no claim rests on a key.
 //!
-//! The steps stand in a ring: once it is full the oldest ones make room. Its memory is taken a bit at a time, and without memory
-//! for it nothing is kept.
+//! The steps stand in a ring: once it is full the oldest ones make room. Its memory is taken a bit at a time, and
+//! without memory for it nothing is kept.
 
 ghost use Rattle.hx_reach.specs.Growth.{IsGrown};
 
@@ -70,8 +70,8 @@ impl Replays {
         }
     }
 
-    /// Adds the steps that a reach added to a set in the state of this key, where they are kept, until one gives no link.
-    /// Whether all were there and gave links.
+    /// Adds the steps that a reach added to a set in the state of this key, where they are kept, until one gives no
+    /// link. Whether all were there and gave links.
     pub(crate) fn replay(&self, set: &mut LinkSet, key: u64) -> Result<bool, Memory>
         ensures { IsGrown set.old set.new }
     {

@@ -39,8 +39,8 @@ impl Partners {
     }
 }
 
-/// Adds the And of two Full links over the end that they share, which is an own vertex or this empty cell. Whether a live link
-/// covers it is asked once, when it is taken out.
+/// Adds the And of two Full links over the end that they share, which is an own vertex or this empty cell. Whether a
+/// live link covers it is asked once, when it is taken out.
 fn push_and(
     candidates: &mut Candidates,
     over: Option<Cell>,

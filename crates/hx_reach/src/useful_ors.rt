@@ -1,7 +1,7 @@
 //! The Ors that a new Semi link makes possible, of few parts.
 //!
-//! Parts are looked at in the order in which they came. Since links are added by their size, that is nearly the order by size,
-//! and no sort is wanted.
+//! Parts are looked at in the order in which they came. Since links are added by their size, that is nearly the order
+//! by size, and no sort is wanted.
 
 use crate::candidates::Candidates;
 use crate::covers::is_covered;
@@ -181,7 +181,8 @@ impl OrSearch {
     }
 }
 
-/// Adds one Or of as many parts as it takes: at each step the part that leaves the least shared and brings the fewest cells.
+/// Adds one Or of as many parts as it takes: at each step the part that leaves the least shared and brings the fewest
+/// cells.
 fn push_wide(
     candidates: &mut Candidates,
     lists: &mut OrLists,
@@ -205,8 +206,8 @@ fn push_wide(
     candidates.push_or(a, b, chosen.carrier, lists.wide.as_slice())
 }
 
-/// The part that leaves the least shared, and of these the one that brings the fewest cells. None where none takes a cell
-/// away.
+/// The part that leaves the least shared, and of these the one that brings the fewest cells. None where none takes a
+/// cell away.
 fn best_of(parts: &[Part], chosen: &Chosen) -> Option<Part> {
     let mut best = None;
     let mut least = (chosen.shared.count(), 0);

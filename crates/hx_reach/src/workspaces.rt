@@ -11,9 +11,9 @@ use hx_link::{Kind, Link};
 use hx_linkset::LinkSet;
 use std::alloc::Global;
 
-/// Room that `reach_with` works in. A caller may keep it from one call to the next, for whatever set, so that its memory is
-/// taken once. Beside its memory the steps last that calls added, and save the search for them where a set comes back to a
-/// state.
+/// Room that `reach_with` works in. A caller may keep it from one call to the next, for whatever set, so that its
+/// memory is taken once. Beside its memory the steps last that calls added, and save the search for them where a set
+/// comes back to a state.
 #[derive(Drop)]
 pub struct Workspace {
     pub(crate) ends: Ends,
@@ -42,8 +42,8 @@ impl Workspace {
         self.candidates.clear();
     }
 
-    /// Adds what a new link makes possible, where it is known whether all live links of its kind and ends share a cell. A
-    /// cell that all Semi links of two ends have is in all parts of each Or, so there is none.
+    /// Adds what a new link makes possible, where it is known whether all live links of its kind and ends share a cell.
+    /// A cell that all Semi links of two ends have is in all parts of each Or, so there is none.
     pub(crate) fn look_at_new(
         &mut self,
         set: &LinkSet,

@@ -1,6 +1,6 @@
--- The Ands of a link with all earlier ones, from those along the chains at its two ends. Two links that give something share
--- one end, the middle, so the earlier one is in a chain at that end of the later one. It is own for an And over a stone or
--- a side, and no own vertex for an And over an empty cell.
+-- The Ands of a link with all earlier ones, from those along the chains at its two ends. Two links that give something
+-- share one end, the middle, so the earlier one is in a chain at that end of the later one. It is own for an And over a
+-- stone or a side, and no own vertex for an And over an empty cell.
 use Rattle.std.proofs.Common.{◌≡◌, ℕ, suc, ◌<◌, ◌≤◌, ◌+◌, ◌-◌, Bool, true, false, length, refl, sym, ◌∙◌, subst, inl}
 use Rattle.std.proofs.Common.{inr, Some, None, Option, ◌⊎◌, ⊎_elim, arith}
 use Rattle.std.specs.Prelude.{slice_get, MatchOption, ◌↔◌, IsTrue}

@@ -1,6 +1,7 @@
--- Parts for an Or. Each of them lacks a cell that those before it share, so they are few (`parts-more`); what is shared, all
--- live Semi links of the two ends have (`share-more`). Where a cell is shared in the end, the ends are not forked
--- (`not-forked`); where none is, each cell is lacking in some part, and then the Or of the parts gives a link (`fork-of`).
+-- Parts for an Or. Each of them lacks a cell that those before it share, so they are few (`parts-more`); what is
+-- shared, all live Semi links of the two ends have (`share-more`). Where a cell is shared in the end, the ends are not
+-- forked (`not-forked`); where none is, each cell is lacking in some part, and then the Or of the parts gives a link
+-- (`fork-of`).
 use Rattle.std.proofs.Common.{◌≡◌, ◌≢◌, ℕ, zero, suc, ◌<◌, ◌≤◌, ◌+◌, true, false, List, [], ◌∷◌, ◌++◌, map, length, refl, sym, ap}
 use Rattle.std.proofs.Common.{◌∙◌, subst, Some, ⊎_elim, ◌⊎◌, inl, inr, arith, length-append}
 use Rattle.std.specs.Prelude.{slice_get}

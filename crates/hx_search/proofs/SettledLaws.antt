@@ -1,5 +1,5 @@
--- What stays as links are added: each place holds what it held, so a live link stays live, and a settled step of places that
--- were there stays settled, since it gives the same link.
+-- What stays as links are added: each place holds what it held, so a live link stays live, and a settled step of places
+-- that were there stays settled, since it gives the same link.
 use Rattle.std.proofs.Common.{◌≡◌, ℕ, suc, ◌+◌, ◌<◌, List, [], ◌∷◌, map, length}
 use Rattle.std.proofs.Common.{refl, sym, ◌∙◌, subst, inl, inr, Some}
 use Rattle.std.proofs.lemmas.Option.{slice_get_within}

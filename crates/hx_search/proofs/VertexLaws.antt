@@ -1,4 +1,5 @@
--- The vertices of a board by number: what holds of those below a bound, and of the one at it, holds below the next bound.
+-- The vertices of a board by number: what holds of those below a bound, and of the one at it, holds below the next
+-- bound.
 use Rattle.std.proofs.Common.{◌≡◌, ℕ, ◌<◌, ◌+◌, sym, ap, ◌∙◌, subst, inl, inr, ⊎_elim, arith}
 use Rattle.std.proofs.lemmas.Bool.{false≢true, cases_eq}
 use Rattle.hx_board.specs.declared.colours.Colour.{Colour}

@@ -1,8 +1,8 @@
 //! The And rule, for each link with each earlier one that it meets.
 //!
 //! Two links give nothing unless they are Full and share one end. So a link is tried only with the Full links that lead
-//! from one of its own ends to some vertex, which stand in chains; and only with earlier ones, since a later link will be
-//! tried with this one when it is looked at.
+//! from one of its own ends to some vertex, which stand in chains; and only with earlier ones, since a later link will
+//! be tried with this one when it is looked at.
 
 ghost use Rattle.std.specs.Prelude.{◌≡◌, ℕ, ◌<◌, length, IfOk};
 ghost use Rattle.hx_reach.specs.Growth.{IsGrown};

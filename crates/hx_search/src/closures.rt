@@ -1,5 +1,6 @@
-//! How a set of links is closed: first with useful links, so that a set which gets full holds these; then with the Bases, and
-//! with Ands and then Ors, again and again, until a pass over the Ors adds none. That the set is closed rests on the second part alone.
+//! How a set of links is closed: first with useful links, so that a set which gets full holds these; then with the
+//! Bases, and with Ands and then Ors, again and again, until a pass over the Ors adds none. That the set is closed
+//! rests on the second part alone.
 
 ghost use Rattle.std.specs.Prelude.{IfOk};
 ghost use Rattle.hx_linkset.specs.States.{IsRight};
@@ -31,10 +32,10 @@ const LIMIT: Closure = Closure::Limit {
 };
 
 /// Adds links until the set is closed or there is no room. Whatever the answer, want of memory included, the links that
-/// were live stay live at their indices, and position, player and plays are as before; each live link comes by a step from
-/// live links before it. Closed says three things of the live links: two vertices that are joined have a Full link on no
-/// cell; each And of two of them is covered by one; and where two vertices have two or more Semi links, of which no cell is
-/// in all carriers, they have a Full link.
+/// were live stay live at their indices, and position, player and plays are as before; each live link comes by a step
+/// from live links before it. Closed says three things of the live links: two vertices that are joined have a Full link
+/// on no cell; each And of two of them is covered by one; and where two vertices have two or more Semi links, of which
+/// no cell is in all carriers, they have a Full link.
 pub fn close(set: &mut LinkSet) -> Result<Closure, Memory>
     ensures grown { IsGrown set.old set.new }
     ensures answer { IfOk result (IsAnswer set.new) }
@@ -70,7 +71,8 @@ fn add_all(set: &mut LinkSet) -> Result<Tried, Memory>
             Ok(Tried::Stopped) => return Ok(Tried::Stopped),
             Err(Memory) => return Err(Memory),
         }
-        // The board is a position's, so each vertex has its code; and no set holds more links than this tells, so the loop ends.
+        // The board is a position's, so each vertex has its code; and no set holds more links than this tells, so the
+        // loop ends.
         set.keeps();
         settled = set.count();
         match join_all(set) {

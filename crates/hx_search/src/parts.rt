@@ -1,7 +1,7 @@
 //! The parts of an Or: of the live Semi links of two ends a few, of which no cell is in all carriers.
 //!
-//! A link is taken only where it lacks a cell that those before it share. So no more are taken than a carrier has cells and
-//! one, and that is fewer than an Or can name; and what is shared in the end, all links of these ends share.
+//! A link is taken only where it lacks a cell that those before it share. So no more are taken than a carrier has cells
+//! and one, and that is fewer than an Or can name; and what is shared in the end, all links of these ends share.
 
 ghost use Rattle.std.specs.Prelude.{IfOk, MatchOption};
 ghost use Rattle.hx_search.specs.Closed.{IsForked};

@@ -1,5 +1,5 @@
-//! One step tried. A step whose link is covered, or that gives none, stays so as links are added: no step of links that are
-//! there has to be tried a second time.
+//! One step tried. A step whose link is covered, or that gives none, stays so as links are added: no step of links that
+//! are there has to be tried a second time.
 
 ghost use Rattle.std.specs.Prelude.{IfOk};
 ghost use Rattle.hx_reach.specs.Growth.{IsGrown};

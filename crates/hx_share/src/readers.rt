@@ -76,8 +76,8 @@ impl BookSeat {
         self.seen
     }
 
-    /// What is true of what each seat has seen: it is what a book may hold that has the slots of the shared one. The call does
-    /// nothing.
+    /// What is true of what each seat has seen: it is what a book may hold that has the slots of the shared one. The
+    /// call does nothing.
     pub fn keeps(&self)
         ensures { IsBook (contents self.now.made.slots self.now.seen) }
     {

@@ -1,8 +1,9 @@
 //! The shared book, and what workers do with it.
 //!
-//! The book lies in the one slot of a table. The table's one word is twice the number of nodes that the book holds, and one
-//! more while a seat has the book. A seat that wants it makes an even word odd, takes the book out of the slot, puts it
-//! back and writes the even word of the book as it is then. So a book is never copied, and nobody reads it while another writes.
+//! The book lies in the one slot of a table. The table's one word is twice the number of nodes that the book holds, and
+//! one more while a seat has the book. A seat that wants it makes an even word odd, takes the book out of the slot,
+//! puts it back and writes the even word of the book as it is then. So a book is never copied, and nobody reads it
+//! while another writes.
 
 ghost use Rattle.std.specs.Prelude.{◌≡◌, ◌+◌, ◌*◌, ◌<◌, ◌≤◌, [], ◌∷◌, None, false, map, length, replicate, IfOk, IfErr};
 ghost use Rattle.std.specs.List.{All};
@@ -52,8 +53,8 @@ impl Model for Shared {
 }
 
 impl Shared {
-    /// An empty book that has room for so many nodes, and so many seats, which have seen nothing. At most `MOST_SLOTS` slots, 1 to
-    /// 64 seats.
+    /// An empty book that has room for so many nodes, and so many seats, which have seen nothing. At most `MOST_SLOTS`
+    /// slots, 1 to 64 seats.
     pub fn start(alloc: Global, slots: u32, seats: u32) -> Result<(Shared, Vec<BookSeat>), Memory>
         requires slots { slots ≤ MOST_SLOTS }
         requires seats { (0 < seats) × (seats ≤ 64) }
@@ -103,8 +104,8 @@ impl Shared {
         Ok(seats)
     }
 
-    /// The first entry of a position and mover, of the nodes that the seat has then seen, which are all that the book holds.
-    /// None exactly where there is none. It may wait for the book.
+    /// The first entry of a position and mover, of the nodes that the seat has then seen, which are all that the book
+    /// holds. None exactly where there is none. It may wait for the book.
     pub fn look<R: Wait>(
         &self,
         rt: &R,
@@ -125,9 +126,9 @@ impl Shared {
         found
     }
 
-    /// An entry of this mover and winner that serves the position, of the nodes that the seat has then seen, which are all that
-    /// the book holds: its winner has the same stones, and the opponent's stones of the position are all in the entry's. None
-    /// exactly where there is none. It may wait for the book.
+    /// An entry of this mover and winner that serves the position, of the nodes that the seat has then seen, which are
+    /// all that the book holds: its winner has the same stones, and the opponent's stones of the position are all in
+    /// the entry's. None exactly where there is none. It may wait for the book.
     pub fn look_wider<R: Wait>(
         &self,
         rt: &R,
@@ -149,9 +150,9 @@ impl Shared {
         wider
     }
 
-    /// Stores a node that is right after those that the seat has seen. The index of the entry of its position and mover, of the
-    /// nodes that the seat has then seen. The node comes back exactly where there is no such entry and each slot is taken. It
-    /// may wait for the book.
+    /// Stores a node that is right after those that the seat has seen. The index of the entry of its position and
+    /// mover, of the nodes that the seat has then seen. The node comes back exactly where there is no such entry and
+    /// each slot is taken. It may wait for the book.
     pub fn store<R: Wait>(&self, rt: &R, seat: &mut BookSeat, offer: Offer) -> Result<u32, NoSlot>
         requires seat { seat.old.made ≡ self.now.made }
         requires node { IsRightNode (headings_of seat.old.seen) offer }
@@ -201,8 +202,8 @@ impl Shared {
         seat.seen = seat.seen.max(told);
     }
 
-    /// What any two seats have seen are fronts of one list. The call makes a note of each, lets one learn the other, and changes
-    /// neither seat.
+    /// What any two seats have seen are fronts of one list. The call makes a note of each, lets one learn the other,
+    /// and changes neither seat.
     pub fn compare(&self, one: &mut BookSeat, other: &mut BookSeat)
         requires one { one.old.made ≡ self.now.made }
         requires other { other.old.made ≡ self.now.made }
@@ -249,8 +250,8 @@ impl Shared {
         seat
     }
 
-    /// Waits until no other seat has the book, and takes it. A seat that waits pauses, for longer each time, and then lets other
-    /// threads run, so that the one that has the book gets on.
+    /// Waits until no other seat has the book, and takes it. A seat that waits pauses, for longer each time, and then
+    /// lets other threads run, so that the one that has the book gets on.
     fn take_book<R: Wait>(&self, rt: &R, seat: &mut Seat<Option<Book>, View>) -> Book
         requires table { seat.old.table_id ≡ self.now.made.table }
         requires waits { seat.old.me
@@ -290,8 +291,8 @@ impl Shared {
         self.table.shared.store::<GivingBack>(seat, 0, word);
     }
 
-    /// Takes in a note. A join of seats tells nothing of their lists; the load after it is a step of the table, at which both
-    /// are fronts of its one list.
+    /// Takes in a note. A join of seats tells nothing of their lists; the load after it is a step of the table, at
+    /// which both are fronts of its one list.
     fn absorb(&self, seat: &mut Seat<Option<Book>, View>, note: Seat<Option<Book>, View>)
         requires tables { (seat.old.table_id ≡ self.now.made.table)
             × (note.table_id ≡ self.now.made.table) }

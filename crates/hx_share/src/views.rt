@@ -1,5 +1,5 @@
-//! What the table of a shared book is told once, and what a seat knows of it. Of a view no value is made: views stand in the
-//! rule of the table and in contracts.
+//! What the table of a shared book is told once, and what a seat knows of it. Of a view no value is made: views stand
+//! in the rule of the table and in contracts.
 
 use hx_tree::Node;
 use std::collections::LinkedList;
@@ -34,7 +34,8 @@ pub struct Part {
     pub seen: LinkedList<Node>,
 }
 
-/// The parts of a seat: one, but while seats are dealt out at the start and gathered at the end, and while a seat learns.
+/// The parts of a seat: one, but while seats are dealt out at the start and gathered at the end, and while a seat
+/// learns.
 pub struct View {
     pub parts: LinkedList<Part>,
 }

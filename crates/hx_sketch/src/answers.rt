@@ -1,14 +1,15 @@
 //! The zone of answers to all moves of the opponent's.
 //!
-//! After each move that must be tried some zone has the winner win. Such a zone answers the other moves outside its free cells too, so a
-//! few are chosen, and each of these moves is answered by one of them. The zone of answers needs the winner's stones that one of them
-//! needs or has on its free cells. Its free cells are the empty ones among theirs, with the carriers of the threats and the cells of the
-//! lines by better cells.
+//! After each move that must be tried some zone has the winner win. Such a zone answers the other moves outside its
+//! free cells too, so a few are chosen, and each of these moves is answered by one of them. The zone of answers needs
+//! the winner's stones that one of them needs or has on its free cells. Its free cells are the empty ones among theirs,
+//! with the carriers of the threats and the cells of the lines by better cells.
 //!
-//! It is enough: with these stones and free cells, and all other cells the opponent's, the opponent has moves to the free cells alone.
-//! After each that must be tried the chosen zone that answers it serves, since the winner has the stones that it needs, and the opponent
-//! none on its free cells. So the node has children there that are taken for granted. The checker judges the rest of it, its threats and
-//! its lines by better cells, and which stones these need (judged.rt).
+//! It is enough: with these stones and free cells, and all other cells the opponent's, the opponent has moves to the
+//! free cells alone. After each that must be tried the chosen zone that answers it serves, since the winner has the
+//! stones that it needs, and the opponent none on its free cells. So the node has children there that are taken for
+//! granted. The checker judges the rest of it, its threats and its lines by better cells, and which stones these need
+//! (judged.rt).
 
 ghost use Rattle.hx_fill.specs.Musts.{IsMust};
 
@@ -157,7 +158,8 @@ fn node_for(set: &LinkSet, found: &Must, free: Mask) -> Result<Node, Memory>
     Ok(Node { heading, rule })
 }
 
-/// Keeps the zone of answers, where zones say that the set's player wins after each move that must be tried. Whether they do.
+/// Keeps the zone of answers, where zones say that the set's player wins after each move that must be tried. Whether
+/// they do.
 pub(crate) fn draft_answers(zones: &Zones, set: &LinkSet, order: &[Cell]) -> Result<bool, Memory> {
     let found = must(set, order)?;
     let position = set.position();

@@ -1,6 +1,7 @@
 //! The zone of a chain: its stones, and no free cells.
 //!
-//! It is enough: where the player has these stones they are a chain, whatever else is on the board and whoever is to move.
+//! It is enough: where the player has these stones they are a chain, whatever else is on the board and whoever is to
+//! move.
 
 use hx_board::{CELLS, Colour, Mask, Position, chain};
 use hx_zones::{Kind, Zone, Zones, placed};
@@ -14,7 +15,8 @@ fn has_chain(position: &Position, winner: Colour, own: Mask) -> bool {
     }
 }
 
-/// Keeps the zone of a player's chain, for either player to move. Stones are left out one after the other while a chain is left.
+/// Keeps the zone of a player's chain, for either player to move. Stones are left out one after the other while a chain
+/// is left.
 pub(crate) fn draft_chain(zones: &Zones, position: &Position, winner: Colour) {
     let size = position.size();
     let mut kept = position.stones(winner);

@@ -1,14 +1,15 @@
-//! The zone of fill-in: that of the position after it, without the stones that were filled in for the winner. The cells of the winner's
-//! steps that fill these are to be free, and it needs the stones without which these steps are not right.
+//! The zone of fill-in: that of the position after it, without the stones that were filled in for the winner. The cells
+//! of the winner's steps that fill these are to be free, and it needs the stones without which these steps are not
+//! right.
 //!
-//! It is enough: with these stones and free cells, and all other cells the opponent's, the steps are right one after the other, so they
-//! change nothing of who wins. After them the zone of the filled position serves, since the winner has the stones that it needs. So the
-//! winner wins there, and wherever the zone before the steps serves: there the winner may have more stones and the opponent fewer, which
-//! makes no win harder.
+//! It is enough: with these stones and free cells, and all other cells the opponent's, the steps are right one after
+//! the other, so they change nothing of who wins. After them the zone of the filled position serves, since the winner
+//! has the stones that it needs. So the winner wins there, and wherever the zone before the steps serves: there the
+//! winner may have more stones and the opponent fewer, which makes no win harder.
 //!
-//! The opponent's steps need nothing: without a stone that they put the winner wins all the more. Of the winner's steps those are tried
-//! first that fill a cell which the zone after fill-in needs. One of these may be right only behind another step of the winner's: where
-//! they are not right, all of the winner's steps are tried.
+//! The opponent's steps need nothing: without a stone that they put the winner wins all the more. Of the winner's steps
+//! those are tried first that fill a cell which the zone after fill-in needs. One of these may be right only behind
+//! another step of the winner's: where they are not right, all of the winner's steps are tried.
 
 use hx_board::{CELLS, Colour, Mask, Memory, Position};
 use hx_fill::Filled;
@@ -50,8 +51,8 @@ fn all_cells(steps: &[FillStep]) -> Mask {
     cells
 }
 
-/// Whether the steps are right for the winner, one after the other, where the winner has these stones alone, these cells are empty, and
-/// all others are the opponent's.
+/// Whether the steps are right for the winner, one after the other, where the winner has these stones alone, these
+/// cells are empty, and all others are the opponent's.
 fn are_right(
     position: &Position,
     winner: Colour,
@@ -74,7 +75,8 @@ fn are_right(
     true
 }
 
-/// The zone before steps of the winner's, of one that serves after them. None where they are not right with all of the winner's stones.
+/// The zone before steps of the winner's, of one that serves after them. None where they are not right with all of the
+/// winner's stones.
 fn zone_before_steps(
     position: &Position,
     winner: Colour,
@@ -107,8 +109,8 @@ fn zone_before_steps(
     Some(Zone { needed: kept, free })
 }
 
-/// The zone before fill-in, of one that serves after it. Where the steps are not right without the position's other cells, it is the
-/// position itself: all of the winner's stones, and all empty cells.
+/// The zone before fill-in, of one that serves after it. Where the steps are not right without the position's other
+/// cells, it is the position itself: all of the winner's stones, and all empty cells.
 fn zone_before_fill(
     alloc: Global,
     position: &Position,

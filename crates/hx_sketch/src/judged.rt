@@ -1,10 +1,12 @@
-//! The zone of a node, by links or by answers: its free cells, and the stones without which the checker says no more that it is right.
+//! The zone of a node, by links or by answers: its free cells, and the stones without which the checker says no more
+//! that it is right.
 //!
-//! The node is tried at the position with some of the winner's stones, where all cells are the opponent's but these and the free ones.
-//! It is enough: where the node is right there the winner wins there, and so wherever the zone serves, since the winner may have more
-//! stones there and the opponent fewer, which makes no win harder.
+//! The node is tried at the position with some of the winner's stones, where all cells are the opponent's but these and
+//! the free ones. It is enough: where the node is right there the winner wins there, and so wherever the zone serves,
+//! since the winner may have more stones there and the opponent fewer, which makes no win harder.
 //!
-//! Stones are left out one after the other while the node stays right. Those that its children need stay, so that these are won there.
+//! Stones are left out one after the other while the node stays right. Those that its children need stay, so that these
+//! are won there.
 
 use hx_board::{CELLS, Mask, Memory, Position, Size};
 use hx_linkset::LinkSet;
@@ -21,7 +23,8 @@ pub(crate) struct Judged {
 }
 
 impl Judged {
-    /// The headings after the moves of lines with children, which are taken for granted. None where such a cell is not empty.
+    /// The headings after the moves of lines with children, which are taken for granted. None where such a cell is not
+    /// empty.
     fn headings(&self, alloc: Global, position: &Position) -> Result<Option<Vec<Heading>>, Memory> {
         let winner = self.node.heading.winner;
         let mut headings = Vec::new(alloc);
@@ -61,8 +64,8 @@ impl Judged {
         check_node(alloc, headings.as_slice(), &self.node)
     }
 
-    /// Some of the winner's stones with which the node is right, among them those that are needed anyway. None where it is not right
-    /// with all of the winner's.
+    /// Some of the winner's stones with which the node is right, among them those that are needed anyway. None where it
+    /// is not right with all of the winner's.
     pub(crate) fn needed(
         &mut self,
         alloc: Global,
@@ -91,8 +94,9 @@ impl Judged {
     }
 }
 
-/// Keeps the zone of a node of the set's player at the set's position, with stones that are needed anyway. Where the node is not right
-/// without the position's other cells, the zone is the position itself: all of the winner's stones, and all empty cells.
+/// Keeps the zone of a node of the set's player at the set's position, with stones that are needed anyway. Where the
+/// node is not right without the position's other cells, the zone is the position itself: all of the winner's stones,
+/// and all empty cells.
 pub(crate) fn keep_judged(
     zones: &Zones,
     set: &LinkSet,

@@ -1,8 +1,9 @@
-//! The zone of a link between the winner's two sides: its carrier is to be free, and it needs the stones without which the steps that
-//! make the link are not right.
+//! The zone of a link between the winner's two sides: its carrier is to be free, and it needs the stones without which
+//! the steps that make the link are not right.
 //!
-//! It is enough: with these stones and free cells, and all other cells the opponent's, the steps make the link, and the opponent has no
-//! stone on its carrier. So it decides there as it decides here, with the same player to move (judged.rt).
+//! It is enough: with these stones and free cells, and all other cells the opponent's, the steps make the link, and the
+//! opponent has no stone on its carrier. So it decides there as it decides here, with the same player to move
+//! (judged.rt).
 
 ghost use Rattle.hx_linkset.specs.LiveOf.{Decides};
 

@@ -1,9 +1,9 @@
-//! The zone of a move: that of the position after it, but for the move's stone, which is not there yet. Where that zone needs the stone,
-//! the stone's cell is to be free; else the zone is the same.
+//! The zone of a move: that of the position after it, but for the move's stone, which is not there yet. Where that zone
+//! needs the stone, the stone's cell is to be free; else the zone is the same.
 //!
-//! It is enough: where the cell is empty the mover puts the stone there, and then the zone after the move serves. Where the mover has
-//! the stone already, or that zone does not need it, that zone serves after any move of the mover's, since it forbids a stone of the
-//! opponent's alone.
+//! It is enough: where the cell is empty the mover puts the stone there, and then the zone after the move serves. Where
+//! the mover has the stone already, or that zone does not need it, that zone serves after any move of the mover's,
+//! since it forbids a stone of the opponent's alone.
 
 ghost use Rattle.hx_board.specs.Positions.{IsEmpty};
 

@@ -1,7 +1,7 @@
 //! A table of zones as a search asks it and adds to it.
 //!
-//! It borrows whoever knows by proofs, and never asks or tells it anything. So its view is that one's, behind one borrow more, and what
-//! a search promises of a view is true of the proofs too: they stay as they were.
+//! It borrows whoever knows by proofs, and never asks or tells it anything. So its view is that one's, behind one
+//! borrow more, and what a search promises of a view is true of the proofs too: they stay as they were.
 
 ghost use Rattle.std.specs.Prelude.{◌≡◌};
 
@@ -19,7 +19,8 @@ use hx_zones::{Kind, Zones};
 use std::alloc::Global;
 use std::sync::Wait;
 
-/// Zones are looked for and kept. To be known says nothing here: a position is known where some zone serves it, right or wrong.
+/// Zones are looked for and kept. To be known says nothing here: a position is known where some zone serves it, right
+/// or wrong.
 pub struct Sketch<'a, K> {
     known: &'a mut K,
     zones: &'a Zones,
@@ -97,14 +98,15 @@ impl<'a, K> Drop for Sketch<'a, K> {
     }
 }
 
-/// Keeps the zone of a player's move to a cell, where that is empty and a zone says that the player wins after it. Whether one does.
+/// Keeps the zone of a player's move to a cell, where that is empty and a zone says that the player wins after it.
+/// Whether one does.
 fn draft_move_if_empty(zones: &Zones, position: &Position, to_move: Colour, cell: Cell) -> bool {
     let is_empty = position.empties().has(cell);
     is_empty && draft_move(zones, position, to_move, cell)
 }
 
-/// The first cell in the order that is among the wins and the cells to try. Where there is none, the first one among the wins: a zone
-/// may have a move win that links do not ask for.
+/// The first cell in the order that is among the wins and the cells to try. Where there is none, the first one among
+/// the wins: a zone may have a move win that links do not ask for.
 fn first_of(order: &[Cell], wins: Mask, cells: Mask) -> Option<Cell> {
     let mut first = None;
     for cell in order {

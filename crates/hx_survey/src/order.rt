@@ -1,8 +1,8 @@
 //! In which order openings are gone through. A worker's share comes in cell order; what is open then, from the middle
 //! of the board to its edge. Those in the middle are the easiest, and what is proved of them serves those at the edge.
 //!
-//! With one worker the share is the whole board, so all openings come in cell order, which takes some units more than to
-//! go from the middle. `.ci/units` has the units of three boards.
+//! With one worker the share is the whole board, so all openings come in cell order, which takes some units more than
+//! to go from the middle. `.ci/units` has the units of three boards.
 
 ghost use Rattle.std.specs.Prelude.{◌≡◌, ℕ, false, IfSome, MatchOption};
 ghost use Rattle.hx_board.specs.Cells.{OnBoard, IsLeastOn};

@@ -1,4 +1,5 @@
--- The lines of a node whose children were added as proofs: each leads to the last node of its proof, and is a line with a child.
+-- The lines of a node whose children were added as proofs: each leads to the last node of its proof, and is a line with
+-- a child.
 use Rattle.std.proofs.Common.{ℕ, zero, suc, List, [], ◌∷◌, ◌++◌, ap, ◌∙◌, arith}
 use Rattle.std.specs.Prelude.{slice_get, IfSome}
 use Rattle.std.specs.List.{All}

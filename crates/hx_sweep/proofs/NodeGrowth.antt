@@ -1,6 +1,6 @@
--- Nodes that are added to a list of right nodes. What a rule says of an earlier heading stays true when nodes are added, since
--- the headings keep their numbers. The nodes for a position with one empty cell less are so few that those of all its moves
--- find room among the nodes of the position.
+-- Nodes that are added to a list of right nodes. What a rule says of an earlier heading stays true when nodes are
+-- added, since the headings keep their numbers. The nodes for a position with one empty cell less are so few that those
+-- of all its moves find room among the nodes of the position.
 use Rattle.std.proofs.Common.{◌≡◌, ℕ, zero, suc, ◌+◌, ◌-◌, ◌*◌, ◌≤◌, List, [], ◌∷◌, ◌++◌, length, refl, sym, ap, ◌∙◌, arith, append_assoc}
 use Rattle.std.proofs.Common.{length-append, Some}
 use Rattle.std.proofs.lemmas.List.{append-nil}

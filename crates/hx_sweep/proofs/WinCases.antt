@@ -1,7 +1,7 @@
--- Who wins a position where no player has a chain yet. The mover does by a move with which he wins. Where each of his moves is
--- refuted, the opponent does: some cell is empty, since on a full board one player has a chain. And the other way round: who
--- wins with the opponent to move wins after each of his moves, and of who wins with the move not each move is refuted, since
--- not both players win.
+-- Who wins a position where no player has a chain yet. The mover does by a move with which he wins. Where each of his
+-- moves is refuted, the opponent does: some cell is empty, since on a full board one player has a chain. And the other
+-- way round: who wins with the opponent to move wins after each of his moves, and of who wins with the move not each
+-- move is refuted, since not both players win.
 use Rattle.std.proofs.Common.{◌≡◌, ℕ, refl, sym, ◌∙◌, ⊎_elim}
 use Rattle.hx_board.specs.declared.colours.Colour.{Colour}
 use Rattle.hx_board.specs.declared.colours.Colour.TheVariants.{Black, White}

@@ -4,9 +4,9 @@
 //! are tried, but without nodes. So no node is ever taken back or moved, and its number stays what it was when it was
 //! made.
 //!
-//! A move is searched for at each node where the winner is to move, and at no other, since who wins is known. A chain ends
-//! most lines early and a node by a move has one child, so of 400 trees with nine empty cells the largest had 2,431 nodes,
-//! where the bound is 986,410.
+//! A move is searched for at each node where the winner is to move, and at no other, since who wins is known. A chain
+//! ends most lines early and a node by a move has one child, so of 400 trees with nine empty cells the largest had
+//! 2,431 nodes, where the bound is 986,410.
 
 ghost use Rattle.std.specs.Prelude.{◌≡◌, ◌-◌, IfOk, []};
 ghost use Rattle.std.specs.List.{All};
@@ -114,8 +114,8 @@ fn answers(
     let mut left = position.empties();
     while let Some(cell) = left.least(size) {
         let child = after(nodes, position, winner.other(), cell, winner)?;
-        // A slice of one line: the prover does not follow a `push` of a value that may hold a `Kill` of hx_inferior, since this
-        // crate names no line but Child.
+        // A slice of one line: the prover does not follow a `push` of a value that may hold a `Kill` of hx_inferior,
+        // since this crate names no line but Child.
         let line = [Line::Child { cell, child }];
         lines.extend_from_slice(&line).map_err(|_| Memory)?;
         left = left.without(cell);

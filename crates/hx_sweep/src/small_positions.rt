@@ -8,8 +8,8 @@ use hx_board::Position;
 /// The most empty cells of a small position.
 const MOST_EMPTIES: u32 = 9;
 
-/// Whether the position is small under the budget: it has at most nine empty cells, and a full search of it has no more nodes than
-/// the budget has units.
+/// Whether the position is small under the budget: it has at most nine empty cells, and a full search of it has no more
+/// nodes than the budget has units.
 pub fn is_small(position: &Position, budget: u64) -> bool
     ensures { IsTrue result ↔ IsSmall position.now budget }
 {

@@ -11,8 +11,8 @@ ghost use Rattle.hx_sweep.specs.Tries.{IsRefuted, IsFirstWinningMove};
 
 use hx_board::{Cell, Colour, Position, chain};
 
-/// Who wins the position with this mover, by trying all moves. It takes no memory, and as long as a full search. The position is as
-/// it was.
+/// Who wins the position with this mover, by trying all moves. It takes no memory, and as long as a full search. The
+/// position is as it was.
 #[cycle(winners)]
 pub fn winner(position: &mut Position, to_move: Colour) -> Colour
     ensures kept { position.new ≡ position.old }

@@ -1,4 +1,5 @@
--- One entry more in the table. Two fillings of one number are one board, so of any other filling the table says what it said before.
+-- One entry more in the table. Two fillings of one number are one board, so of any other filling the table says what it
+-- said before.
 use Rattle.std.proofs.Common.{◌≡◌, ℕ, ◌<◌, true, sym, ◌∙◌, subst, List, length, set}
 use Rattle.std.proofs.Common.{length-set, ⊎_elim, ◌↔◌, arith, Option, None, Some}
 use Rattle.std.proofs.lemmas.List.{get_or-set_same, get_or-set_other}

@@ -1,5 +1,6 @@
--- Where the vertices are not joined, the player with the move secures them exactly where some move to a free cell does, and with
--- the opponent to move exactly where some cell is free and each move of the opponent's to a free cell leaves them secured.
+-- Where the vertices are not joined, the player with the move secures them exactly where some move to a free cell does,
+-- and with the opponent to move exactly where some cell is free and each move of the opponent's to a free cell leaves
+-- them secured.
 use Rattle.std.proofs.Common.{◌≡◌, ℕ, Bool, true, false, refl, sym, ◌∙◌, ◌↔◌, ⊎_elim, not}
 use Rattle.std.proofs.lemmas.Bool.{false≢true}
 use Rattle.hx_board.specs.declared.colours.Colour.{Colour}
@@ -47,8 +48,8 @@ module _ (player : Colour) (carrier : ℕ) (a b : Vertex) (board : Board) (apart
   pub none_free : (mover : Colour) → ((cell : ℕ) → ¬ IsFree (has carrier) board cell) → Secures player carrier a b board mover → ⊥
   none_free mover none win = let w = some_free mover win in none w.0 w.1
 
-  -- The mover has found a move with which he gets what he wants: the player that the vertices are secured, the opponent that
-  -- they are not.
+  -- The mover has found a move with which he gets what he wants: the player that the vertices are secured, the opponent
+  -- that they are not.
   pub found : (mover : Colour) (own : Bool) → (own ≡ true) ↔ (mover ≡ player) → (cell : ℕ) → IsFree (has carrier) board cell
       → IsSo own (After mover cell)
       → (own ≡ true) ↔ Secures player carrier a b board mover

@@ -1,5 +1,5 @@
--- Numbers of fillings. A digit counts as much as all fillings of the cells below it are, so the number tells each digit, and
--- the number of the fillings of all cells is above it.
+-- Numbers of fillings. A digit counts as much as all fillings of the cells below it are, so the number tells each
+-- digit, and the number of the fillings of all cells is above it.
 use Rattle.std.proofs.Common.{◌≡◌, ◌≢◌, ℕ, zero, suc, ◌+◌, ◌*◌, ◌^◌, ◌<◌, ◌≤◌, Bool, true, false, refl, sym, ◌∙◌}
 use Rattle.std.proofs.Common.{subst, inl, inr, ⊎_elim, arith, ◌-◌, List, length, set}
 use Rattle.std.proofs.lemmas.Bool.{false≢true, cases_lt, cases_eq, false_from_ne_true}

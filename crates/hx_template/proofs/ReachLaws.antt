@@ -1,5 +1,5 @@
--- What is joined in a filling. A set that has all that a vertex was joined with at the start, and all that each new stone in it was
--- joined with, has all that is joined with the vertex in the filling, by induction on the walk.
+-- What is joined in a filling. A set that has all that a vertex was joined with at the start, and all that each new
+-- stone in it was joined with, has all that is joined with the vertex in the filling, by induction on the walk.
 use Rattle.std.proofs.Common.{◌≡◌, ◌≢◌, ℕ, not, eqb, ◌&&◌, List, [], ◌∷◌, Bool, true, false, refl, sym, ◌∙◌, ap}
 use Rattle.std.proofs.Common.{subst, inl, inr, ⊎_elim, ◌⊎◌, ◌↔◌}
 use Rattle.std.proofs.lemmas.Bool.{false≢true, and_from, and_parts, false_from_ne_true, cases_eq, ne_eqb}

@@ -1,8 +1,9 @@
 //! A local game, and the number of each position that it can come to.
 //!
-//! Play fills the cells of the carrier: each is empty, or has a stone of the player or of the opponent. So such a position, a
-//! **filling**, has a number in base three, in which each cell of the carrier is a digit, the first cell the lowest. It is the
-//! place at which a search keeps what it found, so no position is looked for, and none is compared.
+//! Play fills the cells of the carrier: each is empty, or has a stone of the player or of the opponent. So such a
+//! position, a **filling**, has a number in base three, in which each cell of the carrier is a digit, the first cell
+//! the lowest. It is the place at which a search keeps what it found, so no position is looked for, and none is
+//! compared.
 
 ghost use Rattle.std.specs.Prelude.{◌≡◌, ℕ, ◌+◌, ◌^◌, ◌<◌, ◌≤◌, ◌↔◌, IsTrue, true, slice_index};
 ghost use Rattle.hx_board.specs.Cells.{OnBoard};
@@ -11,7 +12,8 @@ ghost use Rattle.hx_template.specs.Limits.{most_cells};
 
 use hx_board::{CELLS, Cell, Colour, Groups, Mask, Position, Vertex};
 
-/// How many cells the carrier of a local game may have. There are 3^12 fillings of so many, which a table holds in 1.6 MB.
+/// How many cells the carrier of a local game may have. There are 3^12 fillings of so many, which a table holds in 1.6
+/// MB.
 pub const MOST_CELLS: u32 = 12;
 
 /// A player wants two vertices joined by moves to the cells of a carrier.
@@ -31,7 +33,8 @@ pub(crate) struct LocalGame {
     /// What is joined at the start.
     pub groups: Groups,
 
-    /// What the digit of each cell counts. The cells of the carrier are not listed, so no place in a list has to be shown.
+    /// What the digit of each cell counts. The cells of the carrier are not listed, so no place in a list has to be
+    /// shown.
     weights: [usize; CELLS],
 
     /// How many fillings there are.
@@ -103,8 +106,8 @@ impl LocalGame {
     }
 }
 
-/// What the digit of the next cell counts, where that of this one counts so much: as many as there are fillings of the cells
-/// before it.
+/// What the digit of the next cell counts, where that of this one counts so much: as many as there are fillings of the
+/// cells before it.
 fn next_weight(carrier: Mask, index: usize, weight: usize) -> usize
     requires few { count_below 128 carrier ≤ most_cells }
     requires small { index < 121 }

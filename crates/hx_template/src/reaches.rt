@@ -1,12 +1,13 @@
 //! What is joined in a filling, told by the groups of the board on which play began.
 //!
-//! A walk in a filling is parted at the stones that the player put on the carrier. Between two of them it leads over stones
-//! and sides that the player had at the start. So what is joined with a vertex is found from one new stone to the next: each
-//! that is reached adds all that it was joined with at the start. That reads one set for each new stone and floods no board.
+//! A walk in a filling is parted at the stones that the player put on the carrier. Between two of them it leads over
+//! stones and sides that the player had at the start. So what is joined with a vertex is found from one new stone to
+//! the next: each that is reached adds all that it was joined with at the start. That reads one set for each new stone
+//! and floods no board.
 //!
-//! A flood at each filling took 1.4 times as long on the mean, and twice as long at worst. To stop early where all the empty
-//! cells of the carrier together would not join the vertices was tried with a flood: it spared a fifth of the fillings and cost
-//! more than it saved.
+//! A flood at each filling took 1.4 times as long on the mean, and twice as long at worst. To stop early where all the
+//! empty cells of the carrier together would not join the vertices was tried with a flood: it spared a fifth of the
+//! fillings and cost more than it saved.
 
 ghost use Rattle.std.specs.Prelude.{◌≡◌, ◌↔◌, IsTrue};
 ghost use Rattle.hx_board.specs.Graph.{IsVertex, Joined};

@@ -1,11 +1,12 @@
 //! The search of a local game, from its start down, in which each filling is judged once.
 //!
 //! What was found of a filling is kept in a table, at the filling's number: a transposition table with a place for each
-//! position, so that nothing in it is ever replaced. Without it one filling would be judged again for each order of the moves
-//! that lead to it. An entry names the player to move, so nothing is asked of how many stones there are.
+//! position, so that nothing in it is ever replaced. Without it one filling would be judged again for each order of the
+//! moves that lead to it. An entry names the player to move, so nothing is asked of how many stones there are.
 //!
-//! From the bottom up there would be no recursion: all 3^12 fillings of twelve cells in falling order of their numbers, each
-//! from those with one stone more. But play comes to few of them: from the top one in eighty was judged, on the mean.
+//! From the bottom up there would be no recursion: all 3^12 fillings of twelve cells in falling order of their numbers,
+//! each from those with one stone more. But play comes to few of them: from the top one in eighty was judged, on the
+//! mean.
 
 ghost use Rattle.std.specs.Prelude.{◌≡◌, ℕ, ◌↔◌, IsTrue, false, not};
 ghost use Rattle.hx_board.specs.Colours.{other_of};
@@ -27,8 +28,8 @@ pub(crate) struct Entry {
     pub secures: bool,
 }
 
-/// Whether the player of the game secures the vertices in the filling of this number, with `to_move` to move. What is found is
-/// kept in the table.
+/// Whether the player of the game secures the vertices in the filling of this number, with `to_move` to move. What is
+/// found is kept in the table.
 #[cycle(searches)]
 pub(crate) fn secures(
     game: &LocalGame,
@@ -85,8 +86,8 @@ fn decided(
     }
 }
 
-/// Whether a move to some cell of the carrier leads to a filling in which the player of the game secures the vertices, or does
-/// not, as is wanted.
+/// Whether a move to some cell of the carrier leads to a filling in which the player of the game secures the vertices,
+/// or does not, as is wanted.
 #[cycle(searches)]
 fn some_move(
     game: &LocalGame,

@@ -1,5 +1,5 @@
--- The lines of a template's text: their words are of high bytes, so each line gives back what it was spelled from, and has no
--- LF in it.
+-- The lines of a template's text: their words are of high bytes, so each line gives back what it was spelled from, and
+-- has no LF in it.
 use Rattle.std.proofs.Common.{◌≡◌, ℕ, List, [], ◌∷◌, get_or, refl, ap, ◌∙◌, arith}
 use Rattle.std.specs.Prelude.{codes}
 use Rattle.hx_board.specs.declared.colours.Colour.{Colour}

@@ -7,7 +7,8 @@ ghost use Rattle.hx_template_text.specs.Templates.{IsTemplate, AreTemplateLines,
 
 /// A text tells its template: two of them with the same text are the same.
 pub fn text_tells_template()
-    ensures { (a b : Claim) → IsTemplate a → IsTemplate b → template_text a ≡ template_text b → a ≡ b }
+    ensures { (a b : Claim) → IsTemplate a → IsTemplate b → template_text a ≡ template_text b
+        → a ≡ b }
 {}
 
 /// Bytes have one faulty line at the most, as the text of a template.

@@ -1,5 +1,5 @@
-//! The lines that a template's text has besides those of its board, with a reader for each. A line that is not of the kind is
-//! answered with None.
+//! The lines that a template's text has besides those of its board, with a reader for each. A line that is not of the
+//! kind is answered with None.
 
 ghost use Rattle.hx_board.specs.Cells.{IsExtent};
 ghost use Rattle.hx_board.specs.Graph.{IsVertex};

@@ -13,8 +13,8 @@ use hx_board::{Colour, Mask, Position, Vertex};
 use hx_link::{ends_of, is_outside};
 use hx_parse::{TextFault, TextLines, read_board};
 
-/// Reads the text of a template, which takes no memory. A line that is missing or is not ended by LF is wrong at its own number, and
-/// whatever follows the eighth line is wrong as the ninth.
+/// Reads the text of a template, which takes no memory. A line that is missing or is not ended by LF is wrong at its
+/// own number, and whatever follows the eighth line is wrong as the ninth.
 pub fn read_template(bytes: &[u8]) -> Result<Template, TextFault>
     // What is read is spelled so.
     ensures read { IfOk result (λ claim. IsTemplate claim × (bytes.now ≡ template_text claim)) }

@@ -3,8 +3,8 @@
 use hx_board::{Colour, Mask, Position, Vertex};
 use hx_link::Kind;
 
-/// A claim about a position: that the owner can join two vertices by moves to the cells of the carrier alone, whatever the
-/// opponent plays there. The opponent moves first where it is Full, and the owner where it is Semi.
+/// A claim about a position: that the owner can join two vertices by moves to the cells of the carrier alone, whatever
+/// the opponent plays there. The opponent moves first where it is Full, and the owner where it is Semi.
 #[derive(Clone, Copy, PartialEq, Eq, Debug)]
 pub struct Template {
     pub position: Position,

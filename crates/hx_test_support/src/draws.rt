@@ -1,4 +1,5 @@
-//! Cells and positions that look drawn by chance and are the same in each run, by the generator PCG32 of Melissa O'Neill.
+//! Cells and positions that look drawn by chance and are the same in each run, by the generator PCG32 of Melissa
+//! O'Neill.
 
 ghost use Rattle.std.specs.Prelude.{◌≡◌, ◌<◌, true, IfSome};
 ghost use Rattle.hx_board.specs.Sets.{has};
@@ -57,8 +58,8 @@ impl Draws {
         if cells.has(drawn) { Some(drawn) } else { None }
     }
 
-    /// The position after stones of either colour on drawn empty cells, of which so many are left empty, or all where there
-    /// are fewer.
+    /// The position after stones of either colour on drawn empty cells, of which so many are left empty, or all where
+    /// there are fewer.
     pub fn filled(&mut self, position: &Position, empty: u32) -> Position {
         let mut next = *position;
         for _ in empty..position.empty_count() {

@@ -1,9 +1,9 @@
 //! Positions and plain programs that the tests and the measurements of several crates share. No crate's own code calls
 //! them.
 //!
-//! The plain programs say what the definitions say, in the slowest obvious way and with none of the fast calls: touching
-//! by rows and columns, joining by a walk from vertex to vertex, winning by every game to its end. Tests hold the fast
-//! calls against them, so they promise no more than a test must know to call on.
+//! The plain programs say what the definitions say, in the slowest obvious way and with none of the fast calls:
+//! touching by rows and columns, joining by a walk from vertex to vertex, winning by every game to its end. Tests hold
+//! the fast calls against them, so they promise no more than a test must know to call on.
 #![tactic(auto)]
 
 mod draws;

@@ -13,8 +13,8 @@ pub const SMALL_BOARDS: [(u8, u8, u32); 7] = [
     (3, 2, 729),
 ];
 
-/// The position that a number to base three stands for, with a digit for each cell in cell order, the lowest first: 0 is
-/// empty, 1 black, 2 white.
+/// The position that a number to base three stands for, with a digit for each cell in cell order, the lowest first: 0
+/// is empty, 1 black, 2 white.
 pub fn numbered(size: Size, number: u32) -> Option<Position> {
     let mut black = Mask::empty();
     let mut white = Mask::empty();

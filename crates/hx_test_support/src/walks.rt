@@ -5,8 +5,8 @@ ghost use Rattle.hx_board.specs.Graph.{IsVertex};
 
 use hx_board::{CELLS, Cell, Colour, Position, Size, VERTICES, Vertex, VertexSet};
 
-/// Whether two cells touch: the steps from a cell to those that touch it are one left, one right, one up, one down, one up
-/// and right, one down and left.
+/// Whether two cells touch: the steps from a cell to those that touch it are one left, one right, one up, one down, one
+/// up and right, one down and left.
 fn cells_touch(cell: Cell, other: Cell) -> bool {
     let down = other.row() as i8 - cell.row() as i8;
     let right = other.col() as i8 - cell.col() as i8;
@@ -99,8 +99,8 @@ fn own_of(position: &Position, player: Colour, vertices: VertexSet) -> VertexSet
     own
 }
 
-/// The vertices that are joined to one: itself, and those to which a walk leads whose inner vertices are all the player's
-/// own.
+/// The vertices that are joined to one: itself, and those to which a walk leads whose inner vertices are all the
+/// player's own.
 pub fn joined_to(position: &Position, player: Colour, start: &Vertex) -> VertexSet {
     let size = position.size();
     let mut joined = VertexSet::empty().with(*start);

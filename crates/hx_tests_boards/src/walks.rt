@@ -63,7 +63,8 @@ fn drawn_positions(rt: HostRuntime) -> Result<(), Fail> {
     Ok(())
 }
 
-/// The words of seed 42, as the demonstration program of PCG32 prints them (Melissa O'Neill, pcg-random.org), modulo a million.
+/// The words of seed 42, as the demonstration program of PCG32 prints them (Melissa O'Neill, pcg-random.org), modulo a
+/// million.
 #[test]
 fn draws_are_the_words_of_the_generator(rt: HostRuntime) {
     let mut draws = Draws::new(42);

@@ -27,7 +27,8 @@ fn plain_find(held: &[Place], place: &Place) -> Option<u32> {
     None
 }
 
-/// Puts in the node of a player's chain. None where the player has none; else the index that is answered, if there is one.
+/// Puts in the node of a player's chain. None where the player has none; else the index that is answered, if there is
+/// one.
 fn put_chain(book: &mut Book, place: &Place, winner: Colour) -> Option<Option<u32>> {
     let _size = place.position.size();
     if !chain(&place.position, winner) {
@@ -71,8 +72,8 @@ fn compare(
     Ok(())
 }
 
-/// All positions of two rows and two columns, each with both movers, twice: in a book with a slot for each that is won, and
-/// in one that gets full.
+/// All positions of two rows and two columns, each with both movers, twice: in a book with a slot for each that is won,
+/// and in one that gets full.
 #[test]
 fn positions_of_two_by_two(rt: HostRuntime) -> Result<(), Fail> {
     let size = Size::new(2, 2).ok_or("size")?;

@@ -36,8 +36,8 @@ fn plain_losses(events: &[CountEvent], word: u32) -> u64 {
     held
 }
 
-/// A drawn step of a worker on one of three words: a spend, a look, a hold, or a hold and a release. What it sees is held
-/// against the list.
+/// A drawn step of a worker on one of three words: a spend, a look, a hold, or a hold and a release. What it sees is
+/// held against the list.
 fn step(
     rt: &impl Abort,
     counts: &Counts,

@@ -1,4 +1,5 @@
-//! An entry of a node by each rule: it tells what the node says, and gives the node back. So does what a book is offered.
+//! An entry of a node by each rule: it tells what the node says, and gives the node back. So does what a book is
+//! offered.
 
 use hx_board::Colour::{Black, White};
 use hx_board::{Cell, Position, Size, Vertex};

@@ -28,8 +28,8 @@ fn plain_sum(children: &[Numbers]) -> u64 {
     sum.min(u64::from(INF))
 }
 
-/// The child to go down to and its thresholds: the first with the least delta. Its phi may grow by as much as the node's delta
-/// may, its delta to one more than the second least, and not above the node's phi threshold.
+/// The child to go down to and its thresholds: the first with the least delta. Its phi may grow by as much as the
+/// node's delta may, its delta to one more than the second least, and not above the node's phi threshold.
 fn plain_thresholds(limit: Numbers, children: &[Numbers]) -> Option<(usize, u64, u64)> {
     let least = plain_least(children, None);
     let sum = plain_sum(children);

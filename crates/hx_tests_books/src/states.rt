@@ -176,8 +176,8 @@ fn colour(number: u32) -> Colour {
     if number % 2 == 0 { Black } else { White }
 }
 
-/// The node that a number stands for: a position, its mover and winner, and a rule. A move is from a position whose last cell
-/// is empty, and every other one is the winner's.
+/// The node that a number stands for: a position, its mover and winner, and a rule. A move is from a position whose
+/// last cell is empty, and every other one is the winner's.
 fn node_of(cell: Cell, board: &Position, number: u32) -> Node {
     let to_move = colour(number / 9);
     let winner = colour(number / 18);

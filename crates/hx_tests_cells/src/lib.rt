@@ -1,8 +1,9 @@
 //! Dead cells, captured pairs, dominated cells and fill steps, beside walks over the board.
 //!
-//! A proof shows that a call gives what its definition says, and not that the definition means what Hex means. So beside the
-//! definitions stands a program here that works them out in the slowest obvious way, and a test holds the calls against it on a
-//! table. The tests stand in a crate of their own, so that no crate below is proved again for a change of them.
+//! A proof shows that a call gives what its definition says, and not that the definition means what Hex means. So
+//! beside the definitions stands a program here that works them out in the slowest obvious way, and a test holds the
+//! calls against it on a table. The tests stand in a crate of their own, so that no crate below is proved again for a
+//! change of them.
 #![tactic(auto)]
 
 #[cfg(test)]

@@ -1,6 +1,6 @@
-//! The calls of hx_inferior beside walks: for each cell of a board and one beside it, on all positions of boards of up to six
-//! cells; and for each two and three of them, on all positions of boards of up to four cells, on some of boards of six cells,
-//! and on drawn ones of larger boards.
+//! The calls of hx_inferior beside walks: for each cell of a board and one beside it, on all positions of boards of up
+//! to six cells; and for each two and three of them, on all positions of boards of up to four cells, on some of boards
+//! of six cells, and on drawn ones of larger boards.
 
 use super::killed_cells::{after_step, are_pair, is_dead, is_dominated, is_empty};
 use super::listed_cells::cells_of;

@@ -277,8 +277,8 @@ fn claimed_by(
     Some(last)
 }
 
-/// On a board of two cells side by side either one joins Black's two sides, so Black has the local game with the move on one of
-/// them, and with White's move on both.
+/// On a board of two cells side by side either one joins Black's two sides, so Black has the local game with the move
+/// on one of them, and with White's move on both.
 #[test]
 fn links_and_wins(rt: HostRuntime) -> Result<(), Fail> {
     let size = Size::new(1, 2).ok_or("size")?;

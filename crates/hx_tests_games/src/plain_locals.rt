@@ -1,5 +1,5 @@
-//! The local game once more, said as plainly as it can be, for the tests to compare `local` with: joining by walks from vertex to
-//! vertex and not by groups, each order of the moves played to its end, and nothing kept of what was found.
+//! The local game once more, said as plainly as it can be, for the tests to compare `local` with: joining by walks from
+//! vertex to vertex and not by groups, each order of the moves played to its end, and nothing kept of what was found.
 
 use hx_board::{CELLS, Colour, Mask, Position, Vertex};
 use hx_test_support::joined_to;
@@ -13,8 +13,9 @@ pub(crate) struct LocalGame {
     pub carrier: Mask,
 }
 
-/// Whether the player has the local game with this mover: the ends are joined; or the player moves, and has it after some move;
-/// or the opponent has a move, and after each of them the player has it. A game of more than `moves` moves counts as lost.
+/// Whether the player has the local game with this mover: the ends are joined; or the player moves, and has it after
+/// some move; or the opponent has a move, and after each of them the player has it. A game of more than `moves` moves
+/// counts as lost.
 pub(crate) fn plain_local(game: &LocalGame, position: &Position, mover: Colour, moves: u8) -> bool {
     if joined_to(position, game.player, &game.a).has(game.b) {
         return true;

@@ -1,5 +1,5 @@
-//! The table of steps once more, said as plainly as it can be, for the tests to compare `result_of` with: joining by walks
-//! from vertex to vertex and not by groups, carriers cell by cell and not by whole sets.
+//! The table of steps once more, said as plainly as it can be, for the tests to compare `result_of` with: joining by
+//! walks from vertex to vertex and not by groups, carriers cell by cell and not by whole sets.
 
 use hx_board::{CELLS, Cell, Colour, Mask, Position, Size, Vertex};
 use hx_link::{Kind, Link, MOST_PARTS, Step};

@@ -36,8 +36,8 @@ fn three_rows_and_two_columns(rt: HostRuntime) -> Result<(), Fail> {
     Ok(())
 }
 
-/// A position and the turned one have one number, and each mover has another one. With a stone more they are what is made
-/// anew.
+/// A position and the turned one have one number, and each mover has another one. With a stone more they are what is
+/// made anew.
 #[test]
 fn one_key_of_both(rt: HostRuntime) -> Result<(), Fail> {
     let mut draws = Draws::new(7);

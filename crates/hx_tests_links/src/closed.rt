@@ -89,7 +89,8 @@ fn is_joined_where_forked(links: &[Link], a: &Vertex, b: &Vertex) -> bool {
     semi_links < 2 || !in_all.is_empty()
 }
 
-/// Whether the Base of two vertices is settled, and they are joined where they are forked. Nothing is wanted of no vertex.
+/// Whether the Base of two vertices is settled, and they are joined where they are forked. Nothing is wanted of no
+/// vertex.
 fn is_closed_at(
     position: &Position,
     player: Colour,
@@ -161,8 +162,8 @@ fn are_ands_settled(
     true
 }
 
-/// Whether nothing that a Base or an And gives from these links is missing among them, and no two ends are forked without a
-/// Full link.
+/// Whether nothing that a Base or an And gives from these links is missing among them, and no two ends are forked
+/// without a Full link.
 pub(crate) fn is_closed(position: &Position, player: Colour, links: &[Link]) -> bool {
     let groups = Groups::of(position, player);
     for code in 0..VERTICES as u8 {

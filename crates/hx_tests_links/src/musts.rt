@@ -1,5 +1,5 @@
-//! What a player's links leave to the opponent: the empty cells that are in the carrier of each live link between the player's
-//! sides, asked of each cell and each link.
+//! What a player's links leave to the opponent: the empty cells that are in the carrier of each live link between the
+//! player's sides, asked of each cell and each link.
 
 use hx_board::{CELLS, Cell, Mask};
 use hx_linkset::LinkSet;
@@ -37,8 +37,8 @@ pub(crate) fn shared_by_all(set: &LinkSet) -> Mask {
     shared
 }
 
-/// The empty cells that are in the carriers of all threats. None where a threat is no live link between the sides, or has all
-/// cells that the threats before it share, so that it takes none away.
+/// The empty cells that are in the carriers of all threats. None where a threat is no live link between the sides, or
+/// has all cells that the threats before it share, so that it takes none away.
 pub(crate) fn shared_by(set: &LinkSet, threats: &[u32]) -> Option<Mask> {
     let mut shared = set.position().empties();
     for threat in threats {

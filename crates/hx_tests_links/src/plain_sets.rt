@@ -1,7 +1,8 @@
-//! A set of links as a plain list: which of them are live is told from the position alone, and nothing is kept beside them.
+//! A set of links as a plain list: which of them are live is told from the position alone, and nothing is kept beside
+//! them.
 //!
-//! What one step gives, and which vertices may be ends, is asked of hx_link, which holds that against a plain program of its
-//! own.
+//! What one step gives, and which vertices may be ends, is asked of hx_link, which holds that against a plain program
+//! of its own.
 
 use hx_board::{Cell, Colour, Groups, Memory, Position, Vertex};
 use hx_link::{Kind, Link, Step, ends_of, result_of};
@@ -165,8 +166,8 @@ impl PlainSet {
     }
 }
 
-/// Whether each cell of the link is an empty cell of the board, and each end is a side or a cell of the board without a stone of
-/// the opponent.
+/// Whether each cell of the link is an empty cell of the board, and each end is a side or a cell of the board without a
+/// stone of the opponent.
 fn is_live(position: &Position, colour: Colour, link: &Link) -> bool {
     let size = position.size();
     let mut empty_cells = 0u32;

@@ -1,5 +1,5 @@
-//! Sets of links beside plain lists, through drawn steps, plays of some stones and takings back: after each of them every
-//! answer is compared.
+//! Sets of links beside plain lists, through drawn steps, plays of some stones and takings back: after each of them
+//! every answer is compared.
 
 use super::plain_sets::{PlainSet, is_between};
 use hx_board::{Cell, Colour, Size, VERTICES, Vertex};

@@ -142,7 +142,8 @@ fn drawn_positions(rt: HostRuntime) -> Result<(), Fail> {
     Ok(())
 }
 
-/// The steps of examples/overlapping-threats.hextree. Links 8 and 14 join the two sides, on a1, b1 and a2, and on b1, a2 and b2.
+/// The steps of examples/overlapping-threats.hextree. Links 8 and 14 join the two sides, on a1, b1 and a2, and on b1,
+/// a2 and b2.
 fn plans(size: Size) -> Result<[Plan; 15], Fail> {
     let a1 = Vertex::Of(size.cell(0, 0).ok_or("a1")?);
     let b1 = Vertex::Of(size.cell(0, 1).ok_or("b1")?);
@@ -184,8 +185,8 @@ fn compare_each(
     Ok(())
 }
 
-/// Two threats that overlap in b1 and a2, with the links of their steps alone and after each further one, and when the set is
-/// closed.
+/// Two threats that overlap in b1 and a2, with the links of their steps alone and after each further one, and when the
+/// set is closed.
 #[test]
 fn threats_that_overlap(rt: HostRuntime) -> Result<(), Fail> {
     let size = Size::new(2, 2).ok_or("size")?;

@@ -1,5 +1,5 @@
-//! Lines for moves than which another one is better: each pair of cells is judged by itself, in each way, and the order of the better
-//! ones is looked up for each pair.
+//! Lines for moves than which another one is better: each pair of cells is judged by itself, in each way, and the order
+//! of the better ones is looked up for each pair.
 
 use hx_board::{CELLS, Cell, Colour, Mask, Position};
 use hx_inferior::{Kill, dominates};
@@ -33,8 +33,8 @@ fn is_under(position: &Position, mover: Colour, cells: Mask, worse: Cell) -> boo
     false
 }
 
-/// Whether these are right lines in cell order, each for one of the cells, with a better one of them that has no line; and each
-/// other cell of them is a better one, or dominated by none without a line.
+/// Whether these are right lines in cell order, each for one of the cells, with a better one of them that has no line;
+/// and each other cell of them is a better one, or dominated by none without a line.
 pub(crate) fn are_under(position: &Position, mover: Colour, cells: Mask, lines: &[Line]) -> bool {
     let mut betters = Mask::empty();
     let mut rest = cells;
@@ -101,8 +101,8 @@ fn is_under_before(
     false
 }
 
-/// Whether no cell without a line that comes before the better cell of a line dominates the line's cell, and none dominates one
-/// without a line that comes after it.
+/// Whether no cell without a line that comes before the better cell of a line dominates the line's cell, and none
+/// dominates one without a line that comes after it.
 pub(crate) fn are_by_order(
     position: &Position,
     mover: Colour,

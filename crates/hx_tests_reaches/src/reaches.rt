@@ -1,9 +1,9 @@
 //! `reach_with` on sets that stones are put on, in one workspace for many games, beside `reach` on
 //! new sets of the same positions and beside `close`.
 //!
-//! No clause says which links `reach` adds. That it leaves none out which it looks for shows in two ways: it answers the
-//! same on both sets, and the numbers of links over a whole table are what they were. With a part of it taken out of
-//! hx_reach these numbers change, among others:
+//! No clause says which links `reach` adds. That it leaves none out which it looks for shows in two ways: it answers
+//! the same on both sets, and the numbers of links over a whole table are what they were. With a part of it taken out
+//! of hx_reach these numbers change, among others:
 //!
 //! | part left out | row | number | with it | without it |
 //! |---|---|---|---|---|
@@ -22,9 +22,9 @@
 //! | the end at the first link that decides | nine_by_four | full | 11691 | 14167 |
 //! | the rest of a reach whose kept steps break off | kept_steps_that_break_off | decided | 2 | 1 |
 //!
-//! A change of what is useful changes these numbers, and is to be judged by the answers beside them: how many differ from those
-//! on a new set and on a closed one (none), and how many links between the sides closed sets alone have (one in each of two
-//! rows).
+//! A change of what is useful changes these numbers, and is to be judged by the answers beside them: how many differ
+//! from those on a new set and on a closed one (none), and how many links between the sides closed sets alone have (one
+//! in each of two rows).
 
 use hx_board::Colour::{Black, White};
 use hx_board::{CELLS, Cell, Colour, Position, Size, Vertex};
@@ -53,7 +53,8 @@ struct Tally {
     not_as_new: u32,
     not_as_closed: u32,
 
-    /// How many links of the two sides the closed sets have that no such link of the set covers, where the set is not decided.
+    /// How many links of the two sides the closed sets have that no such link of the set covers, where the set is not
+    /// decided.
     not_found: u32,
 }
 
@@ -150,8 +151,8 @@ impl Tally {
         Ok(kind.is_some())
     }
 
-    /// Counts the calls of one game: the set is reached, and stones are put, in turns and some more of either colour, until it
-    /// is decided.
+    /// Counts the calls of one game: the set is reached, and stones are put, in turns and some more of either colour,
+    /// until it is decided.
     fn count_game(
         &mut self,
         alloc: Global,
@@ -371,8 +372,8 @@ fn the_opponent_alone_plays(rt: HostRuntime) -> Result<(), Fail> {
     Ok(())
 }
 
-/// Whether a set that comes back to a state after these stones gets the links again, by the same steps, that it got there first
-/// and that a set gets in room of its own. True where no stone can be put.
+/// Whether a set that comes back to a state after these stones gets the links again, by the same steps, that it got
+/// there first and that a set gets in room of its own. True where no stone can be put.
 fn are_same_again(
     workspace: &mut Workspace,
     set: &mut LinkSet,
@@ -414,7 +415,8 @@ fn the_same_links_come_again(rt: HostRuntime) -> Result<(), Fail> {
     Ok(())
 }
 
-/// Black's set on an empty board of four rows and columns, with one link: the Base of his first side and a cell beside it.
+/// Black's set on an empty board of four rows and columns, with one link: the Base of his first side and a cell beside
+/// it.
 fn with_base(alloc: Global, col: u8) -> Result<LinkSet, Fail> {
     let size = Size::new(4, 4).ok_or("size")?;
     let cell = size.cell(0, col).ok_or("cell")?;
@@ -437,9 +439,9 @@ fn kind_with_move(workspace: &mut Workspace, set: &mut LinkSet) -> Result<Option
     Ok(kind_of(set, reached))
 }
 
-/// Two sets of one position with as many links share a number, whichever links these are. So the steps that a reach kept on the
-/// one are added on the other, up to the first And of the link that the other lacks. They break off there, and the reach there
-/// goes on by itself to a link that decides, since the mover wins.
+/// Two sets of one position with as many links share a number, whichever links these are. So the steps that a reach
+/// kept on the one are added on the other, up to the first And of the link that the other lacks. They break off there,
+/// and the reach there goes on by itself to a link that decides, since the mover wins.
 #[test]
 fn kept_steps_that_break_off(rt: HostRuntime) -> Result<(), Fail> {
     let mut workspace = Workspace::new(rt.alloc()).ok().ok_or("memory")?;

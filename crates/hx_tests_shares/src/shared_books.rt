@@ -26,7 +26,8 @@ fn beside(place: u64) -> u128 {
     1u128 << (row * 11 + col)
 }
 
-/// Boards with Black's stones on the sixth column: with one stone of White's, of which there are 110, or a thousand with two.
+/// Boards with Black's stones on the sixth column: with one stone of White's, of which there are 110, or a thousand
+/// with two.
 #[derive(Clone, Copy)]
 enum Boards {
     OneStone,
@@ -64,8 +65,8 @@ fn store_and_look<R: Wait>(rt: &R, shared: &Shared, seat: &mut BookSeat, white: 
     shared.look(rt, seat, &position, White) == Some(Found { index, winner })
 }
 
-/// Which boards each thread stores: so many, from a first one on, which comes so much later from thread to thread. And how
-/// many of all were found.
+/// Which boards each thread stores: so many, from a first one on, which comes so much later from thread to thread. And
+/// how many of all were found.
 #[derive(Drop)]
 struct Work {
     boards: Boards,

@@ -51,8 +51,8 @@ fn draws_what_a_plain_program_draws(rt: HostRuntime) -> Result<(), Fail> {
 }
 
 /// The black and the white cells of the first three positions of seed 7. A few lines of Python worked them out from the
-/// algorithm PCG XSH RR 64/32 as M. E. O'Neill publishes it (pcg-random.org, `pcg32_srandom_r` and `pcg32_random_r` of the
-/// minimal C implementation).
+/// algorithm PCG XSH RR 64/32 as M. E. O'Neill publishes it (pcg-random.org, `pcg32_srandom_r` and `pcg32_random_r` of
+/// the minimal C implementation).
 const FIRST_OF_SEVEN: [(u128, u128); 3] = [
     (0x1_2006_0140_4008, 0x18_0480_1814),
     (0x3020_0100_3011, 0x1_8010_0000_480e),

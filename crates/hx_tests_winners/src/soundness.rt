@@ -1,5 +1,5 @@
-//! Callers of the laws on small boards. What the checker says of nodes becomes that their winners win; the links that steps
-//! give, that the player wins; a fill step or a dominated cell, that who wins one board wins another too.
+//! Callers of the laws on small boards. What the checker says of nodes becomes that their winners win; the links that
+//! steps give, that the player wins; a fill step or a dominated cell, that who wins one board wins another too.
 
 ghost use Rattle.std.specs.Prelude.{◌<◌, ◌^◌, length, IsTrue, IfOk, IfSome};
 ghost use Rattle.hx_board.specs.declared.colours.Colour.{Colour};
@@ -183,7 +183,8 @@ fn a_filled_board_keeps_the_winner(rt: HostRuntime) -> Result<(), Fail> {
     Ok(())
 }
 
-/// Once Black has the second cell of the first row, the cells of the second row are a pair, and the first is dead for White.
+/// Once Black has the second cell of the first row, the cells of the second row are a pair, and the first is dead for
+/// White.
 #[test]
 fn a_dominated_move_need_not_be_tried(rt: HostRuntime) -> Result<(), Fail> {
     let (empty, left, right) = two_rows(0)?;

@@ -1,5 +1,5 @@
--- Bytes cut into lines. Lines without an LF are the only ones that make their bytes, so of two ways to cut the same bytes
--- into such lines and a rest one goes on where the other ends.
+-- Bytes cut into lines. Lines without an LF are the only ones that make their bytes, so of two ways to cut the same
+-- bytes into such lines and a rest one goes on where the other ends.
 use Rattle.std.proofs.Common.{◌≡◌, ℕ, ◌≤◌, List, [], ◌∷◌, ◌++◌, length, refl, sym, ap, ◌∙◌, subst, arith, append_assoc, length-append}
 use Rattle.std.proofs.lemmas.List.{append-nil}
 use Rattle.hx_lex.specs.Marks.{Lacks}

@@ -1,5 +1,5 @@
--- Different entries have different lines: the first word of a step or of a fill step tells which kind it is, and its other words
--- tell what it names; a threat is its place, and an answer its cell and the words of its reason.
+-- Different entries have different lines: the first word of a step or of a fill step tells which kind it is, and its
+-- other words tell what it names; a threat is its place, and an answer its cell and the words of its reason.
 use Rattle.std.proofs.Common.{◌≡◌, ℕ, ◌≤◌, List, [], ◌∷◌, map, refl, sym, ap, ◌∙◌, arith}
 use Rattle.std.specs.Prelude.{All}
 use Rattle.std.specs.Fmt.{decimal}

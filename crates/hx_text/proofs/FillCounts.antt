@@ -1,5 +1,5 @@
--- Fill steps that may be done one after the other: each fills an empty cell at least, so they are no more than the empty cells, of
--- which a board has at most 121; and their cells are on the board.
+-- Fill steps that may be done one after the other: each fills an empty cell at least, so they are no more than the
+-- empty cells, of which a board has at most 121; and their cells are on the board.
 use Rattle.std.proofs.Common.{◌≡◌, ◌≤◌, List, [], ◌∷◌, length, map, ◌∙◌, arith}
 use Rattle.hx_board.specs.declared.colours.Colour.{Colour}
 use Rattle.hx_board.specs.Cells.{Extent}

@@ -1,4 +1,5 @@
--- Texts whose lines have no LF in them: where bytes go wrong as such a text, and that a text of the grammar goes wrong nowhere.
+-- Texts whose lines have no LF in them: where bytes go wrong as such a text, and that a text of the grammar goes wrong
+-- nowhere.
 use Rattle.std.proofs.Common.{◌≡◌, ◌≢◌, ℕ, ◌+◌, List, [], ◌∷◌, ◌++◌, length, sym, ap, ◌∙◌, subst, append_assoc}
 use Rattle.std.proofs.lemmas.List.{append-nil}
 use Rattle.hx_lex.specs.Marks.{Lacks, IsCut}

@@ -1,5 +1,5 @@
--- The words of the lines of a tree's text outside of its nodes. All are of high bytes, so each line gives back the words
--- that it was spelled from.
+-- The words of the lines of a tree's text outside of its nodes. All are of high bytes, so each line gives back the
+-- words that it was spelled from.
 use Rattle.std.proofs.Common.{◌≡◌, ℕ, List, [], ◌∷◌, refl, ap, ◌∙◌, arith}
 use Rattle.std.specs.Prelude.{codes}
 use Rattle.std.specs.Fmt.{decimal}

@@ -1,6 +1,6 @@
--- Different nodes have different lines. A first line is that of one head alone, and is no last line. Of two nodes with which
--- the same lines begin the first lines are the same, hence the numbers of the steps, threats, answers and fill steps that
--- follow, and hence these.
+-- Different nodes have different lines. A first line is that of one head alone, and is no last line. Of two nodes with
+-- which the same lines begin the first lines are the same, hence the numbers of the steps, threats, answers and fill
+-- steps that follow, and hence these.
 use Rattle.std.proofs.Common.{◌≡◌, ℕ, ◌≤◌, List, [], ◌∷◌, ◌++◌, length, map, refl, sym, ap, ◌∙◌, subst, arith}
 use Rattle.std.proofs.lemmas.List.{append-nil}
 use Rattle.std.specs.Fmt.{decimal}

@@ -1,5 +1,5 @@
--- Bytes have one faulty line at most, for each grammar whose lines have no LF. Two ways to cut the bytes into lines and a rest
--- agree, so if the lines before two faults differ, the one goes on where the other has its fault.
+-- Bytes have one faulty line at most, for each grammar whose lines have no LF. Two ways to cut the bytes into lines and
+-- a rest agree, so if the lines before two faults differ, the one goes on where the other has its fault.
 use Rattle.std.proofs.Common.{◌≡◌, ℕ, List, [], ◌∷◌, ◌++◌, length, refl, sym, ap, ◌∙◌, subst, arith, append_assoc}
 use Rattle.std.proofs.lemmas.List.{append-nil}
 use Rattle.hx_text.specs.Grammars.{text_of, Begins, IsFaultyLine}

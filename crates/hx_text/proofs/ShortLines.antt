@@ -1,5 +1,5 @@
--- The lines of a tree's text are short. A line is no longer than its words with a space after each, and each word but those of
--- an Or is short and stands among few.
+-- The lines of a tree's text are short. A line is no longer than its words with a space after each, and each word but
+-- those of an Or is short and stands among few.
 use Rattle.std.proofs.Common.{ℕ, suc, zero, ◌+◌, ◌*◌, ◌/◌, ◌<◌, ◌≤◌, List, [], ◌∷◌, ◌++◌, length, map, get_or, sym, subst, arith}
 use Rattle.std.proofs.Common.{length-append}
 use Rattle.std.specs.Prelude.{flat_map}

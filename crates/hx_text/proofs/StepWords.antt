@@ -1,5 +1,5 @@
--- The lines of steps and of threats. Their words are of high bytes, so each line gives back the words that it was spelled
--- from.
+-- The lines of steps and of threats. Their words are of high bytes, so each line gives back the words that it was
+-- spelled from.
 use Rattle.std.proofs.Common.{◌≡◌, ℕ, ◌≤◌, List, [], ◌∷◌, map, get_or, refl, ap, ◌∙◌, arith}
 use Rattle.std.specs.Prelude.{codes, All}
 use Rattle.std.proofs.lemmas.List.Elements.{All-head, All-tail}

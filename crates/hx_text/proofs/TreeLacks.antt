@@ -1,5 +1,5 @@
--- No line of a tree's text has an LF in it, since its words are of high bytes. So each line in which such a text begins is
--- a line of the input.
+-- No line of a tree's text has an LF in it, since its words are of high bytes. So each line in which such a text begins
+-- is a line of the input.
 use Rattle.std.proofs.Common.{ℕ, ◌≤◌, List, [], ◌∷◌, ◌++◌, length, map, sym, subst, arith}
 use Rattle.std.specs.Prelude.{flat_map, All}
 use Rattle.std.proofs.lemmas.List.Elements.{All-head, All-tail}

@@ -1,6 +1,7 @@
--- The nodes of a valid tree on boards of one size, of no more nodes than `check` accepts, are within the limits of a text:
--- each cell is on the board, a child is an earlier node, what a step or a threat names is an earlier link, as each cell to
--- answer has one line there are at most 121 lines, and as each fill step fills an empty cell there are at most 121 fill steps.
+-- The nodes of a valid tree on boards of one size, of no more nodes than `check` accepts, are within the limits of a
+-- text: each cell is on the board, a child is an earlier node, what a step or a threat names is an earlier link, as
+-- each cell to answer has one line there are at most 121 lines, and as each fill step fills an empty cell there are at
+-- most 121 fill steps.
 use Rattle.std.proofs.Common.{◌≡◌, refl, ℕ, zero, suc, ◌+◌, ◌<◌, ◌≤◌, List, [], ◌∷◌, ◌++◌, length, map, take, get_or, subst, arith, Option}
 use Rattle.std.proofs.Common.{Some, None, inl, inr, length-append}
 use Rattle.std.specs.Prelude.{slice_get, IfSome, IsSomeAnd}

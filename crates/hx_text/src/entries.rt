@@ -1,5 +1,5 @@
-//! The entries of a node: its lines after the first, each a step, a threat, an answer to a move of the opponent, or a fill
-//! step. How many of each kind there are, and so which kind is due at which place, the node's first line says.
+//! The entries of a node: its lines after the first, each a step, a threat, an answer to a move of the opponent, or a
+//! fill step. How many of each kind there are, and so which kind is due at which place, the node's first line says.
 
 use hx_inferior::FillStep;
 use hx_link::Step;

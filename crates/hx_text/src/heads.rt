@@ -1,4 +1,5 @@
-//! A node's first line, which tells its position, its mover, its winner, how its rule begins and how many entries follow.
+//! A node's first line, which tells its position, its mover, its winner, how its rule begins and how many entries
+//! follow.
 
 ghost use Rattle.std.specs.Prelude.{◌≡◌};
 ghost use Rattle.hx_text.specs.Entries.{steps_told, threats_told, answers_told, fills_told};

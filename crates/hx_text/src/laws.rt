@@ -24,8 +24,8 @@ pub fn text_tells_nodes()
         → a ≡ b }
 {}
 
-/// What `write_heading`, `write_node` for each node and `write_end` write is the text of these nodes, in each version that has
-/// them, and whatever is read from it is what was written.
+/// What `write_heading`, `write_node` for each node and `write_end` write is the text of these nodes, in each version
+/// that has them, and whatever is read from it is what was written.
 pub fn written_is_text()
     ensures text { (preamble : Before_nodes) (nodes : List TreeNode) (winner : Player)
         → IsExtent preamble.size.rows preamble.size.cols → All (NodeFits preamble) nodes

@@ -1,5 +1,5 @@
-//! Spelling the texts of positions and trees, line by line. The longest that is put in as a whole is the first line of a node,
-//! for which 120 bytes are kept; a node with many lines goes out in pieces.
+//! Spelling the texts of positions and trees, line by line. The longest that is put in as a whole is the first line of
+//! a node, for which 120 bytes are kept; a node with many lines goes out in pieces.
 
 ghost use Rattle.std.specs.Prelude.{◌≡◌, ◌+◌, ◌≤◌, ◌++◌, ◌∷◌, [], length};
 ghost use Rattle.std.specs.Fmt.{decimal};

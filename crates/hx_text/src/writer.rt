@@ -1,5 +1,5 @@
-//! The writer of texts to a sink. What is spelled waits in a text of fixed size, and goes out when the next piece might not
-//! fit in it. So it takes no memory, and few calls of the sink.
+//! The writer of texts to a sink. What is spelled waits in a text of fixed size, and goes out when the next piece might
+//! not fit in it. So it takes no memory, and few calls of the sink.
 
 ghost use Rattle.std.specs.Prelude.{◌+◌, ◌≤◌, ◌++◌, ◌∷◌, [], map, length, OnOk};
 ghost use Rattle.hx_link.specs.declared.steps.Step.TheVariants.{Or as Or_of};
@@ -54,8 +54,8 @@ pub fn write_position<K: Sink>(
     write_all(sink, text.bytes())
 }
 
-/// Writes the two lines of a tree's text that come before its nodes: the title, which tells the version, and the size of the
-/// board. After `Failed` the sink has taken no more than a part of them, from their beginning.
+/// Writes the two lines of a tree's text that come before its nodes: the title, which tells the version, and the size
+/// of the board. After `Failed` the sink has taken no more than a part of them, from their beginning.
 pub fn write_heading<K: Sink>(sink: &mut K, version: Version, size: Size) -> Result<(), Failed>
     ensures { WritesAll (K.writing sink.old) (K.writing sink.new) result
         (text_of (front_lines (record { version = version; size = size }))) }
@@ -65,8 +65,8 @@ pub fn write_heading<K: Sink>(sink: &mut K, version: Version, size: Size) -> Res
     write_all(sink, text.bytes())
 }
 
-/// Writes the lines of a node, each with its LF. After `Failed` the sink has taken no more than a part of them, from their
-/// beginning.
+/// Writes the lines of a node, each with its LF. After `Failed` the sink has taken no more than a part of them, from
+/// their beginning.
 pub fn write_node<K: Sink>(sink: &mut K, node: &Node) -> Result<(), Failed>
     // A text has no more entries of a node.
     requires { ListsFit node.now.rule }

@@ -1,6 +1,7 @@
 -- A list of cells that is read from its front: they rise so far, and they are the members of a set. For the checker of
--- nodes that answer each move of the opponent. It keeps this set, and the first index that may come next. At the end the
--- set that it kept is the wanted one, or it is not; a cell below the index that may come next shows that they do not rise.
+-- nodes that answer each move of the opponent. It keeps this set, and the first index that may come next. At the end
+-- the set that it kept is the wanted one, or it is not; a cell below the index that may come next shows that they do
+-- not rise.
 use Rattle.std.proofs.Common.{◌≡◌, ℕ, ◌+◌, ◌-◌, ◌<◌, ◌≤◌, true, List, [], ◌∷◌, ◌++◌, length, length-append, get_or, refl, sym, ◌∙◌, arith}
 use Rattle.std.proofs.Common.{◌↔◌, ⊎_elim}
 use Rattle.std.proofs.lemmas.Bool.{cases_lt, false≢true}

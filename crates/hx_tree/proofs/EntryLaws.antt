@@ -1,6 +1,6 @@
--- A list of nodes as a book of proofs. What a list has that goes on from another. With one node more: which entries it has
--- then, and that no two are of one position and
--- mover. What was stored is the first entry of its position and mover.
+-- A list of nodes as a book of proofs. What a list has that goes on from another. With one node more: which entries it
+-- has then, and that no two are of one position and mover. What was stored is the first entry of its position and
+-- mover.
 use Rattle.std.proofs.Common.{◌≡◌, ℕ, List, [], ◌∷◌, ◌++◌, length, append-nil, append_assoc, refl, sym, ap, ◌∙◌, subst, ◌⊎◌, inl, inr}
 use Rattle.std.proofs.Common.{⊎_elim, arith}
 use Rattle.std.specs.Prelude.{slice_get}

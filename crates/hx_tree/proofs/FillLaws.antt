@@ -1,4 +1,5 @@
--- Fill steps that are done one after the other: what the rest of them does from the board so far, they all do from the first.
+-- Fill steps that are done one after the other: what the rest of them does from the board so far, they all do from the
+-- first.
 use Rattle.std.proofs.Common.{◌≡◌, ℕ, ◌+◌, ◌<◌, ◌≤◌, List, [], ◌∷◌, length, drop, get_or, refl, sym, ap, ◌∙◌, subst, ◌↔◌}
 use Rattle.std.proofs.lemmas.List.{drop_more}
 use Rattle.std.proofs.Math.ListN.{drop_of_length-le}
@@ -8,8 +9,8 @@ use Rattle.hx_inferior.specs.declared.fills.FillStep.{FillStep}
 use Rattle.hx_inferior.specs.Inferior.{MayFill, filled}
 use Rattle.hx_tree.specs.Fills.{MayFillAll, filled_all}
 
--- from the board so far, the rest of the steps may be done exactly where all may be done from the first board, and they come to
--- the same
+-- from the board so far, the rest of the steps may be done exactly where all may be done from the first board, and they
+-- come to the same
 pub record ComesToSame (first : Board) (winner : Colour) (steps : List FillStep) (count : ℕ) (board : Board) : Type 0 where
   pub may : MayFillAll board winner (drop count steps) ↔ MayFillAll first winner steps
   pub same : filled_all board winner (drop count steps) ≡ filled_all first winner steps

@@ -1,6 +1,6 @@
--- The lines of a node. The cells that lines answer by a child are gathered line by line. A move to an empty cell that is not
--- to be answered leaves a threat whole; so a better cell is answered exactly where it is one of these or has a child, and
--- lines that are right given these cells are right.
+-- The lines of a node. The cells that lines answer by a child are gathered line by line. A move to an empty cell that
+-- is not to be answered leaves a threat whole; so a better cell is answered exactly where it is one of these or has a
+-- child, and lines that are right given these cells are right.
 use Rattle.std.proofs.Common.{◌≡◌, ℕ, ◌+◌, ◌<◌, true, List, [], ◌∷◌, ◌++◌, length, take, get_or, sym, ap, ◌∙◌, subst, ◌↔◌, ◌⊎◌, inl, inr}
 use Rattle.std.proofs.Common.{⊎_elim, Option, Some, None}
 use Rattle.std.specs.Prelude.{slice_get, IfSome, Contains}

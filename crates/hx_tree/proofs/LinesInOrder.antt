@@ -1,6 +1,6 @@
--- The lines of a node, made one by one in cell order: the cells of the lines so far are the empty cells that are not left, and
--- they come before those that are left. So when no cell is left, there is a line for each empty cell, in cell order. For
--- programs that answer each move of the opponent by a child.
+-- The lines of a node, made one by one in cell order: the cells of the lines so far are the empty cells that are not
+-- left, and they come before those that are left. So when no cell is left, there is a line for each empty cell, in cell
+-- order. For programs that answer each move of the opponent by a child.
 use Rattle.std.proofs.Common.{◌≡◌, ℕ, zero, suc, ◌+◌, ◌<◌, ◌≤◌, true, false, List, [], ◌∷◌, ◌++◌, length, refl, sym, ◌∙◌, arith, ◌⊎◌, inl}
 use Rattle.std.proofs.Common.{inr, ⊎_elim, ◌↔◌, length-append, Option, Some, None}
 use Rattle.std.specs.Prelude.{slice_get, IfSome}

@@ -1,5 +1,5 @@
--- A node that is right after some headings is right after these and more: the headings that its rule speaks of keep their
--- places. So a node that is right after the front of a list of nodes is right after the whole list.
+-- A node that is right after some headings is right after these and more: the headings that its rule speaks of keep
+-- their places. So a node that is right after the front of a list of nodes is right after the whole list.
 use Rattle.std.proofs.Common.{◌≡◌, ℕ, zero, suc, List, [], ◌∷◌, ◌++◌, take, drop, sym, ap, ◌∙◌, subst, Option, None, Some}
 use Rattle.std.specs.Prelude.{slice_get, IfSome, IsSomeAnd}
 use Rattle.std.proofs.lemmas.List.{take-append-drop}

@@ -1,5 +1,5 @@
--- The links of steps that are read one after the other. A step gives one link at most, so steps give one list of links at
--- most; with one more step they give one link more, and where a step gives none, no list of links is theirs.
+-- The links of steps that are read one after the other. A step gives one link at most, so steps give one list of links
+-- at most; with one more step they give one link more, and where a step gives none, no list of links is theirs.
 use Rattle.std.proofs.Common.{◌≡◌, ℕ, ◌+◌, ◌<◌, List, [], ◌∷◌, ◌++◌, take, drop, length, get_or, refl, sym, ap, ◌∙◌, subst, append_assoc}
 use Rattle.std.proofs.lemmas.List.{take-append-drop}
 use Rattle.hx_board.proofs.ListLaws.{take-read}

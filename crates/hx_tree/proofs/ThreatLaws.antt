@@ -1,5 +1,5 @@
--- Threats that are read one after the other: the cells that are kept are the empty ones that all threats so far share. And each
--- cell is in the carriers of all threats, or outside that of some.
+-- Threats that are read one after the other: the cells that are kept are the empty ones that all threats so far share.
+-- And each cell is in the carriers of all threats, or outside that of some.
 use Rattle.std.proofs.Common.{◌≡◌, ℕ, zero, suc, ◌+◌, ◌<◌, ◌≤◌, true, false, List, [], ◌∷◌, length, get_or, refl, sym, ap, ◌∙◌, subst}
 use Rattle.std.proofs.Common.{arith, ◌↔◌, ◌⊎◌, inl, inr, ⊎_elim, Option, Some, None}
 use Rattle.std.specs.Prelude.{slice_get, IfSome, IsSomeAnd}

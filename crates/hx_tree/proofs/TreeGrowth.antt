@@ -1,5 +1,5 @@
--- A list of nodes with one node more: whether a node is right depends on the headings before it alone, so a node that is
--- right or wrong stays so whatever follows. For the checker of trees, and for callers that judge nodes one by one.
+-- A list of nodes with one node more: whether a node is right depends on the headings before it alone, so a node that
+-- is right or wrong stays so whatever follows. For the checker of trees, and for callers that judge nodes one by one.
 use Rattle.std.proofs.Common.{◌≡◌, ◌≢◌, ℕ, ◌<◌, ◌≤◌, List, [], ◌∷◌, ◌++◌, length, arith, ⊎_elim, length-append}
 use Rattle.std.specs.Prelude.{◌↔◌}
 use Rattle.std.proofs.lemmas.Bool.{cases_lt}

@@ -1,7 +1,7 @@
 //! The checker of a node that answers the moves of the opponent.
 //!
-//! The lines are judged by two tests: that their cells are those to answer in cell order, by one mask and one index, and then
-//! each line by itself. No cell is looked up in a list.
+//! The lines are judged by two tests: that their cells are those to answer in cell order, by one mask and one index,
+//! and then each line by itself. No cell is looked up in a list.
 
 ghost use Rattle.std.specs.Prelude.{◌≡◌, ◌↔◌, IsTrue, IfOk, IsOk, ℕ, [], true, slice_get, IfSome};
 ghost use Rattle.std.specs.List.{All};

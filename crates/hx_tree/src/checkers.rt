@@ -1,5 +1,6 @@
-//! A checker that is given the nodes of a tree one by one, as a reader of its text comes to them. Of a right node it keeps the
-//! heading alone, which is all that a later node refers to, so its memory grows by 64 bytes a node and not by its lists.
+//! A checker that is given the nodes of a tree one by one, as a reader of its text comes to them. Of a right node it
+//! keeps the heading alone, which is all that a later node refers to, so its memory grows by 64 bytes a node and not by
+//! its lists.
 
 ghost use Rattle.std.specs.Prelude.{◌≡◌, ◌-◌, ◌<◌, ◌≤◌, ◌↔◌, ◌++◌, ◌∷◌, [], length, slice_get, IsTrue, IfOk, OnErr, MatchBool};
 ghost use Rattle.hx_tree.specs.Rules.{IsRightNode};
@@ -68,7 +69,8 @@ impl Checker {
         self.headings.len() as u32
     }
 
-    /// The heading that is held last, which is the root's where the nodes are a whole tree. None exactly where none is held.
+    /// The heading that is held last, which is the root's where the nodes are a whole tree. None exactly where none is
+    /// held.
     pub fn root(&self) -> Option<Heading>
         ensures { result ≡ slice_get self.now (length self.now - 1) }
     {

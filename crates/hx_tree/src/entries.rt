@@ -1,5 +1,5 @@
-//! What is found in a list of nodes that serves as a book of proofs. Whoever keeps such a list, alone or for many, answers
-//! with it.
+//! What is found in a list of nodes that serves as a book of proofs. Whoever keeps such a list, alone or for many,
+//! answers with it.
 
 use hx_board::Colour;
 

@@ -8,8 +8,8 @@ use crate::nodes::Heading;
 use hx_board::{Colour, Position};
 use hx_inferior::{FillStep, fill_one};
 
-/// Whether there is some step, each may be done where it stands, and an earlier heading has the position after them all,
-/// with the same player to move and the same winner.
+/// Whether there is some step, each may be done where it stands, and an earlier heading has the position after them
+/// all, with the same player to move and the same winner.
 pub(crate) fn check_fill(
     before: &[Heading],
     heading: &Heading,

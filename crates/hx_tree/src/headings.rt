@@ -18,7 +18,8 @@ pub(crate) fn leads(
 ) -> bool
     requires { IsEmpty heading.now.position cell }
     ensures { IsTrue result
-        ↔ Leads before.now child (put heading.now.position stone cell) (other_of stone) heading.now.winner }
+        ↔ Leads before.now child
+        (put heading.now.position stone cell) (other_of stone) heading.now.winner }
 {
     let expected = heading.position.with(stone, cell);
     says(before, child, &expected, stone.other(), heading.winner)

@@ -1,9 +1,9 @@
 //! The nodes of a strategy tree. Each says who wins a position, and by which rule. A tree is a list of nodes, in which
-//! a node names its children by their places before it. The lines that answer the opponent's moves are part of a node, and
-//! so is their list.
+//! a node names its children by their places before it. The lines that answer the opponent's moves are part of a node,
+//! and so is their list.
 //!
-//! Hayward, van Rijswijck, Arneson and Henderson call the cells that all threats share the mustplay region: only a move there
-//! has a line, and without a threat each move has one.
+//! Hayward, van Rijswijck, Arneson and Henderson call the cells that all threats share the mustplay region: only a move
+//! there has a line, and without a threat each move has one.
 
 ghost use Rattle.std.specs.Prelude.{◌≡◌};
 ghost use Rattle.std.specs.Cmp.Lexicographic.{pointwise, lists_per, lists_equiv};
@@ -42,8 +42,8 @@ pub enum Rule {
         child: u32,
     },
 
-    /// The opponent is to move. The threats are places of links that join the winner's two sides: a move that leaves one whole
-    /// loses. Each other move has a line, which says why the winner wins after it.
+    /// The opponent is to move. The threats are places of links that join the winner's two sides: a move that leaves
+    /// one whole loses. Each other move has a line, which says why the winner wins after it.
     All {
         steps: Steps,
         threats: Threats,

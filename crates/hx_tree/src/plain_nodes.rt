@@ -1,5 +1,5 @@
-//! Nodes that tell what to play. From a chain, from links, from a move and from an answer to each move a player can take the next
-//! move; a fill step and a line by a better cell only say that there is one.
+//! Nodes that tell what to play. From a chain, from links, from a move and from an answer to each move a player can
+//! take the next move; a fill step and a line by a better cell only say that there is one.
 
 ghost use Rattle.std.specs.Prelude.{◌↔◌, IsTrue};
 ghost use Rattle.hx_tree.specs.Plain.{AreChildLines, IsPlain};

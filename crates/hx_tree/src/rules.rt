@@ -13,7 +13,8 @@ use crate::turns::check_turned;
 use hx_board::{Cell, Memory, chain};
 use std::alloc::Global;
 
-/// Whether a node is right after these headings. It takes memory for the links of its steps alone, which it lets go again.
+/// Whether a node is right after these headings. It takes memory for the links of its steps alone, which it lets go
+/// again.
 pub fn check_node(alloc: Global, before: &[Heading], node: &Node) -> Result<bool, Memory>
     ensures answers { steps_of node.now.rule ≡ [] → IsOk result }
     ensures right { IfOk result (λ answer. IsTrue answer ↔ IsRightNode before.now node.now) }

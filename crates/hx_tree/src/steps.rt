@@ -1,8 +1,8 @@
 //! The steps of a node: the links that they give, and what these show.
 //!
-//! The winner's groups are made once for a node. Then a Base costs a look-up in their table, an And a comparison of four
-//! ends and a few operations on masks; of both, the most is the test of the result's ends. The links of 8,000 steps take
-//! 256 kilobytes, until the node is judged.
+//! The winner's groups are made once for a node. Then a Base costs a look-up in their table, an And a comparison of
+//! four ends and a few operations on masks; of both, the most is the test of the result's ends. The links of 8,000
+//! steps take 256 kilobytes, until the node is judged.
 
 ghost use Rattle.std.specs.Prelude.{◌≡◌, ◌↔◌, IsTrue, IfOk, IsOk, MatchOption, [], ℕ, List, true};
 ghost use Rattle.hx_board.specs.Sets.{has};

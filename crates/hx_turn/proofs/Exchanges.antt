@@ -1,5 +1,6 @@
--- Each exchange moves a number to its place in the other half of its block, and seven exchanges move each number n of 128 to
--- 127 - n. That the seven sets are the lower halves, and that the seven moves come to 127 - n, is tried number by number.
+-- Each exchange moves a number to its place in the other half of its block, and seven exchanges move each number n of
+-- 128 to 127 - n. That the seven sets are the lower halves, and that the seven moves come to 127 - n, is tried number
+-- by number.
 use Rattle.std.proofs.Common.{◌≡◌, ℕ, ◌+◌, ◌-◌, ◌*◌, ◌/◌, ◌%◌, ◌^◌, ◌<◌, ◌≤◌, Bool, true, false, ◌&&◌, ◌||◌, not, eqb, eqb-true, leb, ltb}
 use Rattle.std.proofs.Common.{cond, refl, sym, ap, ◌∙◌, arith, bit_or, bit_and}
 use Rattle.std.proofs.lemmas.Bool.Decides.{nat_tests}

@@ -1,5 +1,6 @@
--- Two boards that mirror each other: of one size, and each stone of the one stands on the turned cell of the other. A board
--- and its turned board are such, both ways, and stay so when both get a stone. Such boards are turned boards of one another.
+-- Two boards that mirror each other: of one size, and each stone of the one stands on the turned cell of the other. A
+-- board and its turned board are such, both ways, and stay so when both get a stone. Such boards are turned boards of
+-- one another.
 use Rattle.std.proofs.Common.{◌≡◌, ℕ, true, false, refl, sym, ap, ◌∙◌, subst, inl, inr, ⊎_elim}
 use Rattle.std.proofs.lemmas.Bool.{false≢true, false_from_ne_true}
 use Rattle.hx_board.specs.declared.colours.Colour.{Colour}

@@ -1,5 +1,5 @@
--- Turned cells: they are on the board, turned twice they are where they were, they touch what they touched, and the lines
--- along a player's two sides are exchanged.
+-- Turned cells: they are on the board, turned twice they are where they were, they touch what they touched, and the
+-- lines along a player's two sides are exchanged.
 use Rattle.std.proofs.Common.{◌≡◌, ℕ, ◌+◌, ◌-◌, ◌*◌, ◌/◌, ◌%◌, ◌<◌, ◌≤◌, arith}
 use Rattle.hx_board.specs.declared.colours.Colour.{Colour}
 use Rattle.hx_board.specs.declared.colours.Colour.TheVariants.{Black, White}

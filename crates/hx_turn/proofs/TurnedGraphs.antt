@@ -1,4 +1,5 @@
--- On boards that mirror each other own vertices go to own vertices, what touches to what touches, and so walks to walks.
+-- On boards that mirror each other own vertices go to own vertices, what touches to what touches, and so walks to
+-- walks.
 use Rattle.std.proofs.Common.{◌≡◌, List, [], ◌∷◌, map, refl, sym, ap, subst, inl, inr}
 use Rattle.hx_board.specs.declared.colours.Colour.{Colour}
 use Rattle.hx_board.specs.declared.vertices.Vertex.{Vertex}

@@ -1,8 +1,8 @@
 //! A position and its mover folded into one key.
 //!
-//! The four halves of the two sets of stones are each mixed with a salt and multiplied in pairs, and the two results with
-//! the mover once more. Each product has 128 binary digits, of which the upper 64 are laid over the lower 64, so that each
-//! stone changes about half of the digits. This is the step of Wang Yi's wyhash.
+//! The four halves of the two sets of stones are each mixed with a salt and multiplied in pairs, and the two results
+//! with the mover once more. Each product has 128 binary digits, of which the upper 64 are laid over the lower 64, so
+//! that each stone changes about half of the digits. This is the step of Wang Yi's wyhash.
 
 ghost use Rattle.std.specs.Prelude.{◌≡◌};
 ghost use Rattle.hx_turn.specs.Keys.{folded, folded_set, mover_salt, folded_key};

@@ -7,8 +7,8 @@ ghost use Rattle.hx_turn.specs.Keys.{key_of};
 
 use hx_board::{Colour, Position};
 
-/// Vertices that are joined in a player's graph are joined on the turned board, with the player's sides exchanged, and no
-/// others are.
+/// Vertices that are joined in a player's graph are joined on the turned board, with the player's sides exchanged, and
+/// no others are.
 pub fn turned_joins(position: &Position, colour: Colour)
     ensures { (turned : Board) → IsTurned position.now turned
         → KeepsJoined position.now colour turned }
@@ -17,8 +17,8 @@ pub fn turned_joins(position: &Position, colour: Colour)
     let _size = position.size();
 }
 
-/// A player wins a position, with a player to move, exactly where the player wins the turned one with the same player to
-/// move.
+/// A player wins a position, with a player to move, exactly where the player wins the turned one with the same player
+/// to move.
 pub fn turned_keeps(position: &Position, to_move: Colour, colour: Colour)
     ensures { (turned : Board) → IsTurned position.now turned
         → KeepsWinner position.now to_move colour turned }

@@ -1,7 +1,7 @@
 //! Positions turned by 180 degrees.
 //!
-//! A turned board has the same cells, and what touches touches still: the top becomes the bottom and the left the right, so
-//! each player's two sides are exchanged. So who wins a position wins the turned one.
+//! A turned board has the same cells, and what touches touches still: the top becomes the bottom and the left the
+//! right, so each player's two sides are exchanged. So who wins a position wins the turned one.
 #![tactic(auto)]
 
 mod keys;

@@ -1,11 +1,11 @@
 //! A position beside the turned one.
 //!
-//! Who goes through many positions and asks for a key that turned positions share keeps both: a stone more is then one cell
-//! more in each, where to turn a position anew is to reverse two sets.
+//! Who goes through many positions and asks for a key that turned positions share keeps both: a stone more is then one
+//! cell more in each, where to turn a position anew is to reverse two sets.
 //!
-//! A key is folded anew where it is asked for, by a few products, and not kept by exclusive-ors with a table of keys: what
-//! is kept is the turned position, which a search needs in any case to look for it. `Orientations` is `Copy`, since its fields
-//! come back from the board that contracts see (`turned_of`).
+//! A key is folded anew where it is asked for, by a few products, and not kept by exclusive-ors with a table of keys:
+//! what is kept is the turned position, which a search needs in any case to look for it. `Orientations` is `Copy`,
+//! since its fields come back from the board that contracts see (`turned_of`).
 
 ghost use Rattle.std.specs.Prelude.{◌≡◌};
 ghost use Rattle.hx_board.specs.Positions.{IsEmpty, put};

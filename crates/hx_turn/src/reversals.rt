@@ -1,7 +1,7 @@
 //! A set with its numbers in reverse order.
 //!
-//! The halves of each block of 2 numbers are exchanged, then those of each block of 4, and so on up to the whole set. Each
-//! exchange is two shifts, whatever the set has.
+//! The halves of each block of 2 numbers are exchanged, then those of each block of 4, and so on up to the whole set.
+//! Each exchange is two shifts, whatever the set has.
 
 ghost use Rattle.std.specs.Prelude.{◌≡◌, ℕ, ◌-◌, ◌<◌};
 ghost use Rattle.hx_board.specs.Sets.{has};

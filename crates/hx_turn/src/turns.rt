@@ -1,7 +1,7 @@
 //! A position turned by 180 degrees.
 //!
-//! A cell's index is eleven times its row and its column on a board of every size. So the turned cell's index is that of the
-//! board's last cell less the cell's own, and a whole set is turned by reversing it and moving it down.
+//! A cell's index is eleven times its row and its column on a board of every size. So the turned cell's index is that
+//! of the board's last cell less the cell's own, and a whole set is turned by reversing it and moving it down.
 
 ghost use Rattle.std.specs.Prelude.{◌≡◌, ℕ, true, ◌↔◌, IsTrue};
 ghost use Rattle.hx_board.specs.Positions.{Board};
@@ -34,8 +34,8 @@ pub(crate) fn turned_cell(size: Size, cell: Cell) -> Cell
     }
 }
 
-/// The position turned by 180 degrees: on a board of R rows and C columns the cell in row r and column c holds what the cell
-/// in row R - 1 - r and column C - 1 - c of the given position holds.
+/// The position turned by 180 degrees: on a board of R rows and C columns the cell in row r and column c holds what the
+/// cell in row R - 1 - r and column C - 1 - c of the given position holds.
 pub fn turned(position: &Position) -> Position
     ensures turned { IsTurned position.now result }
     ensures back { (twice : Board) → IsTurned result twice → twice ≡ position.now }

@@ -1,4 +1,5 @@
--- The opponent's stones that a position lacks of a wider one come one after the other, on empty cells, and lead to the wider one.
+-- The opponent's stones that a position lacks of a wider one come one after the other, on empty cells, and lead to the
+-- wider one.
 use Rattle.std.proofs.Common.{◌≡◌, ℕ, List, [], ◌∷◌, ◌++◌, Bool, true, false, ◌||◌, ◌&&◌, not, eqb, eqb-true, length, arith, refl, sym, ap}
 use Rattle.std.proofs.Common.{◌∙◌, subst, ⊎_elim, ◌↔◌}
 use Rattle.std.proofs.lemmas.Bool.{false≢true, false_from_ne_true, or_right, true_from_ne_false}

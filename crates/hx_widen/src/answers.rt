@@ -1,9 +1,10 @@
-//! Proofs that whichever move the opponent makes, a player wins after it. They need the carriers of the threats, what some proofs
-//! after moves of the opponent's need, so chosen that each other move is outside one of them, and the cells of the lines that name
-//! a better cell.
+//! Proofs that whichever move the opponent makes, a player wins after it. They need the carriers of the threats, what
+//! some proofs after moves of the opponent's need, so chosen that each other move is outside one of them, and the cells
+//! of the lines that name a better cell.
 //!
-//! The functions have no struct as a worker's have: each needs others of the list of proofs, the position and the set of links.
-//! Each that has the list promises that it grew, each that stores also what ran out, and widen_all alone that a position is served.
+//! The functions have no struct as a worker's have: each needs others of the list of proofs, the position and the set
+//! of links. Each that has the list promises that it grew, each that stores also what ran out, and widen_all alone that
+//! a position is served.
 
 ghost use Rattle.std.specs.Prelude.{◌≡◌, ℕ, true, IfOk, IfErr};
 ghost use Rattle.hx_board.specs.Colours.{other_of};
@@ -28,8 +29,8 @@ use hx_tree::{Heading, Line, Lines, Node, Rule, Threats};
 use std::alloc::Global;
 use std::sync::Wait;
 
-/// What the proofs after the opponent's moves to these cells need. A move outside what another's proof needs is answered by that.
-/// None where a move has no answer.
+/// What the proofs after the opponent's moves to these cells need. A move outside what another's proof needs is
+/// answered by that. None where a move has no answer.
 fn needed_after<P: Proofs, R: Wait>(
     rt: &R,
     proofs: &mut P,
@@ -152,8 +153,8 @@ fn all_wide<P: Proofs, R: Wait>(
     Ok(())
 }
 
-/// Stores an entry of each position after a move of the opponent's to one of these cells, where an entry that serves it names the
-/// winner.
+/// Stores an entry of each position after a move of the opponent's to one of these cells, where an entry that serves it
+/// names the winner.
 fn store_each<P: Proofs, R: Wait>(
     rt: &R,
     alloc: Global,
@@ -176,9 +177,10 @@ fn store_each<P: Proofs, R: Wait>(
     Ok(())
 }
 
-/// Stores that a set's player wins with the opponent to move, where entries say so of the positions after the moves that have to be
-/// tried: a proof that serves the position, or one of the position itself. It is Missing where the board is full, where the list is
-/// plain, or where after one of these moves no entry says so, or an entry of that very position names the opponent.
+/// Stores that a set's player wins with the opponent to move, where entries say so of the positions after the moves
+/// that have to be tried: a proof that serves the position, or one of the position itself. It is Missing where the
+/// board is full, where the list is plain, or where after one of these moves no entry says so, or an entry of that very
+/// position names the opponent.
 pub fn widen_all<P: Proofs, R: Wait>(
     rt: &R,
     proofs: &mut P,

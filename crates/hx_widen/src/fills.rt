@@ -1,5 +1,5 @@
-//! Proofs by what fill-in leaves, which need the cells that were filled for the winner, and what the proof after it needs. The
-//! opponent's stones of fill-in stay.
+//! Proofs by what fill-in leaves, which need the cells that were filled for the winner, and what the proof after it
+//! needs. The opponent's stones of fill-in stay.
 
 ghost use Rattle.std.specs.Prelude.{IfOk, IfErr};
 ghost use Rattle.hx_board.specs.Positions.{Board};
@@ -49,7 +49,8 @@ fn all_cells(steps: &[FillStep]) -> Mask {
     cells
 }
 
-/// Stores the winner's own steps where the opponent has all cells that an entry that serves a position after them does not need.
+/// Stores the winner's own steps where the opponent has all cells that an entry that serves a position after them does
+/// not need.
 fn fill_wide<P: Proofs, R: Wait>(
     rt: &R,
     alloc: Global,
@@ -76,9 +77,9 @@ fn fill_wide<P: Proofs, R: Wait>(
     Ok(())
 }
 
-/// Stores who wins a position, where an entry that serves the position after fill-in says who wins that: a proof that serves the
-/// position, or one of the position itself. It is Missing where no entry serves the filled position, where nothing was filled, or
-/// where the list is plain.
+/// Stores who wins a position, where an entry that serves the position after fill-in says who wins that: a proof that
+/// serves the position, or one of the position itself. It is Missing where no entry serves the filled position, where
+/// nothing was filled, or where the list is plain.
 pub fn widen_fill<P: Proofs, R: Wait>(
     rt: &R,
     alloc: Global,

@@ -1,11 +1,12 @@
 //! Entries that a node may have for its children, and the store of a node that was judged over them.
 //!
-//! What a node at a widened position needs is a guess. So such a node names its children by their places in a short list of
-//! entries, is judged by the checker over their headings, and is stored only where the checker says that it is right.
+//! What a node at a widened position needs is a guess. So such a node names its children by their places in a short
+//! list of entries, is judged by the checker over their headings, and is stored only where the checker says that it is
+//! right.
 //!
-//! No plain list of the program's comes to this crate. One is told apart for the proof alone: by store_known, since not every right node
-//! is plain; by widen_all, since no line of a plain node names a better cell; and by fill_missing, since an entry of such a list serves
-//! its own position alone.
+//! No plain list of the program's comes to this crate. One is told apart for the proof alone: by store_known, since not
+//! every right node is plain; by widen_all, since no line of a plain node names a better cell; and by fill_missing,
+//! since an entry of such a list serves its own position alone.
 
 ghost use Rattle.std.specs.Prelude.{◌≡◌, false, List, [], slice_get, OnOk, OnErr, IfOk, IfErr};
 ghost use Rattle.std.specs.declared.option.Option.TheVariants.{Some};
@@ -66,8 +67,8 @@ impl Known {
     }
 }
 
-/// Stores a node, where the checker says that it is right after the known entries. Missing only where it is not, or where the list is
-/// plain.
+/// Stores a node, where the checker says that it is right after the known entries. Missing only where it is not, or
+/// where the list is plain.
 pub(crate) fn store_known<P: Proofs, R: Wait>(
     rt: &R,
     alloc: Global,

@@ -28,8 +28,8 @@ pub(crate) fn needed_by(line: &Line) -> Mask {
     }
 }
 
-/// Makes an entry known of the position after the opponent's move to a cell, where an entry that serves it names the winner. Its
-/// place among the known ones.
+/// Makes an entry known of the position after the opponent's move to a cell, where an entry that serves it names the
+/// winner. Its place among the known ones.
 fn know_next<P: Proofs, R: Wait>(
     rt: &R,
     alloc: Global,

@@ -46,7 +46,8 @@ fn links_wide<P: Proofs, R: Wait>(
     Ok(())
 }
 
-/// Stores that a set's player wins by the live link at an index: a proof that serves the position, or one of the position itself.
+/// Stores that a set's player wins by the live link at an index: a proof that serves the position, or one of the
+/// position itself.
 pub fn widen_links<P: Proofs, R: Wait>(
     rt: &R,
     proofs: &mut P,

@@ -38,9 +38,9 @@ fn move_wide<P: Proofs, R: Wait>(
     Ok(())
 }
 
-/// Stores that the player to move wins by a move to the cell, where an entry that serves the position after it says so: a proof
-/// that serves the position, or one of the position itself. It is Missing where no entry that says so serves the position after the
-/// move, or an entry of that position names the opponent.
+/// Stores that the player to move wins by a move to the cell, where an entry that serves the position after it says so:
+/// a proof that serves the position, or one of the position itself. It is Missing where no entry that says so serves
+/// the position after the move, or an entry of that position names the opponent.
 pub fn widen_move<P: Proofs, R: Wait>(
     rt: &R,
     alloc: Global,

@@ -14,9 +14,9 @@ use hx_nodes::{Stored, store_turned};
 use hx_turn::turned;
 use std::sync::Wait;
 
-/// Looks for an entry that serves the position, and where there is none for one that serves the turned position, by which it
-/// stores a proof. It is Missing where nothing serves the position; and the list is plain, or nothing serves the turned one either, or
-/// entries of two positions that are turned into one another name different winners.
+/// Looks for an entry that serves the position, and where there is none for one that serves the turned position, by
+/// which it stores a proof. It is Missing where nothing serves the position; and the list is plain, or nothing serves
+/// the turned one either, or entries of two positions that are turned into one another name different winners.
 pub fn widen_turned<P: Proofs, R: Wait>(
     rt: &R,
     proofs: &mut P,

@@ -1,8 +1,9 @@
-//! Widened positions: a proof of a player's needs few of the empty cells, and the opponent's stones may be on all others.
+//! Widened positions: a proof of a player's needs few of the empty cells, and the opponent's stones may be on all
+//! others.
 //!
-//! What a proof needs is a guess here. Nothing is promised of these positions: who stores a proof at one has it judged by the
-//! checker, or looks up there what makes it right. The cells that an entry needs are the empty ones of its position, and no
-//! table keeps them.
+//! What a proof needs is a guess here. Nothing is promised of these positions: who stores a proof at one has it judged
+//! by the checker, or looks up there what makes it right. The cells that an entry needs are the empty ones of its
+//! position, and no table keeps them.
 
 use hx_board::{Colour, Mask, Position, Size};
 

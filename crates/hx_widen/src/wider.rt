@@ -59,8 +59,8 @@ pub(crate) fn served<P: Proofs, R: Wait>(
     }
 }
 
-/// The end of a try to store a proof at a widened position: Done where the position is served now, and else Missing. Where memory ran
-/// out there, a proof of the position itself may still find some.
+/// The end of a try to store a proof at a widened position: Done where the position is served now, and else Missing.
+/// Where memory ran out there, a proof of the position itself may still find some.
 pub(crate) fn end_of<P: Proofs, R: Wait>(
     rt: &R,
     proofs: &mut P,
@@ -106,8 +106,8 @@ fn others_on(
     Ok(steps)
 }
 
-/// Stores that a player wins a position, where an entry that serves it says so: by a node that fills in each missing stone of the
-/// opponent's. It is Missing where no entry of this winner serves it.
+/// Stores that a player wins a position, where an entry that serves it says so: by a node that fills in each missing
+/// stone of the opponent's. It is Missing where no entry of this winner serves it.
 pub fn store_wider<P: Proofs, R: Wait>(
     rt: &R,
     alloc: Global,
@@ -130,7 +130,8 @@ pub fn store_wider<P: Proofs, R: Wait>(
     Ok(Stored::Done)
 }
 
-/// Stores that the winner of an entry that serves a position wins it, by a node that fills in each missing stone of the opponent's.
+/// Stores that the winner of an entry that serves a position wins it, by a node that fills in each missing stone of the
+/// opponent's.
 pub(crate) fn fill_missing<P: Proofs, R: Wait>(
     rt: &R,
     alloc: Global,
@@ -164,8 +165,8 @@ pub(crate) fn fill_missing<P: Proofs, R: Wait>(
     }
 }
 
-/// Stores that the winner of an entry wins a position by these steps to the entry's. Missing only where they do not lead there, or
-/// where the list is plain.
+/// Stores that the winner of an entry wins a position by these steps to the entry's. Missing only where they do not
+/// lead there, or where the list is plain.
 pub(crate) fn fill_to<P: Proofs, R: Wait>(
     rt: &R,
     alloc: Global,

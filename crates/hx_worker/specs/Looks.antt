@@ -7,8 +7,8 @@ use Rattle.hx_limits.specs.declared.ran_out.RanOut.{RanOut}
 use Rattle.hx_limits.specs.Causes.{IsUnstored}
 use Rattle.hx_worker.specs.declared.closing.LastLook.{LastLook}
 
--- what is seen of the list of proofs only grew, what was found is the first entry of the position and mover, and what ran
--- out is why no proof was stored
+-- what is seen of the list of proofs only grew, what was found is the first entry of the position and mover, and what
+-- ran out is why no proof was stored
 pub record Looks {R : Type 0} (look : LastLook R) (old new : Sight) (result : Result (Option Found) RanOut) : Type 0 where
   pub grew : Grows old new
   pub found : IfOk result (λ found. IfSome found (IsFirstFound new.list look.position.now look.to_move))

@@ -1,5 +1,5 @@
--- The steps on a table of zones, for the functions inside the crate alone. The words may be any, since no proof rests on a
--- zone.
+-- The steps on a table of zones, for the functions inside the crate alone. The words may be any, since no proof rests
+-- on a zone.
 use Rattle.std.specs.Prelude.{ℕ}
 use Rattle.atomic_table.specs.Table.{State, Me, Step}
 

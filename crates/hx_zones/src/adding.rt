@@ -1,7 +1,7 @@
 //! How a zone is kept.
 //!
-//! Where a zone in the table serves each position that a new one serves, the new one tells nothing more and is not kept. Old zones that
-//! serve less than the new one stay, until their blocks are written over.
+//! Where a zone in the table serves each position that a new one serves, the new one tells nothing more and is not
+//! kept. Old zones that serve less than the new one stay, until their blocks are written over.
 
 use crate::bits::{PLACES, ZONES, only, take_cell};
 use crate::lists::list_of;
@@ -37,8 +37,8 @@ impl Rarest {
 }
 
 impl Zones {
-    /// Counts a zone more that needs these cells, and answers which of them the fewest zones needed before. In a table with one list for
-    /// each kind none is counted.
+    /// Counts a zone more that needs these cells, and answers which of them the fewest zones needed before. In a table
+    /// with one list for each kind none is counted.
     fn count_needed(&self, kind: Kind, needed: u128) -> Rarest {
         let mut rarest = Rarest {
             first: ALWAYS,
@@ -56,8 +56,8 @@ impl Zones {
         rarest
     }
 
-    /// A block of a list, and a place in it: in its newest block, unless that is full or was taken for another list meanwhile, and else
-    /// in a new one. None in a table without blocks.
+    /// A block of a list, and a place in it: in its newest block, unless that is full or was taken for another list
+    /// meanwhile, and else in a new one. None in a table without blocks.
     fn room_in(&self, list: usize) -> Option<(u32, usize)> {
         let head = self.head(list);
         if let Some(block) = head {
@@ -105,8 +105,8 @@ impl Zones {
         self.let_stand(block, zones);
     }
 
-    /// Keeps a zone of a kind, where none serves all that it serves. One by which the player to move loses is kept in two lists: `tell`
-    /// looks for zones that lack one stone, and finds it though that is the stone of one of them.
+    /// Keeps a zone of a kind, where none serves all that it serves. One by which the player to move loses is kept in
+    /// two lists: `tell` looks for zones that lack one stone, and finds it though that is the stone of one of them.
     pub fn keep(&self, kind: Kind, zone: &Zone) {
         let needed = zone.needed.bits();
         let free = zone.free.minus(zone.needed).bits();

@@ -1,7 +1,7 @@
 //! How a zone is forgotten.
 //!
-//! Who made no proof of what a zone told has it forgotten, so that a look finds another one or none. Its place stays taken until its
-//! block is written over.
+//! Who made no proof of what a zone told has it forgotten, so that a look finds another one or none. Its place stays
+//! taken until its block is written over.
 
 use crate::bits::{ZONES, only, take_zone};
 use crate::lists::Lists;

@@ -1,14 +1,15 @@
 //! The lists of blocks.
 //!
-//! A zone stands in the list of one of its needed stones: the one that the fewest zones of its kind need. So a look goes over the
-//! lists of the stones that there are, and not over all blocks: with 130,000 zones that took a third of a search's time. A small table
-//! has one list for each kind.
+//! A zone stands in the list of one of its needed stones: the one that the fewest zones of its kind need. So a look
+//! goes over the lists of the stones that there are, and not over all blocks: with 130,000 zones that took a third of a
+//! search's time. A small table has one list for each kind.
 
 use crate::bits::take_cell;
 use crate::tables::{ALWAYS, LISTS_OF_KIND, Zones};
 use crate::zone::{KINDS, Kind};
 
-/// Whoever goes over a list. The blocks that it comes to are older and older: so it ends, whatever others write meanwhile.
+/// Whoever goes over a list. The blocks that it comes to are older and older: so it ends, whatever others write
+/// meanwhile.
 #[derive(Clone, Copy)]
 pub(crate) struct Trail {
     list: u64,
@@ -16,8 +17,8 @@ pub(crate) struct Trail {
     age: u64,
 }
 
-/// Whoever goes over the lists in which zones of a kind may stand that serve a position: those of the winner's stones, and last the one
-/// of the zones that need none.
+/// Whoever goes over the lists in which zones of a kind may stand that serve a position: those of the winner's stones,
+/// and last the one of the zones that need none.
 #[derive(Clone, Copy)]
 pub(crate) struct Lists {
     kind: usize,

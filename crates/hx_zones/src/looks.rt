@@ -1,4 +1,5 @@
-//! What zones say of a position, by itself and turned by 180 degrees: a player wins the turned one too, with the same player to move.
+//! What zones say of a position, by itself and turned by 180 degrees: a player wins the turned one too, with the same
+//! player to move.
 
 use crate::serving::Stones;
 use crate::tables::Zones;
@@ -6,8 +7,8 @@ use crate::zone::{Kind, Zone};
 use hx_board::{Colour, Position, Size};
 use hx_turn::turned;
 
-/// With more stones the turned position is not looked for: no such look found a zone. A search from an opening that is not its own
-/// turned one comes to a position and to the turned one in the first moves alone.
+/// With more stones the turned position is not looked for: no such look found a zone. A search from an opening that is
+/// not its own turned one comes to a position and to the turned one in the first moves alone.
 const FEW_STONES: u32 = 6;
 
 /// The zone on the board turned by 180 degrees. Its two sets are turned as the two players' stones of a position are.
@@ -33,7 +34,8 @@ impl Zones {
         self.find(kind, &stones)
     }
 
-    /// A zone made of one that serves the turned position `there`. It is kept, so that the position is found by itself from now on.
+    /// A zone made of one that serves the turned position `there`. It is kept, so that the position is found by itself
+    /// from now on.
     fn serving_turned(&self, there: &Position, kind: Kind) -> Option<Zone> {
         let Some(zone) = self.serving(there, kind) else {
             return None;
@@ -45,7 +47,8 @@ impl Zones {
         Some(here)
     }
 
-    /// A zone by which this player wins the position: its own, or where there are few stones one made of the turned position's.
+    /// A zone by which this player wins the position: its own, or where there are few stones one made of the turned
+    /// position's.
     pub fn won_by(&self, position: &Position, to_move: Colour, winner: Colour) -> Option<Zone> {
         let kind = Kind { to_move, winner };
         if let Some(zone) = self.serving(position, kind) {

@@ -1,9 +1,9 @@
 //! How many blocks a table of zones has.
 //!
-//! A search keeps some half a zone for each unit, and searches anew what its zones told where they are written over before they serve
-//! again. So there is half a place for each unit of the budget, up to a number that depends on the budget, as hints have it: a table for
-//! a budget that is never spent would take longer to make than many searches take. A zone serves many positions, so where few positions
-//! can come there are fewer places than positions.
+//! A search keeps some half a zone for each unit, and searches anew what its zones told where they are written over
+//! before they serve again. So there is half a place for each unit of the budget, up to a number that depends on the
+//! budget, as hints have it: a table for a budget that is never spent would take longer to make than many searches
+//! take. A zone serves many positions, so where few positions can come there are fewer places than positions.
 
 use crate::bits::ZONES;
 

@@ -1,7 +1,7 @@
 //! Which zones of a block serve a position.
 //!
-//! A zone that needs a cell on which the opponent has a stone touches it. So once those are taken away that touch one of the opponent's
-//! stones, a needed cell without a stone of the winner's is an empty one.
+//! A zone that needs a cell on which the opponent has a stone touches it. So once those are taken away that touch one
+//! of the opponent's stones, a needed cell without a stone of the winner's is an empty one.
 
 use crate::bits::{PLACES, take_cell};
 use crate::tables::{Any, Column, Zones};

@@ -1,12 +1,12 @@
 //! The table of zones: which word stands where.
 //!
-//! Zones stand in blocks of 64. For each cell of a board a block has a word that tells which of its zones need a stone there, and
-//! one that tells which of them touch it, as a needed stone or as a free cell. So one step on such a word compares 64 zones, and a
-//! look at a block begins with the zones that it has, takes away by the touch words of the opponent's stones and by the need words
-//! of the empty cells, and ends when none is left, mostly after some ten words.
+//! Zones stand in blocks of 64. For each cell of a board a block has a word that tells which of its zones need a stone
+//! there, and one that tells which of them touch it, as a needed stone or as a free cell. So one step on such a word
+//! compares 64 zones, and a look at a block begins with the zones that it has, takes away by the touch words of the
+//! opponent's stones and by the need words of the empty cells, and ends when none is left, mostly after some ten words.
 //!
-//! Blocks are taken in turn, and the oldest one is written over. A block may be written over while another worker reads it: what is
-//! read then may be no zone that anyone kept. It is a hint all the same.
+//! Blocks are taken in turn, and the oldest one is written over. A block may be written over while another worker reads
+//! it: what is read then may be no zone that anyone kept. It is a hint all the same.
 
 ghost use Rattle.std.specs.Prelude.{◌+◌, ◌<◌};
 
@@ -22,8 +22,8 @@ pub(crate) const LISTS_OF_KIND: usize = PLACES + 1;
 /// The list of the zones that need no stone, and of all zones of a kind in a small table.
 pub(crate) const ALWAYS: usize = PLACES;
 
-// The words before the blocks: the newest block of each list, how many zones of each kind need each cell, and how many blocks were
-// taken.
+// The words before the blocks: the newest block of each list, how many zones of each kind need each cell, and how many
+// blocks were taken.
 const HEADS: usize = 0;
 
 const COUNTS: usize = KINDS * LISTS_OF_KIND;
@@ -33,8 +33,9 @@ const TAKEN: usize = COUNTS + KINDS * PLACES;
 // Where the first block begins, behind a few words that serve nothing.
 const FIRST: usize = 1032;
 
-// The words of a block: its list, the block before it in the list, when it was taken, how many of its places were given away, which
-// of its zones stand, which cells some of its zones need or touch, then the words of the cells, and the zones themselves.
+// The words of a block: its list, the block before it in the list, when it was taken, how many of its places were given
+// away, which of its zones stand, which cells some of its zones need or touch, then the words of the cells, and the
+// zones themselves.
 const LIST: usize = 0;
 
 const NEXT: usize = 1;
@@ -57,7 +58,8 @@ const ITEMS: usize = TOUCHES + PLACES;
 
 const BLOCK: usize = ITEMS + 4 * ZONES;
 
-/// With fewer blocks each kind has one list alone: each list has a block of its own, so a few zones would take all blocks.
+/// With fewer blocks each kind has one list alone: each list has a block of its own, so a few zones would take all
+/// blocks.
 const BLOCKS_WITH_LISTS: u32 = 1024;
 
 /// The table of zones.
@@ -213,7 +215,8 @@ impl Zones {
         self.words.next_number(place_of(block, USED))
     }
 
-    /// Takes the oldest block for a list, in front of this one, and gives its first place away. None in a table without blocks.
+    /// Takes the oldest block for a list, in front of this one, and gives its first place away. None in a table without
+    /// blocks.
     pub(crate) fn take_block(&self, list: usize, before: Option<u32>) -> Option<u32> {
         if self.blocks == 0 {
             return None;

@@ -1,8 +1,8 @@
 //! What zones tell of all moves of a player at once.
 //!
-//! After a move that is a zone's missing stone the mover wins. After a move outside a zone by which the opponent wins it serves, since
-//! the mover's stone is on none of its cells: so that zone refutes all moves outside it. One pass over the lists tells both, where a
-//! look after each move would take one for each.
+//! After a move that is a zone's missing stone the mover wins. After a move outside a zone by which the opponent wins
+//! it serves, since the mover's stone is on none of its cells: so that zone refutes all moves outside it. One pass over
+//! the lists tells both, where a look after each move would take one for each.
 
 use crate::bits::{ZONES, take_zone};
 use crate::lists::Lists;
@@ -37,8 +37,8 @@ struct Sum {
 }
 
 impl Sum {
-    /// Takes in a zone by which the mover wins, and which lacks one stone at most. Where it lacks none any move wins, and those on its
-    /// free cells are told, or all where none of these is empty.
+    /// Takes in a zone by which the mover wins, and which lacks one stone at most. Where it lacks none any move wins,
+    /// and those on its free cells are told, or all where none of these is empty.
     fn add_win(&mut self, own: u128, needed: u128, free: u128) {
         let lacking = needed & !own & self.empties;
         if lacking == 0 {

@@ -1,7 +1,8 @@
 //! Words that workers share without an order.
 //!
-//! Each call is one step on one word, and takes no lock. A word may be changed by others at any time, and nothing is said of what
-//! it holds. A place that there is not reads as zero, and what is put there is lost: so a caller owes nothing of its places.
+//! Each call is one step on one word, and takes no lock. A word may be changed by others at any time, and nothing is
+//! said of what it holds. A place that there is not reads as zero, and what is put there is lost: so a caller owes
+//! nothing of its places.
 
 ghost use Rattle.std.specs.Prelude.{◌≡◌};
 ghost use Rattle.hx_zones.specs.Steps.{AnyWords, no_view, steps};

@@ -4,7 +4,8 @@ ghost use Rattle.std.specs.Prelude.{◌<◌};
 
 use hx_board::{Colour, Mask};
 
-/// What a win needs: stones of the winner's, and cells on which the opponent has none. It serves each position that has both.
+/// What a win needs: stones of the winner's, and cells on which the opponent has none. It serves each position that has
+/// both.
 #[derive(Clone, Copy)]
 pub struct Zone {
     /// Cells on which the winner has stones.

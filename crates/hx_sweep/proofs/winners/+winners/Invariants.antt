@@ -1,5 +1,5 @@
--- A move leaves one empty cell less, and each round of the loop one cell less to try. The cells that are left are empty, and
--- after a move to each other empty cell the opponent wins.
+-- A move leaves one empty cell less, and each round of the loop one cell less to try. The cells that are left are
+-- empty, and after a move to each other empty cell the opponent wins.
 use Rattle.std.proofs.Common.{◌≡◌, ℕ, ◌+◌, ◌*◌, true, false}
 use Rattle.hx_board.specs.Sets.{has, count_below}
 use Rattle.hx_board.specs.Counts.{empty_count}

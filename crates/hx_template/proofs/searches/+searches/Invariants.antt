@@ -1,5 +1,5 @@
--- A move leaves one empty cell less, and each turn of the loop one cell less to try. The cells that are left are free, and no move
--- to another free cell leads to what is wanted.
+-- A move leaves one empty cell less, and each turn of the loop one cell less to try. The cells that are left are free,
+-- and no move to another free cell leads to what is wanted.
 use Rattle.std.proofs.Common.{◌≡◌, ℕ, ◌+◌, ◌*◌, true, false, not}
 use Rattle.hx_board.specs.Colours.{other_of}
 use Rattle.hx_board.specs.Positions.{put}

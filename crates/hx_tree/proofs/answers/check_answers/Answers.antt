@@ -1,5 +1,5 @@
--- The lines are those of the cells to answer, so the cell of each line is empty; and a better cell is in the set of the moves
--- that lose exactly where it has a child or leaves a threat whole.
+-- The lines are those of the cells to answer, so the cell of each line is empty; and a better cell is in the set of the
+-- moves that lose exactly where it has a child or leaves a threat whole.
 use Rattle.std.proofs.Common.{◌↔◌, ℕ, List, Bool, IsTrue, refl, arith, slice_get, IfSome}
 use Rattle.std.proofs.lemmas.List.{get_or-map, length-map}
 use Rattle.std.specs.List.{All}
