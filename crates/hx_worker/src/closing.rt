@@ -38,6 +38,7 @@ fn close_one(set: &mut LinkSet) -> Result<(), Memory>
 }
 
 /// A position that is looked at for the last time.
+#[derive(Drop)]
 struct LastLook<'a, R> {
     rt: &'a R,
     position: &'a Position,
