@@ -1,8 +1,10 @@
 -- The board after one stone more: whose stones it has, which cells are empty, and that it is a position.
-use Rattle.std.proofs.Common.{◌≡◌, ◌≢◌, ℕ, true, refl, sym, ◌∙◌, ◌⊎◌, inl, inr, ⊎_elim, ◌↔◌}
+use Rattle.std.proofs.Common.{◌≡◌, ◌≢◌, ℕ, true, false, refl, sym, ◌∙◌, ◌⊎◌, inl, inr, ⊎_elim, ◌↔◌}
 use Rattle.std.proofs.lemmas.Bool.{false≢true, false_from_ne_true}
 use Rattle.hx_board.specs.declared.colours.Colour.{Colour}
 use Rattle.hx_board.specs.declared.colours.Colour.TheVariants.{Black, White}
+use Rattle.hx_board.specs.Colours.{other_of}
+use Rattle.hx_board.specs.Cells.{OnBoard}
 use Rattle.hx_board.specs.Sets.{has, insert}
 use Rattle.hx_board.specs.Positions.{Board, IsBoard, IsEmpty, IsHeld, put, stones_of}
 use Rattle.hx_board.proofs.SetLaws.{has-insert_cases, has-insert_same, has-insert_other}
@@ -70,3 +72,14 @@ empty_after board White cell n empty other = record {
 pub empty-put : (board : Board) (who : Colour) (cell n : ℕ) → IsEmpty (put board who cell) n ↔ (IsEmpty board n × (n ≢ cell))
 empty-put board who cell n =
     ((λ empty. (empty_before board who cell n empty, not_on_stone board who cell n empty)), (λ w. empty_after board who cell n w.0 w.1))
+
+-- ---- empty cells by a player's stones and the other's
+
+pub empty-no_stone : (board : Board) (player : Colour) (cell : ℕ) → IsEmpty board cell → has (stones_of board player) cell ≡ false
+empty-no_stone board Black cell empty = empty.no_black
+empty-no_stone board White cell empty = empty.no_white
+
+pub no_stones-empty : (board : Board) (player : Colour) (cell : ℕ) → OnBoard board.size cell
+    → has (stones_of board player) cell ≡ false → has (stones_of board (other_of player)) cell ≡ false → IsEmpty board cell
+no_stones-empty board Black cell on own others = record { on_board = on; no_black = own; no_white = others }
+no_stones-empty board White cell on own others = record { on_board = on; no_black = others; no_white = own }

@@ -1,4 +1,5 @@
 pub mod LiveLaws
+pub mod LiveThreats
 pub mod LossLaws
 pub mod GivenLaws
 pub mod KeptLaws

@@ -5,10 +5,8 @@ use Rattle.std.proofs.Common.{refl, sym, ap, ◌∙◌, subst, arith, inl, Optio
 use Rattle.std.specs.Prelude.{slice_get, IfSome, IsSomeAnd, Contains}
 use Rattle.std.proofs.lemmas.Option.{slice_get-get_or, slice_get_within, get_or_from_slice_get}
 use Rattle.std.proofs.lemmas.List.Elements.{All-contains}
-use Rattle.hx_board.specs.declared.vertices.Vertex.TheVariants.{First, Last}
 use Rattle.hx_board.specs.Colours.{other_of}
 use Rattle.hx_board.specs.Sets.{has}
-use Rattle.hx_board.specs.Lists.{StandsIn}
 use Rattle.hx_board.specs.Positions.{Board, IsEmpty}
 use Rattle.hx_link.specs.declared.links.Link.{Link}
 use Rattle.hx_link.specs.declared.steps.Step.{Step}
@@ -22,10 +20,8 @@ use Rattle.hx_tree.specs.Answers.{IsToAnswer, IsRightLine, cells_of}
 use Rattle.hx_tree.specs.Plain.{IsChildLine, AreChildLines}
 use Rattle.hx_tree.specs.Rules.{IsRightNode}
 use Rattle.hx_tree.proofs.CellOrder.{same_kind}
-use Rattle.std.specs.List.{All as Each}
 use Rattle.hx_linkset.specs.declared.limits.TheConstants.{MOST_LINKS}
-use Rattle.hx_linkset.specs.States.{Standing, IsRight, IsLiveAt}
-use Rattle.hx_linkset.specs.LivePairs.{IsLivePair}
+use Rattle.hx_linkset.specs.States.{Standing, IsRight}
 use Rattle.hx_linkset.specs.Derivations.{IsDerived}
 use Rattle.hx_linkset.proofs.NextLaws.{live-is_link}
 use Rattle.hx_fill.specs.Musts.{IsMust, IsShared, HasCell}
@@ -139,11 +135,3 @@ gathered-child headings heading (Some (Under cell better kill)) is = absurd (ome
 pub gathered-children : (headings : List Heading) (heading : Heading) (lines : List Line)
     → ((k : ℕ) → IfSome (slice_get lines k) (IsGathered headings heading [])) → AreChildLines lines
 gathered-children headings heading lines each k = gathered-child headings heading (slice_get lines k) (each k)
-
--- threats are live links
-pub threats-live : (set : Standing) (threats : List ℕ) → Each (IsLivePair set First Last) threats → (index : ℕ) → StandsIn threats index
-    → IsLiveAt set.present.board set.player set.present.links index
-threats-live set threats live index is =
-    let less : is.0 < length threats = slice_get_within threats is.0 index is.1 in
-    let pair : IsLivePair set First Last index = rw (get_or_from_slice_get threats is.0 index index is.1) at (live is.0 index less) in
-    (pair.0, (pair.1.0, pair.1.1.0))

@@ -2,12 +2,12 @@
 -- left. So when no cell is left, there is a line for each cell, in cell order.
 use Rattle.std.proofs.Common.{◌≡◌, ℕ, zero, suc, ◌<◌, true, false, List, [], ◌∷◌, ◌++◌, sym, ◌∙◌, arith, inl, inr, ⊎_elim}
 use Rattle.std.specs.Prelude.{slice_get, IfSome}
-use Rattle.std.proofs.lemmas.Bool.{false≢true, cases_lt}
+use Rattle.std.proofs.lemmas.Bool.{false≢true}
 use Rattle.std.proofs.lemmas.List.{map-append}
 use Rattle.std.proofs.lemmas.List.Elements.{All-weaker, Contains-append_left, Contains-append_right}
 use Rattle.hx_board.specs.Sets.{has, remove}
 use Rattle.hx_board.specs.Cells.{Extent, OnBoard, IsLeastOn}
-use Rattle.hx_board.proofs.SetLaws.{has-remove_before, removed, removed_cases, removed_still}
+use Rattle.hx_board.proofs.SetLaws.{has-remove_before, removed, removed_cases, removed_still, rest-above_first}
 use Rattle.hx_tree.specs.declared.nodes.Heading.{Heading}
 use Rattle.hx_tree.specs.declared.nodes.Line.{Line}
 use Rattle.hx_tree.specs.declared.nodes.Line.TheVariants.{Child, Under}
@@ -97,11 +97,5 @@ module _ (headings : List Heading) (heading : Heading) (cells : ℕ) (under : Li
   }
     where
       later : (n : ℕ) → has (remove left cell) n ≡ true → cell < n
-      later n member = ⊎_elim
-          (λ less. absurd (false≢true
-          (sym (least.first n less (on_board n (before.inside n (has-remove_before left cell n member))))
-          ∙ has-remove_before left cell n member)))
-          (λ more_or_same. ⊎_elim (λ less. less)
-          (λ least_too. let same : n ≡ cell = omega arith in absurd (false≢true (sym (removed left cell) ∙ rw same at member)))
-          (cases_lt cell n))
-          (cases_lt n cell)
+      later = rest-above_first left cell
+          (λ n less member. false≢true (sym (least.first n less (on_board n (before.inside n member))) ∙ member))

@@ -1,17 +1,17 @@
 -- The cells of a set are listed by taking the lowest one out of what is left. So each is above those that are listed,
 -- and after as many turns as the largest board has cells none is left.
-use Rattle.std.proofs.Common.{◌≡◌, ◌≢◌, ℕ, ◌+◌, ◌<◌, ◌≤◌, true, false, List, [], ◌∷◌, ◌++◌, length, get_or, sym, ◌∙◌}
-use Rattle.std.proofs.Common.{subst, ◌⊎◌, inl, inr, ⊎_elim, arith, ◌↔◌, length-append}
+use Rattle.std.proofs.Common.{◌≡◌, ℕ, ◌+◌, ◌<◌, ◌≤◌, true, false, List, [], ◌∷◌, ◌++◌, length, sym, ◌∙◌}
+use Rattle.std.proofs.Common.{subst, ◌⊎◌, inl, inr, ⊎_elim, arith, ◌↔◌}
 use Rattle.std.specs.Prelude.{Contains, nat_lt, ◌&&◌}
 use Rattle.std.specs.List.Sorted.{IsStrictlyIncreasing, IsPermutation}
-use Rattle.std.proofs.lemmas.Bool.{false≢true, cases_lt, cases_eq, cases_Bool, and_parts, and_from, lt-ltb}
-use Rattle.std.proofs.lemmas.List.{get_or_append_left, get_or_push}
+use Rattle.std.proofs.lemmas.Bool.{false≢true, cases_eq, cases_Bool, and_parts, and_from, lt-ltb}
 use Rattle.std.proofs.lemmas.List.Sorted.{Contains-permutation, IsPermutation-sym}
-use Rattle.std.proofs.lemmas.List.Elements.{Contains-get_or, Contains-push, Contains-push_cases, Contains-append_left}
+use Rattle.std.proofs.lemmas.List.Elements.{Contains-push, Contains-push_cases, Contains-append_left}
 use Rattle.hx_board.specs.Sets.{has, remove, IsLowest}
 use Rattle.hx_board.specs.Positions.{Board, IsBoard, IsEmpty}
 use Rattle.hx_board.proofs.CellLaws.{on_board-small}
-use Rattle.hx_board.proofs.SetLaws.{has-remove_before, has-remove_other, removed}
+use Rattle.hx_board.proofs.SetLaws.{has-remove_before, has-remove_other, rest-above_first}
+use Rattle.hx_tree.proofs.CellOrder.{increasing-push}
 use Rattle.hx_ordering.specs.Orders.{HasNoCell, AreCellsOf, AreEmptyCells}
 
 -- some cells of a set are listed after so many turns, and the others are left
@@ -36,25 +36,10 @@ listed-none set = record {
   beyond = λ n h. omega arith;
 }
 
-rising-push : (cells : List ℕ) (cell : ℕ) → IsStrictlyIncreasing cells → ((other : ℕ) → Contains cells other → other < cell)
-    → IsStrictlyIncreasing (cells ++ cell ∷ [])
-rising-push cells cell rising below k low = ⊎_elim early late (cases_lt (k + 1) (length cells))
-  where
-    early : k + 1 < length cells → get_or (cells ++ cell ∷ []) k 0 < get_or (cells ++ cell ∷ []) (k + 1) 0
-    early inside = rw (get_or_append_left cells (cell ∷ []) 0 k (omega arith), get_or_append_left cells (cell ∷ []) 0 (k + 1) inside)
-        (rising k inside)
-
-    late : length cells ≤ k + 1 → get_or (cells ++ cell ∷ []) k 0 < get_or (cells ++ cell ∷ []) (k + 1) 0
-    late past =
-        let longer = length-append cells (cell ∷ []) in
-        let last : length cells ≡ k + 1 = omega arith in
-        rw (get_or_append_left cells (cell ∷ []) 0 k (omega arith), get_or_push cells cell 0 (k + 1) last)
-        (below (get_or cells k 0) (Contains-get_or cells k 0 (omega arith)))
-
 module _ (set left : ℕ) (cells : List ℕ) (turns : ℕ) (listed : AreListed set left cells turns) where
   pub listed-more : (cell : ℕ) → cell < 121 → IsLowest left cell → AreListed set (remove left cell) (cells ++ cell ∷ []) (turns + 1)
   listed-more cell small lowest = record {
-    rising = rising-push cells cell listed.rising (λ other at. listed.below other cell at lowest.member);
+    rising = increasing-push cells cell listed.rising (λ other at. listed.below other cell at lowest.member);
     only = λ other at. ⊎_elim (listed.only other)
         (λ (same : cell ≡ other). subst (λ (n : ℕ). (has set n ≡ true) × (n < 121)) same (listed.inside cell lowest.member, small))
         (Contains-push_cases cells cell other at);
@@ -74,13 +59,7 @@ module _ (set left : ℕ) (cells : List ℕ) (turns : ℕ) (listed : AreListed s
   }
     where
       above : (n : ℕ) → has (remove left cell) n ≡ true → cell < n
-      above n h = ⊎_elim
-          (λ (less : n < cell). absurd (false≢true (sym (lowest.first n less) ∙ has-remove_before left cell n h)))
-          (λ (most : cell ≤ n). ⊎_elim
-          (λ (same : n ≡ cell). absurd (false≢true (sym (removed left cell) ∙ subst (λ (m : ℕ). has (remove left cell) m ≡ true) same h)))
-          (λ (differ : n ≢ cell). omega arith)
-          (cases_eq n cell))
-          (cases_lt n cell)
+      above = rest-above_first left cell (λ n less member. false≢true (sym (lowest.first n less) ∙ member))
 
   pub all-listed : HasNoCell left → AreCellsOf set cells
   all-listed none = record {

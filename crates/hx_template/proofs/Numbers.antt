@@ -13,7 +13,7 @@ use Rattle.hx_board.specs.Positions.{Board, IsBoard, IsEmpty, put, stones_of}
 use Rattle.hx_board.specs.Sets.{has, count_below}
 use Rattle.hx_board.proofs.SetLaws.{same_test}
 use Rattle.hx_board.proofs.ColourLaws.{other-differs}
-use Rattle.hx_board.proofs.StoneLaws.{stones-put}
+use Rattle.hx_board.proofs.StoneLaws.{stones-put, empty-no_stone}
 use Rattle.hx_template.specs.Fillings.{worth, number_below}
 
 -- ---- one digit
@@ -110,10 +110,6 @@ module _ (player : Colour) (carrier : ℕ) (one other : Board) (one_is : IsBoard
       (cases_lt k n)
 
 -- ---- the number after a stone on an empty cell
-
-pub empty-no_stone : (board : Board) (player : Colour) (cell : ℕ) → IsEmpty board cell → has (stones_of board player) cell ≡ false
-empty-no_stone board Black cell empty = empty.no_black
-empty-no_stone board White cell empty = empty.no_white
 
 pub stones-elsewhere : (board : Board) (who player : Colour) (cell n : ℕ) → n ≢ cell
     → has (stones_of (put board who cell) player) n ≡ has (stones_of board player) n

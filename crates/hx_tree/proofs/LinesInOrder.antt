@@ -4,7 +4,7 @@
 use Rattle.std.proofs.Common.{◌≡◌, ℕ, zero, suc, ◌+◌, ◌<◌, ◌≤◌, true, false, List, [], ◌∷◌, ◌++◌, length, refl, sym, ◌∙◌, arith, ◌⊎◌, inl}
 use Rattle.std.proofs.Common.{inr, ⊎_elim, ◌↔◌, length-append, Option, Some, None}
 use Rattle.std.specs.Prelude.{slice_get, IfSome}
-use Rattle.std.proofs.lemmas.Bool.{false≢true, cases_lt}
+use Rattle.std.proofs.lemmas.Bool.{false≢true}
 use Rattle.std.proofs.lemmas.List.{map-append}
 use Rattle.std.proofs.lemmas.List.Elements.{All-contains, All-push, All-weaker, Contains-append_left, Contains-append_right}
 use Rattle.hx_board.specs.Colours.{other_of}
@@ -12,7 +12,7 @@ use Rattle.hx_board.specs.Sets.{has, remove, count_below}
 use Rattle.hx_board.specs.Cells.{OnBoard, IsLeastOn}
 use Rattle.hx_board.specs.Positions.{Board, IsBoard, IsEmpty}
 use Rattle.hx_board.specs.Counts.{empty_count}
-use Rattle.hx_board.proofs.SetLaws.{has-remove_before, removed, removed_cases, removed_still}
+use Rattle.hx_board.proofs.SetLaws.{has-remove_before, removed, removed_cases, removed_still, rest-above_first}
 use Rattle.hx_board.proofs.CellLaws.{on_board-small}
 use Rattle.hx_board.proofs.ListLaws.{get-append}
 use Rattle.hx_board.proofs.Tallies.{count_below-remove}
@@ -111,14 +111,7 @@ one_more_answered headings more heading left lines cell child valid before least
 }
   where
     later : (n : ℕ) → has (remove left cell) n ≡ true → cell < n
-    later n member = ⊎_elim
-        (λ less. absurd (false≢true
-        (sym (least.first n less (before.inside n (has-remove_before left cell n member)).on_board)
-        ∙ has-remove_before left cell n member)))
-        (λ more. ⊎_elim (λ less. less)
-        (λ least_too. let same : n ≡ cell = omega arith in absurd (false≢true (sym (removed left cell) ∙ rw same at member)))
-        (cases_lt cell n))
-        (cases_lt n cell)
+    later = rest-above_first left cell (λ n less member. false≢true (sym (least.first n less (before.inside n member).on_board) ∙ member))
 
 -- while a cell is left, fewer are answered than were empty
 pub fewer_answered : (headings : List Heading) (heading : Heading) (left : ℕ) (lines : List Line) (cell : ℕ) → IsBoard heading.position

@@ -14,7 +14,7 @@ use Rattle.hx_board.proofs.SetLaws.{has-union_left, has-union_right, has-differe
 use Rattle.hx_board.proofs.SetLaws.{by_member, removed, same_test, union-none}
 use Rattle.hx_board.proofs.ColourLaws.{one_or_other}
 use Rattle.hx_board.proofs.PositionLaws.{same_board, own-not_others}
-use Rattle.hx_board.proofs.StoneLaws.{empty-put}
+use Rattle.hx_board.proofs.StoneLaws.{empty-put, empty-no_stone, no_stones-empty}
 use Rattle.hx_inferior.specs.declared.fills.FillStep.{FillStep}
 use Rattle.hx_inferior.specs.declared.fills.FillStep.TheVariants.{Other}
 use Rattle.hx_inferior.specs.Inferior.{filled}
@@ -106,15 +106,6 @@ module _ (board : Board) (winner : Colour) (cells : ℕ) where
 
 -- ---- the missing stones
 
-empty_of : (board : Board) (winner : Colour) (n : ℕ) → OnBoard board.size n → has (stones_of board winner) n ≡ false
-    → has (stones_of board (other_of winner)) n ≡ false → IsEmpty board n
-empty_of board Black n on own others = record { on_board = on; no_black = own; no_white = others }
-empty_of board White n on own others = record { on_board = on; no_black = others; no_white = own }
-
-no_stone : (board : Board) (player : Colour) (n : ℕ) → IsEmpty board n → has (stones_of board player) n ≡ false
-no_stone board Black n empty = empty.no_black
-no_stone board White n empty = empty.no_white
-
 put_set-size : (board : Board) (who : Colour) (cells : ℕ) → (put_set board who cells).size ≡ board.size
 put_set-size board Black cells = refl
 put_set-size board White cells = refl
@@ -140,10 +131,10 @@ module _ (board there : Board) (winner : Colour) (is : IsBoard there) (size : th
   was_missing n member =
       let empty : IsEmpty board n = missing_empty n member in
       let on : OnBoard there.size n = subst (λ (s : Extent). OnBoard s n) (sym size) empty.on_board in
-      let not_own : has (stones_of there winner) n ≡ false = ap (λ (s : ℕ). has s n) own ∙ no_stone board winner n empty in
+      let not_own : has (stones_of there winner) n ≡ false = ap (λ (s : ℕ). has s n) own ∙ empty-no_stone board winner n empty in
       true_from_ne_false _ (λ none.
       false≢true (sym (has-difference_right here_empties there_empties n member)
-      ∙ (after n).1 (empty_of there winner n on not_own none)))
+      ∙ (after n).1 (no_stones-empty there winner n on not_own none)))
 
   is_missing : (n : ℕ) → has (stones_of there (other_of winner)) n ≡ true → has (stones_of board (other_of winner)) n ≡ false
       → has (difference here_empties there_empties) n ≡ true
@@ -151,8 +142,8 @@ module _ (board there : Board) (winner : Colour) (is : IsBoard there) (size : th
       let on : OnBoard board.size n = subst (λ (s : Extent). OnBoard s n) size (stone-on_board there is (other_of winner) n stone) in
       let not_own : has (stones_of board winner) n ≡ false =
       false_from_ne_true _ (λ mine. false≢true (sym (own-not_others there is winner n (ap (λ (s : ℕ). has s n) own ∙ mine)) ∙ stone)) in
-      has-difference_both here_empties there_empties n ((here n).1 (empty_of board winner n on not_own lacks))
-      (false_from_ne_true _ (λ member. false≢true (sym (no_stone there (other_of winner) n ((after n).0 member)) ∙ stone)))
+      has-difference_both here_empties there_empties n ((here n).1 (no_stones-empty board winner n on not_own lacks))
+      (false_from_ne_true _ (λ member. false≢true (sym (empty-no_stone there (other_of winner) n ((after n).0 member)) ∙ stone)))
 
   others : union (stones_of board (other_of winner)) (difference here_empties there_empties) ≡ stones_of there (other_of winner)
   others = same_set _ _ (λ n. same_test _ _

@@ -11,7 +11,7 @@ use Rattle.hx_board.specs.Sets.{has, difference, IsSubset}
 use Rattle.hx_board.specs.Positions.{Board, IsEmpty, put, stones_of}
 use Rattle.hx_board.proofs.SetLaws.{has-difference_left, has-difference_right}
 use Rattle.hx_board.proofs.ColourLaws.{other-other}
-use Rattle.hx_board.proofs.StoneLaws.{size-put, stones-put}
+use Rattle.hx_board.proofs.StoneLaws.{size-put, stones-put, empty-no_stone, no_stones-empty}
 use Rattle.hx_tree.specs.declared.nodes.Heading.{Heading}
 use Rattle.hx_tree.specs.declared.nodes.Node.{Node}
 use Rattle.hx_tree.specs.Headings.{IsHeading}
@@ -25,23 +25,14 @@ others-put : (board : Board) (who : Colour) (cell : ℕ) → stones_of (put boar
 others-put board Black cell = refl
 others-put board White cell = refl
 
-no_stone : (board : Board) (player : Colour) (n : ℕ) → IsEmpty board n → has (stones_of board player) n ≡ false
-no_stone board Black n empty = empty.no_black
-no_stone board White n empty = empty.no_white
-
-empty_of : (board : Board) (player : Colour) (n : ℕ) → OnBoard board.size n → has (stones_of board player) n ≡ false
-    → has (stones_of board (other_of player)) n ≡ false → IsEmpty board n
-empty_of board Black n on own others = record { on_board = on; no_black = own; no_white = others }
-empty_of board White n on own others = record { on_board = on; no_black = others; no_white = own }
-
 -- a cell that was empty and is not holds the mover's stone, where the winner's stones are those from before
 filled-by_mover : (board there : Board) (mover : Colour) (cell : ℕ) → IsEmpty board cell → (IsEmpty there cell → ⊥) → there.size ≡ board.size
     → stones_of there (other_of mover) ≡ stones_of board (other_of mover) → has (stones_of there mover) cell ≡ true
 filled-by_mover board there mover cell empty held size same =
     let on : OnBoard there.size cell = subst (λ (s : Extent). OnBoard s cell) (sym size) empty.on_board in
     let no_others : has (stones_of there (other_of mover)) cell ≡ false =
-    ap (λ (s : ℕ). has s cell) same ∙ no_stone board (other_of mover) cell empty in
-    true_from_ne_false _ (λ none. held (empty_of there mover cell on none no_others))
+    ap (λ (s : ℕ). has s cell) same ∙ empty-no_stone board (other_of mover) cell empty in
+    true_from_ne_false _ (λ none. held (no_stones-empty there mover cell on none no_others))
 
 module _ (board : Board) (mover : Colour) (cell other : ℕ) (empty : IsEmpty board other) where
   abbrev winner : Colour
@@ -56,7 +47,7 @@ module _ (board : Board) (mover : Colour) (cell other : ℕ) (empty : IsEmpty bo
       let stone : has (stones_of (put board mover cell) mover) other ≡ true =
       subst (λ (b : Board). has (stones_of b mover) other ≡ true) is.same_position (filled-by_mover board there mover other empty held size own) in
       let same : other ≡ cell =
-      ⊎_elim (λ w. w.1) (λ was. absurd (false≢true (sym (no_stone board mover other empty) ∙ was))) ((stones-put board mover mover cell other).0 stone) in
+      ⊎_elim (λ w. w.1) (λ was. absurd (false≢true (sym (empty-no_stone board mover other empty) ∙ was))) ((stones-put board mover mover cell other).0 stone) in
       rw same is
 
   serves_wider : (heading : Heading) → IsWider heading (put board mover cell) winner winner → (IsEmpty heading.position other → ⊥)

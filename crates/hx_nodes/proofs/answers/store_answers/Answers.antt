@@ -1,7 +1,8 @@
 use Rattle.hx_board.specs.Positions.{IsEmpty}
 use Rattle.hx_tree.specs.Trees.{headings_of}
 use Rattle.hx_nodes.specs.Lines.{wins_next}
-use Rattle.hx_nodes.proofs.AllNodes.{threats-live, all_right, gathered-children}
+use Rattle.hx_linkset.proofs.LiveThreats.{threats-live}
+use Rattle.hx_nodes.proofs.AllNodes.{all_right, gathered-children}
 use Rattle.hx_nodes.proofs.answers.store_answers.Goals as goal
 
 pub derivation-requires : goal.derivation-requires

@@ -1,4 +1,4 @@
-use Rattle.hx_sketch.proofs.LiveThreats.{threats-live}
+use Rattle.hx_linkset.proofs.LiveThreats.{threats-live}
 use Rattle.hx_sketch.proofs.answers.node_for.Goals as goal
 
 pub derivation-requires : goal.derivation-requires

@@ -1,5 +1,5 @@
 use Rattle.hx_book.proofs.SightLaws.{grows-on}
-use Rattle.hx_nodes.proofs.AllNodes.{threats-live}
+use Rattle.hx_linkset.proofs.LiveThreats.{threats-live}
 use Rattle.hx_widen.proofs.answers.all_wide.Goals as goal
 
 pub derivation-requires : goal.derivation-requires

@@ -1,4 +1,4 @@
--- Threats are live links.
+-- The threats of a position are live links between its sides.
 use Rattle.std.proofs.Common.{ℕ, ◌<◌, List, length}
 use Rattle.std.proofs.lemmas.Option.{slice_get_within, get_or_from_slice_get}
 use Rattle.std.specs.List.{All as Each}
