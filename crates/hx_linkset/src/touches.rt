@@ -7,9 +7,9 @@
 //! The blocks may tell of more links than a cell touches, but of none too few. So whoever is told of a link looks at
 //! it.
 
-ghost use Rattle.std.specs.Prelude.{◌≡◌, ℕ, ◌++◌, ◌∷◌, ◌<◌, ◌↔◌, [], take, length, true, MatchOption, OnOk, OnErr};
-ghost use Rattle.hx_board.specs.Sets.{has};
-ghost use Rattle.hx_linkset.specs.Touches.{IsOf, HasTouched, NoneTouched, MayBeNext};
+ghost use Rattle.std.specs.Prelude.{◌≡◌, ◌/◌, ◌<◌, ◌≤◌, List, [], ◌++◌, ◌∷◌, take, length, vec_len, MatchOption, OnOk, OnErr};
+ghost use Rattle.hx_link.specs.declared.links.Link.{Link};
+ghost use Rattle.hx_linkset.specs.Touches.{AreBlocksOf, HasTouched, NoneTouched, MayBeNext};
 
 use crate::blocks::{BLOCK, Block};
 use hx_board::{Mask, Memory, VertexSet};
@@ -75,17 +75,19 @@ impl HeldLinks {
         ensures ok { OnOk result (self.new ≡ self.old ++ link ∷ []) }
         ensures err { OnErr result (self.new ≡ self.old) }
     {
+        let cells = VertexSet::of_cells(link.carrier)
+            .with(link.a)
+            .with(link.b)
+            .cells();
+        let place = self.links.len();
+        let block = place / BLOCK;
+        if make_room(&mut self.blocks, block).is_err() {
+            return Err(Memory);
+        }
         if self.links.reserve(1).is_err() {
             return Err(Memory);
         }
-        let place = self.links.len();
-        let block = place / BLOCK;
-        if block == self.blocks.len() {
-            if self.blocks.push(Block::new()).is_err() {
-                return Err(Memory);
-            }
-        }
-        self.blocks[block].enter((place % BLOCK) as u8, cells_of(&link));
+        self.blocks[block].enter((place % BLOCK) as u8, cells);
         self.links.push_reserved(link);
         Ok(())
     }
@@ -128,15 +130,20 @@ impl HeldLinks {
     }
 }
 
-/// The cells that a stone may take of a link.
-#[inline(always)]
-fn cells_of(link: &Link) -> Mask
-    ensures { (cell : ℕ) → IsOf cell link.now → has result cell ≡ true }
+/// Makes room for a block of links that come after all others. Without memory none is made.
+fn make_room(blocks: &mut Vec<Block>, block: usize) -> Result<(), Memory>
+    requires { block ≤ vec_len blocks.old }
+    ensures ok { OnOk result (block < vec_len blocks.new) }
+    ensures same { (links : List Link) → length links / BLOCK ≡ block
+        → AreBlocksOf links blocks.old.items → AreBlocksOf links blocks.new.items }
 {
-    VertexSet::of_cells(link.carrier)
-        .with(link.a)
-        .with(link.b)
-        .cells()
+    if block < blocks.len() {
+        return Ok(());
+    }
+    match blocks.push(Block::new()) {
+        Ok(()) => Ok(()),
+        Err(_) => Err(Memory),
+    }
 }
 
 /// The links that one of some cells touches. Contracts see them as all links, and the cells.
