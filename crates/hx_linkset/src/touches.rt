@@ -7,7 +7,7 @@
 //! The blocks may tell of more links than a cell touches, but of none too few. So whoever is told of a link looks at
 //! it.
 
-ghost use Rattle.std.specs.Prelude.{◌≡◌, ◌/◌, ◌<◌, ◌≤◌, List, [], ◌++◌, ◌∷◌, take, length, vec_len, MatchOption, OnOk, OnErr};
+ghost use Rattle.std.specs.Prelude.{◌≡◌, ◌/◌, ◌^◌, ◌<◌, ◌≤◌, List, [], ◌++◌, ◌∷◌, take, length, vec_len, MatchOption, OnOk, OnErr};
 ghost use Rattle.hx_link.specs.declared.links.Link.{Link};
 ghost use Rattle.hx_linkset.specs.Touches.{AreBlocksOf, HasTouched, NoneTouched, MayBeNext};
 
@@ -60,7 +60,7 @@ impl HeldLinks {
     #[inline(always)]
     pub(crate) fn len(&self) -> usize
         ensures count { result ≡ length self.now }
-        ensures small { result < 9223372036854775808 }
+        ensures small { result < 2 ^ 63 }
     {
         self.links.len()
     }
