@@ -19,6 +19,7 @@ pub mod CoverLaws
 pub mod PutLaws
 pub mod PairLaws
 pub mod FieldLaws
+pub mod BlockLaws
 pub mod TouchLaws
 pub mod MarkLaws
 pub mod RenamingLaws

@@ -17,7 +17,7 @@ use Rattle.hx_linkset.specs.Held.{head_of, head_or, head_at, IsLinked, RingsHold
 use Rattle.hx_linkset.specs.Held.{IsPassed, LogHolds, IsLiveThere}
 use Rattle.hx_linkset.proofs.RingLaws.{IsBetween, rings-grown, rings-unlinked, after_other, before_other, relinked-unlinked}
 use Rattle.hx_linkset.proofs.RingLaws.{inside-unlinked}
-use Rattle.hx_board.proofs.ListLaws.{get-push, get-push_before, get-push_last}
+use Rattle.hx_board.proofs.ListLaws.{get-there, get-push, get-push_before, get-push_last}
 use Rattle.hx_linkset.proofs.LogLaws.{log-less, log-push, log-room_more}
 
 pub reverse-first : (x : ℕ) (xs : List ℕ) → reverse (x ∷ xs) ≡ reverse xs ++ x ∷ []
@@ -245,11 +245,32 @@ passed-none links before after player rings log h logged = record {
   all_dropped = record { were_live = λ place k. absurd (false≢true k); all = λ place l at lt live. absurd (omega arith) };
 }
 
-pub passed-all : (links : List Link) (before after : Board) (player : Colour) (bound : ℕ) (old new : Rings) (log log' : List ℕ)
-    → bound ≡ length links → IsPassed links before after player bound old new log log'
-    → IsPassed links before after player (length links) old new log log'
-passed-all links before after player bound old new log log' e p = let P : ℕ → Type 0 = λ n.
-    IsPassed links before after player n old new log log' in subst P e p
+-- links that stay live where they were are passed by
+passed-on : (links : List Link) (before after : Board) (player : Colour) (old new : Rings) (log log' : List ℕ) (count bound : ℕ)
+    → bound + count ≤ length links → ((place : ℕ) (link : Link) → bound ≤ place → place < bound + count
+    → slice_get links place ≡ Some link → IsLive before player link → IsLive after player link)
+    → IsPassed links before after player bound old new log log' → IsPassed links before after player (bound + count) old new log log'
+passed-on links before after player old new log log' zero bound inside kept p =
+    let same : bound ≡ bound + 0 = omega arith in
+    let P : ℕ → Type 0 = λ n. IsPassed links before after player n old new log log' in subst P same p
+passed-on links before after player old new log log' (suc n) bound inside kept p =
+    let there = get-there links bound (omega (arith, inside)) in
+    let same : bound + 1 + n ≡ bound + suc n = omega arith in
+    let P : ℕ → Type 0 = λ k. IsPassed links before after player k old new log log' in
+    subst P same (passed-on links before after player old new log log' n (bound + 1) (omega (arith, inside))
+    (λ place link low high. kept place link (omega (arith, low)) (omega (arith, high)))
+    (passed-kept links before after player bound there.0 there.1 old new log log' p
+    (kept bound there.0 (omega arith) (omega arith) there.1)))
+
+pub passed-over : (links : List Link) (before after : Board) (player : Colour) (old new : Rings) (log log' : List ℕ) (bound place : ℕ)
+    → bound ≤ place → place ≤ length links → ((other : ℕ) (link : Link) → bound ≤ other → other < place
+    → slice_get links other ≡ Some link → IsLive before player link → IsLive after player link)
+    → IsPassed links before after player bound old new log log' → IsPassed links before after player place old new log log'
+passed-over links before after player old new log log' bound place low inside kept p =
+    let same : bound + (place - bound) ≡ place = omega (arith, low) in
+    let P : ℕ → Type 0 = λ k. IsPassed links before after player k old new log log' in
+    subst P same (passed-on links before after player old new log log' (place - bound) bound (omega (arith, low, inside))
+    (λ other link le lt. kept other link le (omega (arith, lt, low))) p)
 
 -- a link more
 choice-true : (b : Bool) (x y : ℕ) → b ≡ true → (if b then x else y) ≡ x

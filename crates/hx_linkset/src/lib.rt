@@ -4,6 +4,7 @@
 //! it dead, and once the stone is taken back it is live again.
 #![tactic(auto)]
 
+mod blocks;
 mod chains;
 mod derivations;
 mod fulls;

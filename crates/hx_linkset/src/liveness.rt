@@ -37,8 +37,8 @@ pub(crate) struct Losses {
     pub(crate) ends: VertexSet,
     pub(crate) has_ends: bool,
 
-    /// All of these.
-    pub(crate) taken: VertexSet,
+    /// All of these that are cells.
+    pub(crate) taken: Mask,
 }
 
 /// What a play takes away, by what is allowed before it and after it. It is taken once for a pass over all links, and
@@ -53,7 +53,7 @@ pub(crate) fn losses_of(before: &Allowed, after: &Allowed) -> Losses
         filled,
         ends,
         has_ends: before.ends != after.ends,
-        taken: VertexSet::of_cells(filled).union(ends),
+        taken: filled.union(ends.cells()),
     }
 }
 

@@ -8,7 +8,7 @@ ghost use Rattle.hx_linkset.specs.Fulls.{AreFullLists};
 use crate::chains::{Chains, FIRST_NODE};
 use crate::fulls::FullLists;
 use crate::limits::MOST_LINKS;
-use crate::liveness::losses_of;
+use crate::liveness::{is_dropped, losses_of};
 use crate::touches::HeldLinks;
 use hx_board::{Colour, Position};
 use hx_link::{Link, allowed_on};
@@ -35,8 +35,11 @@ pub(crate) fn drop_dead(
     let allowed_before = allowed_on(before, player);
     let allowed_after = allowed_on(after, player);
     let losses = losses_of(&allowed_before, &allowed_after);
-    for place in 0..links.len() {
-        let drops = links.is_dropped(&allowed_before, &losses, place);
+    let mut touched = links.touched(losses.taken);
+    let mut from = 0;
+    while let Some(place) = touched.first_from(from) {
+        from = place + 1;
+        let drops = is_dropped(&allowed_before, &losses, &links.as_slice()[place]);
         if !drops {
             continue;
         }

@@ -1,30 +1,27 @@
-//! The links that are held, and beside each one all that a stone may take of it.
+//! The links that are held, and beside them which of them each cell touches.
 //!
-//! A play fills cells, and takes ends away by the opponent's stones. Of most links it takes nothing. So beside each
-//! link stands one set, of the cells of its carrier and of both ends: a play that fills none of these leaves the link
-//! as it is. The pass of a play over all links looks at these sets, and at a link itself only where its set shares
-//! something with the stones.
+//! A play fills cells, and takes ends away by the opponent's stones. Of most links it takes nothing. So beside the links
+//! stand blocks, which tell of each cell the links in whose carriers it is or that end there: the pass of a play goes to
+//! those that its cells touch, and looks at no other link.
+//!
+//! The blocks may tell of more links than a cell touches, but of none too few. So whoever is told of a link looks at
+//! it.
 
-ghost use Rattle.std.specs.Prelude.{◌≡◌, ◌++◌, ◌∷◌, ◌<◌, [], take, length, slice_get, IsTrue, false, IfOk, OnOk, OnErr};
-ghost use Rattle.std.specs.declared.option.Option.TheVariants.{Some};
-ghost use Rattle.hx_board.specs.declared.colours.Colour.{Colour};
-ghost use Rattle.hx_board.specs.Positions.{Board, IsBoard};
+ghost use Rattle.std.specs.Prelude.{◌≡◌, ◌/◌, ◌^◌, ◌<◌, ◌≤◌, List, [], ◌++◌, ◌∷◌, take, length, vec_len, MatchOption, OnOk, OnErr};
 ghost use Rattle.hx_link.specs.declared.links.Link.{Link};
-ghost use Rattle.hx_link.specs.Steps.{IsAllowed};
-ghost use Rattle.hx_linkset.specs.States.{IsLive};
-ghost use Rattle.hx_linkset.specs.Losses.{AreLosses};
+ghost use Rattle.hx_linkset.specs.Touches.{AreBlocksOf, HasTouched, NoneTouched, MayBeNext};
 
-use crate::liveness::{Losses, is_dropped};
-use hx_board::{Memory, VertexSet};
-use hx_link::{Allowed, Link};
+use crate::blocks::{BLOCK, Block};
+use hx_board::{Mask, Memory, VertexSet};
+use hx_link::Link;
 use std::alloc::Global;
 use std::marker::Model;
 
-/// Links, each with what a stone may take of it. Contracts see them as the list of the links.
+/// Links, and which of them each cell touches. Contracts see them as the list of the links.
 #[derive(Drop)]
 pub(crate) struct HeldLinks {
     links: Vec<Link>,
-    touches: Vec<VertexSet>,
+    blocks: Vec<Block>,
 }
 
 impl Model for HeldLinks {
@@ -33,11 +30,11 @@ impl Model for HeldLinks {
 
     ghost Value = { List Link };
 
-    ghost use Rattle.hx_linkset.specs.Touches.{AreTouches};
+    ghost use Rattle.hx_linkset.specs.Touches.{AreBlocksOf};
 
     ghost view = { λ h. h.links.items };
 
-    ghost invariant = { λ h. AreTouches h.links.items h.touches.items };
+    ghost invariant = { λ h. AreBlocksOf h.links.items h.blocks.items };
 }
 
 impl HeldLinks {
@@ -47,7 +44,7 @@ impl HeldLinks {
     {
         HeldLinks {
             links: Vec::new(alloc),
-            touches: Vec::new(alloc),
+            blocks: Vec::new(alloc),
         }
     }
 
@@ -62,7 +59,8 @@ impl HeldLinks {
     /// How many there are.
     #[inline(always)]
     pub(crate) fn len(&self) -> usize
-        ensures { result ≡ length self.now }
+        ensures count { result ≡ length self.now }
+        ensures small { result < 2 ^ 63 }
     {
         self.links.len()
     }
@@ -77,15 +75,20 @@ impl HeldLinks {
         ensures ok { OnOk result (self.new ≡ self.old ++ link ∷ []) }
         ensures err { OnErr result (self.new ≡ self.old) }
     {
-        let touch = VertexSet::of_cells(link.carrier).with(link.a).with(link.b);
-        if self.touches.reserve(1).is_err() {
+        let cells = VertexSet::of_cells(link.carrier)
+            .with(link.a)
+            .with(link.b)
+            .cells();
+        let place = self.links.len();
+        let block = place / BLOCK;
+        if make_room(&mut self.blocks, block).is_err() {
             return Err(Memory);
         }
         if self.links.reserve(1).is_err() {
             return Err(Memory);
         }
+        self.blocks[block].enter((place % BLOCK) as u8, cells);
         self.links.push_reserved(link);
-        self.touches.push_reserved(touch);
         Ok(())
     }
 
@@ -93,29 +96,110 @@ impl HeldLinks {
     pub(crate) fn truncate(&mut self, count: usize)
         ensures { self.new ≡ take count self.old }
     {
-        self.links.truncate(count);
-        self.touches.truncate(count);
+        if count < self.links.len() {
+            let block = count / BLOCK;
+            self.links.truncate(count);
+            self.blocks.truncate(block + 1);
+            self.blocks[block].cut((count % BLOCK) as u8);
+        }
     }
 
-    /// Whether the link at a place is live before a play and not after it.
+    /// The links that one of these cells touches.
     #[inline(always)]
-    pub(crate) fn is_dropped(&self, before: &Allowed, losses: &Losses, place: usize) -> bool
-        requires { place < length self.now }
-        ensures dropped { (link : Link) → slice_get self.now place ≡ Some link
-            → (after : Allowed) (old new : Board) (player : Colour)
-            → AreLosses losses.now before.now after → IsAllowed before.now old player
-            → IsAllowed after new player
-            → IsTrue result → IsLive old player link × (IsLive new player link → ⊥) }
-        ensures kept { (link : Link) → slice_get self.now place ≡ Some link
-            → (after : Allowed) (old new : Board) (player : Colour)
-            → AreLosses losses.now before.now after → IsAllowed before.now old player
-            → IsAllowed after new player → IsBoard old
-            → result ≡ false → IsLive old player link → IsLive new player link }
+    pub(crate) fn touched(&self, cells: Mask) -> Touched<'_>
+        ensures { result ≡ record { links = self.now; cells = cells } }
     {
-        let is_untouched = self.touches[place].meet(losses.taken).is_empty();
-        if is_untouched {
-            return false;
+        Touched {
+            links: self,
+            cells,
+            block: 0,
+            numbers: self.touched_in(0, cells),
         }
-        is_dropped(before, losses, &self.links[place])
+    }
+
+    /// The numbers of those of them that are in a block.
+    #[inline(always)]
+    fn touched_in(&self, block: usize, cells: Mask) -> u64
+        ensures { HasTouched self.now cells block result }
+    {
+        if block < self.blocks.len() {
+            self.blocks[block].links_of(cells)
+        } else {
+            0
+        }
+    }
+}
+
+/// Makes room for a block of links that come after all others. Without memory none is made.
+fn make_room(blocks: &mut Vec<Block>, block: usize) -> Result<(), Memory>
+    requires { block ≤ vec_len blocks.old }
+    ensures ok { OnOk result (block < vec_len blocks.new) }
+    ensures same { (links : List Link) → length links / BLOCK ≡ block
+        → AreBlocksOf links blocks.old.items → AreBlocksOf links blocks.new.items }
+{
+    if block < blocks.len() {
+        return Ok(());
+    }
+    match blocks.push(Block::new()) {
+        Ok(()) => Ok(()),
+        Err(_) => Err(Memory),
+    }
+}
+
+/// The links that one of some cells touches. Contracts see them as all links, and the cells.
+#[derive(Drop)]
+pub(crate) struct Touched<'a> {
+    links: &'a HeldLinks,
+    cells: Mask,
+
+    /// The block that was looked at last, and the numbers of those that are in it.
+    block: usize,
+    numbers: u64,
+}
+
+impl<'a> Model for Touched<'a> {
+    ghost use Rattle.hx_linkset.specs.Touches.{Sought};
+
+    ghost Value = { Sought };
+
+    ghost use Rattle.hx_linkset.specs.Touches.{HasTouched};
+
+    ghost view = { λ t. record { links = t.links.now; cells = t.cells } };
+
+    ghost invariant = { λ t. HasTouched t.links.now t.cells t.block t.numbers };
+}
+
+impl<'a> Touched<'a> {
+    /// The first place from which on one of them may be next.
+    #[inline(always)]
+    pub(crate) fn first_from(&mut self, from: usize) -> Option<usize>
+        ensures same { self.new ≡ self.old }
+        ensures found { MatchOption result (NoneTouched self.old from (length self.old.links))
+            (MayBeNext self.old from) }
+    {
+        let mut at = from;
+        while at < self.links.len() {
+            let number = at % BLOCK;
+            let rest = self.numbers_in(at / BLOCK) >> number;
+            if rest != 0 {
+                let place = at + rest.trailing_zeros() as usize;
+                return if place < self.links.len() { Some(place) } else { None };
+            }
+            at += BLOCK - number;
+        }
+        None
+    }
+
+    /// The numbers of those that are in a block.
+    #[inline(always)]
+    fn numbers_in(&mut self, block: usize) -> u64
+        ensures same { self.new ≡ self.old }
+        ensures numbers { HasTouched self.old.links self.old.cells block result }
+    {
+        if block != self.block {
+            self.block = block;
+            self.numbers = self.links.touched_in(block, self.cells);
+        }
+        self.numbers
     }
 }

@@ -47,7 +47,7 @@ invariant_of-self-2 c =
     let g : GivesFromLive c.self.inside.position c.self.inside.colour c.self.inside.links c.args.step c.args.link =
     subst P (sym c.self.view_is) c.requires.gives in
     let count : c.len-count.result ≡ length c.self.inside.links =
-    c.len-count.ensures in
+    c.len-count.ensures.count in
     let pushed : c.push.new.self ≡ c.self.inside.links ++ c.args.link ∷ [] =
     when-ok c.push.result _ (rw c.if-is_err-2.false at c.is_err-2.ensures.negation) c.push.ensures.ok in
     let room : length c.self.inside.links < 8192 =
@@ -65,7 +65,7 @@ invariant_of-self-2 c =
 pub invariant_of-self-then-is_err-4 : goal.invariant_of-self-then-is_err-4
 invariant_of-self-then-is_err-4 c =
     let count : c.len-count.result ≡ length c.self.inside.links =
-    c.len-count.ensures in
+    c.len-count.ensures.count in
     let rings : c.grow.new.self ≡ c.self.inside.chains =
     when-err c.grow.result _ (rw c.if-is_err-4.true at c.is_err-4.ensures.negation) c.grow.ensures.err in
     let lists : (links : List Link) → length links ≡ c.len-count.result → AreFullLists links c.self.inside.fulls
@@ -83,7 +83,7 @@ returns-clause-appended c =
     let g : GivesFromLive c.self.inside.position c.self.inside.colour c.self.inside.links c.args.step c.args.link =
     subst P (sym c.self.view_is) c.requires.gives in
     let count : c.len-count.result ≡ length c.self.inside.links =
-    c.len-count.ensures in
+    c.len-count.ensures.count in
     let pushed : c.push.new.self ≡ c.self.inside.links ++ c.args.link ∷ [] =
     when-ok c.push.result _ (rw c.if-is_err-2.false at c.is_err-2.ensures.negation) c.push.ensures.ok in (
       count ∙ ap (λ (s : Standing). length s.present.links) c.self.view_is,
