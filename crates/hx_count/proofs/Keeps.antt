@@ -19,7 +19,7 @@ use Rattle.hx_count.specs.declared.views.Part.{Part}
 use Rattle.hx_count.specs.declared.views.View.{View}
 use Rattle.hx_count.specs.Machine.{CountsState, Account, account_of, granted_to_all, refused_of_all, losses_at, held_in_all, has_units}
 use Rattle.hx_count.specs.Machine.{counts_step, worker_of, IsAllowed}
-use Rattle.hx_count.specs.Counted.{start_of, state_after, IsHistory, part, view, times_in, IsCurrent, AreCurrentParts, Counted, Seated}
+use Rattle.hx_count.specs.Counted.{start_of, state_after, IsHistory, part, view, times_in, IsCurrent, AreCurrent, AreCurrentParts, Counted, Seated}
 use Rattle.hx_count.specs.Counted.{IsNext, IsSpend, IsLook, spends, holds, releases, looks, all_but_first, only_first, joined, no_parts}
 use Rattle.hx_count.specs.Counted.{first_view, new_parts, AreSmall}
 use Rattle.hx_count.proofs.MachineLaws.{run-append, allowed-append, run-budget, goes_on-account, granted-unit, granted-refusal}
@@ -421,6 +421,23 @@ module _ (limits : Limits) (slots id : ℕ) (p : Part) where
 
 -- ---- seats that are dealt and gathered
 
+-- The views change, of each worker as many parts stay, and each is current.
+views-keep : (limits : Limits) (s : Words) (views : List View) (c : Counted limits s)
+    → ((worker : ℕ) → sum_by (λ (u : View). times_in worker u.parts) views ≡ sum_by (λ (u : View). times_in worker u.parts) s.views)
+    → AreCurrent limits c.history views → Counted limits (record s { views = views })
+views-keep limits s views c same current = record {
+  history = c.history;
+  is_history = c.is_history;
+  small = c.small;
+  wide = c.wide;
+  spent = c.spent;
+  granted = c.granted;
+  losses = c.losses;
+  once = λ worker below. same worker ∙ c.once worker below;
+  never = λ worker far. same worker ∙ c.never worker far;
+  current = current;
+}
+
 pub splits-keep : (limits : Limits) (id : ℕ) (v : View) → Splits (Counted limits) id v (all_but_first v) (only_first v)
 splits-keep limits id v s c there =
     let rest = all_but_first v in let first = only_first v in let views = set s.views id rest in
@@ -432,27 +449,17 @@ splits-keep limits id v s c there =
       sum_by-cons (λ (u : View). times_in worker u.parts) first [],
       sum-set (λ (u : View). times_in worker u.parts) s.views id v rest there,
       times-cut worker v.parts,
-    ) in record {
-      history = c.history;
-      is_history = c.is_history;
-      small = c.small;
-      wide = c.wide;
-      spent = c.spent;
-      granted = c.granted;
-      losses = c.losses;
-      once = λ worker below. same worker ∙ c.once worker below;
-      never = λ worker far. same worker ∙ c.never worker far;
-      current = λ other u at. ⊎_elim
-          (λ (t : get_elem? views other ≡ some u). ⊎_elim
-          (λ (e : (other ≡ id) × (rest ≡ u)).
-          subst (λ (w : View). AreCurrentParts limits c.history w.parts) e.1
-          (current-rest limits c.history v.parts (c.current id v there)))
-          (λ (e : (other ≢ id) × (get_elem? s.views other ≡ some u)). c.current other u e.1)
-          (at_set s.views id other rest u t))
-          (λ (t : first ≡ u). subst (λ (w : View). AreCurrentParts limits c.history w.parts) t
-          (current-first limits c.history v.parts (c.current id v there)))
-          (at_snoc views first u other at);
-    }
+    ) in views-keep limits s (views ++ first ∷ []) c same
+    (λ other u at. ⊎_elim
+    (λ (t : get_elem? views other ≡ some u). ⊎_elim
+    (λ (e : (other ≡ id) × (rest ≡ u)).
+    subst (λ (w : View). AreCurrentParts limits c.history w.parts) e.1
+    (current-rest limits c.history v.parts (c.current id v there)))
+    (λ (e : (other ≢ id) × (get_elem? s.views other ≡ some u)). c.current other u e.1)
+    (at_set s.views id other rest u t))
+    (λ (t : first ≡ u). subst (λ (w : View). AreCurrentParts limits c.history w.parts) t
+    (current-first limits c.history v.parts (c.current id v there)))
+    (at_snoc views first u other at))
 
 pub joins-keep : (limits : Limits) (id : ℕ) (v : View) (other : ℕ) (w : View) → Joins (Counted limits) id v other w (joined v w) no_parts
 joins-keep limits id v other w s c there apart also =
@@ -465,26 +472,16 @@ joins-keep limits id v other w s c there apart also =
       sum-set (λ (u : View). times_in worker u.parts) views other w no_parts also,
       sum-set (λ (u : View). times_in worker u.parts) s.views id v both there,
       times-append worker w.parts v.parts,
-    ) in record {
-      history = c.history;
-      is_history = c.is_history;
-      small = c.small;
-      wide = c.wide;
-      spent = c.spent;
-      granted = c.granted;
-      losses = c.losses;
-      once = λ worker below. same worker ∙ c.once worker below;
-      never = λ worker far. same worker ∙ c.never worker far;
-      current = λ one u at. ⊎_elim
-          (λ (t : (one ≡ other) × (no_parts ≡ u)). subst (λ (x : View). AreCurrentParts limits c.history x.parts) t.1 tt)
-          (λ (t : (one ≢ other) × (get_elem? views one ≡ some u)). ⊎_elim
-          (λ (e : (one ≡ id) × (both ≡ u)).
-          subst (λ (x : View). AreCurrentParts limits c.history x.parts) e.1
-          (current-append limits c.history w.parts v.parts (c.current other w was) (c.current id v there)))
-          (λ (e : (one ≢ id) × (get_elem? s.views one ≡ some u)). c.current one u e.1)
-          (at_set s.views id one both u t.1))
-          (at_set views other one no_parts u at);
-    }
+    ) in views-keep limits s (set views other no_parts) c same
+    (λ one u at. ⊎_elim
+    (λ (t : (one ≡ other) × (no_parts ≡ u)). subst (λ (x : View). AreCurrentParts limits c.history x.parts) t.1 tt)
+    (λ (t : (one ≢ other) × (get_elem? views one ≡ some u)). ⊎_elim
+    (λ (e : (one ≡ id) × (both ≡ u)).
+    subst (λ (x : View). AreCurrentParts limits c.history x.parts) e.1
+    (current-append limits c.history w.parts v.parts (c.current other w was) (c.current id v there)))
+    (λ (e : (one ≢ id) × (get_elem? s.views one ≡ some u)). c.current one u e.1)
+    (at_set s.views id one both u t.1))
+    (at_set views other one no_parts u at))
 
 -- ---- the start
 

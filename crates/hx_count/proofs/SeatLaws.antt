@@ -17,11 +17,17 @@ use Rattle.hx_count.specs.Machine.{with_refusal, holding, releasing, counts_step
 use Rattle.hx_count.specs.Histories.{GoesOn}
 use Rattle.hx_count.specs.Counted.{start_of, state_after, IsHistory, part, view, Counted, Seated, IsNext, IsSpend, IsLook, spends, holds}
 use Rattle.hx_count.specs.Counted.{releases, looks}
-use Rattle.hx_count.specs.Seats.{Seat, own, state_seen, seat_of, first_part, SeatKeeps, Adds, Spends}
+use Rattle.hx_count.specs.Seats.{Origin, origin, Seat, own, state_seen, seat_of, first_part, account_in, SeatKeeps, Adds, Spends}
 use Rattle.hx_count.proofs.MachineLaws.{run-append, run-budget, goes_on-account, spend-unit, spend-refusal, hold-own, release-own}
 use Rattle.hx_count.proofs.MachineLaws.{held-holding, held-releasing, losses-own, granted-own, refused-own, history-in_budget}
 use Rattle.hx_count.proofs.Changes.{changed-here}
 use Rattle.hx_count.proofs.Keeps.{spends-keep, holds-keep, releases-keep, looks-keep}
+
+-- a seat made a step: it is this event, and changes the worker's account so
+pub record Steps (event : ℕ → CountEvent) (change : Account → Account) (old new : Seat) : Type 0 where
+  pub made : new.made ≡ old.made
+  pub next : Adds old (event old.worker) new
+  pub own : own new ≡ change (own old)
 
 -- the last event of a history was allowed
 allowed-last : (state : CountsState) (events : List CountEvent) (event : CountEvent) → AreAllowed state (events ++ event ∷ [])
@@ -30,6 +36,17 @@ allowed-last state [] event all = all.0
 allowed-last state (first ∷ events) event all = allowed-last (counts_step state first) events event all.1
 
 -- ---- a seat before its step
+
+-- a seat of the counts is of their table, and that has the word
+pub seat-fits : {table seat_table : TableId} {limits key : Limits} {p : Part} {counts : Origin} {old : Seat} (word : ℕ)
+    → origin table limits ≡ counts → key ≡ limits → table.words ≡ limits.words + 1 → seat_of seat_table p ≡ old → old.made ≡ counts
+    → word < counts.limits.words → (seat_table ≡ table) × (word + 1 < table.words) × (word < key.words)
+seat-fits {key = key} word is_counts is_key words is_old made inside =
+    let few : word < key.words = omega (arith, ap (λ (o : Origin). o.limits.words) is_counts, ap (λ (l : Limits). l.words) is_key) in (
+      ap (λ (s : Seat). s.made.table) is_old ∙ (ap (λ (o : Origin). o.table) made ∙ sym (ap (λ (o : Origin). o.table) is_counts)),
+      omega (arith, few, ap (λ (l : Limits). l.words) is_key),
+      few,
+    )
 
 module _ (limits : Limits) (slots id : ℕ) (me : Seated) (granted held : ℕ) (refused : Bool) (k : SeatKeeps me granted held refused) where
   abbrev p : Part
@@ -145,8 +162,15 @@ module _ (table table_after : TableId) (same : table_after ≡ table) (p : Part)
     abbrev new : Seat
     new = seat_of table_after (first_part me.0)
 
-    pub made-next : (event : CountEvent) → IsNext p event me.0 → new.made ≡ old.made
-    made-next event next = ap (λ (n : Seat). n.made) (adds-next event next).same ∙ ap (λ (o : Seat). o.made) is_old
+    -- the step was this event, and changes the account so
+    stepped : (event : ℕ → CountEvent) (change : Account → Account) (next : IsNext p (event p.worker) me.0)
+        → account_of (state_after p.limits (next.before ++ event p.worker ∷ [])) p.worker ≡ change (account_in p)
+        → Steps event change old new
+    stepped event change next account = record {
+      made = ap (λ (n : Seat). n.made) (adds-next (event p.worker) next).same ∙ ap (λ (o : Seat). o.made) is_old;
+      next = subst (λ (o : Seat). Adds o (event o.worker) new) is_old (adds-next (event p.worker) next);
+      own = own-next (event p.worker) next ∙ (account ∙ ap (λ (o : Seat). change (own o)) is_old);
+    }
 
     units-left : (found : ℕ) (t : IsSpend p found me.0) → found < p.limits.budget → has_units (state_after p.limits t.next.before) ≡ true
     units-left found t room =
@@ -170,15 +194,15 @@ module _ (table table_after : TableId) (same : table_after ≡ table) (p : Part)
         subst (λ (o : Seat). Spends o (Err taken) new) is_old
         (record { adds = adds-next (Spend p.worker) t.next; exact = no-units found t full })
 
-    pub own-ok : (found : ℕ) → IsSpend p found me.0 → found < p.limits.budget → own new ≡ with_unit (own old)
-    own-ok found t room = own-next (Spend p.worker) t.next
-        ∙ (account-unit p.limits p.worker p.seen t.next.before t.next.goes_on t.next.is_history (units-left found t room)
-        ∙ ap (λ (o : Seat). with_unit (own o)) is_old)
+    pub steps-ok : (found : ℕ) → IsSpend p found me.0 → found < p.limits.budget → Steps (λ (w : ℕ). Spend w) with_unit old new
+    steps-ok found t room =
+        stepped (λ (w : ℕ). Spend w) with_unit t.next
+        (account-unit p.limits p.worker p.seen t.next.before t.next.goes_on t.next.is_history (units-left found t room))
 
-    pub own-err : (found : ℕ) → IsSpend p found me.0 → p.limits.budget ≤ found → own new ≡ with_refusal (own old)
-    own-err found t full = own-next (Spend p.worker) t.next
-        ∙ (account-refusal p.limits p.worker p.seen t.next.before t.next.goes_on t.next.is_history (no-units found t full)
-        ∙ ap (λ (o : Seat). with_refusal (own o)) is_old)
+    pub steps-err : (found : ℕ) → IsSpend p found me.0 → p.limits.budget ≤ found → Steps (λ (w : ℕ). Spend w) with_refusal old new
+    steps-err found t full =
+        stepped (λ (w : ℕ). Spend w) with_refusal t.next
+        (account-refusal p.limits p.worker p.seen t.next.before t.next.goes_on t.next.is_history (no-units found t full))
 
     -- after a refusal all units are granted
     pub granted-err : (found : ℕ) → IsSpend p found me.0 → p.limits.budget ≤ found → granted_to_all (state_seen new) ≡ p.limits.budget
@@ -186,20 +210,17 @@ module _ (table table_after : TableId) (same : table_after ≡ table) (p : Part)
         let history = t.next.before ++ Spend p.worker ∷ [] in
         let same : state_seen new ≡ state_after p.limits history =
         ap (λ (q : Part). state_after q.limits q.seen) (only-first_part me.0 (part p.limits p.worker history) t.next.seen) in
-        let mine : (own new).refused ≡ true = ap (λ (a : Account). a.refused) (own-err found t full) in
+        let mine : (own new).refused ≡ true = ap (λ (a : Account). a.refused) (steps-err found t full).own in
         let mine_there : (account_of (state_after p.limits history) p.worker).refused ≡ true =
         sym (ap (λ (a : Account). a.refused) (own-next (Spend p.worker) t.next)) ∙ mine in
         let in_budget = history-in_budget p.limits.budget p.limits.words p.limits.workers history t.next.is_history in
         ap granted_to_all same
         ∙ (in_budget.full (refused-own (state_after p.limits history) p.worker mine_there) ∙ run-budget (start_of p.limits) history)
 
-    pub adds-hold : (word : ℕ) → IsNext p (Hold p.worker word) me.0 → Adds old (Hold old.worker word) new
-    adds-hold word next = subst (λ (o : Seat). Adds o (Hold o.worker word) new) is_old (adds-next (Hold p.worker word) next)
-
-    pub own-hold : (word : ℕ) → IsNext p (Hold p.worker word) me.0 → own new ≡ holding word (own old)
-    own-hold word next = own-next (Hold p.worker word) next
-        ∙ (account-hold p.limits p.worker p.seen next.before next.goes_on word next.is_history
-        ∙ ap (λ (o : Seat). holding word (own o)) is_old)
+    pub steps-hold : (word : ℕ) → IsNext p (Hold p.worker word) me.0 → Steps (λ (w : ℕ). Hold w word) (holding word) old new
+    steps-hold word next =
+        stepped (λ (w : ℕ). Hold w word) (holding word) next
+        (account-hold p.limits p.worker p.seen next.before next.goes_on word next.is_history)
 
     -- what was held can be released
     pub held-hold : (word : ℕ) → IsNext p (Hold p.worker word) me.0 → 0 < slice_index (own new).held word
@@ -209,26 +230,22 @@ module _ (table table_after : TableId) (same : table_after ≡ table) (p : Part)
         (hold-inside p.limits p.worker p.seen next.before next.goes_on word next.is_history) in
         omega (
           arith,
-          ap (λ (a : Account). slice_index a.held word) (own-hold word next),
+          ap (λ (a : Account). slice_index a.held word) (steps-hold word next).own,
           changed-here (λ (n : ℕ). n + 1) (own old).held word 0 inside,
         )
 
-    pub adds-release : (word : ℕ) → IsNext p (Release p.worker word) me.0 → Adds old (Release old.worker word) new
-    adds-release word next = subst (λ (o : Seat). Adds o (Release o.worker word) new) is_old (adds-next (Release p.worker word) next)
-
-    pub own-release : (word : ℕ) → IsNext p (Release p.worker word) me.0 → own new ≡ releasing word (own old)
-    own-release word next = own-next (Release p.worker word) next
-        ∙ (account-release p.limits p.worker p.seen next.before next.goes_on word next.is_history
-        ∙ ap (λ (o : Seat). releasing word (own o)) is_old)
+    pub steps-release : (word : ℕ) → IsNext p (Release p.worker word) me.0
+        → Steps (λ (w : ℕ). Release w word) (releasing word) old new
+    steps-release word next =
+        stepped (λ (w : ℕ). Release w word) (releasing word) next
+        (account-release p.limits p.worker p.seen next.before next.goes_on word next.is_history)
 
     -- a look
     module _ (word found : ℕ) (t : IsLook p word found me.0) where
-      pub adds-look : Adds old (Look old.worker word) new
-      adds-look = subst (λ (o : Seat). Adds o (Look o.worker word) new) is_old (adds-next (Look p.worker word) t.next)
-
-      pub own-look : own new ≡ own old
-      own-look = own-next (Look p.worker word) t.next
-          ∙ (account-look p.limits p.worker p.seen t.next.before t.next.goes_on word ∙ ap own is_old)
+      pub steps-look : Steps (λ (w : ℕ). Look w word) (λ (a : Account). a) old new
+      steps-look =
+          stepped (λ (w : ℕ). Look w word) (λ (a : Account). a) t.next
+          (account-look p.limits p.worker p.seen t.next.before t.next.goes_on word)
 
       pub sum-look : found ≡ losses_at (state_seen new) word
       sum-look =
@@ -241,7 +258,7 @@ module _ (table table_after : TableId) (same : table_after ≡ table) (p : Part)
       pub least-look : slice_index (own old).held word ≤ found
       least-look = omega (
         arith,
-        ap (λ (a : Account). slice_index a.held word) own-look,
+        ap (λ (a : Account). slice_index a.held word) steps-look.own,
         sum-look,
         losses-own (state_seen new) new.worker word,
       )

@@ -10,3 +10,4 @@ pub mod WordLengths
 pub mod CellWords
 pub mod HighBytes
 pub mod Injective
+pub mod KeyedLines

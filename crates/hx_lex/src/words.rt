@@ -1,7 +1,7 @@
 //! The words of a line, taken one after the other. Words are separated by exactly one space, so two spaces have an
 //! empty word between them, and a line begins and ends with a word.
 
-ghost use Rattle.std.specs.Prelude.{◌≡◌, ◌≢◌, ◌<◌, ◌≤◌, ◌^◌, ◌∷◌, [], IfNone, MatchOption};
+ghost use Rattle.std.specs.Prelude.{◌≡◌, ◌≢◌, ◌<◌, ◌≤◌, ◌^◌, ◌∷◌, [], ℕ, List, true, false, None, IfNone, MatchOption};
 ghost use Rattle.std.specs.Fmt.{decimal};
 ghost use Rattle.hx_board.specs.Cells.{OnBoard};
 ghost use Rattle.hx_board.specs.Graph.{IsVertex};
@@ -89,6 +89,16 @@ impl<'a> Words<'a> {
         }
     }
 
+    /// Whether a given word stands there. It is taken then; else the words are as they were.
+    pub fn takes(&mut self, expected: &[u8]) -> bool
+        requires { Lacks 32 expected.now }
+        ensures taken { result ≡ true → self.old ≡ expected.now ∷ self.new }
+        ensures missing { result ≡ false → (rest : List (List ℕ)) → self.old ≢ expected.now ∷ rest }
+        ensures same { result ≡ false → self.new ≡ self.old }
+    {
+        self.keyword(expected).is_some()
+    }
+
     /// Takes a number.
     pub fn number(&mut self) -> Option<u32>
         ensures { Takes decimal IsNumber self.old result self.new }
@@ -154,6 +164,15 @@ impl<'a> Words<'a> {
     {
         let word = self.next()?;
         values::vertex(size, word)
+    }
+
+    /// What was taken, where no word is left.
+    pub(crate) fn whole<T: Copy>(&self, taken: Option<T>) -> Option<T>
+        ensures ended { self.now ≡ [] → result ≡ taken }
+        ensures left { self.now ≢ [] → result ≡ None }
+    {
+        self.end()?;
+        taken
     }
 
     /// Nothing where no word is left.
