@@ -10,6 +10,7 @@ ghost use Rattle.hx_fill.specs.Unders.{AreEmpties, HoldDominated};
 
 use crate::dominations::BothGroups;
 use hx_board::{CELLS, Cell, Mask, Size};
+use hx_cells::each_cell;
 
 /// For each of some empty cells, at its index, those of them that it can be better than.
 pub(crate) fn candidates_of(both: &BothGroups, size: Size, cells: Mask) -> [Mask; CELLS]
@@ -18,9 +19,7 @@ pub(crate) fn candidates_of(both: &BothGroups, size: Size, cells: Mask) -> [Mask
     ensures { HoldDominated both.now.position both.now.mover cells 0 result }
 {
     let mut found = [Mask::empty(); CELLS];
-    let mut left = cells;
-    while let Some(worse) = left.least(size) {
-        left = left.without(worse);
+    for worse in each_cell(cells, size) {
         let killers = both.killers(worse).meet(cells);
         add_to_each(&mut found, size, killers, worse);
     }
@@ -35,9 +34,7 @@ fn add_to_each(sets: &mut [Mask; CELLS], size: Size, places: Mask, cell: Cell)
     ensures added { (n : ℕ) → OnBoard size n → has places n ≡ true
         → has (slice_index sets.new n) cell ≡ true }
 {
-    let mut left = places;
-    while let Some(place) = left.least(size) {
-        left = left.without(place);
+    for place in each_cell(places, size) {
         let index = place.index() as usize;
         sets[index] = sets[index].with(cell);
     }

@@ -16,6 +16,7 @@ ghost use Rattle.hx_fill.specs.Makers.{AreMakers, AreMakersAmong, AreVertices, I
 
 use crate::views::View;
 use hx_board::{Cell, Mask, Vertex, VertexSet};
+use hx_cells::each_vertex;
 use hx_inferior::open_around;
 
 /// What is known of an empty cell, for one player.
@@ -76,9 +77,7 @@ fn narrowed_by(view: &View, makers: &Makers, around: VertexSet) -> Makers
     // The proof takes from here that the position's board is one.
     let _size = view.position().size();
     let mut found = *makers;
-    let mut left = around;
-    while let Some(vertex) = left.lowest() {
-        left = left.without_lowest();
+    for vertex in each_vertex(around) {
         found = narrowed(view, &found, around, vertex);
         // For most cells no maker is left after a few neighbours.
         if has_none(&found) {

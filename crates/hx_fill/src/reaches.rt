@@ -11,6 +11,7 @@ ghost use Rattle.hx_fill.specs.Views.{HoldsJoined, HoldsReached};
 
 use crate::views::View;
 use hx_board::{Mask, VertexSet};
+use hx_cells::{each_cell, each_vertex};
 use hx_inferior::open_around;
 
 /// All that some of these vertices are joined with.
@@ -22,9 +23,7 @@ pub(crate) fn reached_around(view: &View, around: VertexSet) -> VertexSet
     // The proof takes from here that the position's board is one.
     let _size = view.position().size();
     let mut found = VertexSet::empty();
-    let mut left = around;
-    while let Some(next) = left.lowest() {
-        left = left.without_lowest();
+    for next in each_vertex(around) {
         found = found.union(view.joined_with(next));
     }
     found
@@ -38,9 +37,7 @@ pub(crate) fn reached_around_each(view: &View, cells: Mask) -> VertexSet
 {
     let size = view.position().size();
     let mut found = VertexSet::empty();
-    let mut left = cells;
-    while let Some(cell) = left.least(size) {
-        left = left.without(cell);
+    for cell in each_cell(cells, size) {
         let around = open_around(view.position(), view.colour(), cell);
         let near = reached_around(view, around);
         found = found.union(near);

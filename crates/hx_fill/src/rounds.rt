@@ -14,6 +14,7 @@ use crate::fills::Filled;
 use crate::makers::{makers_of, partner_of};
 use crate::views::View;
 use hx_board::{Cell, Colour, Groups, Mask, Memory, Position};
+use hx_cells::each_cell;
 use hx_inferior::{FillStep, open_around};
 use std::alloc::Global;
 
@@ -68,9 +69,7 @@ fn fill_round(filled: &mut Filled, colour: Colour) -> Result<(), Memory>
     let groups = Groups::of(&filled.position, colour);
     let view = View::of(&filled.position, colour, &groups);
     let mut empties = filled.position.empties();
-    let mut left = empties;
-    while let Some(cell) = left.least(size) {
-        left = left.without(cell);
+    for cell in each_cell(empties, size) {
         let is_empty = empties.has(cell);
         if is_empty {
             empties = fill_at(filled, &view, colour, cell, empties)?;

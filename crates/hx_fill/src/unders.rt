@@ -21,6 +21,7 @@ use crate::candidates::candidates_of;
 use crate::choices::{Better, Choices};
 use crate::dominations::BothGroups;
 use hx_board::{CELLS, Cell, Colour, Mask, Memory, Position, Size};
+use hx_cells::each_cell;
 use hx_tree::{Line, Lines};
 use std::alloc::Global;
 
@@ -186,9 +187,8 @@ impl Sieve {
             (difference self.now.cells self.now.without_line) 0 lines) }
     {
         let mut lines = Vec::new(alloc);
-        let mut left = self.cells.minus(self.without_line);
-        while let Some(cell) = left.least(size) {
-            left = left.without(cell);
+        let with_line = self.cells.minus(self.without_line);
+        for cell in each_cell(with_line, size) {
             self.add_line(&mut lines, cell)?;
         }
         Ok(Lines::new(lines))
@@ -215,9 +215,7 @@ fn kill_all(choices: &mut Choices, both: &BothGroups, size: Size, better: Cell, 
         choices.old choices.new result }
 {
     let mut killed = Mask::empty();
-    let mut left = cells;
-    while let Some(worse) = left.least(size) {
-        left = left.without(worse);
+    for worse in each_cell(cells, size) {
         killed = kill_one(choices, both, better, worse, killed);
     }
     killed

@@ -5,8 +5,5 @@ abbrev pub invariant-loop-cell : goal.invariant-loop-cell
 invariant-loop-cell l = record {
   grown : HasNoStoneLess l.view.board l.filled.position;
   empties : AreAllEmpties l.filled.position l.empties;
-  round : IsRound l.colour l.left l.view.board l.fn.filled.steps.items l.filled.position l.filled.steps.items;
+  round : IsRound l.colour l.cell-iterator.cells l.view.board l.fn.filled.steps.items l.filled.position l.filled.steps.items;
 }
-
-abbrev pub decreases-loop-cell : goal.decreases-loop-cell
-decreases-loop-cell l = l.left

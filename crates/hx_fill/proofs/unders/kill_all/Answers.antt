@@ -1,23 +1,19 @@
 use Rattle.std.proofs.Common.{◌≡◌, ℕ, true, sym, ◌∙◌, subst}
 use Rattle.std.proofs.lemmas.Bool.{false≢true}
 use Rattle.hx_board.specs.Sets.{has}
-use Rattle.hx_board.proofs.SetLaws.{remove-lt, has-remove_before}
+use Rattle.hx_cells.proofs.StillLeft.{cells-left}
 use Rattle.hx_fill.proofs.ComingLaws.{killed_none, killed_all}
 use Rattle.hx_fill.proofs.unders.kill_all.Goals as goal
 
 pub loop-worse-init : goal.loop-worse-init
-loop-worse-init c = record {
-  kills = rw c.empty-killed.ensures
-      (killed_none c.args.both.now.position c.args.both.now.mover c.args.better c.args.cells c.args.choices.now);
-  inside = λ n h. h;
-}
-
-pub loop-worse-smaller : goal.loop-worse-smaller
-loop-worse-smaller c = rw c.without-left.ensures.set (remove-lt c.loop-worse.left c.in-Some.worse c.in-Some.ensures.member)
+loop-worse-init c = rw (c.empty-killed.ensures, c.into_iter-worse-iterator.ensures.into_iter_gives, c.each_cell-worse-items.ensures.left)
+    (killed_none c.args.both.now.position c.args.both.now.mover c.args.better c.args.cells c.args.choices.now)
 
 pub kill_one-killed-requires : goal.kill_one-killed-requires
 kill_one-killed-requires c =
-    let in_cells = c.loop-worse.invariant.inside c.in-Some.worse c.in-Some.ensures.member in
+    let left = cells-left c.args.size c.args.cells c.loop-worse.yielded
+    (c.into_iter-worse-iterator.ensures.into_iter_gives ∙ c.each_cell-worse-items.ensures.left) c.loop-worse.yielded_by in
+    let in_cells = left.inside c.in-Some.worse c.in-Some.ensures.steps.least.member in
     record {
       better = c.requires.better;
       worse = c.requires.cells c.in-Some.worse in_cells;
@@ -26,12 +22,17 @@ kill_one-killed-requires c =
     }
 
 pub loop-worse-preserved : goal.loop-worse-preserved
-loop-worse-preserved c = rw c.without-left.ensures.set (record {
-  kills = c.kill_one-killed.ensures c.args.cells c.loop-worse.left c.args.choices.now
-      (c.loop-worse.invariant.inside c.in-Some.worse c.in-Some.ensures.member) c.loop-worse.invariant.kills;
-  inside = λ n h. c.loop-worse.invariant.inside n (has-remove_before c.loop-worse.left c.in-Some.worse n h);
-})
+loop-worse-preserved c =
+    let left = cells-left c.args.size c.args.cells c.loop-worse.yielded
+    (c.into_iter-worse-iterator.ensures.into_iter_gives ∙ c.each_cell-worse-items.ensures.left) c.loop-worse.yielded_by in
+    rw c.in-Some.ensures.steps.cells
+    (c.kill_one-killed.ensures c.args.cells c.loop-worse.worse-iterator.cells c.args.choices.now
+    (left.inside c.in-Some.worse c.in-Some.ensures.steps.least.member) c.loop-worse.invariant)
 
 pub returns : goal.returns
-returns c = killed_all c.args.both.now.position c.args.both.now.mover c.args.better c.args.cells c.loop-worse.left _ _ _
-    (λ n h. c.in_default.ensures n (rw (← c.requires.size) (c.requires.cells n h).on_board)) c.loop-worse.invariant.kills
+returns c =
+    let left = cells-left c.args.size c.args.cells c.loop-worse.yielded
+    (c.into_iter-worse-iterator.ensures.into_iter_gives ∙ c.each_cell-worse-items.ensures.left) c.loop-worse.yielded_by in
+    let none = rw (left.size, ← c.requires.size) at c.in-None.ensures.steps.none in
+    killed_all c.args.both.now.position c.args.both.now.mover c.args.better c.args.cells c.loop-worse.worse-iterator.cells _ _ _
+    (λ n h. none n (c.requires.cells n h).on_board) c.loop-worse.invariant

@@ -1,0 +1,2 @@
+pub mod EachCell
+pub mod StillLeft

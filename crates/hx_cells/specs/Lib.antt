@@ -1,0 +1,2 @@
+pub mod CellsLeft
+pub mod VerticesLeft
